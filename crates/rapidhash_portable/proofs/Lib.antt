@@ -1,0 +1,6 @@
+pub mod Chains
+pub mod Columns
+pub mod Hashes
+pub mod Repairs
+pub mod Shorts
+pub mod Tails

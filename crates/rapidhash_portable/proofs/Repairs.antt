@@ -1,0 +1,51 @@
+-- Each repair sets a bit in its own part of a word, and leaves the other parts alone.
+use Rattle.std.proofs.Common.{◌≡◌, ◌≢◌, ℕ, nat_eq, bit_and, bit_or, min, max, refl, ap, sym, ◌∙◌, arith}
+use Rattle.std.proofs.lemmas.Bool.{cond_both, eqb-false}
+use Rattle.std.proofs.lemmas.Nat.{and_or_apart}
+use Rattle.std.proofs.lemmas.Nat.Bits.{bit_at-zero, bit_at_and, bit_at_or}
+use Rattle.std.specs.Int.{bit_at}
+use Rattle.rapidhash_portable.specs.Secrets.{IsGood, repaired, with_bit}
+
+-- a number with a set bit is not 0
+nonzero : (n i : ℕ) → bit_at n i ≡ 1 → n ≢ 0
+nonzero n i set e =
+    let z = bit_at-zero i in
+    let one : 1 ≡ 0 = sym set ∙ ap (λ m. bit_at m i) e ∙ z in
+    absurd (omega arith)
+
+capped : (a : ℕ) → min (max a 1) 1 ≡ 1
+capped a = omega arith
+
+-- the repaired part has a bit
+with_bit-sets : (mask bit word i : ℕ) → bit_at bit i ≡ 1 → bit_at mask i ≡ 1 → bit_and (with_bit mask bit word) mask ≢ 0
+unfolding with_bit
+with_bit-sets mask bit word i in_bit in_mask =
+    let set : bit_at (bit_and (bit_or word bit) mask) i ≡ 1 =
+    bit_at_and (bit_or word bit) mask i ∙ ap (λ m. min (bit_at (bit_or word bit) i) m) in_mask
+    ∙ ap (λ m. min m 1) (bit_at_or word bit i ∙ ap (max (bit_at word i)) in_bit) ∙ capped (bit_at word i) in
+    cond_both (nat_eq (bit_and word mask) 0) (bit_or word bit) word (λ v. bit_and v mask ≢ 0)
+    (λ _. nonzero (bit_and (bit_or word bit) mask) i set)
+    (λ none. eqb-false (bit_and word mask) 0 none)
+
+-- and the others keep theirs
+with_bit-keeps : (mask bit word other : ℕ) → bit_and bit other ≡ 0 → bit_and word other ≢ 0 → bit_and (with_bit mask bit word) other ≢ 0
+unfolding with_bit
+with_bit-keeps mask bit word other apart has =
+    cond_both (nat_eq (bit_and word mask) 0) (bit_or word bit) word (λ v. bit_and v other ≢ 0)
+    (λ _ e. has (sym (and_or_apart other word bit apart) ∙ e))
+    (λ _. has)
+
+pub IsGood-repaired : (word : ℕ) → IsGood (repaired word)
+unfolding repaired
+IsGood-repaired word =
+    let upper = with_bit 0xffff000000000000 0x8000000000000000 word in
+    let middle = with_bit 0xffff000000 0x80000000 upper in
+    record {
+      upper = with_bit-keeps 0xffff 1 middle 0xffff000000000000 refl (with_bit-keeps 0xffff000000 0x80000000 upper 0xffff000000000000 refl (with_bit-sets 0xffff000000000000 0x8000000000000000 word 63 refl refl));
+      middle = with_bit-keeps 0xffff 1 middle 0xffff000000 refl (with_bit-sets 0xffff000000 0x80000000 upper 31 refl refl);
+      lower = with_bit-sets 0xffff 1 middle 0 refl refl;
+    }
+
+-- a good word is not 0
+pub IsGood-nonzero : (word : ℕ) → IsGood word → word ≢ 0
+IsGood-nonzero word good e = good.lower (ap (λ w. bit_and w 0xffff) e)

@@ -1,0 +1,15 @@
+use Rattle.std.proofs.Common.{not, nat_eq, length, arith}
+use Rattle.rapidhash_portable.specs.declared.form.Form.TheVariants.{V3}
+use Rattle.rapidhash_portable.specs.Form.{masks}
+use Rattle.rapidhash_portable.specs.declared.form.Options.{Options}
+use Rattle.rapidhash_portable.proofs.Hashes.{hash-short, shape_of-v3-none}
+use Rattle.rapidhash_portable.proofs.v3.hash.Goals as goal
+
+pub returns : goal.returns
+unfolding masks
+returns g c =
+    let x = c.args.bytes.now in
+    let options : Options = record { avalanche = not (nat_eq g.row.AVALANCHE 0); protected = not (nat_eq g.row.PROTECTED 0) } in
+    let none = shape_of-v3-none g.row.LANES (length x) (omega arith) (omega arith) in
+    hash-short (V3 g.row.LANES) options g.row.LANES c.args.secrets.now.seed c.args.secrets.now.secrets x c.requires.odd none c.if-bytes-gt16.false c.close.result
+    (cc (c.close.ensures, c.short_words_v3.ensures g.row.LANES, c.short_seed.ensures))

@@ -1,0 +1,55 @@
+-- The forms of the portable hash: what each says of lengths, seeds, secrets and words, a line each.
+use Rattle.std.specs.Prelude.{ℕ, ◌<◌, ◌≤◌, ◌∷◌, [], not, ◌&&◌, List, slice_index, bit_xor, if◌then◌else◌, nat_lt, ◌==◌}
+use Rattle.rapidhash_portable.specs.declared.form.Form.{Form}
+use Rattle.rapidhash_portable.specs.declared.form.Form.TheVariants.{V1, V2, V3}
+use Rattle.rapidhash_portable.specs.declared.form.Shape.{Shape}
+use Rattle.rapidhash_portable.specs.Lanes.{no_rows, wide_shape, mixed_shape}
+
+abbrev pub v3 : Form
+v3 = V3 7
+
+abbrev pub micro : Form
+micro = V3 5
+
+abbrev pub nano : Form
+nano = V3 3
+
+-- the forms that there are
+abbrev pub IsForm : Form → Type 0
+IsForm (V1 bug) = Unit {0}
+IsForm (V2 minor) = minor ≤ 2
+IsForm (V3 lanes) = (0 < lanes) × (lanes ≤ 7)
+
+-- the longest message that V2 takes with no row
+abbrev pub v2_limit : ℕ → ℕ
+v2_limit minor = if minor == 0 then 56 else 64
+
+-- how a message of `n` bytes is cut into rows and a tail
+unfoldable pub shape_of : Form → ℕ → Shape
+shape_of (V1 bug) n = if n == 48 && not bug then no_rows 3 else wide_shape 3 0 n
+shape_of (V2 minor) n = if nat_lt (v2_limit minor) n then mixed_shape 7 n else no_rows 7
+shape_of (V3 lanes) n = wide_shape lanes 1 n
+
+-- the seed that every lane starts from
+unfoldable pub start_seed : Form → ℕ → ℕ → ℕ
+start_seed (V1 bug) n seed = bit_xor seed n
+start_seed (V2 minor) n seed = bit_xor seed n
+start_seed (V3 lanes) n seed = if nat_lt 3 n && nat_lt n 17 then bit_xor seed n else seed
+
+-- the seed that a tail of `t` bytes starts from: V1 mixes a secret into it before the first pair
+unfoldable pub tail_seed : Form → List ℕ → ℕ → ℕ → ℕ
+tail_seed (V1 bug) secrets t seed = if nat_lt 16 t then bit_xor seed (slice_index secrets 1) else seed
+tail_seed (V2 minor) secrets t seed = seed
+tail_seed (V3 lanes) secrets t seed = seed
+
+-- which secrets the pairs of a tail use, in turn
+unfoldable pub tail_places : Form → ℕ → List ℕ
+tail_places (V1 bug) n = 2 ∷ 2 ∷ []
+tail_places (V2 minor) n = if nat_lt (v2_limit minor) n then 2 ∷ 2 ∷ [] else 0 ∷ 1 ∷ (if nat_lt minor 2 then 0 else 1) ∷ []
+tail_places (V3 lanes) n = 2 ∷ 2 ∷ 1 ∷ 1 ∷ 2 ∷ 1 ∷ []
+
+-- what the avalanche mixes into the two halves of the last product, where the tail has `t` of the `n` bytes
+unfoldable pub masks : Form → List ℕ → ℕ → ℕ → ℕ × ℕ
+masks (V1 bug) secrets n t = (bit_xor (slice_index secrets 0) n, slice_index secrets 1)
+masks (V2 minor) secrets n t = (bit_xor 0xaaaa_aaaa_aaaa_aaaa n, slice_index secrets 1)
+masks (V3 lanes) secrets n t = (0xaaaa_aaaa_aaaa_aaaa, bit_xor (slice_index secrets 1) t)

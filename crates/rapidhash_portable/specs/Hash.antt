@@ -1,0 +1,30 @@
+-- The one definition of all portable hashes.
+use Rattle.std.specs.Prelude.{ℕ, List, length, ◌-◌, slice_index, bit_xor, if◌then◌else◌}
+use Rattle.rapidhash_portable.specs.Multiply.{multiply, mix}
+use Rattle.rapidhash_portable.specs.Lanes.{row_bytes, row_pairs, pair_of, after_lanes}
+use Rattle.rapidhash_portable.specs.Tail.{after_tail, picked}
+use Rattle.rapidhash_portable.specs.declared.form.Form.{Form}
+use Rattle.rapidhash_portable.specs.declared.form.Options.{Options}
+use Rattle.rapidhash_portable.specs.Form.{shape_of, start_seed, tail_seed, tail_places, masks}
+use Rattle.rapidhash_portable.specs.Words.{last_words, mixed_words}
+
+-- the value of the last two words and the seed
+unfoldable pub close : Options → ℕ → ℕ × ℕ → ℕ × ℕ → ℕ → ℕ
+close options secret masks words seed =
+    let ab = multiply options.protected (bit_xor words.0 secret) (bit_xor words.1 seed) in
+    if options.avalanche
+    then mix options.protected (bit_xor ab.0 masks.0) (bit_xor ab.1 masks.1)
+    else bit_xor ab.0 ab.1
+
+-- the value of `n` bytes, of which no more is known than their pairs and their last two words: of the rows each lane folds its own pairs, then the joined lanes fold the tail's pairs, then the last words close
+unfoldable pub value : Form → Options → ℕ → List ℕ → ℕ → (ℕ → ℕ × ℕ) → ℕ × ℕ → ℕ
+value form options seed secrets n pair words =
+    let shape = shape_of form n in
+    let t = n - row_bytes shape in
+    let after_rows = after_lanes options.protected secrets pair shape (start_seed form n seed) in
+    let after_all = after_tail options.protected (picked secrets (tail_places form n)) pair (row_pairs shape) t (tail_seed form secrets t after_rows) in
+    close options (slice_index secrets 1) (masks form secrets n t) (mixed_words form n t words) after_all
+
+-- the one definition, of a message
+abbrev pub portable_hash : Form → Options → ℕ → List ℕ → List ℕ → ℕ
+portable_hash form options seed secrets x = value form options seed secrets (length x) (pair_of x) (last_words form x)

@@ -1,0 +1,9 @@
+pub mod Bytes
+pub mod Form
+pub mod Hash
+pub mod Lanes
+pub mod Memory
+pub mod Multiply
+pub mod Secrets
+pub mod Tail
+pub mod Words

@@ -1,0 +1,28 @@
+-- The value of the in-memory core: the lanes and the tail of the portable hashes, with its own shape and close.
+use Rattle.std.specs.Prelude.{ℕ, ◌+◌, ◌%◌, ◌^◌, Bool, List, [], ◌∷◌, length, ◌-◌, slice_index, bit_xor, if◌then◌else◌, nat_lt}
+use Rattle.rapidhash_portable.specs.declared.form.Shape.{Shape}
+use Rattle.rapidhash_portable.specs.declared.form.Options.{Options}
+use Rattle.rapidhash_portable.specs.declared.form.Form.TheVariants.{V3}
+use Rattle.rapidhash_portable.specs.Lanes.{no_rows, row_bytes, row_pairs, pair_of, wide_shape, mixed_shape, after_lanes}
+use Rattle.rapidhash_portable.specs.Tail.{after_tail, picked}
+use Rattle.rapidhash_portable.specs.Words.{last_words}
+use Rattle.rapidhash_portable.specs.Hash.{close}
+
+-- how the core cuts a message of `n` bytes: no row up to 48, rows of three up to 400, above them rows of seven and then of three
+unfoldable pub memory_shape : ℕ → Shape
+memory_shape n =
+    if nat_lt 400 n then mixed_shape 7 n else
+    if nat_lt 48 n then wide_shape 3 0 n else
+    no_rows 3
+
+-- the seed after all pairs: every lane starts from the seed itself, and the tail's pairs use secret 0
+unfoldable pub after_pairs : Bool → ℕ → List ℕ → List ℕ → ℕ
+after_pairs protected seed secrets x =
+    let shape = memory_shape (length x) in
+    after_tail protected (picked secrets (0 ∷ 0 ∷ [])) (pair_of x) (row_pairs shape) (length x - row_bytes shape) (after_lanes protected secrets (pair_of x) shape seed)
+
+-- the value: the length is added to the seed, and the last words are those of V3 with no tail's length
+unfoldable pub memory_hash : Options → ℕ → List ℕ → List ℕ → ℕ
+memory_hash options seed secrets x =
+    let sum = (after_pairs options.protected seed secrets x + length x) % 2 ^ 64 in
+    close options (slice_index secrets 0) (bit_xor 0xaaaa_aaaa_aaaa_aaaa sum, slice_index secrets 1) (last_words (V3 7) x) sum

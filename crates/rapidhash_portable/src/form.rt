@@ -1,0 +1,32 @@
+//! The forms of the portable hash, as the definition speaks of them.
+
+/// A portable hash.
+#[derive(Debug, Clone, Copy, PartialEq, Eq)]
+pub enum Form {
+    /// V1: with its historical fault at 48 bytes, or without it.
+    V1(bool),
+    /// V2, by its minor number: 0, 1 or 2.
+    V2(u8),
+    /// V3 and its relatives, by the number of lanes: 7 is V3, 5 is micro, 3 is nano.
+    V3(usize),
+}
+
+/// How a message is cut: rows of a pair for each lane, then rows of three pairs, then a tail.
+#[derive(Debug, Clone, Copy, PartialEq, Eq)]
+pub struct Shape {
+    /// How many lanes there are.
+    pub lanes: usize,
+    /// How many rows have a pair for each lane.
+    pub rows: usize,
+    /// How many rows of three pairs follow.
+    pub threes: usize,
+}
+
+/// What a caller may choose beside the form, the seed and the secrets.
+#[derive(Debug, Clone, Copy, PartialEq, Eq)]
+pub struct Options {
+    /// Whether the two halves of the last product are mixed once more.
+    pub avalanche: bool,
+    /// Whether each half of a product is mixed with its factor.
+    pub protected: bool,
+}

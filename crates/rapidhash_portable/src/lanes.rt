@@ -1,0 +1,201 @@
+//! The row kernel that every hash stands on: rows of 16-byte pairs folded into lanes, the lanes
+//! joined, the tail, the close. It is generic in the number of lanes and is proved once.
+//!
+//! The callers are thin: a form is its row widths, its tail's table and what goes into its close.
+//! Touch the loops here with `objdump` at hand: they are what speed rests on.
+
+ghost use Rattle.std.specs.Prelude.{◌≡◌, ◌+◌, ◌*◌, ◌≤◌, ◌<◌, ℕ, length, slice_index, drop};
+ghost use Rattle.rapidhash_portable.specs.Hash.{close};
+ghost use Rattle.rapidhash_portable.specs.Lanes.{pair_of, after_lanes, joined, lane_of, mixed_shape, pair_at, pairs_of, row_bytes, rows_in, step, wide_shape};
+ghost use Rattle.rapidhash_portable.specs.Tail.{after_tail};
+
+use crate::util::{rapid_mix, rapid_mum, read_u64};
+
+/// Folds a row of `WIDTH` pairs at the head of `row` into the first `WIDTH` lanes.
+#[inline(always)]
+#[tactic(auto, unfolding(crate::specs::Lanes::step))]
+fn fold_row<const LANES: usize, const WIDTH: usize, const PROTECTED: bool>(
+    lanes: &mut [u64; LANES],
+    row: &[u8],
+    secrets: &[u64],
+)
+    requires enough { 16 * WIDTH ≤ length row.now }
+    requires secrets { WIDTH ≤ length secrets.now }
+    requires narrow { WIDTH ≤ LANES }
+    requires small { WIDTH ≤ 7 }
+    ensures whole { length lanes.new ≡ LANES }
+    ensures folded { (i : ℕ) → i < WIDTH →
+        slice_index lanes.new i
+        ≡ step PROTECTED (slice_index secrets.now i) (slice_index lanes.old i) (pair_at row.now (16 * i)) }
+    ensures kept { (i : ℕ) → WIDTH ≤ i → slice_index lanes.new i ≡ slice_index lanes.old i }
+{
+    for i in 0..WIDTH {
+        lanes[i] = rapid_mix::<PROTECTED>(
+            read_u64(row, 16 * i) ^ secrets[i],
+            read_u64(row, 16 * i + 8) ^ lanes[i],
+        );
+    }
+}
+
+/// Folds two rows of `WIDTH` pairs at the head of `rows` into the first `WIDTH` lanes: the turn of
+/// the unrolled loop.
+#[inline(always)]
+fn fold_two_rows<const LANES: usize, const WIDTH: usize, const PROTECTED: bool>(
+    lanes: &mut [u64; LANES],
+    rows: &[u8],
+    secrets: &[u64],
+)
+    requires enough { 32 * WIDTH ≤ length rows.now }
+    requires secrets { WIDTH ≤ length secrets.now }
+    requires narrow { WIDTH ≤ LANES }
+    requires small { WIDTH ≤ 7 }
+    ensures whole { length lanes.new ≡ LANES }
+    ensures folded { (i : ℕ) → i < WIDTH →
+        slice_index lanes.new i
+        ≡ step PROTECTED (slice_index secrets.now i)
+        (step PROTECTED (slice_index secrets.now i) (slice_index lanes.old i) (pair_at rows.now (16 * i)))
+        (pair_at rows.now (16 * (WIDTH + i))) }
+    ensures kept { (i : ℕ) → WIDTH ≤ i → slice_index lanes.new i ≡ slice_index lanes.old i }
+{
+    fold_row::<LANES, WIDTH, PROTECTED>(lanes, rows, secrets);
+    fold_row::<LANES, WIDTH, PROTECTED>(lanes, &rows[16 * WIDTH..], secrets);
+}
+
+/// Folds all rows of `WIDTH` pairs into the first `WIDTH` lanes, and gives what is left, which has
+/// `KEPT` bytes at the least. Without `COMPACT` it goes by turns of two rows, and then by at most
+/// one.
+#[inline(always)]
+pub(crate) fn fold_rows<
+    'x,
+    const LANES: usize,
+    const WIDTH: usize,
+    const KEPT: usize,
+    const COMPACT: bool,
+    const PROTECTED: bool,
+>(lanes: &mut [u64; LANES], bytes: &'x [u8], secrets: &[u64]) -> &'x [u8]
+    requires secrets { WIDTH ≤ length secrets.now }
+    requires narrow { WIDTH ≤ LANES }
+    requires some { 0 < WIDTH }
+    requires small { WIDTH ≤ 7 }
+    requires keeps { KEPT ≤ length bytes.now }
+    requires keeps_few { KEPT ≤ 1 }
+    ensures whole { length lanes.new ≡ LANES }
+    ensures folded { (i : ℕ) → i < WIDTH →
+        slice_index lanes.new i
+        ≡ lane_of PROTECTED (slice_index secrets.now i)
+        (pairs_of (pair_of bytes.now) 0 WIDTH (rows_in WIDTH KEPT (length bytes.now)) i)
+        (slice_index lanes.old i) }
+    ensures kept { (i : ℕ) → WIDTH ≤ i → slice_index lanes.new i ≡ slice_index lanes.old i }
+    ensures rest { result.now ≡ drop (16 * (WIDTH * rows_in WIDTH KEPT (length bytes.now))) bytes.now }
+{
+    let mut rest = bytes;
+    if !COMPACT {
+        'turns: while rest.len() >= 32 * WIDTH + KEPT {
+            fold_two_rows::<LANES, WIDTH, PROTECTED>(lanes, rest, secrets);
+            rest = &rest[32 * WIDTH..];
+        }
+    }
+    'rows: while rest.len() >= 16 * WIDTH + KEPT {
+        fold_row::<LANES, WIDTH, PROTECTED>(lanes, rest, secrets);
+        rest = &rest[16 * WIDTH..];
+    }
+    rest
+}
+
+/// The XOR of all lanes.
+#[inline(always)]
+#[tactic(auto, unfolding(crate::specs::Lanes::joined))]
+pub(crate) fn join<const LANES: usize>(lanes: &[u64; LANES]) -> u64
+    ensures { result ≡ joined lanes.now }
+{
+    let mut all = 0;
+    for i in 0..LANES {
+        all ^= lanes[i];
+    }
+    all
+}
+
+/// The seed after all rows of `LANES` pairs, and what is left.
+#[inline(always)]
+pub(crate) fn wide_lanes<
+    'x,
+    const LANES: usize,
+    const KEPT: usize,
+    const COMPACT: bool,
+    const PROTECTED: bool,
+>(bytes: &'x [u8], seed: u64, secrets: &[u64]) -> (u64, &'x [u8])
+    requires secrets { LANES ≤ length secrets.now }
+    requires some { 0 < LANES }
+    requires small { LANES ≤ 7 }
+    requires keeps { KEPT ≤ length bytes.now }
+    requires keeps_few { KEPT ≤ 1 }
+    ensures joined { result.0
+        ≡ after_lanes PROTECTED secrets.now (pair_of bytes.now) (wide_shape LANES KEPT (length bytes.now)) seed }
+    ensures rest { result.1.now ≡ drop (row_bytes (wide_shape LANES KEPT (length bytes.now))) bytes.now }
+{
+    let mut lanes = [seed; LANES];
+    let rest = fold_rows::<LANES, LANES, KEPT, COMPACT, PROTECTED>(&mut lanes, bytes, secrets);
+    (join::<LANES>(&lanes), rest)
+}
+
+/// The seed after all rows of seven pairs and, with the first three lanes going on, of three, and
+/// what is left.
+#[inline(always)]
+pub(crate) fn mixed_lanes<'x, const COMPACT: bool, const PROTECTED: bool>(
+    bytes: &'x [u8],
+    seed: u64,
+    secrets: &[u64; 7],
+) -> (u64, &'x [u8])
+    ensures joined { result.0
+        ≡ after_lanes PROTECTED secrets.now (pair_of bytes.now) (mixed_shape 7 (length bytes.now)) seed }
+    ensures rest { result.1.now ≡ drop (row_bytes (mixed_shape 7 (length bytes.now))) bytes.now }
+{
+    let mut lanes = [seed; 7];
+    let wide = fold_rows::<7, 7, 0, COMPACT, PROTECTED>(&mut lanes, bytes, secrets);
+    let rest = fold_rows::<7, 3, 0, COMPACT, PROTECTED>(&mut lanes, wide, secrets);
+    (join::<7>(&lanes), rest)
+}
+
+/// The seed after the pairs of a tail: pair j takes secret j of the table, and the last 1 to 16
+/// bytes are no pair.
+#[inline(always)]
+pub(crate) fn fold_tail<const COUNT: usize, const PROTECTED: bool>(
+    tail: &[u8],
+    table: &[u64; COUNT],
+    start: u64,
+) -> u64
+    requires { COUNT ≤ 6 }
+    ensures { result ≡ after_tail PROTECTED table.now (pair_of tail.now) 0 (length tail.now) start }
+{
+    let mut seed = start;
+    for j in 0..COUNT {
+        if tail.len() <= 16 * j + 16 {
+            return seed;
+        }
+        seed = rapid_mix::<PROTECTED>(
+            read_u64(tail, 16 * j) ^ table[j],
+            read_u64(tail, 16 * j + 8) ^ seed,
+        );
+    }
+    seed
+}
+
+/// The value of the last two words and the seed.
+#[inline(always)]
+#[tactic(auto, unfolding(crate::specs::Hash::close))]
+pub(crate) fn close<const AVALANCHE: bool, const PROTECTED: bool>(
+    words: (u64, u64),
+    seed: u64,
+    secret: u64,
+    masks: (u64, u64),
+) -> u64
+    ensures { result
+        ≡ close (record { avalanche = AVALANCHE; protected = PROTECTED }) secret masks words seed }
+{
+    let (a, b) = rapid_mum::<PROTECTED>(words.0 ^ secret, words.1 ^ seed);
+    if AVALANCHE {
+        rapid_mix::<PROTECTED>(a ^ masks.0, b ^ masks.1)
+    } else {
+        a ^ b
+    }
+}

@@ -1,0 +1,154 @@
+//! Secrets made of a seed: the arithmetic behind every `RapidSecrets`, and the type of V2 and V3.
+
+ghost use Rattle.std.specs.Prelude.{◌≡◌, ◌<◌, ◌≤◌, ℕ, length, slice_index};
+ghost use Rattle.rapidhash_portable.specs.Secrets.{IsGood, chained_secrets, cpp_seeded, default_secrets, premixed, repaired, seeded, seeded_secrets, reseeded, with_bit};
+
+use crate::util::rapid_mix;
+
+/// A seed and the seven secrets of V2 and V3. Make one once and keep it: making it costs eight
+/// multiplies, and using it none.
+#[derive(Debug, Clone, Copy, PartialEq, Eq, Hash)]
+pub struct RapidSecrets {
+    /// What every lane starts from.
+    pub seed: u64,
+    /// What the words of a message are mixed with, each lane with its own.
+    pub secrets: [u64; 7],
+}
+
+/// The secrets of `rapidhash_v2_2` and `rapidhash_v3`: `RapidSecrets::seed_cpp(0)`, as numbers.
+pub const DEFAULT_RAPID_SECRETS: RapidSecrets = RapidSecrets {
+    seed: 0x4227_6556_7d8f_bfd6,
+    secrets: DEFAULT_SECRETS,
+};
+
+impl RapidSecrets {
+    /// A seed and secrets of its own, made of a number. Each has a set bit in its upper, its middle
+    /// and its lower part, so none is 0.
+    ///
+    /// ```
+    /// let secrets = RapidSecrets::seed(0x1234_5678);
+    /// let hash = rapidhash_v3_seeded(b"hello", &secrets);
+    /// ```
+    pub fn seed(seed: u64) -> Self
+        ensures seed { result.seed ≡ seeded seed }
+        ensures secrets { result.secrets ≡ seeded_secrets 7 seed }
+        ensures good_seed { IsGood result.seed }
+        ensures good_secrets { (i : ℕ) → i < 7 → IsGood (slice_index result.secrets i) }
+    {
+        let seed = seed_of(seed);
+        RapidSecrets {
+            seed,
+            secrets: chain::<7>(seed),
+        }
+    }
+
+    /// The same secrets beside a new seed, which is made of the old one with the last default
+    /// secret.
+    pub fn reseed(&self) -> Self
+        ensures seed { result.seed ≡ reseeded 6 self.now.seed }
+        ensures secrets { result.secrets ≡ self.now.secrets }
+        ensures good { IsGood result.seed }
+    {
+        RapidSecrets {
+            seed: reseed_of(self.seed, 6),
+            secrets: self.secrets,
+        }
+    }
+
+    /// The default secrets beside a seed made of a number as the C++ library makes it. Whoever knows
+    /// the default secrets can find messages with one hash at every seed: see [`RapidSecrets::seed`]
+    /// where that matters.
+    pub fn seed_cpp(seed: u64) -> Self
+        ensures seed { result.seed ≡ cpp_seeded 2 seed }
+        ensures secrets { result.secrets ≡ default_secrets }
+    {
+        RapidSecrets {
+            seed: cpp_seed_of(seed, 2),
+            secrets: DEFAULT_SECRETS,
+        }
+    }
+}
+
+/// The default secrets. V1 has the first three.
+pub(crate) const DEFAULT_SECRETS: [u64; 7] = [
+    0x2d35_8dcc_aa6c_78a5,
+    0x8bb8_4b93_962e_acc9,
+    0x4b33_a62e_d433_d4a3,
+    0x4d5a_2da5_1de1_aa47,
+    0xa076_1d64_78bd_642f,
+    0xe703_7ed1_a0b4_28db,
+    0x90ed_1765_281c_388c,
+];
+
+/// The word, with `bit` set where it has no bit of `mask`.
+#[tactic(auto, using(std::proofs::lemmas::Bool::Decides::nat_tests), unfolding(crate::specs::Secrets::with_bit))]
+fn with_bit(word: u64, mask: u64, bit: u64) -> u64
+    ensures { result ≡ with_bit mask bit word }
+{
+    if word & mask == 0 { word | bit } else { word }
+}
+
+/// The word, with a bit set in each of its upper, its middle and its lower part that has none.
+#[tactic(auto, unfolding(crate::specs::Secrets::repaired))]
+pub(crate) fn repair(word: u64) -> u64
+    ensures value { result ≡ repaired word }
+    ensures good { IsGood result }
+{
+    let upper = with_bit(word, 0xffff << 48, 1 << 63);
+    let middle = with_bit(upper, 0xffff << 24, 1 << 31);
+    with_bit(middle, 0xffff, 1)
+}
+
+/// The word mixed with the default secret at `place`, and repaired.
+#[tactic(auto, unfolding(crate::specs::Secrets::premixed))]
+fn premix(word: u64, place: usize) -> u64
+    requires { place < 7 }
+    ensures value { result ≡ premixed word place }
+    ensures good { IsGood result }
+{
+    let mixed = rapid_mix::<false>(word ^ DEFAULT_SECRETS[2], DEFAULT_SECRETS[place]);
+    repair(word ^ mixed)
+}
+
+/// The seed that `RapidSecrets::seed` makes.
+#[tactic(auto, unfolding(crate::specs::Secrets::seeded))]
+pub(crate) fn seed_of(number: u64) -> u64
+    ensures value { result ≡ seeded number }
+    ensures good { IsGood result }
+{
+    premix(number, 0)
+}
+
+/// `COUNT` secrets, the first made of the seed and each other of the one before.
+pub(crate) fn chain<const COUNT: usize>(seed: u64) -> [u64; COUNT]
+    requires { COUNT ≤ 7 }
+    ensures value { result ≡ chained_secrets COUNT seed }
+    ensures good { (i : ℕ) → i < COUNT → IsGood (slice_index result i) }
+{
+    let mut secrets = [0; COUNT];
+    let mut last = seed;
+    for place in 0..COUNT {
+        last = premix(last, place);
+        secrets[place] = last;
+    }
+    secrets
+}
+
+/// The seed that `RapidSecrets::seed_cpp` makes: V1 mixes with default secret 0, the others with 2.
+#[tactic(auto, unfolding(crate::specs::Secrets::cpp_seeded))]
+pub(crate) fn cpp_seed_of(number: u64, place: usize) -> u64
+    requires { place < 7 }
+    ensures { result ≡ cpp_seeded place number }
+{
+    number ^ rapid_mix::<false>(number ^ DEFAULT_SECRETS[place], DEFAULT_SECRETS[1])
+}
+
+/// The seed that `RapidSecrets::reseed` makes, with the last default secret of the version.
+#[tactic(auto, unfolding(crate::specs::Secrets::reseeded))]
+pub(crate) fn reseed_of(seed: u64, place: usize) -> u64
+    requires { place < 7 }
+    ensures value { result ≡ reseeded place seed }
+    ensures good { IsGood result }
+{
+    premix(seed, place)
+}

@@ -1,0 +1,84 @@
+//! Little-endian reads and the folded multiply.
+
+ghost use Rattle.std.specs.Prelude.{◌≡◌, ◌+◌, ◌≤◌, length};
+ghost use Rattle.rapidhash_portable.specs.Bytes.{word32, word64};
+ghost use Rattle.rapidhash_portable.specs.Multiply.{mix, multiply};
+ghost use Rattle.rapidhash_portable.specs.Words.{combined};
+
+/// The 128-bit product of `a` and `b` as its low and its high 64 bits. With `PROTECTED` each half
+/// is mixed with a factor by XOR: the low one with `a`, the high one with `b`.
+///
+/// ```
+/// assert_eq!(rapid_mum::<false>(u64::MAX, 2), (u64::MAX - 1, 1));
+/// ```
+#[inline(always)]
+#[tactic(auto, unfolding(crate::specs::Multiply::multiply))]
+pub fn rapid_mum<const PROTECTED: bool>(a: u64, b: u64) -> (u64, u64)
+    ensures { result ≡ multiply PROTECTED a b }
+{
+    let product = a as u128 * b as u128;
+    let low = (product % 0x1_0000_0000_0000_0000) as u64;
+    let high = (product / 0x1_0000_0000_0000_0000) as u64;
+    if PROTECTED {
+        (a ^ low, b ^ high)
+    } else {
+        (low, high)
+    }
+}
+
+/// The two numbers of [`rapid_mum`], folded into one by XOR.
+#[inline(always)]
+#[tactic(auto, unfolding(crate::specs::Multiply::mix))]
+pub fn rapid_mix<const PROTECTED: bool>(a: u64, b: u64) -> u64
+    ensures { result ≡ mix PROTECTED a b }
+{
+    let (low, high) = rapid_mum::<PROTECTED>(a, b);
+    low ^ high
+}
+
+/// The little-endian number of the 8 bytes from `offset` on. That they lie in `bytes` is the
+/// caller's condition.
+#[inline(always)]
+#[tactic(auto, unfolding(crate::specs::Bytes::word64))]
+pub fn read_u64(bytes: &[u8], offset: usize) -> u64
+    requires { offset + 8 ≤ length bytes.now }
+    ensures { result ≡ word64 bytes.now offset }
+{
+    u64::from_le_bytes([
+        bytes[offset],
+        bytes[offset + 1],
+        bytes[offset + 2],
+        bytes[offset + 3],
+        bytes[offset + 4],
+        bytes[offset + 5],
+        bytes[offset + 6],
+        bytes[offset + 7],
+    ])
+}
+
+/// The little-endian number of the 4 bytes from `offset` on. That they lie in `bytes` is the
+/// caller's condition.
+#[inline(always)]
+#[tactic(auto, unfolding(crate::specs::Bytes::word32))]
+pub fn read_u32(bytes: &[u8], offset: usize) -> u32
+    requires { offset + 4 ≤ length bytes.now }
+    ensures { result ≡ word32 bytes.now offset }
+{
+    u32::from_le_bytes([
+        bytes[offset],
+        bytes[offset + 1],
+        bytes[offset + 2],
+        bytes[offset + 3],
+    ])
+}
+
+/// Two numbers of 4 bytes in one of 8: the one at `top` in the upper half, the one at `bot` in the
+/// lower. That both lie in `bytes` is the caller's condition.
+#[inline(always)]
+pub fn read_u32_combined(bytes: &[u8], top: usize, bot: usize) -> u64
+    requires top_inside { top + 4 ≤ length bytes.now }
+    requires bot_inside { bot + 4 ≤ length bytes.now }
+    ensures { result ≡ combined bytes.now top bot }
+{
+    (read_u32(bytes, top) as u64) << 32 | read_u32(bytes, bot) as u64
+}

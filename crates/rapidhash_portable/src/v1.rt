@@ -1,0 +1,166 @@
+//! rapidhash V1.
+
+ghost use Rattle.std.specs.Prelude.{◌≡◌, ◌<◌, ◌≤◌, ℕ, false, true, if◌then◌else◌, length, slice_index};
+ghost use Rattle.rapidhash_portable.specs.declared.form.Form.TheVariants.{V1};
+ghost use Rattle.rapidhash_portable.specs.Hash.{portable_hash};
+ghost use Rattle.rapidhash_portable.specs.Secrets.{IsGood, cpp_seeded, default_secrets_v1, reseeded, seeded, seeded_secrets};
+
+use crate::lanes::{close, fold_tail, wide_lanes};
+use crate::secrets::{DEFAULT_SECRETS, chain, cpp_seed_of, reseed_of, seed_of};
+use crate::words::{last_16, short_words_v1};
+
+/// A seed and the three secrets of V1. Make one once and keep it: making it costs four multiplies
+/// or more, and using it none.
+#[derive(Debug, Clone, Copy, PartialEq, Eq, Hash)]
+pub struct RapidSecrets {
+    /// What every lane starts from.
+    pub seed: u64,
+    /// What the words of a message are mixed with.
+    pub secrets: [u64; 3],
+}
+
+/// The secrets of [`rapidhash_v1`]: `RapidSecrets::seed_cpp(0xbdd89aa982704029)`, as numbers.
+pub const DEFAULT_RAPID_SECRETS: RapidSecrets = RapidSecrets {
+    seed: 0x7633_05bb_e7be_a536,
+    secrets: [
+        0x2d35_8dcc_aa6c_78a5,
+        0x8bb8_4b93_962e_acc9,
+        0x4b33_a62e_d433_d4a3,
+    ],
+};
+
+impl RapidSecrets {
+    /// A seed and secrets of its own, made of a number. Each has a set bit in its upper, its middle
+    /// and its lower part, so none is 0.
+    ///
+    /// ```
+    /// let secrets = RapidSecrets::seed(0x1234_5678);
+    /// let hash = rapidhash_v1_seeded(b"hello", &secrets);
+    /// ```
+    pub fn seed(seed: u64) -> Self
+        ensures seed { result.seed ≡ seeded seed }
+        ensures secrets { result.secrets ≡ seeded_secrets 3 seed }
+        ensures good_seed { IsGood result.seed }
+        ensures good_secrets { (i : ℕ) → i < 3 → IsGood (slice_index result.secrets i) }
+    {
+        let seed = seed_of(seed);
+        RapidSecrets {
+            seed,
+            secrets: chain::<3>(seed),
+        }
+    }
+
+    /// The same secrets beside a new seed, which is made of the old one with the last default
+    /// secret of V1.
+    pub fn reseed(&self) -> Self
+        ensures seed { result.seed ≡ reseeded 2 self.now.seed }
+        ensures secrets { result.secrets ≡ self.now.secrets }
+        ensures good { IsGood result.seed }
+    {
+        RapidSecrets {
+            seed: reseed_of(self.seed, 2),
+            secrets: self.secrets,
+        }
+    }
+
+    /// The default secrets beside a seed made of a number as the C++ library makes it. Whoever knows
+    /// the default secrets can find messages with one hash at every seed: see [`RapidSecrets::seed`]
+    /// where that matters.
+    pub fn seed_cpp(seed: u64) -> Self
+        ensures seed { result.seed ≡ cpp_seeded 0 seed }
+        ensures secrets { result.secrets ≡ default_secrets_v1 }
+    {
+        RapidSecrets {
+            seed: cpp_seed_of(seed, 0),
+            secrets: [DEFAULT_SECRETS[0], DEFAULT_SECRETS[1], DEFAULT_SECRETS[2]],
+        }
+    }
+}
+
+/// The hash of `bytes` with the default seed and secrets.
+///
+/// ```
+/// assert_eq!(rapidhash_v1(b"something\n"), 15965596575264898037);
+/// ```
+#[inline]
+pub fn rapidhash_v1(bytes: &[u8]) -> u64
+    ensures { result
+        ≡ portable_hash (V1 false) (record { avalanche = true; protected = false })
+        (cpp_seeded 0 0xbdd89aa982704029) default_secrets_v1 bytes.now }
+{
+    rapidhash_v1_inline::<true, false, false, false>(bytes, &DEFAULT_RAPID_SECRETS)
+}
+
+/// The hash of `bytes` with a seed and secrets of the caller's.
+#[inline]
+pub fn rapidhash_v1_seeded(bytes: &[u8], secrets: &RapidSecrets) -> u64
+    ensures { result
+        ≡ portable_hash (V1 false) (record { avalanche = true; protected = false })
+        secrets.now.seed secrets.now.secrets bytes.now }
+{
+    rapidhash_v1_inline::<true, false, false, false>(bytes, secrets)
+}
+
+/// The hash of `bytes` with every option.
+///
+/// - `AVALANCHE` mixes the last product once more, as the C++ library does.
+/// - `COMPACT` goes row by row in place of two rows a turn: less code, the same value.
+/// - `PROTECTED` mixes each product with its factors.
+/// - `V1_BUG` folds a row at 48 bytes, as versions 1.x of the Rust crate did.
+#[inline(always)]
+pub fn rapidhash_v1_inline<
+    const AVALANCHE: bool,
+    const COMPACT: bool,
+    const PROTECTED: bool,
+    const V1_BUG: bool,
+>(bytes: &[u8], secrets: &RapidSecrets) -> u64
+    ensures { result
+        ≡ portable_hash (V1 V1_BUG) (record { avalanche = AVALANCHE; protected = PROTECTED })
+        secrets.now.seed secrets.now.secrets bytes.now }
+{
+    if bytes.len() > 16 {
+        return long::<AVALANCHE, COMPACT, PROTECTED, V1_BUG>(bytes, secrets);
+    }
+    let len = bytes.len() as u64;
+    let [first, second, _] = secrets.secrets;
+    close::<AVALANCHE, PROTECTED>(
+        short_words_v1(bytes),
+        secrets.seed ^ len,
+        second,
+        (first ^ len, second),
+    )
+}
+
+/// The hash above 16 bytes. It stands out of line, so that a short message pays for no registers.
+#[inline(never)]
+fn long<const AVALANCHE: bool, const COMPACT: bool, const PROTECTED: bool, const V1_BUG: bool>(
+    bytes: &[u8],
+    secrets: &RapidSecrets,
+) -> u64
+    requires { 16 < length bytes.now }
+    ensures { result
+        ≡ portable_hash (V1 V1_BUG) (record { avalanche = AVALANCHE; protected = PROTECTED })
+        secrets.now.seed secrets.now.secrets bytes.now }
+{
+    let len = bytes.len() as u64;
+    let s = &secrets.secrets;
+    let mut seed = secrets.seed ^ len;
+    let mut rest = bytes;
+    if bytes.len() >= least_row::<V1_BUG>() {
+        (seed, rest) = wide_lanes::<3, 0, COMPACT, PROTECTED>(bytes, seed, s);
+    }
+    if rest.len() > 16 {
+        seed ^= s[1];
+    }
+    seed = fold_tail::<2, PROTECTED>(rest, &[s[2], s[2]], seed);
+    close::<AVALANCHE, PROTECTED>(last_16(bytes), seed, s[1], (s[0] ^ len, s[1]))
+}
+
+/// The least length at which a row is folded.
+#[inline(always)]
+#[tactic(auto, using(std::proofs::lemmas::Bool::Decides::nat_tests))]
+fn least_row<const V1_BUG: bool>() -> usize
+    ensures { result ≡ (if V1_BUG then 48 else 49) }
+{
+    if V1_BUG { 48 } else { 49 }
+}

@@ -1,0 +1,131 @@
+//! rapidhash V2, in its three minors.
+
+ghost use Rattle.std.specs.Prelude.{◌≡◌, ◌<◌, ◌≤◌, ◌-◌, true, false, if◌then◌else◌, nat_lt, length};
+ghost use Rattle.rapidhash_portable.specs.declared.form.Form.TheVariants.{V2};
+ghost use Rattle.rapidhash_portable.specs.Form.{shape_of, start_seed, tail_places, v2_limit};
+ghost use Rattle.rapidhash_portable.specs.Hash.{portable_hash};
+ghost use Rattle.rapidhash_portable.specs.Lanes.{after_lanes, pair_of, row_bytes, row_pairs};
+ghost use Rattle.rapidhash_portable.specs.Secrets.{cpp_seeded, default_secrets};
+ghost use Rattle.rapidhash_portable.specs.Tail.{after_tail, picked};
+
+use crate::lanes::{close, fold_tail, mixed_lanes};
+pub use crate::secrets::{DEFAULT_RAPID_SECRETS, RapidSecrets};
+use crate::words::{last_16, short_words_v2};
+
+/// The hash of `bytes` by V2.2 with the default seed and secrets.
+#[inline]
+pub fn rapidhash_v2_2(bytes: &[u8]) -> u64
+    ensures { result
+        ≡ portable_hash (V2 2) (record { avalanche = true; protected = false })
+        (cpp_seeded 2 0) default_secrets bytes.now }
+{
+    rapidhash_v2_inline::<2, true, false, false>(bytes, &DEFAULT_RAPID_SECRETS)
+}
+
+/// The hash of `bytes` by V2.2 with a seed and secrets of the caller's.
+#[inline]
+pub fn rapidhash_v2_2_seeded(bytes: &[u8], secrets: &RapidSecrets) -> u64
+    ensures { result
+        ≡ portable_hash (V2 2) (record { avalanche = true; protected = false })
+        secrets.now.seed secrets.now.secrets bytes.now }
+{
+    rapidhash_v2_inline::<2, true, false, false>(bytes, secrets)
+}
+
+/// The hash of `bytes` with every option.
+///
+/// - `MINOR` is 0, 1 or 2, for V2.0, V2.1 and V2.2; that it is at most 2 is the caller's condition.
+/// - `AVALANCHE` mixes the last product once more, as the C++ library does.
+/// - `COMPACT` goes row by row in place of two rows a turn: less code, the same value.
+/// - `PROTECTED` mixes each product with its factors.
+#[inline(always)]
+pub fn rapidhash_v2_inline<
+    const MINOR: u8,
+    const AVALANCHE: bool,
+    const COMPACT: bool,
+    const PROTECTED: bool,
+>(bytes: &[u8], secrets: &RapidSecrets) -> u64
+    requires { MINOR ≤ 2 }
+    ensures { result
+        ≡ portable_hash (V2 MINOR) (record { avalanche = AVALANCHE; protected = PROTECTED })
+        secrets.now.seed secrets.now.secrets bytes.now }
+{
+    if bytes.len() > 16 {
+        return long::<MINOR, AVALANCHE, COMPACT, PROTECTED>(bytes, secrets);
+    }
+    let len = bytes.len() as u64;
+    let second = secrets.secrets[1];
+    close::<AVALANCHE, PROTECTED>(
+        short_words_v2::<MINOR>(bytes),
+        secrets.seed ^ len,
+        second,
+        (0xaaaa_aaaa_aaaa_aaaa ^ len, second),
+    )
+}
+
+/// The hash above 16 bytes. It stands out of line, so that a short message pays for no registers.
+#[inline(never)]
+fn long<const MINOR: u8, const AVALANCHE: bool, const COMPACT: bool, const PROTECTED: bool>(
+    bytes: &[u8],
+    secrets: &RapidSecrets,
+) -> u64
+    requires long { 16 < length bytes.now }
+    requires minor { MINOR ≤ 2 }
+    ensures { result
+        ≡ portable_hash (V2 MINOR) (record { avalanche = AVALANCHE; protected = PROTECTED })
+        secrets.now.seed secrets.now.secrets bytes.now }
+{
+    let len = bytes.len() as u64;
+    let s = &secrets.secrets;
+    let seed = after_pairs::<MINOR, COMPACT, PROTECTED>(bytes, secrets.seed, s);
+    close::<AVALANCHE, PROTECTED>(
+        last_16(bytes),
+        seed,
+        s[1],
+        (0xaaaa_aaaa_aaaa_aaaa ^ len, s[1]),
+    )
+}
+
+/// The longest message that is folded with no row.
+#[inline(always)]
+#[tactic(auto, using(std::proofs::lemmas::Bool::Decides::nat_tests))]
+fn limit<const MINOR: u8>() -> usize
+    ensures { result ≡ v2_limit MINOR }
+{
+    if MINOR == 0 { 56 } else { 64 }
+}
+
+/// The place of the secret that the third pair of such a message takes.
+#[inline(always)]
+#[tactic(auto, using(std::proofs::lemmas::Bool::Decides::nat_tests))]
+fn last_place<const MINOR: u8>() -> usize
+    ensures place { result ≡ (if nat_lt MINOR 2 then 0 else 1) }
+    ensures within { result ≤ 1 }
+{
+    if MINOR < 2 { 0 } else { 1 }
+}
+
+/// The seed after all pairs of a message above 16 bytes.
+#[inline(always)]
+fn after_pairs<const MINOR: u8, const COMPACT: bool, const PROTECTED: bool>(
+    bytes: &[u8],
+    start: u64,
+    secrets: &[u64; 7],
+) -> u64
+    requires { MINOR ≤ 2 }
+    ensures { let shape = shape_of (V2 MINOR) (length bytes.now) in
+        let start_seed = start_seed (V2 MINOR) (length bytes.now) start in
+        result
+        ≡ after_tail PROTECTED (picked secrets.now (tail_places (V2 MINOR) (length bytes.now)))
+        (pair_of bytes.now) (row_pairs shape) (length bytes.now - row_bytes shape)
+        (after_lanes PROTECTED secrets.now (pair_of bytes.now) shape start_seed) }
+{
+    let seed = start ^ bytes.len() as u64;
+    if bytes.len() > limit::<MINOR>() {
+        let (seed, rest) = mixed_lanes::<COMPACT, PROTECTED>(bytes, seed, secrets);
+        fold_tail::<2, PROTECTED>(rest, &[secrets[2], secrets[2]], seed)
+    } else {
+        let third = secrets[last_place::<MINOR>()];
+        fold_tail::<3, PROTECTED>(bytes, &[secrets[0], secrets[1], third], seed)
+    }
+}

@@ -1,0 +1,143 @@
+//! rapidhash V3, and its relatives micro and nano, which differ from it in the number of lanes.
+
+ghost use Rattle.std.specs.Prelude.{◌≡◌, ◌<◌, ◌≤◌, ◌%◌, true, false, length};
+ghost use Rattle.rapidhash_portable.specs.declared.form.Form.TheVariants.{V3};
+ghost use Rattle.rapidhash_portable.specs.Form.{v3, micro, nano, start_seed};
+ghost use Rattle.rapidhash_portable.specs.Hash.{portable_hash};
+ghost use Rattle.rapidhash_portable.specs.Secrets.{cpp_seeded, default_secrets};
+
+use crate::lanes::{close, fold_tail, wide_lanes};
+pub use crate::secrets::{DEFAULT_RAPID_SECRETS, RapidSecrets};
+use crate::words::{last_16, short_words_v3};
+
+/// The hash of `bytes` with the default seed and secrets.
+///
+/// ```
+/// let shard = rapidhash_v3(b"user:4711") % 64;
+/// ```
+#[inline]
+pub fn rapidhash_v3(bytes: &[u8]) -> u64
+    ensures { result
+        ≡ portable_hash v3 (record { avalanche = true; protected = false })
+        (cpp_seeded 2 0) default_secrets bytes.now }
+{
+    rapidhash_v3_inline::<true, false, false>(bytes, &DEFAULT_RAPID_SECRETS)
+}
+
+/// The hash of `bytes` with a seed and secrets of the caller's.
+///
+/// ```
+/// let secrets = RapidSecrets::seed(0x1234_5678);
+/// let hash = rapidhash_v3_seeded(b"hello", &secrets);
+/// ```
+#[inline]
+pub fn rapidhash_v3_seeded(bytes: &[u8], secrets: &RapidSecrets) -> u64
+    ensures { result
+        ≡ portable_hash v3 (record { avalanche = true; protected = false })
+        secrets.now.seed secrets.now.secrets bytes.now }
+{
+    rapidhash_v3_inline::<true, false, false>(bytes, secrets)
+}
+
+/// The hash of `bytes` with every option.
+///
+/// - `AVALANCHE` mixes the last product once more, as the C++ library does.
+/// - `COMPACT` goes row by row in place of two rows a turn: less code, the same value.
+/// - `PROTECTED` mixes each product with its factors.
+#[inline(always)]
+pub fn rapidhash_v3_inline<const AVALANCHE: bool, const COMPACT: bool, const PROTECTED: bool>(
+    bytes: &[u8],
+    secrets: &RapidSecrets,
+) -> u64
+    ensures { result
+        ≡ portable_hash v3 (record { avalanche = AVALANCHE; protected = PROTECTED })
+        secrets.now.seed secrets.now.secrets bytes.now }
+{
+    hash::<7, AVALANCHE, COMPACT, PROTECTED>(bytes, secrets)
+}
+
+/// The hash of `bytes` with five lanes: less code than V3 for messages of up to some hundred bytes.
+/// Up to 80 bytes it is V3's.
+#[inline(always)]
+pub fn rapidhash_v3_micro_inline<const AVALANCHE: bool, const PROTECTED: bool>(
+    bytes: &[u8],
+    secrets: &RapidSecrets,
+) -> u64
+    ensures { result
+        ≡ portable_hash micro (record { avalanche = AVALANCHE; protected = PROTECTED })
+        secrets.now.seed secrets.now.secrets bytes.now }
+{
+    hash::<5, AVALANCHE, false, PROTECTED>(bytes, secrets)
+}
+
+/// The hash of `bytes` with three lanes: the least code. Up to 48 bytes it is V3's.
+#[inline(always)]
+pub fn rapidhash_v3_nano_inline<const AVALANCHE: bool, const PROTECTED: bool>(
+    bytes: &[u8],
+    secrets: &RapidSecrets,
+) -> u64
+    ensures { result
+        ≡ portable_hash nano (record { avalanche = AVALANCHE; protected = PROTECTED })
+        secrets.now.seed secrets.now.secrets bytes.now }
+{
+    hash::<3, AVALANCHE, false, PROTECTED>(bytes, secrets)
+}
+
+/// The hash of `bytes` with an odd number of lanes.
+#[inline(always)]
+fn hash<const LANES: usize, const AVALANCHE: bool, const COMPACT: bool, const PROTECTED: bool>(
+    bytes: &[u8],
+    secrets: &RapidSecrets,
+) -> u64
+    requires few { LANES ≤ 7 }
+    requires odd { LANES % 2 ≡ 1 }
+    ensures { result
+        ≡ portable_hash (V3 LANES) (record { avalanche = AVALANCHE; protected = PROTECTED })
+        secrets.now.seed secrets.now.secrets bytes.now }
+{
+    if bytes.len() > 16 {
+        return long::<LANES, AVALANCHE, COMPACT, PROTECTED>(bytes, secrets);
+    }
+    let second = secrets.secrets[1];
+    close::<AVALANCHE, PROTECTED>(
+        short_words_v3(bytes),
+        short_seed::<LANES>(bytes.len(), secrets.seed),
+        second,
+        (0xaaaa_aaaa_aaaa_aaaa, second ^ bytes.len() as u64),
+    )
+}
+
+/// The seed of a message of at most 16 bytes: up to 3 bytes the length is not mixed in.
+#[inline(always)]
+#[tactic(auto, using(std::proofs::lemmas::Bool::Decides::nat_tests), unfolding(crate::specs::Form::start_seed))]
+fn short_seed<const LANES: usize>(len: usize, seed: u64) -> u64
+    requires { len ≤ 16 }
+    ensures { result ≡ start_seed (V3 LANES) len seed }
+{
+    if len >= 4 { seed ^ len as u64 } else { seed }
+}
+
+/// The hash above 16 bytes. It stands out of line, so that a short message pays for no registers.
+#[inline(never)]
+fn long<const LANES: usize, const AVALANCHE: bool, const COMPACT: bool, const PROTECTED: bool>(
+    bytes: &[u8],
+    secrets: &RapidSecrets,
+) -> u64
+    requires long { 16 < length bytes.now }
+    requires few { LANES ≤ 7 }
+    requires odd { LANES % 2 ≡ 1 }
+    ensures { result
+        ≡ portable_hash (V3 LANES) (record { avalanche = AVALANCHE; protected = PROTECTED })
+        secrets.now.seed secrets.now.secrets bytes.now }
+{
+    let s = &secrets.secrets;
+    let mut seed = secrets.seed;
+    let mut rest = bytes;
+    if bytes.len() > 16 * LANES {
+        (seed, rest) = wide_lanes::<LANES, 1, COMPACT, PROTECTED>(bytes, seed, s);
+    }
+    seed = fold_tail::<6, PROTECTED>(rest, &[s[2], s[2], s[1], s[1], s[2], s[1]], seed);
+    let t = rest.len() as u64;
+    let (a, b) = last_16(bytes);
+    close::<AVALANCHE, PROTECTED>((a ^ t, b), seed, s[1], (0xaaaa_aaaa_aaaa_aaaa, s[1] ^ t))
+}

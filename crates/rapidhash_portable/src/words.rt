@@ -1,0 +1,96 @@
+//! The two words that a message ends in: its last 16 bytes, or all of at most 16 bytes.
+
+ghost use Rattle.std.specs.Prelude.{◌≡◌, ◌≤◌, ◌<◌, Bool, ℕ, length};
+ghost use Rattle.rapidhash_portable.specs.declared.form.Form.TheVariants.{V1, V2, V3};
+ghost use Rattle.rapidhash_portable.specs.Words.{last_16, short_words, three_bytes};
+
+use crate::util::{read_u32, read_u32_combined, read_u64};
+
+/// The last 16 bytes as two words.
+#[inline(always)]
+pub(crate) fn last_16(bytes: &[u8]) -> (u64, u64)
+    requires { 16 ≤ length bytes.now }
+    ensures { result ≡ last_16 bytes.now }
+{
+    let n = bytes.len();
+    (read_u64(bytes, n - 16), read_u64(bytes, n - 8))
+}
+
+/// The first, the middle and the last of 1 to 3 bytes in one word.
+#[inline(always)]
+fn three_bytes(bytes: &[u8]) -> u64
+    requires { 0 < length bytes.now }
+    ensures { result ≡ three_bytes bytes.now }
+{
+    let n = bytes.len();
+    ((bytes[0] as u64) << 56) | ((bytes[n / 2] as u64) << 32) | bytes[n - 1] as u64
+}
+
+/// The two words of V1, of at most 16 bytes.
+#[inline(always)]
+pub(crate) fn short_words_v1(bytes: &[u8]) -> (u64, u64)
+    requires { length bytes.now ≤ 16 }
+    ensures { (bug : Bool) → result ≡ short_words (V1 bug) bytes.now }
+{
+    let n = bytes.len();
+    if n >= 8 {
+        (
+            read_u32_combined(bytes, 0, n - 4),
+            read_u32_combined(bytes, 4, n - 8),
+        )
+    } else if n >= 4 {
+        let word = read_u32_combined(bytes, 0, n - 4);
+        (word, word)
+    } else if n > 0 {
+        (three_bytes(bytes), 0)
+    } else {
+        (0, 0)
+    }
+}
+
+/// The two words of V2, of at most 16 bytes.
+#[inline(always)]
+#[tactic(auto, using(std::proofs::lemmas::Bool::Decides::nat_tests), unfolding(crate::specs::Words::short_words))]
+pub(crate) fn short_words_v2<const MINOR: u8>(bytes: &[u8]) -> (u64, u64)
+    requires { length bytes.now ≤ 16 }
+    ensures { result ≡ short_words (V2 MINOR) bytes.now }
+{
+    let n = bytes.len();
+    if n >= 8 {
+        (read_u64(bytes, 0), read_u64(bytes, n - 8))
+    } else if n >= 4 {
+        (read_u32(bytes, 0) as u64, read_u32(bytes, n - 4) as u64)
+    } else if n > 0 {
+        if MINOR < 2 {
+            (three_bytes(bytes), 0)
+        } else {
+            (
+                ((bytes[0] as u64) << 56) | bytes[n - 1] as u64,
+                bytes[n / 2] as u64,
+            )
+        }
+    } else {
+        (0, 0)
+    }
+}
+
+/// The two words of V3, micro, nano and the in-memory core, of at most 16 bytes.
+#[inline(always)]
+pub(crate) fn short_words_v3(bytes: &[u8]) -> (u64, u64)
+    requires { length bytes.now ≤ 16 }
+    ensures { (lanes : ℕ) → result ≡ short_words (V3 lanes) bytes.now }
+{
+    let n = bytes.len();
+    if n >= 8 {
+        (read_u64(bytes, 0), read_u64(bytes, n - 8))
+    } else if n >= 4 {
+        (read_u32(bytes, 0) as u64, read_u32(bytes, n - 4) as u64)
+    } else if n > 0 {
+        (
+            ((bytes[0] as u64) << 45) | bytes[n - 1] as u64,
+            bytes[n / 2] as u64,
+        )
+    } else {
+        (0, 0)
+    }
+}
