@@ -1,9 +1,15 @@
 -- The forms of the portable hash: what each says of lengths, seeds, secrets and words, a line each.
-use Rattle.std.specs.Prelude.{ℕ, ◌<◌, ◌≤◌, ◌∷◌, [], not, ◌&&◌, List, slice_index, bit_xor, if◌then◌else◌, nat_lt, ◌==◌}
+use Rattle.std.specs.Prelude.{ℕ, false, ◌<◌, ◌≤◌, ◌∷◌, [], not, ◌&&◌, List, slice_index, bit_xor, if◌then◌else◌, nat_lt, ◌==◌}
 use Rattle.rapidhash_portable.specs.declared.form.Form.{Form}
 use Rattle.rapidhash_portable.specs.declared.form.Form.TheVariants.{V1, V2, V3}
 use Rattle.rapidhash_portable.specs.declared.form.Shape.{Shape}
 use Rattle.rapidhash_portable.specs.Lanes.{no_rows, wide_shape, mixed_shape}
+
+abbrev pub v1 : Form
+v1 = V1 false
+
+abbrev pub v2 : ℕ → Form
+v2 minor = V2 minor
 
 abbrev pub v3 : Form
 v3 = V3 7
