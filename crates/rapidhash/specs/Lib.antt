@@ -6,3 +6,4 @@ pub use Rattle.rapidhash_portable.specs.Multiply
 pub use Rattle.rapidhash_portable.specs.Secrets
 pub use Rattle.rapidhash_portable.specs.Tail
 pub use Rattle.rapidhash_portable.specs.Words
+pub mod Generator
