@@ -1,6 +1,7 @@
 -- Secrets made one of the other.
-use Rattle.std.proofs.Common.{◌≡◌, ℕ, suc, ◌+◌, refl, sym, ap, subst, arith}
-use Rattle.rapidhash_portable.specs.Secrets.{IsGood, chained, premixed}
+use Rattle.std.proofs.Common.{◌≡◌, ℕ, suc, ◌+◌, false, bit_xor, get_or, refl, sym, ap, subst, arith}
+use Rattle.rapidhash_portable.specs.Secrets.{IsGood, chained, default_secrets, made_state, premixed, repaired}
+use Rattle.rapidhash_portable.specs.Multiply.{mix}
 use Rattle.rapidhash_portable.proofs.Repairs.{IsGood-repaired}
 
 pub chained-none : (word : ℕ) → chained word 0 ≡ word
@@ -16,3 +17,16 @@ chained-more word count =
 pub IsGood-chained : (word count : ℕ) → IsGood (chained word (count + 1))
 unfolding premixed
 IsGood-chained word count = subst IsGood (sym (chained-more word count)) (IsGood-repaired _)
+
+pub made_state-none : (random : ℕ) → made_state random 0 ≡ mix false (bit_xor random 0x4b33a62ed433d4a3) 0x8bb84b93962eacc9
+unfolding made_state
+made_state-none random = refl
+
+pub made_state-more : (random count : ℕ) → made_state random (count + 1) ≡ repaired (mix false (bit_xor (made_state random count) 0x2d358dccaa6c78a5) (bit_xor random (get_or default_secrets count 0)))
+unfolding made_state
+made_state-more random count =
+    let one : count + 1 ≡ suc count = omega arith in
+    ap (made_state random) one
+
+pub IsGood-made_state : (random count : ℕ) → IsGood (made_state random (count + 1))
+IsGood-made_state random count = subst IsGood (sym (made_state-more random count)) (IsGood-repaired _)

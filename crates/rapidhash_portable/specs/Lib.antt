@@ -5,5 +5,6 @@ pub mod Lanes
 pub mod Memory
 pub mod Multiply
 pub mod Secrets
+pub mod Seeding
 pub mod Tail
 pub mod Words

@@ -1,5 +1,5 @@
--- Secrets made of a seed.
-use Rattle.std.specs.Prelude.{◌≢◌, ℕ, zero, suc, ◌+◌, ◌==◌, false, List, [], ◌∷◌, map, slice_index, bit_and, bit_or, bit_xor, if◌then◌else◌}
+-- Secrets made of a seed, or of random words.
+use Rattle.std.specs.Prelude.{◌≢◌, ℕ, zero, suc, ◌+◌, ◌%◌, ◌^◌, ◌==◌, false, List, [], ◌∷◌, map, slice_index, bit_and, bit_or, bit_xor, if◌then◌else◌}
 use Rattle.std.specs.List.{range_with_len}
 use Rattle.rapidhash_portable.specs.Multiply.{mix}
 
@@ -61,3 +61,29 @@ cpp_seeded place number = bit_xor number (mix false (bit_xor number (slice_index
 -- the seed made of a seed, with the version's last default secret: place 2 in V1, 6 in the others
 unfoldable pub reseeded : ℕ → ℕ → ℕ
 reseeded place seed = premixed seed place
+
+-- the global seed that a random word gives
+unfoldable pub global_seed : ℕ → ℕ
+global_seed random = mix false (bit_xor random 0x2d358dccaa6c78a5) 0xbdd89aa982704029
+
+-- what a random word's secrets are made of: a first state, and then one repaired mix after another, with default secret 0, then 1, and so on
+unfoldable pub made_state : ℕ → ℕ → ℕ
+made_state random zero = mix false (bit_xor random 0x4b33a62ed433d4a3) 0x8bb84b93962eacc9
+made_state random (suc count) =
+    repaired (mix false (bit_xor (made_state random count) 0x2d358dccaa6c78a5) (bit_xor random (slice_index default_secrets count)))
+
+-- the seven secrets that a random word makes: the states after the first
+unfoldable pub made_secrets : ℕ → List ℕ
+made_secrets random = map (λ place. made_state random (place + 1)) (range_with_len 0 7)
+
+-- where the counter of a seed source starts, by a global seed and a second random word
+unfoldable pub source_start : ℕ → ℕ → ℕ
+source_start global random = mix false (bit_xor ((1 + random) % 2 ^ 64) 0x4d5a2da51de1aa47) (bit_xor global 0xa0761d6478bd642f)
+
+-- the counter after one answer more
+abbrev pub source_next : ℕ → ℕ
+source_next counter = (counter + 0x2d358dccaa6c78a5) % 2 ^ 64
+
+-- what a seed source answers at a counter
+unfoldable pub source_answer : ℕ → ℕ → ℕ
+source_answer random counter = bit_xor counter (mix false (bit_xor counter 0x4b33a62ed433d4a3) (bit_xor random 0x8bb84b93962eacc9))

@@ -1,7 +1,7 @@
 //! Secrets made of a seed: the arithmetic behind every `RapidSecrets`, and the type of V2 and V3.
 
 ghost use Rattle.std.specs.Prelude.{◌≡◌, ◌<◌, ◌≤◌, ℕ, length, slice_index};
-ghost use Rattle.rapidhash_portable.specs.Secrets.{IsGood, chained_secrets, cpp_seeded, default_secrets, premixed, repaired, seeded, seeded_secrets, reseeded, with_bit};
+ghost use Rattle.rapidhash_portable.specs.Secrets.{IsGood, chained_secrets, cpp_seeded, default_secrets, global_seed, made_secrets, premixed, repaired, seeded, seeded_secrets, reseeded, with_bit};
 
 use crate::util::rapid_mix;
 
@@ -80,6 +80,9 @@ pub(crate) const DEFAULT_SECRETS: [u64; 7] = [
     0x90ed_1765_281c_388c,
 ];
 
+/// What the global seed is mixed with.
+const GLOBAL_MASK: u64 = 0xbdd8_9aa9_8270_4029;
+
 /// The word, with `bit` set where it has no bit of `mask`.
 #[tactic(auto, using(std::proofs::lemmas::Bool::Decides::nat_tests), unfolding(crate::specs::Secrets::with_bit))]
 fn with_bit(word: u64, mask: u64, bit: u64) -> u64
@@ -151,4 +154,27 @@ pub(crate) fn reseed_of(seed: u64, place: usize) -> u64
     ensures good { IsGood result }
 {
     premix(seed, place)
+}
+
+/// The global seed that a random word gives.
+#[tactic(auto, unfolding(crate::specs::Secrets::global_seed))]
+pub(crate) fn global_seed_of(random: u64) -> u64
+    ensures { result ≡ global_seed random }
+{
+    rapid_mix::<false>(random ^ DEFAULT_SECRETS[0], GLOBAL_MASK)
+}
+
+/// The seven secrets that a random word makes, each of the one before.
+pub(crate) fn made_secrets(random: u64) -> [u64; 7]
+    ensures value { result ≡ made_secrets random }
+    ensures good { (i : ℕ) → i < 7 → IsGood (slice_index result i) }
+{
+    let mut secrets = [0; 7];
+    let mut state = rapid_mix::<false>(random ^ DEFAULT_SECRETS[2], DEFAULT_SECRETS[1]);
+    for place in 0..7 {
+        let mask = random ^ DEFAULT_SECRETS[place];
+        state = repair(rapid_mix::<false>(state ^ DEFAULT_SECRETS[0], mask));
+        secrets[place] = state;
+    }
+    secrets
 }

@@ -1,0 +1,19 @@
+-- Secrets and sources of random words, seen from outside.
+use Rattle.std.specs.Prelude.{ℕ, List}
+use Rattle.rapidhash_portable.specs.declared.seeding.GlobalSecrets.{GlobalSecrets}
+use Rattle.rapidhash_portable.specs.declared.seeding.SeedSource.{SeedSource}
+
+-- the global seed
+abbrev pub seed_of : GlobalSecrets → ℕ
+seed_of secrets = secrets.seed
+
+-- the seven made secrets
+abbrev pub secrets_of : GlobalSecrets → List ℕ
+secrets_of secrets = secrets.secrets
+
+-- the counter of a source, and its random word
+abbrev pub counter_of : SeedSource → ℕ
+counter_of source = source.counter
+
+abbrev pub random_of : SeedSource → ℕ
+random_of source = source.random

@@ -1,0 +1,93 @@
+//! Secrets and seeds made of random words. Nothing here is global: the caller hands the words in,
+//! keeps the values, and lends them to what hashes with them.
+
+ghost use Rattle.std.specs.Prelude.{◌≡◌, ◌<◌, ℕ, length, slice_index};
+
+use crate::secrets::{DEFAULT_SECRETS, global_seed_of, made_secrets};
+use crate::util::rapid_mix;
+
+/// A seed and seven secrets, made of one random word: what a program makes once, and lends to every
+/// hasher.
+///
+/// ```
+/// let secrets = GlobalSecrets::new(random_word);
+/// let seed = secrets.get_global_seed();
+/// ```
+#[derive(Debug, Clone, Copy, PartialEq, Eq)]
+pub struct GlobalSecrets {
+    seed: u64,
+    secrets: [u64; 7],
+}
+
+impl GlobalSecrets {
+    ghost use Rattle.rapidhash_portable.specs.Seeding.{seed_of, secrets_of};
+    ghost use Rattle.rapidhash_portable.specs.Secrets.{IsGood, global_seed, made_secrets};
+
+    /// The seed and secrets of a random word. Two calls with one word give one value.
+    pub fn new(random: u64) -> Self
+        ensures seed { seed_of result ≡ global_seed random }
+        ensures secrets { secrets_of result ≡ made_secrets random }
+        ensures good { (i : ℕ) → i < 7 → IsGood (slice_index (secrets_of result) i) }
+    {
+        GlobalSecrets {
+            seed: global_seed_of(random),
+            secrets: made_secrets(random),
+        }
+    }
+
+    /// The seven secrets.
+    #[inline]
+    pub fn get(&self) -> &[u64; 7]
+        ensures { result.now ≡ secrets_of self.now }
+    {
+        &self.secrets
+    }
+
+    /// The seed.
+    #[inline]
+    pub fn get_global_seed(&self) -> u64
+        ensures { result ≡ seed_of self.now }
+    {
+        self.seed
+    }
+}
+
+/// A source of seeds that differ from call to call: a counter, mixed with a second random word.
+///
+/// ```
+/// let mut source = SeedSource::new(&secrets, second_random_word);
+/// let seed = source.next();
+/// ```
+#[derive(Drop)]
+pub struct SeedSource {
+    counter: u64,
+    random: u64,
+}
+
+#[tactic(auto, unfolding(crate::specs::Secrets::source_start, crate::specs::Secrets::source_answer))]
+impl SeedSource {
+    ghost use Rattle.rapidhash_portable.specs.Seeding.{counter_of, random_of, seed_of};
+    ghost use Rattle.rapidhash_portable.specs.Secrets.{source_answer, source_next, source_start};
+
+    /// The source of a seed and a second random word.
+    pub fn new(secrets: &GlobalSecrets, random: u64) -> Self
+        ensures counter { counter_of result ≡ source_start (seed_of secrets.now) random }
+        ensures random { random_of result ≡ random }
+    {
+        let first = random.wrapping_add(1) ^ DEFAULT_SECRETS[3];
+        let counter = rapid_mix::<false>(first, secrets.seed ^ DEFAULT_SECRETS[4]);
+        SeedSource { counter, random }
+    }
+
+    /// The next seed.
+    pub fn next(&mut self) -> u64
+        ensures counter { counter_of self.new ≡ source_next (counter_of self.old) }
+        ensures answer { result ≡ source_answer (random_of self.old) (counter_of self.new) }
+        ensures random { random_of self.new ≡ random_of self.old }
+    {
+        let counter = self.counter.wrapping_add(DEFAULT_SECRETS[0]);
+        self.counter = counter;
+        let mask = self.random ^ DEFAULT_SECRETS[1];
+        counter ^ rapid_mix::<false>(counter ^ DEFAULT_SECRETS[2], mask)
+    }
+}
