@@ -1,0 +1,53 @@
+//! Replays vector files: reads cases whose values come from the Rust crate (see data/README.md), and
+//! compares the definitions and the fast bodies with each. It prints a line of counts for each file
+//! named in its words, the cases that differ on standard error, and ends with status 1 where one
+//! does.
+#![tactic(auto)]
+
+mod bulk;
+mod rules;
+mod seeds;
+mod tally;
+
+use anyhow::{Context, Result, bail};
+use std::rt::{Env, Files};
+use std::{env, fs};
+use tally::Tally;
+
+fn main(rt: HostRuntime) -> Result<()> {
+    let mut differing = 0u64;
+    for word in env::args(&rt)?.skip(1) {
+        let tally = replay(&rt, word.as_str())?;
+        println!(rt; "{}: {tally}", word.as_str())?;
+        differing = differing.saturating_add(tally.differing());
+    }
+    if differing > 0 {
+        bail!("{differing} values differ");
+    }
+    Ok(())
+}
+
+/// Replays one file, by the kind of cases that its column names tell.
+fn replay(rt: &(impl Files + Print + Eprint + AllocGlobal), name: &str) -> Result<Tally> {
+    let text = fs::read_to_string(rt, name).context(format_args!("reading {name}"))?;
+    let mut lines = text.lines().filter(|line| !line.starts_with("#"));
+    let Some(columns) = lines.next() else {
+        bail!("{name} has no column names");
+    };
+    let mut tally = Tally::new();
+    for line in lines {
+        let case = match columns {
+            bulk::COLUMNS => bulk::replay(rt.alloc(), line)?,
+            bulk::MEMORY_COLUMNS => bulk::replay_memory(rt.alloc(), line)?,
+            seeds::COLUMNS => seeds::replay(rt.alloc(), line)?,
+            seeds::RESEED_COLUMNS => seeds::replay_reseed(rt.alloc(), line)?,
+            seeds::MADE_COLUMNS => seeds::replay_made(rt.alloc(), line)?,
+            seeds::SOURCE_COLUMNS => seeds::replay_source(rt.alloc(), line)?,
+            _ => bail!("no cases with the columns {columns}"),
+        };
+        if tally.differs(case) {
+            rt.eprintln(format_args!("{name}: {line}"))?;
+        }
+    }
+    Ok(tally)
+}

@@ -1,0 +1,147 @@
+//! Cases of secrets made of a seed or of random words.
+
+use crate::rules::number;
+use crate::tally::Agreement;
+use anyhow::{Result, bail};
+use rapidhash_portable::seeding::{GlobalSecrets, SeedSource};
+use rapidhash_portable::{v1, v2, v3};
+use rapidhash_vectors::plain;
+use std::alloc::{AllocError, Global};
+
+/// The columns of a file of secrets.
+pub const COLUMNS: &str = "form\tcall\tnumber\texpected";
+
+/// The columns of a file of V1's `reseed`.
+pub const RESEED_COLUMNS: &str = "number\texpected";
+
+/// The columns of a file of made secrets.
+pub const MADE_COLUMNS: &str = "random_word\texpected";
+
+/// The columns of a file of seed sources.
+pub const SOURCE_COLUMNS: &str = "random_word\tsecond_word\texpected";
+
+/// A seed, and then secrets.
+fn listed(alloc: Global, seed: u64, secrets: &[u64]) -> Result<Vec<u64>, AllocError> {
+    let mut words = Vec::new(alloc);
+    words.push(seed)?;
+    words.extend_from_slice(secrets)?;
+    Ok(words)
+}
+
+/// What the library's calls make.
+fn made(alloc: Global, form: &str, call: &str, number: u64) -> Result<Vec<u64>> {
+    let seven = match (form, call) {
+        ("v1", "seed") => {
+            let made = v1::RapidSecrets::seed(number);
+            return Ok(listed(alloc, made.seed, &made.secrets)?);
+        }
+        ("v1", "seed_cpp") => {
+            let made = v1::RapidSecrets::seed_cpp(number);
+            return Ok(listed(alloc, made.seed, &made.secrets)?);
+        }
+        ("v1", "seed then reseed") => {
+            let made = v1::RapidSecrets::seed(number).reseed();
+            return Ok(listed(alloc, made.seed, &made.secrets)?);
+        }
+        ("v2", "seed") => v2::RapidSecrets::seed(number),
+        ("v2", "seed_cpp") => v2::RapidSecrets::seed_cpp(number),
+        ("v2", "seed then reseed") => v2::RapidSecrets::seed(number).reseed(),
+        ("v3", "seed") => v3::RapidSecrets::seed(number),
+        ("v3", "seed_cpp") => v3::RapidSecrets::seed_cpp(number),
+        ("v3", "seed then reseed") => v3::RapidSecrets::seed(number).reseed(),
+        _ => bail!("no call {call} of {form}"),
+    };
+    Ok(listed(alloc, seven.seed, &seven.secrets)?)
+}
+
+/// What the definitions make.
+fn defined(alloc: Global, form: &str, call: &str, number: u64) -> Result<Vec<u64>, AllocError> {
+    let default = v3::DEFAULT_RAPID_SECRETS.secrets;
+    let (count, first, last) = if form == "v1" { (3, 0, 2) } else { (7, 2, 6) };
+    if call == "seed_cpp" {
+        return listed(alloc, plain::cpp_seeded(first, number), &default[..count]);
+    }
+    let seed = plain::seeded(number);
+    let mut words = Vec::new(alloc);
+    words.push(if call == "seed" {
+        seed
+    } else {
+        plain::reseeded(last, seed)
+    })?;
+    for place in 0..count {
+        words.push(plain::chained(seed, place + 1))?;
+    }
+    Ok(words)
+}
+
+/// Numbers in one field.
+fn numbers(alloc: Global, field: &str) -> Result<Vec<u64>> {
+    let mut all = Vec::new(alloc);
+    for text in field.split_whitespace() {
+        all.push(number(text)?)?;
+    }
+    Ok(all)
+}
+
+/// Whether two lists are one, for the library's calls and for the definitions.
+fn agreement(expected: &[u64], defined: &[u64], made: &[u64]) -> Agreement {
+    Agreement {
+        definition: defined == expected,
+        body: made == expected,
+        compact: made == expected,
+    }
+}
+
+/// Replays a call that makes secrets of a number.
+pub fn replay(alloc: Global, line: &str) -> Result<Agreement> {
+    let fields: Vec<&str> = line.split("\t").collect(alloc)?;
+    let [form, call, of, expected] = fields.as_slice() else {
+        bail!("no four fields: {line}");
+    };
+    compare(alloc, form, call, of, expected)
+}
+
+/// Replays V1's `reseed`.
+pub fn replay_reseed(alloc: Global, line: &str) -> Result<Agreement> {
+    let fields: Vec<&str> = line.split("\t").collect(alloc)?;
+    let [of, expected] = fields.as_slice() else {
+        bail!("no two fields: {line}");
+    };
+    compare(alloc, "v1", "seed then reseed", of, expected)
+}
+
+fn compare(alloc: Global, form: &str, call: &str, of: &str, expected: &str) -> Result<Agreement> {
+    let expected = numbers(alloc, expected)?;
+    let defined = defined(alloc, form, call, number(of)?)?;
+    let made = made(alloc, form, call, number(of)?)?;
+    Ok(agreement(expected.as_slice(), defined.as_slice(), made.as_slice()))
+}
+
+/// Replays the secrets made of a random word.
+pub fn replay_made(alloc: Global, line: &str) -> Result<Agreement> {
+    let fields: Vec<&str> = line.split("\t").collect(alloc)?;
+    let [random, expected] = fields.as_slice() else {
+        bail!("no two fields: {line}");
+    };
+    let expected = numbers(alloc, expected)?;
+    let made = GlobalSecrets::new(number(random)?);
+    let secrets: &[u64] = made.get();
+    Ok(agreement(expected.as_slice(), secrets, secrets))
+}
+
+/// Replays a global seed, and the answers of a seed source.
+pub fn replay_source(alloc: Global, line: &str) -> Result<Agreement> {
+    let fields: Vec<&str> = line.split("\t").collect(alloc)?;
+    let [random, second, expected] = fields.as_slice() else {
+        bail!("no three fields: {line}");
+    };
+    let expected = numbers(alloc, expected)?;
+    let global = GlobalSecrets::new(number(random)?);
+    let mut source = SeedSource::new(&global, number(second)?);
+    let mut answers = Vec::new(alloc);
+    answers.push(global.get_global_seed())?;
+    for _ in 0..4u8 {
+        answers.push(source.next())?;
+    }
+    Ok(agreement(expected.as_slice(), answers.as_slice(), answers.as_slice()))
+}
