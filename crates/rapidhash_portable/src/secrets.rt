@@ -7,6 +7,7 @@ use crate::util::rapid_mix;
 
 /// A seed and the seven secrets of V2 and V3. Make one once and keep it: making it costs eight
 /// multiplies, and using it none.
+#[repr(C)]
 #[derive(Debug, Clone, Copy, PartialEq, Eq, Hash)]
 pub struct RapidSecrets {
     /// What every lane starts from.

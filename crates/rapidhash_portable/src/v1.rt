@@ -11,6 +11,7 @@ use crate::words::{last_16, short_words_v1};
 
 /// A seed and the three secrets of V1. Make one once and keep it: making it costs four multiplies
 /// or more, and using it none.
+#[repr(C)]
 #[derive(Debug, Clone, Copy, PartialEq, Eq, Hash)]
 pub struct RapidSecrets {
     /// What every lane starts from.

@@ -86,10 +86,8 @@ pub(crate) fn short_words_v3(bytes: &[u8]) -> (u64, u64)
     } else if n >= 4 {
         (read_u32(bytes, 0) as u64, read_u32(bytes, n - 4) as u64)
     } else if n > 0 {
-        (
-            ((bytes[0] as u64) << 45) | bytes[n - 1] as u64,
-            bytes[n / 2] as u64,
-        )
+        let (first, middle, last) = (bytes[0], bytes[n / 2], bytes[n - 1]);
+        ((first as u64) << 45 | last as u64, middle as u64)
     } else {
         (0, 0)
     }

@@ -1,19 +1,12 @@
 //! Cases of the bulk hashes and of the in-memory core.
 
-ghost use Rattle.std.specs.Prelude.{IfSome};
-ghost use Rattle.rapidhash_portable.specs.Form.{IsForm};
-
-use crate::rules::{Secrets, message, number, secrets_of};
+use crate::rules::{message, number, secrets_of};
 use crate::tally::Agreement;
 use anyhow::{Result, bail};
-use rapidhash_portable::form::{Form, Options};
-use rapidhash_portable::memory::memory_hash;
+use rapidhash_portable::form::Options;
 use rapidhash_portable::util::rapid_mix;
-use rapidhash_portable::v1::rapidhash_v1_inline;
-use rapidhash_portable::v2::rapidhash_v2_inline;
-use rapidhash_portable::v3::{
-    DEFAULT_RAPID_SECRETS, rapidhash_v3_inline, rapidhash_v3_micro_inline, rapidhash_v3_nano_inline,
-};
+use rapidhash_portable::v3::DEFAULT_RAPID_SECRETS;
+use rapidhash_vectors::bodies::{Version, body, defined, memory_body};
 use rapidhash_vectors::plain;
 use std::alloc::Global;
 
@@ -24,63 +17,18 @@ pub const COLUMNS: &str =
 /// The columns of a file of the in-memory core.
 pub const MEMORY_COLUMNS: &str = "avalanche\tprotected\tmessage\tlength\tsecrets\texpected";
 
-/// The form of a case.
-fn form_of(form: &str, bug: &str, minor: &str) -> Option<Form>
-    ensures { IfSome result (λ form. IsForm form) }
-{
-    match (form, minor) {
-        ("v1", _) => Some(Form::V1(bug == "1")),
-        ("v2", "0") => Some(Form::V2(0)),
-        ("v2", "1") => Some(Form::V2(1)),
-        ("v2", "2") => Some(Form::V2(2)),
-        ("v3", _) => Some(Form::V3(7)),
-        ("micro", _) => Some(Form::V3(5)),
-        ("nano", _) => Some(Form::V3(3)),
+/// The version of a case.
+fn version_of(form: &str, bug: &str, minor: &str) -> Option<Version> {
+    match (form, bug, minor) {
+        ("v1", "0", _) => Some(Version::V1),
+        ("v1", "1", _) => Some(Version::V1Bug),
+        ("v2", _, "0") => Some(Version::V2Minor0),
+        ("v2", _, "1") => Some(Version::V2Minor1),
+        ("v2", _, "2") => Some(Version::V2Minor2),
+        ("v3", _, _) => Some(Version::V3),
+        ("micro", _, _) => Some(Version::Micro),
+        ("nano", _, _) => Some(Version::Nano),
         _ => None,
-    }
-}
-
-/// The library's hash of a form.
-fn hash<const AVALANCHE: bool, const COMPACT: bool, const PROTECTED: bool>(
-    form: Form,
-    secrets: &Secrets,
-    bytes: &[u8],
-) -> u64 {
-    let three = &secrets.three;
-    let seven = &secrets.seven;
-    match form {
-        Form::V1(true) => rapidhash_v1_inline::<AVALANCHE, COMPACT, PROTECTED, true>(bytes, three),
-        Form::V1(false) => rapidhash_v1_inline::<AVALANCHE, COMPACT, PROTECTED, false>(
-            bytes, three,
-        ),
-        Form::V2(0) => rapidhash_v2_inline::<0, AVALANCHE, COMPACT, PROTECTED>(bytes, seven),
-        Form::V2(1) => rapidhash_v2_inline::<1, AVALANCHE, COMPACT, PROTECTED>(bytes, seven),
-        Form::V2(_) => rapidhash_v2_inline::<2, AVALANCHE, COMPACT, PROTECTED>(bytes, seven),
-        Form::V3(3) => rapidhash_v3_nano_inline::<AVALANCHE, PROTECTED>(bytes, seven),
-        Form::V3(5) => rapidhash_v3_micro_inline::<AVALANCHE, PROTECTED>(bytes, seven),
-        Form::V3(_) => rapidhash_v3_inline::<AVALANCHE, COMPACT, PROTECTED>(bytes, seven),
-    }
-}
-
-/// The library's hash of a form and options.
-fn body<const COMPACT: bool>(form: Form, options: Options, secrets: &Secrets, bytes: &[u8]) -> u64 {
-    match (options.avalanche, options.protected) {
-        (true, true) => hash::<true, COMPACT, true>(form, secrets, bytes),
-        (true, false) => hash::<true, COMPACT, false>(form, secrets, bytes),
-        (false, true) => hash::<false, COMPACT, true>(form, secrets, bytes),
-        (false, false) => hash::<false, COMPACT, false>(form, secrets, bytes),
-    }
-}
-
-/// The definition's value.
-fn defined(form: Form, options: Options, secrets: &Secrets, bytes: &[u8]) -> u64
-    requires { IsForm form }
-{
-    let three = &secrets.three;
-    let seven = &secrets.seven;
-    match form {
-        Form::V1(_) => plain::portable_hash(form, options, three.seed, &three.secrets, bytes),
-        _ => plain::portable_hash(form, options, seven.seed, &seven.secrets, bytes),
     }
 }
 
@@ -108,8 +56,8 @@ pub fn replay(alloc: Global, line: &str) -> Result<Agreement> {
     else {
         bail!("no nine fields: {line}");
     };
-    let Some(form) = form_of(form, bug, minor) else {
-        bail!("no form: {line}");
+    let Some(version) = version_of(form, bug, minor) else {
+        bail!("no version: {line}");
     };
     let options = options_of(avalanche, protected);
     let bytes = message(alloc, rule, number(length)?)?;
@@ -117,22 +65,10 @@ pub fn replay(alloc: Global, line: &str) -> Result<Agreement> {
     let expected = number(expected)?;
     let bytes = bytes.as_slice();
     Ok(Agreement {
-        definition: defined(form, options, &secrets, bytes) == expected,
-        body: body::<false>(form, options, &secrets, bytes) == expected,
-        compact: body::<true>(form, options, &secrets, bytes) == expected,
+        definition: defined(version, options, &secrets, bytes) == expected,
+        body: body::<false>(version, options, &secrets, bytes) == expected,
+        compact: body::<true>(version, options, &secrets, bytes) == expected,
     })
-}
-
-/// The core's value of some options.
-fn core<const COMPACT: bool>(options: Options, secrets: &Secrets, bytes: &[u8]) -> u64 {
-    let seed = secrets.seven.seed;
-    let words = &secrets.seven.secrets;
-    match (options.avalanche, options.protected) {
-        (true, true) => memory_hash::<true, COMPACT, true>(bytes, seed, words),
-        (true, false) => memory_hash::<true, COMPACT, false>(bytes, seed, words),
-        (false, true) => memory_hash::<false, COMPACT, true>(bytes, seed, words),
-        (false, false) => memory_hash::<false, COMPACT, false>(bytes, seed, words),
-    }
 }
 
 /// What the hasher answers of the core's value: with AVALANCHE it mixes once more, with the second
@@ -161,7 +97,7 @@ pub fn replay_memory(alloc: Global, line: &str) -> Result<Agreement> {
     let defined = plain::memory_hash(options, seven.seed, &seven.secrets, bytes);
     Ok(Agreement {
         definition: finished(options, defined) == expected,
-        body: finished(options, core::<false>(options, &secrets, bytes)) == expected,
-        compact: finished(options, core::<true>(options, &secrets, bytes)) == expected,
+        body: finished(options, memory_body::<false>(options, &secrets, bytes)) == expected,
+        compact: finished(options, memory_body::<true>(options, &secrets, bytes)) == expected,
     })
 }

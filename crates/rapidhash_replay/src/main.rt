@@ -1,10 +1,11 @@
 //! Replays vector files: reads cases whose values come from the Rust crate (see data/README.md), and
 //! compares the definitions and the fast bodies with each. It prints a line of counts for each file
 //! named in its words, the cases that differ on standard error, and ends with status 1 where one
-//! does.
+//! does. The word `--compare` compares bodies and definitions on bytes of the generator.
 #![tactic(auto)]
 
 mod bulk;
+mod compare;
 mod rules;
 mod seeds;
 mod tally;
@@ -17,6 +18,10 @@ use tally::Tally;
 fn main(rt: HostRuntime) -> Result<()> {
     let mut differing = 0u64;
     for word in env::args(&rt)?.skip(1) {
+        if word.as_str() == "--compare" {
+            differing = differing.saturating_add(compare::compare(&rt)?);
+            continue;
+        }
         let tally = replay(&rt, word.as_str())?;
         println!(rt; "{}: {tally}", word.as_str())?;
         differing = differing.saturating_add(tally.differing());

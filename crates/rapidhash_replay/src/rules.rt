@@ -4,6 +4,7 @@ use anyhow::{Context, Result, bail};
 use rapidhash::rng::RapidRng;
 use rapidhash_portable::seeding::{GlobalSecrets, SeedSource};
 use rapidhash_portable::{v1, v3};
+use rapidhash_vectors::bodies::Secrets;
 use std::alloc::Global;
 
 /// How the bytes of a message are told by their places.
@@ -23,13 +24,6 @@ enum Bytes {
     Sparse(u64),
     /// 255
     Ones,
-}
-
-/// The secrets that a rule gives to V1, and to the others.
-#[derive(Clone, Copy)]
-pub struct Secrets {
-    pub three: v1::RapidSecrets,
-    pub seven: v3::RapidSecrets,
 }
 
 fn bytes_rule(rule: &str) -> Result<Bytes> {
@@ -78,10 +72,44 @@ fn word_byte(seed: u64, i: u64) -> u8 {
 
 /// The message of a rule and a length.
 pub fn message(alloc: Global, rule: &str, length: u64) -> Result<Vec<u8>> {
+    if let Some(text) = rule.strip_prefix("text:") {
+        return written(alloc, text, length);
+    }
+    if let Some(places) = rule.strip_prefix("at:") {
+        return placed(alloc, places, length);
+    }
     let rule = bytes_rule(rule)?;
     let mut bytes = Vec::new(alloc);
     for i in 0..length {
         bytes.push(byte_at(rule, i, length))?;
+    }
+    Ok(bytes)
+}
+
+/// A text, in which `\\n` stands for a newline.
+fn written(alloc: Global, text: &str, length: u64) -> Result<Vec<u8>> {
+    let text = text.replace(alloc, "\\n", "\n")?;
+    if text.len() as u64 != length {
+        bail!("the text has {} bytes, not {length}", text.len());
+    }
+    Ok(text.as_bytes().to_vec(alloc)?)
+}
+
+/// Bytes that are 0, but for those at the places named, as in `0=1,16=2`.
+fn placed(alloc: Global, places: &str, length: u64) -> Result<Vec<u8>> {
+    let mut bytes = Vec::new(alloc);
+    for _ in 0..length {
+        bytes.push(0u8)?;
+    }
+    for pair in places.split(",").filter(|pair| !pair.is_empty()) {
+        let Some((place, value)) = pair.split_once("=") else {
+            bail!("no place and value in {pair}");
+        };
+        let value = u8::try_from(number(value)?).context("reading a byte")?;
+        match bytes.get_mut(usize::try_from(number(place)?)?) {
+            Some(byte) => *byte = value,
+            None => bail!("no place {place} in {length} bytes"),
+        }
     }
     Ok(bytes)
 }
@@ -108,6 +136,7 @@ pub fn secrets_of(rule: &str) -> Result<Secrets> {
         },
         "words" => drawn(number(words)?),
         "made" => made(words)?,
+        "bare" => bare(words)?,
         _ => bail!("no secrets by the rule {rule}"),
     })
 }
@@ -131,6 +160,24 @@ fn made(words: &str) -> Result<Secrets> {
     let mut source = SeedSource::new(&global, number(second)?);
     let [a, b, c, d, e, f, g] = *global.get();
     Ok(of_words([source.next(), a, b, c, d, e, f, g]))
+}
+
+/// A seed, and secrets that are 0, but for the places named behind it, as in `1` or `0,1=1`.
+fn bare(words: &str) -> Result<Secrets> {
+    let mut all = [0; 8];
+    for part in words.split(",") {
+        match part.split_once("=") {
+            None => all[0] = number(part)?,
+            Some((place, value)) => {
+                let place = usize::try_from(number(place)?)?;
+                if place >= 7 {
+                    bail!("no secret {place}");
+                }
+                all[place + 1] = number(value)?;
+            }
+        }
+    }
+    Ok(of_words(all))
 }
 
 /// A seed, and then the secrets.

@@ -2,7 +2,10 @@
 //!
 //! [`plain`] computes each definition as it is written, lane after lane, each over its own column;
 //! its contracts are the definitions themselves. Through it the definitions are run and compared
-//! with known values, and the fast bodies with both.
+//! with known values, and the fast bodies ([`bodies`]) with both.
 #![tactic(auto)]
 
+pub mod bodies;
 pub mod plain;
+#[cfg(test)]
+mod tests;

@@ -1,0 +1,123 @@
+//! Compares bodies with definitions, and forms with one another, on bytes of the generator.
+
+ghost use Rattle.std.specs.Prelude.{◌≤◌, length};
+
+use crate::rules::{message, secrets_of};
+use crate::tally::{Agreement, Tally};
+use anyhow::Result;
+use rapidhash_portable::form::Options;
+use rapidhash_vectors::bodies::{Secrets, Version, body, defined, memory_body};
+use rapidhash_vectors::plain;
+use std::alloc::Global;
+
+/// Every choice of options.
+const OPTIONS: [Options; 4] = [
+    Options {
+        avalanche: true,
+        protected: false,
+    },
+    Options {
+        avalanche: true,
+        protected: true,
+    },
+    Options {
+        avalanche: false,
+        protected: false,
+    },
+    Options {
+        avalanche: false,
+        protected: true,
+    },
+];
+
+/// Compares the definition and both bodies of a version, on the first `n` bytes for each `n`.
+fn version_agrees(version: Version, secrets: &Secrets, bytes: &[u8]) -> Tally {
+    let mut tally = Tally::new();
+    for n in 0..bytes.len() {
+        for options in OPTIONS {
+            let x = &bytes[..n];
+            let compact = body::<true>(version, options, secrets, x);
+            tally.differs(Agreement {
+                definition: defined(version, options, secrets, x) == compact,
+                body: body::<false>(version, options, secrets, x) == compact,
+                compact: true,
+            });
+        }
+    }
+    tally
+}
+
+/// The same of the in-memory core.
+fn core_agrees(secrets: &Secrets, bytes: &[u8]) -> Tally {
+    let seven = &secrets.seven;
+    let mut tally = Tally::new();
+    for n in 0..bytes.len() {
+        for options in OPTIONS {
+            let x = &bytes[..n];
+            let compact = memory_body::<true>(options, secrets, x);
+            let definition = plain::memory_hash(options, seven.seed, &seven.secrets, x);
+            tally.differs(Agreement {
+                definition: definition == compact,
+                body: memory_body::<false>(options, secrets, x) == compact,
+                compact: true,
+            });
+        }
+    }
+    tally
+}
+
+/// On how many lengths below the bytes' own two forms agree.
+fn lengths_agreed(first: Version, second: Version, secrets: &Secrets, bytes: &[u8]) -> usize
+    ensures { result ≤ length bytes.now }
+{
+    let [options, ..] = OPTIONS;
+    let mut agreed = 0;
+    for n in 0..bytes.len() {
+        let x = &bytes[..n];
+        let one = body::<false>(first, options, secrets, x);
+        if one == body::<false>(second, options, secrets, x) {
+            agreed += 1;
+        }
+    }
+    agreed
+}
+
+/// Prints a line for each form, and for each two forms that agree on some lengths; tells how many
+/// values differ from a definition.
+pub fn compare(rt: &(impl Print + AllocGlobal)) -> Result<u64> {
+    let secrets = secrets_of("seed:0")?;
+    let bytes = message(rt.alloc(), "rng:0", 1025)?;
+    let bytes = bytes.as_slice();
+    let mut differing = 0u64;
+    if bytes.len() == 1025 {
+        for version in Version::ALL {
+            let name = version.name();
+            let tally = version_agrees(version, &secrets, &bytes[..513]);
+            println!(rt; "{name} on lengths 0 to 512: {tally}")?;
+            differing = differing.saturating_add(tally.differing());
+        }
+        let tally = core_agrees(&secrets, bytes);
+        println!(rt; "in-memory core on lengths 0 to 1024: {tally}")?;
+        differing = differing.saturating_add(tally.differing());
+        print_agreements(rt, &secrets, &bytes[..513])?;
+    }
+    Ok(differing)
+}
+
+/// Prints on how many of the lengths 0 to 512 two forms agree.
+fn print_agreements(rt: &impl Print, secrets: &Secrets, bytes: &[u8]) -> Result<()> {
+    let pairs = [
+        (Version::V3, Version::Micro),
+        (Version::V3, Version::Nano),
+        (Version::V1, Version::V1Bug),
+        (Version::V2Minor0, Version::V2Minor1),
+        (Version::V2Minor1, Version::V2Minor2),
+    ];
+    for (first, second) in pairs {
+        let agreed = lengths_agreed(first, second, secrets, bytes);
+        let lengths = bytes.len();
+        let (one, other) = (first.name(), second.name());
+        println!(rt; "{one} and {other} agree on {agreed} of {lengths} lengths")?;
+    }
+    Ok(())
+}
