@@ -1,0 +1,53 @@
+//! Writers that fail.
+
+ghost use Rattle.std.specs.Prelude.{[], Some};
+
+use std::io::{Error, ErrorKind, Result, Write};
+
+/// Takes one byte a write, and fails at one write by its number.
+#[derive(Drop)]
+pub struct OneByteWriter {
+    /// The bytes that it took.
+    pub held: Vec<u8>,
+    /// How many writes it was asked for, the failing one among them.
+    pub writes: u64,
+    /// The number of the write that fails, from 1 on, or 0 for none. A failing write takes no byte,
+    /// and the next one goes on.
+    pub fails_at: u64,
+}
+
+impl Write for OneByteWriter {
+    ghost contents = { λ writer. Some writer.held.items };
+
+    fn write(&mut self, buf: &[u8]) -> Result<usize> {
+        self.writes = self.writes.saturating_add(1);
+        if self.writes == self.fails_at {
+            return Err(Error::from(ErrorKind::Other));
+        }
+        let Some(byte) = buf.first() else {
+            return Ok(0);
+        };
+        self.held.push(*byte)?;
+        Ok(1)
+    }
+
+    fn flush(&mut self) -> Result<()> {
+        Ok(())
+    }
+}
+
+/// Takes no byte, and answers so without an error.
+#[derive(Debug, Clone, Copy, PartialEq, Eq)]
+pub struct FullWriter;
+
+impl Write for FullWriter {
+    ghost contents = { λ writer. Some [] };
+
+    fn write(&mut self, _buf: &[u8]) -> Result<usize> {
+        Ok(0)
+    }
+
+    fn flush(&mut self) -> Result<()> {
+        Ok(())
+    }
+}
