@@ -1,6 +1,4 @@
-//! Compares bodies with definitions, and forms with one another, on bytes of the generator.
-
-ghost use Rattle.std.specs.Prelude.{◌≤◌, length};
+//! Compares bodies with definitions, and versions with one another, on bytes of the generator.
 
 use crate::rules::{message, secrets_of};
 use crate::tally::{Agreement, Tally};
@@ -66,23 +64,21 @@ fn core_agrees(secrets: &Secrets, bytes: &[u8]) -> Tally {
     tally
 }
 
-/// On how many lengths below the bytes' own two forms agree.
-fn lengths_agreed(first: Version, second: Version, secrets: &Secrets, bytes: &[u8]) -> usize
-    ensures { result ≤ length bytes.now }
-{
+/// On how many lengths below the bytes' own two versions agree.
+fn lengths_agreed(first: Version, second: Version, secrets: &Secrets, bytes: &[u8]) -> u64 {
     let [options, ..] = OPTIONS;
-    let mut agreed = 0;
+    let mut agreed = 0u64;
     for n in 0..bytes.len() {
         let x = &bytes[..n];
         let one = body::<false>(first, options, secrets, x);
         if one == body::<false>(second, options, secrets, x) {
-            agreed += 1;
+            agreed = agreed.saturating_add(1);
         }
     }
     agreed
 }
 
-/// Prints a line for each form, and for each two forms that agree on some lengths; tells how many
+/// Prints a line for each version, and for each two that agree on some lengths; tells how many
 /// values differ from a definition.
 pub fn compare(rt: &(impl Print + AllocGlobal)) -> Result<u64> {
     let secrets = secrets_of("seed:0")?;
