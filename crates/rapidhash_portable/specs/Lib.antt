@@ -5,5 +5,7 @@ pub mod Lanes
 pub mod Memory
 pub mod Multiply
 pub mod Secrets
+pub mod Source
+pub mod Stream
 pub mod Tail
 pub mod Words

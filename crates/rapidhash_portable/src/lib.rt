@@ -10,6 +10,7 @@
 pub mod form;
 mod lanes;
 pub mod memory;
+pub mod reader;
 mod secrets;
 pub mod util;
 pub mod v1;
