@@ -11,6 +11,9 @@ ghost use Rattle.rapidhash_portable.specs.Hash.{portable_hash};
 ghost use Rattle.rapidhash_portable.specs.Secrets.{cpp_seeded, default_secrets};
 ghost use Rattle.rapidhash_portable.specs.Source.{ReadsOn, is_marked, reader_of};
 
+#[cfg(test)]
+mod tests;
+
 use super::stream::RapidStreamHasherInlineV3;
 use crate::reader::Source;
 use crate::secrets::{DEFAULT_RAPID_SECRETS, RapidSecrets};
