@@ -1,6 +1,10 @@
 pub mod Chains
 pub mod Columns
+pub mod Finishing
 pub mod Hashes
+pub mod Pieces
+pub mod Reading
 pub mod Repairs
 pub mod Shorts
+pub mod Standings
 pub mod Tails

@@ -1,5 +1,5 @@
 -- Shapes, lanes and columns: each lane folds its own pairs, taken out of the whole message.
-use Rattle.std.specs.Prelude.{ℕ, ◌+◌, ◌-◌, ◌*◌, ◌/◌, ◌%◌, Bool, List, [], ◌++◌, map, fold, slice_index, bit_xor, nat_lt, if◌then◌else◌}
+use Rattle.std.specs.Prelude.{◌≡◌, ◌≤◌, ℕ, ◌+◌, ◌-◌, ◌*◌, ◌/◌, ◌%◌, Bool, List, [], ◌++◌, map, fold, slice_index, bit_xor, nat_lt, if◌then◌else◌}
 use Rattle.std.specs.List.{range_with_len}
 use Rattle.rapidhash_portable.specs.declared.form.Shape.{Shape}
 use Rattle.rapidhash_portable.specs.Bytes.{word64}
@@ -62,3 +62,9 @@ joined lanes = fold bit_xor 0 lanes
 unfoldable pub after_lanes : Bool → List ℕ → (ℕ → ℕ × ℕ) → Shape → ℕ → ℕ
 after_lanes protected secrets pair shape seed =
     joined (map (λ lane. lane_of protected (slice_index secrets lane) (column pair shape lane) seed) (range_with_len 0 shape.lanes))
+
+-- the numbers of lanes that a message in pieces may have: 3, 5 or 7
+pub record IsLaneCount (lanes : ℕ) : Type 0 where
+  pub least : 3 ≤ lanes
+  pub most : lanes ≤ 7
+  pub odd : lanes % 2 ≡ 1

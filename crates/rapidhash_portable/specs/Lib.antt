@@ -6,5 +6,7 @@ pub mod Memory
 pub mod Multiply
 pub mod Secrets
 pub mod Seeding
+pub mod Source
+pub mod Stream
 pub mod Tail
 pub mod Words

@@ -14,7 +14,7 @@ use crate::util::{rapid_mix, rapid_mum, read_u64};
 /// Folds a row of `WIDTH` pairs at the head of `row` into the first `WIDTH` lanes.
 #[inline(always)]
 #[tactic(auto, unfolding(crate::specs::Lanes::step))]
-fn fold_row<const LANES: usize, const WIDTH: usize, const PROTECTED: bool>(
+pub(crate) fn fold_row<const LANES: usize, const WIDTH: usize, const PROTECTED: bool>(
     lanes: &mut [u64; LANES],
     row: &[u8],
     secrets: &[u64],

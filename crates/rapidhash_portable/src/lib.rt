@@ -1,15 +1,22 @@
 //! The portable hashes of rapidhash, each proved equal to one definition in which every lane folds
 //! its own 16-byte pairs alone (`specs/Hash.antt`).
 //!
-//! [`v1`], [`v2`] and [`v3`] hold the hashes, [`seeding`] secrets and seeds made of random words, [`util`] the reads and the multiply that they stand
-//! on, [`form`] the types that the definition speaks of. The row kernel (`lanes`), the words that a
-//! message ends in (`words`) and the arithmetic of secrets (`secrets`) are private. [`memory`] is the core of the in-memory hasher, for the
-//! crate above alone: its values may change between versions, the portable ones never do.
+//! - [`v1`], [`v2`] and [`v3`] hold the hashes: of a slice, of pieces, of a reader.
+//! - [`reader`] holds the reader with a mark that the hashes of a reader take.
+//! - [`seeding`] makes secrets and seeds of random words.
+//! - [`util`] holds the reads and the multiply that all of it stands on.
+//! - [`form`] holds the types that the definition speaks of.
+//! - [`memory`] is the core of the in-memory hasher, for the crate above alone: its values may change
+//!   between versions, the portable ones never do.
+//!
+//! The row kernel (`lanes`), the words that a message ends in (`words`) and the arithmetic of
+//! secrets (`secrets`) are private.
 #![tactic(auto)]
 
 pub mod form;
 mod lanes;
 pub mod memory;
+pub mod reader;
 mod secrets;
 pub mod seeding;
 pub mod util;

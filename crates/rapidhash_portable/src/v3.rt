@@ -1,14 +1,27 @@
 //! rapidhash V3, and its relatives micro and nano, which differ from it in the number of lanes.
 
-ghost use Rattle.std.specs.Prelude.{◌≡◌, ◌<◌, ◌≤◌, ◌%◌, true, false, length};
+ghost use Rattle.std.specs.Prelude.{◌≡◌, ◌<◌, ◌≤◌, ◌%◌, ℕ, List, true, false, length, drop};
 ghost use Rattle.rapidhash_portable.specs.declared.form.Form.TheVariants.{V3};
-ghost use Rattle.rapidhash_portable.specs.Form.{v3, micro, nano, start_seed};
+ghost use Rattle.rapidhash_portable.specs.Form.{v3, micro, nano, shape_of, start_seed};
 ghost use Rattle.rapidhash_portable.specs.Hash.{portable_hash};
+ghost use Rattle.rapidhash_portable.specs.Lanes.{after_lanes, pair_of, row_bytes};
 ghost use Rattle.rapidhash_portable.specs.Secrets.{cpp_seeded, default_secrets};
+ghost use Rattle.rapidhash_portable.specs.Words.{last_16};
+
+mod readers;
+mod stream;
 
 use crate::lanes::{close, fold_tail, wide_lanes};
 pub use crate::secrets::{DEFAULT_RAPID_SECRETS, RapidSecrets};
 use crate::words::{last_16, short_words_v3};
+pub use readers::{
+    rapidhash_v3_file, rapidhash_v3_file_inline, rapidhash_v3_file_seeded, rapidhash_v3_file_sized,
+    rapidhash_v3_source, rapidhash_v3_source_sized,
+};
+pub use stream::{
+    RapidStreamHasherInlineMicro, RapidStreamHasherInlineNano, RapidStreamHasherInlineV3,
+    RapidStreamHasherLanes, RapidStreamHasherV3,
+};
 
 /// The hash of `bytes` with the default seed and secrets.
 ///
@@ -85,10 +98,12 @@ pub fn rapidhash_v3_nano_inline<const AVALANCHE: bool, const PROTECTED: bool>(
 
 /// The hash of `bytes` with an odd number of lanes.
 #[inline(always)]
-fn hash<const LANES: usize, const AVALANCHE: bool, const COMPACT: bool, const PROTECTED: bool>(
-    bytes: &[u8],
-    secrets: &RapidSecrets,
-) -> u64
+pub(crate) fn hash<
+    const LANES: usize,
+    const AVALANCHE: bool,
+    const COMPACT: bool,
+    const PROTECTED: bool,
+>(bytes: &[u8], secrets: &RapidSecrets) -> u64
     requires few { LANES ≤ 7 }
     requires odd { LANES % 2 ≡ 1 }
     ensures { result
@@ -136,8 +151,36 @@ fn long<const LANES: usize, const AVALANCHE: bool, const COMPACT: bool, const PR
     if bytes.len() > 16 * LANES {
         (seed, rest) = wide_lanes::<LANES, 1, COMPACT, PROTECTED>(bytes, seed, s);
     }
-    seed = fold_tail::<6, PROTECTED>(rest, &[s[2], s[2], s[1], s[1], s[2], s[1]], seed);
-    let t = rest.len() as u64;
-    let (a, b) = last_16(bytes);
-    close::<AVALANCHE, PROTECTED>((a ^ t, b), seed, s[1], (0xaaaa_aaaa_aaaa_aaaa, s[1] ^ t))
+    close_tail::<AVALANCHE, PROTECTED>(rest, bytes, seed, s)
+}
+
+/// The hash above 16 bytes, made of the joined lanes, the tail, and bytes that end in the message's
+/// last 16.
+#[inline(always)]
+pub(crate) fn close_tail<const AVALANCHE: bool, const PROTECTED: bool>(
+    tail: &[u8],
+    ending: &[u8],
+    joined: u64,
+    secrets: &[u64; 7],
+) -> u64
+    requires { 16 ≤ length ending.now }
+    ensures { (lanes seed : ℕ) (x : List ℕ) → 16 < length x →
+        tail.now ≡ drop (row_bytes (shape_of (V3 lanes) (length x))) x →
+        last_16 ending.now ≡ last_16 x →
+        joined ≡ after_lanes PROTECTED secrets.now (pair_of x) (shape_of (V3 lanes) (length x)) seed →
+        result
+        ≡ portable_hash (V3 lanes) (record { avalanche = AVALANCHE; protected = PROTECTED })
+        seed secrets.now x }
+{
+    let (second, third) = (secrets[1], secrets[2]);
+    let table = [third, third, second, second, third, second];
+    let seed = fold_tail::<6, PROTECTED>(tail, &table, joined);
+    let t = tail.len() as u64;
+    let (a, b) = last_16(ending);
+    close::<AVALANCHE, PROTECTED>(
+        (a ^ t, b),
+        seed,
+        second,
+        (0xaaaa_aaaa_aaaa_aaaa, second ^ t),
+    )
 }

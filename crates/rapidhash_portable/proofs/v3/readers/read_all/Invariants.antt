@@ -1,0 +1,13 @@
+use Rattle.std.proofs.Common.{◌≡◌, false, length, not, nat_eq}
+use Rattle.rapidhash_portable.specs.Source.{is_marked, reader_of}
+use Rattle.rapidhash_portable.specs.Stream.{StreamStandsFor, secrets_of}
+use Rattle.rapidhash_portable.proofs.Reading.{HaveRead}
+use Rattle.rapidhash_portable.proofs.v3.readers.read_all.Given as goal
+
+abbrev pub invariant-reads : goal.invariant-reads
+invariant-reads g l = record {
+  clean : is_marked l.source ≡ false;
+  secrets : secrets_of l.hasher ≡ l.secrets;
+  size : length l.buffer ≡ g.row.SIZE;
+  read : HaveRead (g.R.Read.remaining (reader_of l.fn.source)) (g.R.Read.remaining (reader_of l.source)) (λ x. StreamStandsFor (not (nat_eq g.row.PROTECTED 0)) l.hasher x) l.turn;
+}

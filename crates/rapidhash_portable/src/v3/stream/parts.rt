@@ -1,0 +1,149 @@
+//! The data of a stream hasher and all its code. What always holds of the data stands one level up,
+//! in `state`, and is a condition of each function here.
+//!
+//! The array `kept` holds 16 bytes that are folded already, then the new ones, so that the last 16
+//! bytes of any longer message lie in it side by side.
+
+ghost use Rattle.std.specs.Prelude.{◌≡◌, ◌+◌, ◌-◌, ◌*◌, ◌<◌, ◌≤◌, ◌++◌, ℕ, List, [], length, take, drop};
+ghost use Rattle.rapidhash_portable.specs.declared.form.Form.TheVariants.{V3};
+ghost use Rattle.rapidhash_portable.specs.Hash.{portable_hash};
+ghost use Rattle.rapidhash_portable.specs.Lanes.{IsLaneCount};
+
+use super::folded::Folded;
+use crate::lanes::join;
+use crate::secrets::RapidSecrets;
+use crate::v3::{close_tail, hash};
+
+/// The data of a stream hasher.
+#[derive(Drop)]
+pub(crate) struct Parts<'a, const LANES: usize> {
+    pub(crate) secrets: &'a RapidSecrets,
+    pub(crate) folded: Folded<LANES>,
+    /// Whether a chunk was folded.
+    pub(crate) any: bool,
+    /// The last 16 folded bytes, and then the new ones.
+    pub(crate) kept: [u8; 128],
+    /// How many bytes are new: a whole chunk of them is folded when a further byte comes.
+    pub(crate) len: usize,
+}
+
+/// The 16 bytes from `from` on.
+#[inline(always)]
+fn sixteen(bytes: &[u8], from: usize) -> [u8; 16]
+    requires { from + 16 ≤ length bytes.now }
+    ensures { result ≡ take 16 (drop from bytes.now) }
+{
+    let mut out = [0; 16];
+    out.copy_from_slice(&bytes[from..from + 16]);
+    out
+}
+
+impl<'a, const LANES: usize> Parts<'a, LANES> {
+    ghost use Rattle.rapidhash_portable.specs.Stream.{PartsStandFor};
+
+    /// The data of no bytes.
+    #[inline(always)]
+    pub(crate) fn new<const PROTECTED: bool>(secrets: &'a RapidSecrets) -> Self
+        ensures empty { PartsStandFor PROTECTED result [] }
+        ensures count { result.folded.count.steps ≡ 0 }
+        ensures secrets { result.secrets.now ≡ secrets.now }
+        ensures len { result.len ≡ 0 }
+    {
+        Parts {
+            secrets,
+            folded: Folded::new(secrets.seed),
+            any: false,
+            kept: [0; 128],
+            len: 0,
+        }
+    }
+
+    /// Adds a piece.
+    #[inline(always)]
+    pub(crate) fn write<const PROTECTED: bool>(&mut self, piece: &[u8])
+        requires lanes { IsLaneCount LANES }
+        requires fits { self.old.len ≤ 16 * LANES }
+        ensures adds { (x : List ℕ) → PartsStandFor PROTECTED self.old x → PartsStandFor PROTECTED self.new (x ++ piece.now) }
+        ensures secrets { self.new.secrets.now ≡ self.old.secrets.now }
+        ensures fits { self.new.len ≤ 16 * LANES }
+    {
+        if piece.len() <= 16 * LANES - self.len {
+            let start = 16 + self.len;
+            let end = start + piece.len();
+            self.kept[start..end].copy_from_slice(piece);
+            self.len += piece.len();
+        } else {
+            self.write_past::<PROTECTED>(piece);
+        }
+    }
+
+    /// Adds a piece that doesn't fit: fills the buffer and folds it, then folds every whole chunk
+    /// with a byte behind it where it stands, and keeps the rest and the 16 bytes before it.
+    #[inline(never)]
+    fn write_past<const PROTECTED: bool>(&mut self, piece: &[u8])
+        requires lanes { IsLaneCount LANES }
+        requires fits { self.old.len ≤ 16 * LANES }
+        requires past { 16 * LANES - self.old.len < length piece.now }
+        ensures adds { (x : List ℕ) → PartsStandFor PROTECTED self.old x → PartsStandFor PROTECTED self.new (x ++ piece.now) }
+        ensures secrets { self.new.secrets.now ≡ self.old.secrets.now }
+        ensures fits { self.new.len ≤ 16 * LANES }
+    {
+        let room = 16 * LANES - self.len;
+        let start = 16 + self.len;
+        self.kept[start..16 + 16 * LANES].copy_from_slice(&piece[..room]);
+        let kept: &[u8] = &self.kept;
+        self.folded
+            .step::<PROTECTED>(&kept[16..16 + 16 * LANES], &self.secrets.secrets);
+        self.any = true;
+        let count = (piece.len() - room - 1) / (16 * LANES);
+        'chunks: for i in 0..count {
+            let at = room + 16 * LANES * i;
+            self.folded
+                .step::<PROTECTED>(&piece[at..at + 16 * LANES], &self.secrets.secrets);
+        }
+        let end = room + 16 * LANES * count;
+        let carried = if count == 0 {
+            sixteen(&self.kept, 16 * LANES)
+        } else {
+            sixteen(piece, end - 16)
+        };
+        self.kept[..16].copy_from_slice(&carried);
+        let tail = &piece[end..];
+        self.kept[16..16 + tail.len()].copy_from_slice(tail);
+        self.len = tail.len();
+    }
+
+    /// The hash of the message that was written. A message without a chunk stands whole in the
+    /// buffer.
+    #[inline(always)]
+    pub(crate) fn finish<const AVALANCHE: bool, const PROTECTED: bool>(&self) -> u64
+        requires lanes { IsLaneCount LANES }
+        requires fits { self.now.len ≤ 16 * LANES }
+        ensures { (x : List ℕ) → PartsStandFor PROTECTED self.now x →
+            result
+            ≡ portable_hash (V3 LANES) (record { avalanche = AVALANCHE; protected = PROTECTED })
+            self.now.secrets.now.seed self.now.secrets.now.secrets x }
+    {
+        let kept: &[u8] = &self.kept;
+        let new = &kept[16..16 + self.len];
+        if !self.any {
+            return hash::<LANES, AVALANCHE, false, PROTECTED>(new, self.secrets);
+        }
+        let joined = join::<LANES>(&self.folded.lanes());
+        let ending = &kept[..16 + self.len];
+        close_tail::<AVALANCHE, PROTECTED>(new, ending, joined, &self.secrets.secrets)
+    }
+
+    /// Starts again with no bytes.
+    #[inline(always)]
+    pub(crate) fn reset<const PROTECTED: bool>(&mut self)
+        ensures empty { PartsStandFor PROTECTED self.new [] }
+        ensures count { self.new.folded.count.steps ≡ 0 }
+        ensures secrets { self.new.secrets.now ≡ self.old.secrets.now }
+        ensures len { self.new.len ≡ 0 }
+    {
+        self.folded.clear(self.secrets.seed);
+        self.any = false;
+        self.len = 0;
+    }
+}

@@ -1,0 +1,61 @@
+//! The data of a stream hasher, and what always holds of it. Each method is one line: code goes into
+//! `parts`.
+
+ghost use Rattle.std.specs.Prelude.{◌≡◌, ◌*◌, ◌≤◌, ◌++◌, ℕ, List, []};
+ghost use Rattle.rapidhash_portable.specs.declared.form.Form.TheVariants.{V3};
+ghost use Rattle.rapidhash_portable.specs.Hash.{portable_hash};
+ghost use Rattle.rapidhash_portable.specs.Lanes.{IsLaneCount};
+
+use super::parts::Parts;
+use crate::secrets::RapidSecrets;
+
+/// The data of a stream hasher, of which at most one chunk is buffered.
+#[derive(Drop)]
+pub(crate) struct State<'a, const LANES: usize> {
+    parts: Parts<'a, LANES>,
+    ghost lanes: { IsLaneCount LANES },
+    ghost fits: { parts.len ≤ 16 * LANES },
+}
+
+impl<'a, const LANES: usize> State<'a, LANES> {
+    ghost use Rattle.rapidhash_portable.specs.Stream.{PartsStandFor};
+
+    #[inline(always)]
+    pub(crate) fn new<const PROTECTED: bool>(secrets: &'a RapidSecrets) -> Self
+        requires lanes { IsLaneCount LANES }
+        ensures empty { PartsStandFor PROTECTED result.parts [] }
+        ensures count { result.parts.folded.count.steps ≡ 0 }
+        ensures secrets { result.parts.secrets.now ≡ secrets.now }
+    {
+        State {
+            parts: Parts::new::<PROTECTED>(secrets),
+        }
+    }
+
+    #[inline(always)]
+    pub(crate) fn write<const PROTECTED: bool>(&mut self, piece: &[u8])
+        ensures adds { (x : List ℕ) → PartsStandFor PROTECTED self.old.parts x → PartsStandFor PROTECTED self.new.parts (x ++ piece.now) }
+        ensures secrets { self.new.parts.secrets.now ≡ self.old.parts.secrets.now }
+    {
+        self.parts.write::<PROTECTED>(piece);
+    }
+
+    #[inline(always)]
+    pub(crate) fn finish<const AVALANCHE: bool, const PROTECTED: bool>(&self) -> u64
+        ensures { (x : List ℕ) → PartsStandFor PROTECTED self.now.parts x →
+            result
+            ≡ portable_hash (V3 LANES) (record { avalanche = AVALANCHE; protected = PROTECTED })
+            self.now.parts.secrets.now.seed self.now.parts.secrets.now.secrets x }
+    {
+        self.parts.finish::<AVALANCHE, PROTECTED>()
+    }
+
+    #[inline(always)]
+    pub(crate) fn reset<const PROTECTED: bool>(&mut self)
+        ensures empty { PartsStandFor PROTECTED self.new.parts [] }
+        ensures count { self.new.parts.folded.count.steps ≡ 0 }
+        ensures secrets { self.new.parts.secrets.now ≡ self.old.parts.secrets.now }
+    {
+        self.parts.reset::<PROTECTED>();
+    }
+}
