@@ -132,7 +132,8 @@ fn short_seed<const LANES: usize>(len: usize, seed: u64) -> u64
     if len >= 4 { seed ^ len as u64 } else { seed }
 }
 
-/// The hash above 16 bytes. It stands out of line, so that a short message pays for no registers.
+/// The hash above 16 bytes. It stands out of line, so that a short message pays for no registers,
+/// and so do the rows, so that a message of none pays for no lanes.
 #[inline(never)]
 fn long<const LANES: usize, const AVALANCHE: bool, const COMPACT: bool, const PROTECTED: bool>(
     bytes: &[u8],
@@ -145,13 +146,30 @@ fn long<const LANES: usize, const AVALANCHE: bool, const COMPACT: bool, const PR
         ≡ portable_hash (V3 LANES) (record { avalanche = AVALANCHE; protected = PROTECTED })
         secrets.now.seed secrets.now.secrets bytes.now }
 {
-    let s = &secrets.secrets;
-    let mut seed = secrets.seed;
-    let mut rest = bytes;
     if bytes.len() > 16 * LANES {
-        (seed, rest) = wide_lanes::<LANES, 1, COMPACT, PROTECTED>(bytes, seed, s);
+        return after_rows::<LANES, AVALANCHE, COMPACT, PROTECTED>(bytes, secrets);
     }
-    close_tail::<AVALANCHE, PROTECTED>(rest, bytes, seed, s)
+    close_tail::<AVALANCHE, PROTECTED>(bytes, bytes, secrets.seed, &secrets.secrets)
+}
+
+/// The hash of a message that has a row.
+#[inline(never)]
+fn after_rows<
+    const LANES: usize,
+    const AVALANCHE: bool,
+    const COMPACT: bool,
+    const PROTECTED: bool,
+>(bytes: &[u8], secrets: &RapidSecrets) -> u64
+    requires long { 16 < length bytes.now }
+    requires some { 0 < LANES }
+    requires few { LANES ≤ 7 }
+    ensures { result
+        ≡ portable_hash (V3 LANES) (record { avalanche = AVALANCHE; protected = PROTECTED })
+        secrets.now.seed secrets.now.secrets bytes.now }
+{
+    let s = &secrets.secrets;
+    let (joined, tail) = wide_lanes::<LANES, 1, COMPACT, PROTECTED>(bytes, secrets.seed, s);
+    close_tail::<AVALANCHE, PROTECTED>(tail, bytes, joined, s)
 }
 
 /// The hash above 16 bytes, made of the joined lanes, the tail, and bytes that end in the message's

@@ -2,7 +2,7 @@
 
 use crate::rules::{message, secrets_of};
 use crate::tally::{Agreement, Tally};
-use anyhow::Result;
+use anyhow::{Result, bail};
 use rapidhash_portable::form::Options;
 use rapidhash_vectors::bodies::{Secrets, Version, body, defined, memory_body};
 use rapidhash_vectors::plain;
@@ -32,8 +32,8 @@ const OPTIONS: [Options; 4] = [
 fn version_agrees(version: Version, secrets: &Secrets, bytes: &[u8]) -> Tally {
     let mut tally = Tally::new();
     for n in 0..bytes.len() {
+        let x = &bytes[..n];
         for options in OPTIONS {
-            let x = &bytes[..n];
             let compact = body::<true>(version, options, secrets, x);
             tally.differs(Agreement {
                 definition: defined(version, options, secrets, x) == compact,
@@ -50,8 +50,8 @@ fn core_agrees(secrets: &Secrets, bytes: &[u8]) -> Tally {
     let seven = &secrets.seven;
     let mut tally = Tally::new();
     for n in 0..bytes.len() {
+        let x = &bytes[..n];
         for options in OPTIONS {
-            let x = &bytes[..n];
             let compact = memory_body::<true>(options, secrets, x);
             let definition = plain::memory_hash(options, seven.seed, &seven.secrets, x);
             tally.differs(Agreement {
@@ -83,24 +83,29 @@ fn lengths_agreed(first: Version, second: Version, secrets: &Secrets, bytes: &[u
 pub fn compare(rt: &(impl Print + AllocGlobal)) -> Result<u64> {
     let secrets = secrets_of("seed:0")?;
     let bytes = message(rt.alloc(), "rng:0", 1025)?;
-    let bytes = bytes.as_slice();
+    let Some(short) = bytes.as_slice().get(..513) else {
+        bail!("the message is too short");
+    };
+    let differing = print_versions(rt, &secrets, short)?;
+    let tally = core_agrees(&secrets, bytes.as_slice());
+    println!(rt; "in-memory core on lengths 0 to 1024: {tally}")?;
+    print_agreements(rt, &secrets, short)?;
+    Ok(differing.saturating_add(tally.differing()))
+}
+
+/// Compares every version on the lengths 0 to 512; tells how many values differ.
+fn print_versions(rt: &impl Print, secrets: &Secrets, bytes: &[u8]) -> Result<u64> {
     let mut differing = 0u64;
-    if bytes.len() == 1025 {
-        for version in Version::ALL {
-            let name = version.name();
-            let tally = version_agrees(version, &secrets, &bytes[..513]);
-            println!(rt; "{name} on lengths 0 to 512: {tally}")?;
-            differing = differing.saturating_add(tally.differing());
-        }
-        let tally = core_agrees(&secrets, bytes);
-        println!(rt; "in-memory core on lengths 0 to 1024: {tally}")?;
+    for version in Version::ALL {
+        let name = version.name();
+        let tally = version_agrees(version, secrets, bytes);
+        println!(rt; "{name} on lengths 0 to 512: {tally}")?;
         differing = differing.saturating_add(tally.differing());
-        print_agreements(rt, &secrets, &bytes[..513])?;
     }
     Ok(differing)
 }
 
-/// Prints on how many of the lengths 0 to 512 two forms agree.
+/// Prints on how many of the lengths 0 to 512 two versions agree.
 fn print_agreements(rt: &impl Print, secrets: &Secrets, bytes: &[u8]) -> Result<()> {
     let pairs = [
         (Version::V3, Version::Micro),

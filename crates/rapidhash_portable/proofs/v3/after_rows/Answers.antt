@@ -1,0 +1,9 @@
+use Rattle.std.proofs.Common.{length, refl}
+use Rattle.rapidhash_portable.specs.Form.{shape_of}
+use Rattle.rapidhash_portable.proofs.v3.after_rows.Goals as goal
+
+pub returns : goal.returns
+unfolding shape_of
+returns g c =
+    let rows = c.wide_lanes-joined.ensures in
+    c.close_tail.ensures g.row.LANES c.args.secrets.now.seed c.args.bytes.now c.requires.long rows.rest refl rows.joined
