@@ -4,6 +4,10 @@ pub use Rattle.rapidhash_portable.specs.Hash
 pub use Rattle.rapidhash_portable.specs.Lanes
 pub use Rattle.rapidhash_portable.specs.Multiply
 pub use Rattle.rapidhash_portable.specs.Secrets
+pub use Rattle.rapidhash_portable.specs.Seeding
+pub use Rattle.rapidhash_portable.specs.Source
+pub use Rattle.rapidhash_portable.specs.Stream
 pub use Rattle.rapidhash_portable.specs.Tail
 pub use Rattle.rapidhash_portable.specs.Words
 pub mod Generator
+pub mod Replay

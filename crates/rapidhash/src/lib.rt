@@ -1,7 +1,9 @@
 //! rapidhash as users name it.
 //!
 //! - [`v1`], [`v2`], [`v3`]: the portable hashes, whose values never change.
+//! - [`reader`]: the reader with a mark that the hashes of a reader take.
 //! - [`rng`]: a small generator.
+//! - [`laws`]: laws of the hashes, each as a call.
 //! - [`util`]: the reads and the multiply that the hashes stand on.
 //!
 //! ```
@@ -11,6 +13,7 @@
 //! ```
 #![tactic(auto)]
 
+pub mod laws;
 pub mod rng;
 
 pub use rapidhash_portable::{util, v1, v2, v3};

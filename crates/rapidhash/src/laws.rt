@@ -1,0 +1,63 @@
+//! Laws of the hashes, each as a call whose contract is the law.
+
+ghost use Rattle.std.specs.Prelude.{◌≡◌, IfOk};
+ghost use Rattle.rapidhash_portable.specs.Lanes.{IsLaneCount};
+ghost use Rattle.rapidhash.specs.Replay.{finishes};
+
+use rapidhash_portable::v3::{RapidSecrets, RapidStreamHasherLanes};
+use std::alloc::{AllocError, Allocator};
+
+/// A step of a run over a stream hasher.
+#[derive(Clone, Copy)]
+pub enum StreamOp<'d> {
+    /// Adds a piece to the message.
+    Write(&'d [u8]),
+    /// Asks for the hash of the message so far.
+    Finish,
+    /// Forgets the message.
+    Reset,
+}
+
+/// What V3's stream hasher answers to each `Finish` of a run, in order. The one refusal is want of
+/// memory for the answers, and then nothing is left behind.
+///
+/// ```
+/// let ops = [StreamOp::Write(b"hello"), StreamOp::Finish];
+/// let answers = replay::<_, true, false>(alloc, &secrets, &ops)?;
+/// ```
+pub fn replay<A: Allocator, const AVALANCHE: bool, const PROTECTED: bool>(
+    alloc: A,
+    secrets: &RapidSecrets,
+    ops: &[StreamOp<'_>],
+) -> Result<Vec<u64, A>, AllocError>
+    ensures { IfOk result (λ answers.
+        answers.items
+        ≡ finishes 7 (record { avalanche = AVALANCHE; protected = PROTECTED })
+        secrets.now.seed secrets.now.secrets ops.now) }
+{
+    replay_lanes::<A, 7, AVALANCHE, PROTECTED>(alloc, secrets, ops)
+}
+
+/// As [`replay`], with 7, 5 or 3 lanes: V3, micro or nano.
+pub fn replay_lanes<A: Allocator, const LANES: usize, const AVALANCHE: bool, const PROTECTED: bool>(
+    alloc: A,
+    secrets: &RapidSecrets,
+    ops: &[StreamOp<'_>],
+) -> Result<Vec<u64, A>, AllocError>
+    requires { IsLaneCount LANES }
+    ensures { IfOk result (λ answers.
+        answers.items
+        ≡ finishes LANES (record { avalanche = AVALANCHE; protected = PROTECTED })
+        secrets.now.seed secrets.now.secrets ops.now) }
+{
+    let mut answers = Vec::new(alloc);
+    let mut hasher = RapidStreamHasherLanes::<LANES, AVALANCHE, PROTECTED>::new(secrets);
+    for op in ops {
+        match *op {
+            StreamOp::Write(piece) => hasher.write(piece),
+            StreamOp::Finish => answers.push(hasher.finish())?,
+            StreamOp::Reset => hasher.reset(),
+        }
+    }
+    Ok(answers)
+}
