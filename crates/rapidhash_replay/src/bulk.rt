@@ -32,7 +32,8 @@ fn version_of(form: &str, bug: &str, minor: &str) -> Option<Version> {
     }
 }
 
-fn options_of(avalanche: &str, protected: &str) -> Options {
+/// The options of a case.
+pub fn options_of(avalanche: &str, protected: &str) -> Options {
     Options {
         avalanche: avalanche == "1",
         protected: protected == "1",

@@ -8,6 +8,7 @@ mod bulk;
 mod compare;
 mod rules;
 mod seeds;
+mod streams;
 mod tally;
 
 use anyhow::{Context, Result, bail};
@@ -44,6 +45,8 @@ fn replay(rt: &(impl Files + Print + Eprint + AllocGlobal), name: &str) -> Resul
         let case = match columns {
             bulk::COLUMNS => bulk::replay(rt.alloc(), line)?,
             bulk::MEMORY_COLUMNS => bulk::replay_memory(rt.alloc(), line)?,
+            streams::COLUMNS => streams::replay(rt.alloc(), line)?,
+            streams::LANES_COLUMNS => streams::replay_with_lanes(rt.alloc(), line)?,
             seeds::COLUMNS => seeds::replay(rt.alloc(), line)?,
             seeds::RESEED_COLUMNS => seeds::replay_reseed(rt.alloc(), line)?,
             seeds::MADE_COLUMNS => seeds::replay_made(rt.alloc(), line)?,

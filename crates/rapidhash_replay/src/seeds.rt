@@ -75,7 +75,7 @@ fn defined(alloc: Global, form: &str, call: &str, number: u64) -> Result<Vec<u64
 }
 
 /// Numbers in one field.
-fn numbers(alloc: Global, field: &str) -> Result<Vec<u64>> {
+pub fn numbers(alloc: Global, field: &str) -> Result<Vec<u64>> {
     let mut all = Vec::new(alloc);
     for text in field.split_whitespace() {
         all.push(number(text)?)?;

@@ -6,6 +6,7 @@
 #![tactic(auto)]
 
 pub mod bodies;
+pub mod counts;
 pub mod plain;
 #[cfg(test)]
 mod tests;
