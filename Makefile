@@ -1,8 +1,9 @@
 # make        proves and builds the tool, which bin/rapidhash runs
 # make check  proves everything from nothing, and runs all tests: what a push has to pass
+# make bench  measures the hashes, beside the Rust crate where RAPIDHASH_CRATE names its folder
 # make clean  removes what the builds left
 
-.PHONY: tool check clean
+.PHONY: tool check bench clean
 
 # The launcher builds what is missing or old. With no input the tool has little to do.
 tool:
@@ -10,6 +11,9 @@ tool:
 
 check:
 	@bash .ci/run
+
+bench:
+	@bench/run
 
 clean:
 	rm -rf crates/*/out build
