@@ -106,10 +106,10 @@ impl<'a, const LANES: usize> Parts<'a, LANES> {
                 .step::<PROTECTED>(&piece[at..at + 16 * LANES], &self.secrets.secrets);
         }
         let end = room + 16 * LANES * count;
-        let carried = if count == 0 {
-            sixteen(&self.kept, 16 * LANES)
-        } else {
+        let carried = if end >= 16 {
             sixteen(piece, end - 16)
+        } else {
+            sixteen(&self.kept, 16 * LANES)
         };
         self.kept[..16].copy_from_slice(&carried);
         let tail = &piece[end..];
