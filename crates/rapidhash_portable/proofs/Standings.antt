@@ -1,5 +1,5 @@
 -- How the data of a stream hasher follow a message as it grows, by chunks of 16 bytes for each lane.
-use Rattle.std.proofs.Common.{◌≡◌, ◌≢◌, ℕ, zero, suc, ◌+◌, ◌-◌, ◌*◌, ◌/◌, ◌%◌, ◌<◌, ◌≤◌, Bool, true, List, ◌++◌, length, get_or, take, drop, refl, sym, ap, ◌∙◌, arith, length-append, length-drop, zero-add}
+use Rattle.std.proofs.Common.{◌≡◌, ℕ, zero, suc, ◌+◌, ◌-◌, ◌*◌, ◌/◌, ◌%◌, ◌<◌, ◌≤◌, Bool, true, List, ◌++◌, length, get_or, take, drop, refl, sym, ap, ◌∙◌, arith, length-append, length-drop, zero-add}
 use Rattle.std.proofs.lemmas.List.{take-append-le, drop-append-le, drop-take, length-take-le, drop-drop}
 use Rattle.std.proofs.lemmas.Nat.{div-mul-add}
 use Rattle.std.proofs.lemmas.Bool.{lt-ltb}
@@ -195,8 +195,10 @@ carried_chunk c kept x m wide e =
 pub carried_piece : (x d : List ℕ) (k at : ℕ) → k ≡ length x + at → 16 ≤ at → take 16 (drop (at - 16) d) ≡ take 16 (drop (k - 16) (x ++ d))
 carried_piece x d k at e far = ap (λ (l : List ℕ). take 16 l) (sym (drop-behind x d (k - 16) (at - 16) (omega arith)))
 
+-- a place before byte 16 is in the first chunk
+pub few_bytes : (count size at : ℕ) → 16 ≤ size → size * count ≤ at → at < 16 → count ≡ 0
+few_bytes zero size at wide low few = refl
+few_bytes (suc count) size at wide low few = absurd (omega arith)
+
 pub no_more : (q k c : ℕ) → k ≡ 0 → (q + 1 + k) * c - 16 ≡ q * c + c - 16
 no_more q k c e = rw e (let f : (q + 1 + 0) * c - 16 ≡ q * c + c - 16 = omega arith in f)
-
-pub positive : (n : ℕ) → n ≢ 0 → 0 < n
-positive n h = omega (arith, h)

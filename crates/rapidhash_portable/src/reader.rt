@@ -17,11 +17,8 @@ use std::io::Read;
 ///
 /// ```
 /// let mut source = Source::new(file);
-/// match rapidhash_v3_source::<File, false>(&mut source, &DEFAULT_RAPID_SECRETS) {
-///     Ok(hash) => println!("{hash}"),
-///     Err(error) if source.failed() => return Err(error),
-///     Err(_) => println!("the input has no end"),
-/// }
+/// let answer = rapidhash_v3_source::<File, false>(&mut source, &DEFAULT_RAPID_SECRETS);
+/// let file_is_broken = source.failed();
 /// ```
 #[derive(Drop)]
 pub struct Source<R: Read> {

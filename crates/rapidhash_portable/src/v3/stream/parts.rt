@@ -3,6 +3,10 @@
 //!
 //! The array `kept` holds 16 bytes that are folded already, then the new ones, so that the last 16
 //! bytes of any longer message lie in it side by side.
+//!
+//! The loop over the chunks of a large piece is what speed rests on: touch it with `objdump` at
+//! hand. Lanes that are taken out of `self` into a local are packed into vectors and out again,
+//! which takes half as long again.
 
 ghost use Rattle.std.specs.Prelude.{◌≡◌, ◌+◌, ◌-◌, ◌*◌, ◌<◌, ◌≤◌, ◌++◌, ℕ, List, [], length, take, drop};
 ghost use Rattle.rapidhash_portable.specs.declared.form.Form.TheVariants.{V3};
@@ -102,10 +106,10 @@ impl<'a, const LANES: usize> Parts<'a, LANES> {
                 .step::<PROTECTED>(&piece[at..at + 16 * LANES], &self.secrets.secrets);
         }
         let end = room + 16 * LANES * count;
-        let carried = if count == 0 {
-            sixteen(&self.kept, 16 * LANES)
-        } else {
+        let carried = if end >= 16 {
             sixteen(piece, end - 16)
+        } else {
+            sixteen(&self.kept, 16 * LANES)
         };
         self.kept[..16].copy_from_slice(&carried);
         let tail = &piece[end..];

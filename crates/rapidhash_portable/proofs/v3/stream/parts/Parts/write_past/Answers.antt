@@ -1,27 +1,11 @@
-use Rattle.std.proofs.Common.{rules, ◌≡◌, ℕ, ◌+◌, ◌*◌, ◌<◌, ◌≤◌, ◌++◌, List, length, ◌-◌, ◌/◌, take, drop, refl, ap, sym, ◌∙◌, arith, add-zero, length-append}
+use Rattle.std.proofs.Common.{rules, ◌≡◌, ℕ, ◌+◌, ◌*◌, ◌++◌, List, length, ◌-◌, ◌/◌, take, drop, refl, ap, sym, ◌∙◌, arith, add-zero, length-append}
 use Rattle.std.proofs.lemmas.Slice.{overwrites}
 use Rattle.std.proofs.lemmas.List.{take_rest}
 use borrow.Rule.Slice.PartMut.{put_mid}
 use Rattle.rapidhash_portable.specs.Stream.{chunk_count}
-use Rattle.rapidhash_portable.proofs.Standings.{HaveFolded-filled, HaveFolded-more, PartsStandFor-rest, length-buffered, chunk_count-past, filled_chunk, carried_chunk, carried_piece, mul_some, drop-behind, no_more, positive}
+use Rattle.rapidhash_portable.proofs.Standings.{HaveFolded-filled, HaveFolded-more, PartsStandFor-rest, length-buffered, chunk_count-past, filled_chunk, carried_chunk, carried_piece, few_bytes, drop-behind, no_more}
 use Rattle.rapidhash_portable.proofs.v3.stream.parts.Parts.write_past.Goals as goal
-use Rattle.rapidhash_portable.proofs.v3.stream.parts.Parts.write_past.Goals.{then-count-eq0, else-count-eq0}
-
-pub overflow_sub-end : goal.overflow_sub-end
-overflow_sub-end g c =
-    let least = c.requires.lanes.least in
-    let count : ℕ = (length c.args.piece.now - (16 * g.row.LANES - c.args.self.now.len) - 1) / (16 * g.row.LANES) in
-    let far : 16 * g.row.LANES ≤ count * (16 * g.row.LANES) = mul_some count (16 * g.row.LANES) (positive count c.if-count-eq0.false) in
-    omega arith
-
-pub sixteen-carried-requires-else-count-eq0 : goal.sixteen-carried-requires-else-count-eq0
-sixteen-carried-requires-else-count-eq0 g c =
-    let least = c.requires.lanes.least in
-    let size : ℕ = 16 * g.row.LANES in
-    let count : ℕ = (length c.args.piece.now - (size - c.args.self.now.len) - 1) / size in
-    let far : size ≤ count * size = mul_some count size (positive count c.if-count-eq0.false) in
-    let low : size * count ≤ length c.args.piece.now - (size - c.args.self.now.len) - 1 = omega arith in
-    omega arith
+use Rattle.rapidhash_portable.proofs.v3.stream.parts.Parts.write_past.Goals.{then-end-ge16, else-end-ge16}
 
 pub chunks-init : goal.chunks-init
 chunks-init g c =
@@ -84,23 +68,19 @@ returns-clause-adds g c = λ x h.
     let running = rw done at (inv.folded x h) in
     let edge : (q + 1 + count) * size ≡ length x + end = omega arith in
     let rest : tail ≡ drop ((q + 1 + count) * size) (x ++ d) = take_rest d end ∙ sym (drop-behind x d ((q + 1 + count) * size) end edge) in
-    let carried : c.if-count-eq0.carried ≡ take 16 (drop ((q + 1 + count) * size - 16) (x ++ d)) = elim c.if-count-eq0.branch [
-      | then-count-eq0 w ↦ (
-          let none : (q + 1 + count) * size - 16 ≡ q * size + size - 16 = no_more q count size w.if-count-eq0.true in
+    let carried : c.if-end-ge16.carried ≡ take 16 (drop ((q + 1 + count) * size - 16) (x ++ d)) = elim c.if-end-ge16.branch [
+      | then-end-ge16 w ↦ w.carried-is ∙ w.sixteen-carried.ensures ∙ carried_piece x d ((q + 1 + count) * size) end edge w.if-end-ge16.true
+      | else-end-ge16 w ↦ (
+          let none : count ≡ 0 = few_bytes count size end (omega arith) (omega arith) w.if-end-ge16.false in
           let j : ℕ = 16 + size - (16 + s.len) in
           let first : take size (drop 16 c.chunks.self.kept) ≡ take size (drop (q * size) (x ++ d)) =
           filled_chunk _ s x d c.chunks.self.kept j c.requires.lanes h (omega arith) (omega arith) (omega arith)
           (inv.kept ∙ ap (λ (l : List ℕ). put_mid (16 + s.len) j s.kept l) c.copy_from_slice.ensures.after) in
-          w.carried-is ∙ w.sixteen-carried.ensures ∙ carried_chunk size c.chunks.self.kept (x ++ d) (q * size) (omega arith) first ∙ ap (λ (k : ℕ). take 16 (drop k (x ++ d))) (sym none)
-          )
-      | else-count-eq0 w ↦ (
-          let some : 0 < count = positive count w.if-count-eq0.false in
-          let far : size ≤ count * size = mul_some count size some in
-          w.carried-is ∙ w.sixteen-carried-else-count-eq0.ensures ∙ carried_piece x d ((q + 1 + count) * size) end edge (omega arith)
+          w.carried-is ∙ w.sixteen-carried-else-end-ge16.ensures ∙ carried_chunk size c.chunks.self.kept (x ++ d) (q * size) (omega arith) first ∙ ap (λ (k : ℕ). take 16 (drop k (x ++ d))) (sym (no_more q count size none))
           )
     ] in
     let kept' : List ℕ = put_mid 0 16 c.chunks.self.kept c.copy_from_slice-2.new.self in
-    let ec : kept' ≡ put_mid 0 16 c.chunks.self.kept c.if-count-eq0.carried = ap (λ (l : List ℕ). put_mid 0 16 c.chunks.self.kept l) c.copy_from_slice-2.ensures.after in
+    let ec : kept' ≡ put_mid 0 16 c.chunks.self.kept c.if-end-ge16.carried = ap (λ (l : List ℕ). put_mid 0 16 c.chunks.self.kept l) c.copy_from_slice-2.ensures.after in
     let et : put_mid 16 (16 + length tail - 16) kept' c.copy_from_slice-3.new.self ≡ put_mid 16 (16 + length tail - 16) kept' tail = ap (λ (l : List ℕ). put_mid 16 (16 + length tail - 16) kept' l) c.copy_from_slice-3.ensures.after in
     let lk' : length kept' ≡ 128 = search (rules, overwrites) in
-    PartsStandFor-rest _ c.chunks.self (x ++ d) c.if-count-eq0.carried tail kept' _ (q + 1 + count) 16 (16 + length tail - 16) running whole (omega arith) inv.any inv.size (omega arith) carried rest ec lk' et
+    PartsStandFor-rest _ c.chunks.self (x ++ d) c.if-end-ge16.carried tail kept' _ (q + 1 + count) 16 (16 + length tail - 16) running whole (omega arith) inv.any inv.size (omega arith) carried rest ec lk' et
