@@ -1,5 +1,9 @@
 //! Rows of known values that no data file carries: reads, products, secrets.
 
+use crate::counts::{counts_of_five, counts_of_seven, counts_of_three};
+use rapidhash::laws::{StreamOp, replay};
+use rapidhash::rng::{RapidRng, rapidrng_fast};
+use rapidhash_fakes::Rationed;
 use rapidhash_portable::seeding::{GlobalSecrets, SeedSource};
 use rapidhash_portable::util::{rapid_mix, rapid_mum, read_u32, read_u32_combined, read_u64};
 use rapidhash_portable::{v1, v2, v3};
@@ -105,4 +109,62 @@ fn hashes_with_default_secrets(rt: HostRuntime) {
         v3::rapidhash_v3_seeded(&[], &v3::DEFAULT_RAPID_SECRETS),
         232177599295442350
     );
+}
+
+/// The state 0 comes after one that is the step's negative; its word is 0.
+#[test]
+fn rapidrng_fast_of_known_states(rt: HostRuntime) {
+    let mut state = 0xd2ca_7233_5593_875c;
+    assert_eq!(rt; rapidrng_fast(&mut state), 0x8bb8_4b93_962e_acc8);
+    assert_eq!(rt; state, 1);
+    let mut before_zero = 0xd2ca_7233_5593_875b;
+    assert_eq!(rt; (rapidrng_fast(&mut before_zero), before_zero), (0, 0));
+    let mut rng = RapidRng::new(0xd2ca_7233_5593_875c);
+    assert_eq!(rt; rng.next(), 0x8bb8_4b93_962e_acc8);
+}
+
+/// The functions whose contracts are the counts of chunk steps hand back hashers that hash.
+#[test]
+fn counted_hashers_hash(rt: HostRuntime) {
+    let secrets = v3::DEFAULT_RAPID_SECRETS;
+    let bytes = [7; 241];
+    let seven = counts_of_seven(&secrets, &bytes).finish();
+    assert_eq!(rt; seven, v3::rapidhash_v3(&bytes));
+    let five = counts_of_five(&secrets, &bytes).finish();
+    assert_eq!(rt;
+        five,
+        v3::rapidhash_v3_micro_inline::<true, false>(&bytes, &secrets)
+    );
+    let three = counts_of_three(&secrets, &bytes).finish();
+    assert_eq!(rt;
+        three,
+        v3::rapidhash_v3_nano_inline::<true, false>(&bytes, &secrets)
+    );
+}
+
+/// Each request for memory refused in turn is the answer, until a run meets none.
+#[test]
+fn a_replay_tells_that_memory_was_refused(rt: HostRuntime) {
+    let ops = [
+        StreamOp::Finish,
+        StreamOp::Write(&[0]),
+        StreamOp::Finish,
+        StreamOp::Reset,
+    ];
+    let secrets = v3::RapidSecrets {
+        seed: 0,
+        secrets: [0; 7],
+    };
+    let mut requests = 0u64;
+    while requests < 9 {
+        let ration = Rationed::new(rt.alloc(), requests);
+        match replay::<_, true, false>(&ration, &secrets, &ops) {
+            Ok(answers) => {
+                assert_eq!(rt; answers.as_slice(), [0, 12297829382473034410].as_slice());
+                break;
+            }
+            Err(_) => requests += 1,
+        }
+    }
+    assert!(rt; requests > 0 && requests < 9);
 }
