@@ -29,6 +29,7 @@ mod ours {
         pub fn rapidhash_v3(bytes: *const u8, len: usize) -> u64;
         pub fn rapidhash_v3_micro(bytes: *const u8, len: usize) -> u64;
         pub fn rapidhash_v3_nano(bytes: *const u8, len: usize) -> u64;
+        pub fn rapidhash_v3_in_pieces(bytes: *const u8, len: usize, size: usize) -> u64;
     }
 }
 
@@ -98,6 +99,34 @@ fn forms() -> Vec<(&'static str, Hash, Option<Hash>)> {
     all
 }
 
+/// The stream hasher over 1 MiB, by pieces of several sizes: each a hash of its own.
+fn pieces() -> Vec<(usize, Hash, Option<Hash>)> {
+    macro_rules! sized {
+        ($($size:literal)*) => {
+            vec![$({
+                extern "C" fn ours(bytes: *const u8, len: usize) -> u64 {
+                    // SAFETY: the caller's pointer and length are a slice's own.
+                    unsafe { ours::rapidhash_v3_in_pieces(bytes, len, $size) }
+                }
+                #[cfg(with_crate)]
+                let theirs: Option<Hash> = Some(theirs::v3_in_pieces::<$size>);
+                #[cfg(not(with_crate))]
+                let theirs: Option<Hash> = None;
+                ($size, ours as Hash, theirs)
+            }),*]
+        };
+    }
+    sized!(16 64 112 1024 65536)
+}
+
+fn print_line(name: &str, size: usize, length: usize, times: &[f64]) {
+    print!("{name:<6} {size:>7} {:>9.2} {:>9.3}", times[0], length as f64 / times[0]);
+    for time in &times[1..] {
+        print!("  {time:>10.2} {:>11.3}", time / times[0]);
+    }
+    println!();
+}
+
 fn main() {
     let bytes: Vec<u8> = (0..1usize << 20).map(|i| (i * i % 251) as u8).collect();
     println!("form    length        ns      GB/s  crate's ns  crate/ours   XXH3 ns   XXH3/ours");
@@ -112,11 +141,18 @@ fn main() {
             #[cfg(with_xxhash)]
             hashes.push(XXH3_64bits);
             let times = least(&hashes, x);
-            print!("{name:<6} {length:>7} {:>9.2} {:>9.3}", times[0], length as f64 / times[0]);
-            for time in &times[1..] {
-                print!("  {time:>10.2} {:>11.3}", time / times[0]);
+            print_line(name, length, length, &times);
+        }
+    }
+    if std::env::args().len() < 2 || std::env::args().any(|it| it == "stream") {
+        for (size, ours, theirs) in pieces() {
+            let mut hashes = vec![ours];
+            if let Some(theirs) = theirs {
+                assert_eq!(call(ours, &bytes), call(theirs, &bytes), "pieces of {size} bytes");
+                hashes.push(theirs);
             }
-            println!();
+            let times = least(&hashes, &bytes);
+            print_line("stream", size, bytes.len(), &times);
         }
     }
 }

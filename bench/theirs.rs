@@ -38,3 +38,12 @@ extern "C" fn nano(bytes: *const u8, len: usize) -> u64 {
 
 /// In the order of the driver's own forms.
 pub const FORMS: [extern "C" fn(*const u8, usize) -> u64; 7] = [v1_hash, v2_0, v2_1, v2_2, v3_hash, micro, nano];
+
+/// V3's stream hasher, by pieces of one size.
+pub extern "C" fn v3_in_pieces<const SIZE: usize>(bytes: *const u8, len: usize) -> u64 {
+    let mut hasher = v3::RapidStreamHasherV3::new(&v3::DEFAULT_RAPID_SECRETS);
+    for piece in slice(bytes, len).chunks(SIZE) {
+        hasher.write(piece);
+    }
+    hasher.finish()
+}

@@ -5,7 +5,7 @@
  * any number of threads at once.
  *
  * What each call requires: `bytes` points to `len` readable bytes, `len` is below 2^63, and nothing
- * writes them during the call. For `len` 0 `bytes` may be any pointer but NULL. `secrets` points to a
+ * writes them during the call. For `len` 0 any pointer will do, NULL too. `secrets` points to a
  * seed and secrets that nothing writes during the call.
  *
  * Link with librapidhash_c.a (see the README).
@@ -46,6 +46,9 @@ uint64_t rapidhash_v2_2(const uint8_t *bytes, size_t len);
 uint64_t rapidhash_v3(const uint8_t *bytes, size_t len);
 uint64_t rapidhash_v3_micro(const uint8_t *bytes, size_t len);
 uint64_t rapidhash_v3_nano(const uint8_t *bytes, size_t len);
+
+/* V3 once more, through the stream hasher by pieces of `size` bytes, at least 1: the same hash. */
+uint64_t rapidhash_v3_in_pieces(const uint8_t *bytes, size_t len, size_t size);
 
 /* The hash with a seed and secrets of the caller's. */
 uint64_t rapidhash_v1_seeded(const uint8_t *bytes, size_t len, const struct rapidhash_v1_secrets *secrets);

@@ -2,7 +2,7 @@
 //! calls the library's function and states its clause again.
 #![tactic(auto)]
 
-ghost use Rattle.std.specs.Prelude.{◌≡◌, true, false};
+ghost use Rattle.std.specs.Prelude.{◌≡◌, ◌<◌, true, false};
 ghost use Rattle.rapidhash.specs.Form.{v1, v2, v3, micro, nano};
 ghost use Rattle.rapidhash.specs.Hash.{portable_hash};
 ghost use Rattle.rapidhash.specs.Secrets.{chained_secrets, cpp_seeded, default_secrets, default_secrets_v1, seeded};
@@ -162,4 +162,23 @@ pub extern "C" fn rapidhash_make_secrets(number: u64, secrets: &mut v3::RapidSec
     ensures secrets { secrets.new.secrets ≡ chained_secrets 7 (seeded number) }
 {
     *secrets = v3::RapidSecrets::seed(number);
+}
+
+/// The hash of `bytes` by V3, with the default seed and secrets, through the stream hasher by pieces
+/// of `size` bytes. It is [`rapidhash_v3`]'s, whatever the size.
+#[unsafe(no_mangle)]
+pub extern "C" fn rapidhash_v3_in_pieces(bytes: &[u8], size: usize) -> u64
+    requires { 0 < size }
+    ensures { result
+        ≡ portable_hash v3 (record { avalanche = true; protected = false })
+        (cpp_seeded 2 0) default_secrets bytes.now }
+{
+    let mut hasher = v3::RapidStreamHasherV3::new(&v3::DEFAULT_RAPID_SECRETS);
+    let mut rest = bytes;
+    'pieces: while rest.len() > size {
+        hasher.write(&rest[..size]);
+        rest = &rest[size..];
+    }
+    hasher.write(rest);
+    hasher.finish()
 }
