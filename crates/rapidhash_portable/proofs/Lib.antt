@@ -1,6 +1,7 @@
 pub mod Chains
 pub mod Columns
 pub mod Finishing
+pub mod Fronts
 pub mod Hashes
 pub mod Pieces
 pub mod Reading
