@@ -84,6 +84,18 @@ pub shape_of-v2-none : (minor n : ℕ) → n ≤ v2_limit minor → shape_of (V2
 unfolding shape_of
 shape_of-v2-none minor n h = rw (le-ltb (v2_limit minor) n h) refl
 
+-- V2 above both its limits
+above_limit : (minor n : ℕ) → 64 < n → v2_limit minor < n
+above_limit minor n h = grind (arith, nat_tests)
+
+pub shape_of-v2-some : (minor n : ℕ) → 64 < n → shape_of (V2 minor) n ≡ mixed_shape 7 n
+unfolding shape_of
+shape_of-v2-some minor n h = rw (lt-ltb (v2_limit minor) n (above_limit minor n h)) refl
+
+pub tail_places-v2-some : (minor n : ℕ) → 64 < n → tail_places (V2 minor) n ≡ 2 ∷ 2 ∷ []
+unfolding tail_places
+tail_places-v2-some minor n h = rw (lt-ltb (v2_limit minor) n (above_limit minor n h)) refl
+
 pub shape_of-v3-none : (lanes n : ℕ) → 0 < lanes → n ≤ 16 * lanes → shape_of (V3 lanes) n ≡ no_rows lanes
 unfolding shape_of
 shape_of-v3-none lanes n h k =

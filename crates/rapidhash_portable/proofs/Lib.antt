@@ -1,9 +1,12 @@
 pub mod Chains
 pub mod Columns
+pub mod Filled
 pub mod Finishing
+pub mod Fronts
 pub mod Hashes
 pub mod Pieces
 pub mod Reading
+pub mod Refills
 pub mod Repairs
 pub mod Shorts
 pub mod Standings

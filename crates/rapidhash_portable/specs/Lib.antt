@@ -4,6 +4,7 @@ pub mod Hash
 pub mod Lanes
 pub mod Memory
 pub mod Multiply
+pub mod Reading
 pub mod Secrets
 pub mod Seeding
 pub mod Source

@@ -4,9 +4,9 @@
 //! The callers are thin: a form is its row widths, its tail's table and what goes into its close.
 //! Touch the loops here with `objdump` at hand: they are what speed rests on.
 
-ghost use Rattle.std.specs.Prelude.{◌≡◌, ◌+◌, ◌*◌, ◌≤◌, ◌<◌, ℕ, length, slice_index, drop};
+ghost use Rattle.std.specs.Prelude.{◌≡◌, ◌+◌, ◌*◌, ◌≤◌, ◌<◌, ◌++◌, ℕ, List, length, slice_index, drop};
 ghost use Rattle.rapidhash_portable.specs.Hash.{close};
-ghost use Rattle.rapidhash_portable.specs.Lanes.{pair_of, after_lanes, joined, lane_of, mixed_shape, pair_at, pairs_of, row_bytes, rows_in, step, wide_shape};
+ghost use Rattle.rapidhash_portable.specs.Lanes.{LanesHold, pair_of, after_lanes, joined, lane_of, mixed_shape, pair_at, pairs_of, row_bytes, rows_in, step, wide_shape};
 ghost use Rattle.rapidhash_portable.specs.Tail.{after_tail};
 
 use crate::util::{rapid_mix, rapid_mum, read_u64};
@@ -134,8 +134,7 @@ pub(crate) fn wide_lanes<
     ensures rest { result.1.now ≡ drop (row_bytes (wide_shape LANES KEPT (length bytes.now))) bytes.now }
 {
     let mut lanes = [seed; LANES];
-    let rest = fold_rows::<LANES, LANES, KEPT, COMPACT, PROTECTED>(&mut lanes, bytes, secrets);
-    (join::<LANES>(&lanes), rest)
+    join_wide::<LANES, KEPT, COMPACT, PROTECTED>(&mut lanes, bytes, secrets)
 }
 
 /// The seed after all rows of seven pairs and, with the first three lanes going on, of three, and
@@ -151,9 +150,51 @@ pub(crate) fn mixed_lanes<'x, const COMPACT: bool, const PROTECTED: bool>(
     ensures rest { result.1.now ≡ drop (row_bytes (mixed_shape 7 (length bytes.now))) bytes.now }
 {
     let mut lanes = [seed; 7];
-    let wide = fold_rows::<7, 7, 0, COMPACT, PROTECTED>(&mut lanes, bytes, secrets);
-    let rest = fold_rows::<7, 3, 0, COMPACT, PROTECTED>(&mut lanes, wide, secrets);
-    (join::<7>(&lanes), rest)
+    join_mixed::<COMPACT, PROTECTED>(&mut lanes, bytes, secrets)
+}
+
+/// As [`wide_lanes`], where the lanes hold a front already, and `bytes` are what follows it.
+#[inline(always)]
+pub(crate) fn join_wide<
+    'x,
+    const LANES: usize,
+    const KEPT: usize,
+    const COMPACT: bool,
+    const PROTECTED: bool,
+>(lanes: &mut [u64; LANES], bytes: &'x [u8], secrets: &[u64]) -> (u64, &'x [u8])
+    requires secrets { LANES ≤ length secrets.now }
+    requires some { 0 < LANES }
+    requires small { LANES ≤ 7 }
+    requires keeps { KEPT ≤ length bytes.now }
+    requires keeps_few { KEPT ≤ 1 }
+    ensures joined { (front : List ℕ) (seed : ℕ) → LanesHold PROTECTED secrets.now front LANES seed lanes.old →
+        let x = front ++ bytes.now in
+        result.0 ≡ after_lanes PROTECTED secrets.now (pair_of x) (wide_shape LANES KEPT (length x)) seed }
+    ensures rest { (front : List ℕ) (seed : ℕ) → LanesHold PROTECTED secrets.now front LANES seed lanes.old →
+        let x = front ++ bytes.now in
+        result.1.now ≡ drop (row_bytes (wide_shape LANES KEPT (length x))) x }
+{
+    let rest = fold_rows::<LANES, LANES, KEPT, COMPACT, PROTECTED>(lanes, bytes, secrets);
+    (join::<LANES>(lanes), rest)
+}
+
+/// As [`mixed_lanes`], where the lanes hold a front already, and `bytes` are what follows it.
+#[inline(always)]
+pub(crate) fn join_mixed<'x, const COMPACT: bool, const PROTECTED: bool>(
+    lanes: &mut [u64; 7],
+    bytes: &'x [u8],
+    secrets: &[u64; 7],
+) -> (u64, &'x [u8])
+    ensures joined { (front : List ℕ) (seed : ℕ) → LanesHold PROTECTED secrets.now front 7 seed lanes.old →
+        let x = front ++ bytes.now in
+        result.0 ≡ after_lanes PROTECTED secrets.now (pair_of x) (mixed_shape 7 (length x)) seed }
+    ensures rest { (front : List ℕ) (seed : ℕ) → LanesHold PROTECTED secrets.now front 7 seed lanes.old →
+        let x = front ++ bytes.now in
+        result.1.now ≡ drop (row_bytes (mixed_shape 7 (length x))) x }
+{
+    let wide = fold_rows::<7, 7, 0, COMPACT, PROTECTED>(lanes, bytes, secrets);
+    let rest = fold_rows::<7, 3, 0, COMPACT, PROTECTED>(lanes, wide, secrets);
+    (join::<7>(lanes), rest)
 }
 
 /// The seed after the pairs of a tail: pair j takes secret j of the table, and the last 1 to 16

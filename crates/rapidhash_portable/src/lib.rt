@@ -9,8 +9,8 @@
 //! - [`memory`] is the core of the in-memory hasher, for the crate above alone: its values may change
 //!   between versions, the portable ones never do.
 //!
-//! The row kernel (`lanes`), the words that a message ends in (`words`) and the arithmetic of
-//! secrets (`secrets`) are private.
+//! The row kernel (`lanes`), the words that a message ends in (`words`), the reads of a known length
+//! (`sized`) and the arithmetic of secrets (`secrets`) are private.
 #![tactic(auto)]
 
 pub mod form;
@@ -19,6 +19,7 @@ pub mod memory;
 pub mod reader;
 mod secrets;
 pub mod seeding;
+mod sized;
 pub mod util;
 pub mod v1;
 pub mod v2;

@@ -1,8 +1,9 @@
 //! Secrets made of a seed: the arithmetic behind every `RapidSecrets`, and the type of V2 and V3.
 
 ghost use Rattle.std.specs.Prelude.{◌≡◌, ◌<◌, ◌≤◌, ℕ, length, slice_index};
-ghost use Rattle.rapidhash_portable.specs.Secrets.{IsGood, chained_secrets, cpp_seeded, default_secrets, global_seed, made_secrets, premixed, repaired, seeded, seeded_secrets, reseeded, with_bit};
+ghost use Rattle.rapidhash_portable.specs.Secrets.{IsGood, chained_secrets, cpp_seeded, default_secrets, global_seed, made_secrets, premixed, repaired, seeded, seeded_secrets, source_answer, source_next, reseeded, with_bit};
 
+use crate::seeding::{GlobalSecrets, SeedSource};
 use crate::util::rapid_mix;
 
 /// A seed and the seven secrets of V2 and V3. Make one once and keep it: making it costs eight
@@ -23,6 +24,8 @@ pub const DEFAULT_RAPID_SECRETS: RapidSecrets = RapidSecrets {
 };
 
 impl RapidSecrets {
+    ghost use Rattle.rapidhash_portable.specs.Seeding.{counter_of, random_of, secrets_of};
+
     /// A seed and secrets of its own, made of a number. Each has a set bit in its upper, its middle
     /// and its lower part, so none is 0.
     ///
@@ -66,6 +69,25 @@ impl RapidSecrets {
         RapidSecrets {
             seed: cpp_seed_of(seed, 2),
             secrets: DEFAULT_SECRETS,
+        }
+    }
+
+    /// The source's next answer as the seed, beside secrets made of a random word.
+    ///
+    /// ```
+    /// let global = GlobalSecrets::new(random_word);
+    /// let mut source = SeedSource::new(&global, second_random_word);
+    /// let secrets = RapidSecrets::random(&global, &mut source);
+    /// ```
+    pub fn random(global: &GlobalSecrets, source: &mut SeedSource) -> Self
+        ensures seed { result.seed ≡ source_answer (random_of source.old) (counter_of source.new) }
+        ensures secrets { result.secrets ≡ secrets_of global.now }
+        ensures counter { counter_of source.new ≡ source_next (counter_of source.old) }
+        ensures random { random_of source.new ≡ random_of source.old }
+    {
+        RapidSecrets {
+            seed: source.next(),
+            secrets: *global.get(),
         }
     }
 }

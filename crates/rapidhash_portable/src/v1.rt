@@ -1,13 +1,21 @@
 //! rapidhash V1.
 
-ghost use Rattle.std.specs.Prelude.{◌≡◌, ◌<◌, ◌≤◌, ℕ, false, true, if◌then◌else◌, length, slice_index};
+ghost use Rattle.std.specs.Prelude.{◌≡◌, ◌<◌, ◌≤◌, ℕ, Bool, List, false, true, if◌then◌else◌, length, slice_index, drop};
 ghost use Rattle.rapidhash_portable.specs.declared.form.Form.TheVariants.{V1};
+ghost use Rattle.rapidhash_portable.specs.Form.{shape_of, start_seed};
 ghost use Rattle.rapidhash_portable.specs.Hash.{portable_hash};
+ghost use Rattle.rapidhash_portable.specs.Lanes.{after_lanes, pair_of, row_bytes};
 ghost use Rattle.rapidhash_portable.specs.Secrets.{IsGood, cpp_seeded, default_secrets_v1, reseeded, seeded, seeded_secrets};
+ghost use Rattle.rapidhash_portable.specs.Words.{last_16};
+
+mod readers;
 
 use crate::lanes::{close, fold_tail, wide_lanes};
 use crate::secrets::{DEFAULT_SECRETS, chain, cpp_seed_of, reseed_of, seed_of};
 use crate::words::{last_16, short_words_v1};
+pub use readers::{
+    rapidhash_v1_file, rapidhash_v1_file_inline, rapidhash_v1_file_seeded, rapidhash_v1_source,
+};
 
 /// A seed and the three secrets of V1. Make one once and keep it: making it costs four multiplies
 /// or more, and using it none.
@@ -150,11 +158,38 @@ fn long<const AVALANCHE: bool, const COMPACT: bool, const PROTECTED: bool, const
     if bytes.len() >= least_row::<V1_BUG>() {
         (seed, rest) = wide_lanes::<3, 0, COMPACT, PROTECTED>(bytes, seed, s);
     }
-    if rest.len() > 16 {
+    close_tail::<AVALANCHE, PROTECTED>(rest, bytes, len, seed, s)
+}
+
+/// The hash of `len` bytes, more than 16, made of the joined lanes, the tail, and bytes that end in
+/// the message's last 16.
+#[inline(always)]
+fn close_tail<const AVALANCHE: bool, const PROTECTED: bool>(
+    tail: &[u8],
+    ending: &[u8],
+    len: u64,
+    joined: u64,
+    secrets: &[u64; 3],
+) -> u64
+    requires { 16 ≤ length ending.now }
+    ensures { (bug : Bool) (seed : ℕ) (x : List ℕ) → 16 < length x →
+        length x ≡ len →
+        tail.now ≡ drop (row_bytes (shape_of (V1 bug) (length x))) x →
+        last_16 ending.now ≡ last_16 x →
+        joined
+        ≡ after_lanes PROTECTED secrets.now (pair_of x) (shape_of (V1 bug) (length x))
+        (start_seed (V1 bug) (length x) seed) →
+        result
+        ≡ portable_hash (V1 bug) (record { avalanche = AVALANCHE; protected = PROTECTED })
+        seed secrets.now x }
+{
+    let s = secrets;
+    let mut seed = joined;
+    if tail.len() > 16 {
         seed ^= s[1];
     }
-    seed = fold_tail::<2, PROTECTED>(rest, &[s[2], s[2]], seed);
-    close::<AVALANCHE, PROTECTED>(last_16(bytes), seed, s[1], (s[0] ^ len, s[1]))
+    seed = fold_tail::<2, PROTECTED>(tail, &[s[2], s[2]], seed);
+    close::<AVALANCHE, PROTECTED>(last_16(ending), seed, s[1], (s[0] ^ len, s[1]))
 }
 
 /// The least length at which a row is folded.

@@ -1,16 +1,22 @@
 //! rapidhash V2, in its three minors.
 
-ghost use Rattle.std.specs.Prelude.{◌≡◌, ◌<◌, ◌≤◌, ◌-◌, true, false, if◌then◌else◌, nat_lt, length};
+ghost use Rattle.std.specs.Prelude.{◌≡◌, ◌<◌, ◌≤◌, ◌-◌, ◌∷◌, [], ℕ, true, false, if◌then◌else◌, nat_lt, length, slice_index};
 ghost use Rattle.rapidhash_portable.specs.declared.form.Form.TheVariants.{V2};
-ghost use Rattle.rapidhash_portable.specs.Form.{shape_of, start_seed, tail_places, v2_limit};
-ghost use Rattle.rapidhash_portable.specs.Hash.{portable_hash};
+ghost use Rattle.rapidhash_portable.specs.Form.{masks, shape_of, start_seed, tail_places, v2_limit};
+ghost use Rattle.rapidhash_portable.specs.Hash.{close, portable_hash};
 ghost use Rattle.rapidhash_portable.specs.Lanes.{after_lanes, pair_of, row_bytes, row_pairs};
 ghost use Rattle.rapidhash_portable.specs.Secrets.{cpp_seeded, default_secrets};
 ghost use Rattle.rapidhash_portable.specs.Tail.{after_tail, picked};
+ghost use Rattle.rapidhash_portable.specs.Words.{last_16};
+
+mod readers;
 
 use crate::lanes::{close, fold_tail, mixed_lanes};
 pub use crate::secrets::{DEFAULT_RAPID_SECRETS, RapidSecrets};
 use crate::words::{last_16, short_words_v2};
+pub use readers::{
+    rapidhash_v2_2_file, rapidhash_v2_2_file_seeded, rapidhash_v2_file_inline, rapidhash_v2_source,
+};
 
 /// The hash of `bytes` by V2.2 with the default seed and secrets.
 #[inline]
@@ -78,11 +84,28 @@ fn long<const MINOR: u8, const AVALANCHE: bool, const COMPACT: bool, const PROTE
     let len = bytes.len() as u64;
     let s = &secrets.secrets;
     let seed = after_pairs::<MINOR, COMPACT, PROTECTED>(bytes, secrets.seed, s);
+    close_long::<AVALANCHE, PROTECTED>(bytes, len, seed, s)
+}
+
+/// The hash of `len` bytes, more than 16, made of the seed after all pairs, and bytes that end in the
+/// message's last 16.
+#[inline(always)]
+fn close_long<const AVALANCHE: bool, const PROTECTED: bool>(
+    ending: &[u8],
+    len: u64,
+    seed: u64,
+    secrets: &[u64; 7],
+) -> u64
+    requires { 16 ≤ length ending.now }
+    ensures { (minor tail : ℕ) → result
+        ≡ close (record { avalanche = AVALANCHE; protected = PROTECTED }) (slice_index secrets.now 1)
+        (masks (V2 minor) secrets.now len tail) (last_16 ending.now) seed }
+{
     close::<AVALANCHE, PROTECTED>(
-        last_16(bytes),
+        last_16(ending),
         seed,
-        s[1],
-        (0xaaaa_aaaa_aaaa_aaaa ^ len, s[1]),
+        secrets[1],
+        (0xaaaa_aaaa_aaaa_aaaa ^ len, secrets[1]),
     )
 }
 
@@ -123,9 +146,18 @@ fn after_pairs<const MINOR: u8, const COMPACT: bool, const PROTECTED: bool>(
     let seed = start ^ bytes.len() as u64;
     if bytes.len() > limit::<MINOR>() {
         let (seed, rest) = mixed_lanes::<COMPACT, PROTECTED>(bytes, seed, secrets);
-        fold_tail::<2, PROTECTED>(rest, &[secrets[2], secrets[2]], seed)
+        after_rows::<PROTECTED>(rest, seed, secrets)
     } else {
         let third = secrets[last_place::<MINOR>()];
         fold_tail::<3, PROTECTED>(bytes, &[secrets[0], secrets[1], third], seed)
     }
+}
+
+/// The seed after the tail of a message with rows.
+#[inline(always)]
+fn after_rows<const PROTECTED: bool>(tail: &[u8], joined: u64, secrets: &[u64; 7]) -> u64
+    ensures { result
+        ≡ after_tail PROTECTED (picked secrets.now (2 ∷ 2 ∷ [])) (pair_of tail.now) 0 (length tail.now) joined }
+{
+    fold_tail::<2, PROTECTED>(tail, &[secrets[2], secrets[2]], joined)
 }

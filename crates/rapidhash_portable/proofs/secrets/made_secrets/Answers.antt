@@ -1,4 +1,4 @@
-use Rattle.std.proofs.Common.{◌≡◌, ◌<◌, ◌+◌, ℕ, length, get_or, set, refl, subst, sym, ap, ◌∙◌, arith, length-set}
+use Rattle.std.proofs.Common.{◌≡◌, ◌+◌, get_or, set, refl, subst, sym, ap, ◌∙◌, arith, length-set}
 use Rattle.std.proofs.lemmas.List.Edits.{fill_by_more}
 use Rattle.std.proofs.lemmas.List.FromFn.{fill_by_all}
 use Rattle.rapidhash_portable.specs.Secrets.{IsGood, made_state, made_secrets}

@@ -15,7 +15,7 @@ returns-then-bytes-limit g c =
     let long = lt-ltb (v2_limit g.row.MINOR) (length x) (omega arith) in
     let rows = c.mixed_lanes-seed.ensures in
     let tail = after_tail-rest (not (nat_eq g.row.PROTECTED 0)) (picked c.args.secrets.now (2 ∷ 2 ∷ [])) x c.mixed_lanes-seed.result.1.now (row_pairs (mixed_shape 7 (length x))) c.mixed_lanes-seed.result.0 rows.rest in
-    rw long (cc (c.fold_tail.ensures, tail, rows.joined))
+    rw long (cc (c.after_rows.ensures, tail, rows.joined))
 
 pub returns-else-bytes-limit : goal.returns-else-bytes-limit
 unfolding start_seed tail_places
@@ -28,4 +28,4 @@ returns-else-bytes-limit g c =
     let short = le-ltb (v2_limit g.row.MINOR) (length x) (omega arith) in
     let table = get_or s 0 0 ∷ get_or s 1 0 ∷ get_or s c.last_place.result 0 ∷ [] in
     let tail = after_tail-rest P table x x (row_pairs (shape_of (V2 g.row.MINOR) (length x))) start none.0 in
-    rw short (cc (c.fold_tail-else-bytes-limit.ensures, tail, ap (λ k. get_or s k 0) c.last_place.ensures.place, none.1))
+    rw short (cc (c.fold_tail.ensures, tail, ap (λ k. get_or s k 0) c.last_place.ensures.place, none.1))

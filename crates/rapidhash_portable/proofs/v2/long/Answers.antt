@@ -1,11 +1,16 @@
+use Rattle.std.proofs.Common.{◌-◌, length}
 use Rattle.rapidhash_portable.specs.declared.form.Form.TheVariants.{V2}
-use Rattle.rapidhash_portable.specs.Form.{tail_seed, masks}
+use Rattle.rapidhash_portable.specs.Form.{shape_of, tail_seed}
 use Rattle.rapidhash_portable.specs.Hash.{value}
+use Rattle.rapidhash_portable.specs.Lanes.{row_bytes}
 use Rattle.rapidhash_portable.specs.Words.{mixed_words}
 use Rattle.rapidhash_portable.proofs.Hashes.{last_words-long}
 use Rattle.rapidhash_portable.proofs.v2.long.Goals as goal
 
 pub returns : goal.returns
-unfolding value tail_seed masks mixed_words
+unfolding value tail_seed mixed_words
 returns g c =
-    cc (c.close.ensures, c.last_16.ensures, last_words-long (V2 g.row.MINOR) c.args.bytes.now c.requires.long, c.after_pairs-seed.ensures)
+    let x = c.args.bytes.now in
+    let form = V2 g.row.MINOR in
+    let tail = length x - row_bytes (shape_of form (length x)) in
+    cc (c.close_long.ensures g.row.MINOR tail, last_words-long form x c.requires.long, c.after_pairs-seed.ensures)

@@ -1,0 +1,19 @@
+-- A buffer that is filled by reads at its end.
+use Rattle.std.proofs.Common.{◌≡◌, ℕ, ◌+◌, ◌-◌, ◌≤◌, List, ◌++◌, Result, Ok, Err, IfErr, length, take, drop, sym, ap, ◌∙◌, le_refl, drop_at, length-take-le}
+use borrow.Rule.Slice.PartMut.{put_mid, post_of}
+use lib.Seq.{take-add, take-append-le}
+use Rattle.std.proofs.lemmas.Slice.{take-put_mid_below}
+
+-- the filled front, and what a read put behind it
+pub filled_more : (at n : ℕ) (buf part : List ℕ) → at ≤ length buf → n ≤ length part → take at buf ++ take n part ≡ take (at + n) (put_mid at (length buf - at) buf part)
+filled_more at n buf part within fits =
+    let m = put_mid at (length buf - at) buf part in
+    let front : take at m ≡ take at buf = take-put_mid_below _ _ _ _ _ (le_refl _) within in
+    let after = post_of at (length buf - at) buf in
+    let back : take n (drop at m) ≡ take n part = ap (take n) (drop_at (take at buf) (part ++ after) at (length-take-le at buf within)) ∙ take-append-le n part after fits in
+    ap (λ l. l ++ take n part) (sym front) ∙ ap (λ l. take at m ++ l) (sym back) ∙ sym (take-add at n m)
+
+-- what holds after every error
+pub if_err : {T E : Type 0} (r : Result T E) {P : Type 0} → P → IfErr r (λ _. P)
+if_err (Ok x) p = tt
+if_err (Err e) p = p

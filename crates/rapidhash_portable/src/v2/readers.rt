@@ -1,0 +1,156 @@
+//! V2 of the next bytes of a reader, whose number is known.
+
+ghost use Rattle.std.specs.Prelude.{◌≡◌, ◌<◌, ◌≤◌, false, true, IfErr, IfOk, OnOk};
+ghost use Rattle.std.specs.IoError.{error_kind};
+ghost use Rattle.rapidhash_portable.specs.declared.form.Form.TheVariants.{V2};
+ghost use Rattle.rapidhash_portable.specs.Hash.{portable_hash};
+ghost use Rattle.rapidhash_portable.specs.Reading.{FellShort, Gave};
+ghost use Rattle.rapidhash_portable.specs.Secrets.{cpp_seeded, default_secrets};
+ghost use Rattle.rapidhash_portable.specs.Source.{is_marked, reader_of};
+
+use super::{DEFAULT_RAPID_SECRETS, RapidSecrets, after_rows, close_long, rapidhash_v2_inline};
+use crate::lanes::join_mixed;
+use crate::reader::Source;
+use crate::sized::{BUFFER, SHORT, fill, fold_front};
+use std::io;
+use std::io::{ErrorKind, Read};
+
+/// The hash of the next `len` bytes of the reader: that of [`rapidhash_v2_inline`] with `AVALANCHE`.
+/// No byte behind them is read, and with `len` 0 none at all. `MINOR` is 0, 1 or 2; that it is at
+/// most 2 is the caller's condition.
+///
+/// An error is the reader's own where the source is marked after the call, and an interrupted read
+/// is one. Else it is `ErrorKind::UnexpectedEof`: the reader had fewer bytes, and all of them are
+/// gone.
+///
+/// ```
+/// let mut source = Source::new(file);
+/// let hash = rapidhash_v2_source::<File, 2, false>(&mut source, 4096, &DEFAULT_RAPID_SECRETS)?;
+/// ```
+pub fn rapidhash_v2_source<R: Read, const MINOR: u8, const PROTECTED: bool>(
+    source: &mut Source<R>,
+    len: u64,
+    secrets: &RapidSecrets,
+) -> io::Result<u64>
+    requires { MINOR ≤ 2 }
+    ensures ok { IfOk result (λ h.
+        Gave (R.remaining (reader_of source.old)) (R.remaining (reader_of source.new)) len (λ x. h
+        ≡ portable_hash (V2 MINOR) (record { avalanche = true; protected = PROTECTED })
+        secrets.now.seed secrets.now.secrets x)) }
+    ensures clean { OnOk result (is_marked source.new ≡ false) }
+    ensures short { IfErr result (λ _.
+        FellShort (R.remaining (reader_of source.old)) (R.remaining (reader_of source.new)) len (is_marked source.new)) }
+    ensures kind { IfErr result (λ e. is_marked source.new ≡ false → error_kind e ≡ ErrorKind.UnexpectedEof) }
+{
+    source.clear();
+    next_of::<R, MINOR, PROTECTED>(&mut source.reader, &mut source.mark, len, secrets)
+}
+
+/// The hash of the next `len` bytes of a reader by V2.2, with the default seed and secrets. Errors
+/// are those of [`rapidhash_v2_source`].
+///
+/// ```
+/// let hash = rapidhash_v2_2_file(&mut file, 4096)?;
+/// ```
+pub fn rapidhash_v2_2_file<R: Read>(data: &mut R, len: u64) -> io::Result<u64>
+    ensures ok { IfOk result (λ h.
+        Gave (R.remaining «data».old) (R.remaining «data».new) len (λ x. h
+        ≡ portable_hash (V2 2) (record { avalanche = true; protected = false })
+        (cpp_seeded 2 0) default_secrets x)) }
+    ensures short { IfErr result (λ _.
+        FellShort (R.remaining «data».old) (R.remaining «data».new) len true) }
+{
+    rapidhash_v2_file_inline::<R, 2, false>(data, len, &DEFAULT_RAPID_SECRETS)
+}
+
+/// The hash of the next `len` bytes of a reader by V2.2, with a seed and secrets of the caller's.
+/// Errors are those of [`rapidhash_v2_source`].
+pub fn rapidhash_v2_2_file_seeded<R: Read>(
+    data: &mut R,
+    len: u64,
+    secrets: &RapidSecrets,
+) -> io::Result<u64>
+    ensures ok { IfOk result (λ h.
+        Gave (R.remaining «data».old) (R.remaining «data».new) len (λ x. h
+        ≡ portable_hash (V2 2) (record { avalanche = true; protected = false })
+        secrets.now.seed secrets.now.secrets x)) }
+    ensures short { IfErr result (λ _.
+        FellShort (R.remaining «data».old) (R.remaining «data».new) len true) }
+{
+    rapidhash_v2_file_inline::<R, 2, false>(data, len, secrets)
+}
+
+/// The hash of the next `len` bytes of a reader; `PROTECTED` mixes each product with its factors.
+/// That `MINOR` is at most 2 is the caller's condition. Errors are those of [`rapidhash_v2_source`].
+pub fn rapidhash_v2_file_inline<R: Read, const MINOR: u8, const PROTECTED: bool>(
+    data: &mut R,
+    len: u64,
+    secrets: &RapidSecrets,
+) -> io::Result<u64>
+    requires { MINOR ≤ 2 }
+    ensures ok { IfOk result (λ h.
+        Gave (R.remaining «data».old) (R.remaining «data».new) len (λ x. h
+        ≡ portable_hash (V2 MINOR) (record { avalanche = true; protected = PROTECTED })
+        secrets.now.seed secrets.now.secrets x)) }
+    ensures short { IfErr result (λ _.
+        FellShort (R.remaining «data».old) (R.remaining «data».new) len true) }
+{
+    let mut mark = false;
+    next_of::<R, MINOR, PROTECTED>(data, &mut mark, len, secrets)
+}
+
+/// The body of every hash here.
+fn next_of<R: Read, const MINOR: u8, const PROTECTED: bool>(
+    reader: &mut R,
+    mark: &mut bool,
+    len: u64,
+    secrets: &RapidSecrets,
+) -> io::Result<u64>
+    requires minor { MINOR ≤ 2 }
+    requires clean { mark.old ≡ false }
+    ensures ok { IfOk result (λ h.
+        Gave (R.remaining reader.old) (R.remaining reader.new) len (λ x. h
+        ≡ portable_hash (V2 MINOR) (record { avalanche = true; protected = PROTECTED })
+        secrets.now.seed secrets.now.secrets x)) }
+    ensures clean { OnOk result (mark.new ≡ false) }
+    ensures short { IfErr result (λ _. FellShort (R.remaining reader.old) (R.remaining reader.new) len mark.new) }
+    ensures kind { IfErr result (λ e. mark.new ≡ false → error_kind e ≡ ErrorKind.UnexpectedEof) }
+{
+    if len > SHORT as u64 {
+        return long::<R, MINOR, PROTECTED>(reader, mark, len, secrets);
+    }
+    let mut buffer = [0u8; SHORT];
+    let bytes = &mut buffer[..len as usize];
+    fill(reader, mark, bytes)?;
+    Ok(rapidhash_v2_inline::<MINOR, true, false, PROTECTED>(bytes, secrets))
+}
+
+/// The hash of more bytes than the short buffer holds. It stands out of line, for the sake of its
+/// buffer.
+#[inline(never)]
+fn long<R: Read, const MINOR: u8, const PROTECTED: bool>(
+    reader: &mut R,
+    mark: &mut bool,
+    len: u64,
+    secrets: &RapidSecrets,
+) -> io::Result<u64>
+    requires minor { MINOR ≤ 2 }
+    requires rows { 64 < len }
+    requires clean { mark.old ≡ false }
+    ensures ok { IfOk result (λ h.
+        Gave (R.remaining reader.old) (R.remaining reader.new) len (λ x. h
+        ≡ portable_hash (V2 MINOR) (record { avalanche = true; protected = PROTECTED })
+        secrets.now.seed secrets.now.secrets x)) }
+    ensures clean { OnOk result (mark.new ≡ false) }
+    ensures short { IfErr result (λ _. FellShort (R.remaining reader.old) (R.remaining reader.new) len mark.new) }
+    ensures kind { IfErr result (λ e. mark.new ≡ false → error_kind e ≡ ErrorKind.UnexpectedEof) }
+{
+    let s = &secrets.secrets;
+    let start = secrets.seed ^ len;
+    let mut buffer = [0u8; BUFFER];
+    let (mut lanes, n) = fold_front::<R, 7, PROTECTED>(reader, mark, &mut buffer, len, start, s)?;
+    let last = &buffer[..n];
+    let (joined, tail) = join_mixed::<false, PROTECTED>(&mut lanes, last, s);
+    let seed = after_rows::<PROTECTED>(tail, joined, s);
+    Ok(close_long::<true, PROTECTED>(last, len, seed, s))
+}
