@@ -140,9 +140,41 @@ pub fn rapidhash_v1_inline<
     )
 }
 
-/// The hash above 16 bytes. It stands out of line, so that a short message pays for no registers.
+/// The hash above 16 bytes. It stands out of line, so that a short message pays for no saved
+/// register, and so do the rows, so that a message of none pays for no lane.
 #[inline(never)]
 fn long<const AVALANCHE: bool, const COMPACT: bool, const PROTECTED: bool, const V1_BUG: bool>(
+    bytes: &[u8],
+    secrets: &RapidSecrets,
+) -> u64
+    requires { 16 < length bytes.now }
+    ensures { result
+        ≡ portable_hash (V1 V1_BUG) (record { avalanche = AVALANCHE; protected = PROTECTED })
+        secrets.now.seed secrets.now.secrets bytes.now }
+{
+    if bytes.len() >= least_row::<V1_BUG>() {
+        return with_rows::<AVALANCHE, COMPACT, PROTECTED, V1_BUG>(bytes, secrets);
+    }
+    above_16::<AVALANCHE, COMPACT, PROTECTED, V1_BUG>(bytes, secrets)
+}
+
+/// The hash of a message that has a row.
+#[inline(never)]
+fn with_rows<const AVALANCHE: bool, const COMPACT: bool, const PROTECTED: bool, const V1_BUG: bool>(
+    bytes: &[u8],
+    secrets: &RapidSecrets,
+) -> u64
+    requires { 16 < length bytes.now }
+    ensures { result
+        ≡ portable_hash (V1 V1_BUG) (record { avalanche = AVALANCHE; protected = PROTECTED })
+        secrets.now.seed secrets.now.secrets bytes.now }
+{
+    above_16::<AVALANCHE, COMPACT, PROTECTED, V1_BUG>(bytes, secrets)
+}
+
+/// The hash above 16 bytes, of which the compiler keeps what a caller's test leaves.
+#[inline(always)]
+fn above_16<const AVALANCHE: bool, const COMPACT: bool, const PROTECTED: bool, const V1_BUG: bool>(
     bytes: &[u8],
     secrets: &RapidSecrets,
 ) -> u64

@@ -69,9 +69,43 @@ pub fn rapidhash_v2_inline<
     )
 }
 
-/// The hash above 16 bytes. It stands out of line, so that a short message pays for no registers.
+/// The hash above 16 bytes. It stands out of line, so that a short message pays for no saved
+/// register, and so do the rows, so that a message of none pays for no lane.
 #[inline(never)]
 fn long<const MINOR: u8, const AVALANCHE: bool, const COMPACT: bool, const PROTECTED: bool>(
+    bytes: &[u8],
+    secrets: &RapidSecrets,
+) -> u64
+    requires long { 16 < length bytes.now }
+    requires minor { MINOR ≤ 2 }
+    ensures { result
+        ≡ portable_hash (V2 MINOR) (record { avalanche = AVALANCHE; protected = PROTECTED })
+        secrets.now.seed secrets.now.secrets bytes.now }
+{
+    if bytes.len() > limit::<MINOR>() {
+        return with_rows::<MINOR, AVALANCHE, COMPACT, PROTECTED>(bytes, secrets);
+    }
+    above_16::<MINOR, AVALANCHE, COMPACT, PROTECTED>(bytes, secrets)
+}
+
+/// The hash of a message above the limit.
+#[inline(never)]
+fn with_rows<const MINOR: u8, const AVALANCHE: bool, const COMPACT: bool, const PROTECTED: bool>(
+    bytes: &[u8],
+    secrets: &RapidSecrets,
+) -> u64
+    requires long { 16 < length bytes.now }
+    requires minor { MINOR ≤ 2 }
+    ensures { result
+        ≡ portable_hash (V2 MINOR) (record { avalanche = AVALANCHE; protected = PROTECTED })
+        secrets.now.seed secrets.now.secrets bytes.now }
+{
+    above_16::<MINOR, AVALANCHE, COMPACT, PROTECTED>(bytes, secrets)
+}
+
+/// The hash above 16 bytes, of which the compiler keeps what a caller's test leaves.
+#[inline(always)]
+fn above_16<const MINOR: u8, const AVALANCHE: bool, const COMPACT: bool, const PROTECTED: bool>(
     bytes: &[u8],
     secrets: &RapidSecrets,
 ) -> u64

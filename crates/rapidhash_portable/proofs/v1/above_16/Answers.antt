@@ -3,8 +3,8 @@ use Rattle.rapidhash_portable.specs.declared.form.Form.TheVariants.{V1}
 use Rattle.rapidhash_portable.specs.Form.{shape_of, start_seed}
 use Rattle.rapidhash_portable.specs.Lanes.{pair_of, after_lanes, row_bytes}
 use Rattle.rapidhash_portable.proofs.Hashes.{rows-none, shape_of-v1-some, shape_of-v1-none}
-use Rattle.rapidhash_portable.proofs.v1.long.Goals as goal
-use Rattle.rapidhash_portable.proofs.v1.long.Goals.{then-bytes-least_row, else-bytes-least_row}
+use Rattle.rapidhash_portable.proofs.v1.above_16.Goals as goal
+use Rattle.rapidhash_portable.proofs.v1.above_16.Goals.{then-bytes-least_row, else-bytes-least_row}
 
 pub returns : goal.returns
 unfolding start_seed

@@ -5,7 +5,7 @@ use Rattle.rapidhash_portable.specs.Hash.{value}
 use Rattle.rapidhash_portable.specs.Lanes.{row_bytes}
 use Rattle.rapidhash_portable.specs.Words.{mixed_words}
 use Rattle.rapidhash_portable.proofs.Hashes.{last_words-long}
-use Rattle.rapidhash_portable.proofs.v2.long.Goals as goal
+use Rattle.rapidhash_portable.proofs.v2.above_16.Goals as goal
 
 pub returns : goal.returns
 unfolding value tail_seed mixed_words
