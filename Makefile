@@ -14,6 +14,7 @@ check:
 
 bench:
 	@bench/run
+	@bench/files
 
 clean:
 	rm -rf crates/*/out build

@@ -16,4 +16,4 @@
 pub mod laws;
 pub mod rng;
 
-pub use rapidhash_portable::{util, v1, v2, v3};
+pub use rapidhash_portable::{reader, util, v1, v2, v3};

@@ -12,3 +12,5 @@ mod ends;
 mod faults;
 #[cfg(test)]
 mod pieces;
+#[cfg(test)]
+mod sizes;

@@ -18,7 +18,7 @@ pub const COLUMNS: &str =
 pub const MEMORY_COLUMNS: &str = "avalanche\tprotected\tmessage\tlength\tsecrets\texpected";
 
 /// The version of a case.
-fn version_of(form: &str, bug: &str, minor: &str) -> Option<Version> {
+pub fn version_of(form: &str, bug: &str, minor: &str) -> Option<Version> {
     match (form, bug, minor) {
         ("v1", "0", _) => Some(Version::V1),
         ("v1", "1", _) => Some(Version::V1Bug),

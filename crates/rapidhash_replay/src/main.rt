@@ -6,6 +6,7 @@
 
 mod bulk;
 mod compare;
+mod readers;
 mod rules;
 mod seeds;
 mod streams;
@@ -45,6 +46,7 @@ fn replay(rt: &(impl Files + Print + Eprint + AllocGlobal), name: &str) -> Resul
         let case = match columns {
             bulk::COLUMNS => bulk::replay(rt.alloc(), line)?,
             bulk::MEMORY_COLUMNS => bulk::replay_memory(rt.alloc(), line)?,
+            readers::COLUMNS => readers::replay(rt.alloc(), line)?,
             streams::COLUMNS => streams::replay(rt.alloc(), line)?,
             streams::LANES_COLUMNS => streams::replay_with_lanes(rt.alloc(), line)?,
             seeds::COLUMNS => seeds::replay(rt.alloc(), line)?,
