@@ -2,6 +2,7 @@
 //!
 //! - [`v1`], [`v2`], [`v3`]: the portable hashes, whose values never change.
 //! - [`reader`]: the reader with a mark that the hashes of a reader take.
+//! - [`inner`]: the hasher of maps, with every option.
 //! - [`rng`]: a small generator.
 //! - [`laws`]: laws of the hashes, each as a call.
 //! - [`util`]: the reads and the multiply that the hashes stand on.
@@ -13,6 +14,7 @@
 //! ```
 #![tactic(auto)]
 
+pub mod inner;
 pub mod laws;
 pub mod rng;
 
