@@ -16,3 +16,4 @@ pub mod Hasher
 pub mod Hashers
 pub mod Replay
 pub mod Sponge
+pub mod States

@@ -1,6 +1,9 @@
 //! The hasher of maps, with every option, and the states that make it.
 //!
 //! - [`RapidHasher`] absorbs bytes and integers, and answers a hash of what it absorbed.
+//! - [`GlobalState`], [`RandomState`] and [`SeedableState`] make hashers of a seed and secrets.
+//! - [`GlobalSecrets`] and [`SeedSource`] are what a program makes once of two random words, and
+//!   lends to its states.
 //!
 //! Its four options are const parameters, the same for the hasher and for the states:
 //!
@@ -13,5 +16,8 @@
 
 mod hasher;
 mod sponge;
+mod state;
 
 pub use hasher::RapidHasher;
+pub use rapidhash_portable::seeding::{GlobalSecrets, SeedSource};
+pub use state::{GlobalState, RandomState, SeedableState};
