@@ -1,6 +1,9 @@
 //! What makes hashers for a map: each keeps a seed and secrets, and lends nothing but these.
 
-ghost use Rattle.std.specs.Prelude.{◌≡◌, []};
+ghost use Rattle.std.specs.Prelude.{◌≡◌, ◌↔◌, ◌==◌, ◌&&◌, [], IsTrue, nat_eq};
+ghost use Rattle.std.specs.Cmp.Lexicographic.{pointwise};
+ghost use Rattle.std.proofs.Common.{rules};
+ghost use Rattle.std.specs.Cmp.Rules.{comparing};
 ghost use Rattle.rapidhash_portable.specs.Secrets.{cpp_seeded, default_secrets};
 ghost use Rattle.rapidhash.specs.Hashers.{Stands, fresh, secrets_of};
 
@@ -17,7 +20,7 @@ use std::hash::BuildHasher;
 /// let state = GlobalState::<false, true, false, false>::new(&secrets);
 /// let mut hasher = state.build_hasher();
 /// ```
-#[derive(Clone, Copy, PartialEq, Eq)]
+#[derive(Clone, Copy)]
 pub struct GlobalState<
     's,
     const AVALANCHE: bool,
@@ -51,6 +54,35 @@ impl<
             secrets: secrets.get(),
         }
     }
+}
+
+impl<
+    's,
+    const AVALANCHE: bool,
+    const SPONGE: bool,
+    const COMPACT: bool,
+    const PROTECTED: bool,
+> PartialEq for GlobalState<'s, AVALANCHE, SPONGE, COMPACT, PROTECTED> {
+    ghost use Rattle.rapidhash.specs.States.{seed_of_global, secrets_of_global};
+
+    ghost eq = { λ x y. x.seed == y.seed && pointwise nat_eq x.secrets.now y.secrets.now };
+
+    ghost laws = { Prim.search (comparing, rules) };
+
+    fn eq(&self, other: &Self) -> bool
+        ensures eq { result ≡ (self.now.seed == other.now.seed
+            && pointwise nat_eq self.now.secrets.now other.now.secrets.now) }
+        ensures same { IsTrue result
+            ↔ (seed_of_global self.now ≡ seed_of_global other.now)
+            × (secrets_of_global self.now ≡ secrets_of_global other.now) }
+    {
+        self.seed == other.seed && *self.secrets == *other.secrets
+    }
+}
+
+impl<'s, const AVALANCHE: bool, const SPONGE: bool, const COMPACT: bool, const PROTECTED: bool> Eq
+    for GlobalState<'s, AVALANCHE, SPONGE, COMPACT, PROTECTED> {
+    ghost laws = { Prim.search (comparing, rules) };
 }
 
 impl<
@@ -95,7 +127,7 @@ impl<
 /// let mut source = SeedSource::new(&secrets, second_random_word);
 /// let state = RandomState::<false, true, false, false>::new(&secrets, &mut source);
 /// ```
-#[derive(Clone, Copy, PartialEq, Eq)]
+#[derive(Clone, Copy)]
 pub struct RandomState<
     's,
     const AVALANCHE: bool,
@@ -141,6 +173,35 @@ impl<
     const SPONGE: bool,
     const COMPACT: bool,
     const PROTECTED: bool,
+> PartialEq for RandomState<'s, AVALANCHE, SPONGE, COMPACT, PROTECTED> {
+    ghost use Rattle.rapidhash.specs.States.{seed_of_random, secrets_of_random};
+
+    ghost eq = { λ x y. x.seed == y.seed && pointwise nat_eq x.secrets.now y.secrets.now };
+
+    ghost laws = { Prim.search (comparing, rules) };
+
+    fn eq(&self, other: &Self) -> bool
+        ensures eq { result ≡ (self.now.seed == other.now.seed
+            && pointwise nat_eq self.now.secrets.now other.now.secrets.now) }
+        ensures same { IsTrue result
+            ↔ (seed_of_random self.now ≡ seed_of_random other.now)
+            × (secrets_of_random self.now ≡ secrets_of_random other.now) }
+    {
+        self.seed == other.seed && *self.secrets == *other.secrets
+    }
+}
+
+impl<'s, const AVALANCHE: bool, const SPONGE: bool, const COMPACT: bool, const PROTECTED: bool> Eq
+    for RandomState<'s, AVALANCHE, SPONGE, COMPACT, PROTECTED> {
+    ghost laws = { Prim.search (comparing, rules) };
+}
+
+impl<
+    's,
+    const AVALANCHE: bool,
+    const SPONGE: bool,
+    const COMPACT: bool,
+    const PROTECTED: bool,
 > BuildHasher for RandomState<'s, AVALANCHE, SPONGE, COMPACT, PROTECTED> {
     ghost use Rattle.rapidhash.specs.States.{seed_of_random, secrets_of_random};
 
@@ -178,7 +239,7 @@ impl<
 /// hasher.write_u64(4711);
 /// let hash = hasher.finish();
 /// ```
-#[derive(Clone, Copy, PartialEq, Eq)]
+#[derive(Clone, Copy)]
 pub struct SeedableState<
     's,
     const AVALANCHE: bool,
@@ -259,6 +320,35 @@ impl<
     {
         SeedableState::custom(seed, secrets)
     }
+}
+
+impl<
+    's,
+    const AVALANCHE: bool,
+    const SPONGE: bool,
+    const COMPACT: bool,
+    const PROTECTED: bool,
+> PartialEq for SeedableState<'s, AVALANCHE, SPONGE, COMPACT, PROTECTED> {
+    ghost use Rattle.rapidhash.specs.States.{seed_of_seedable, secrets_of_seedable};
+
+    ghost eq = { λ x y. x.seed == y.seed && pointwise nat_eq x.secrets.now y.secrets.now };
+
+    ghost laws = { Prim.search (comparing, rules) };
+
+    fn eq(&self, other: &Self) -> bool
+        ensures eq { result ≡ (self.now.seed == other.now.seed
+            && pointwise nat_eq self.now.secrets.now other.now.secrets.now) }
+        ensures same { IsTrue result
+            ↔ (seed_of_seedable self.now ≡ seed_of_seedable other.now)
+            × (secrets_of_seedable self.now ≡ secrets_of_seedable other.now) }
+    {
+        self.seed == other.seed && *self.secrets == *other.secrets
+    }
+}
+
+impl<'s, const AVALANCHE: bool, const SPONGE: bool, const COMPACT: bool, const PROTECTED: bool> Eq
+    for SeedableState<'s, AVALANCHE, SPONGE, COMPACT, PROTECTED> {
+    ghost laws = { Prim.search (comparing, rules) };
 }
 
 impl<
