@@ -2,9 +2,9 @@
 use Rattle.std.specs.Prelude.{ℕ, List}
 use Rattle.rapidhash_portable.specs.Seeding.{secrets_of}
 use Rattle.rapidhash_portable.specs.declared.seeding.GlobalSecrets.{GlobalSecrets}
-use Rattle.rapidhash.specs.declared.inner.state.GlobalState.{GlobalState}
-use Rattle.rapidhash.specs.declared.inner.state.RandomState.{RandomState}
-use Rattle.rapidhash.specs.declared.inner.state.SeedableState.{SeedableState}
+use Rattle.rapidhash.specs.declared.inner.state.global.GlobalState.{GlobalState}
+use Rattle.rapidhash.specs.declared.inner.state.random.RandomState.{RandomState}
+use Rattle.rapidhash.specs.declared.inner.state.seedable.SeedableState.{SeedableState}
 
 -- the secrets that a program made once
 abbrev pub made_of : GlobalSecrets → List ℕ
