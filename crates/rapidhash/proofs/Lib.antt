@@ -1,1 +1,3 @@
+pub mod Absorbing
+pub mod Behind
 pub mod Replays
