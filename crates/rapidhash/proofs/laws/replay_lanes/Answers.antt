@@ -1,4 +1,4 @@
-use Rattle.std.proofs.Common.{◌≡◌, ◌+◌, ◌++◌, ◌∷◌, [], List, ℕ, not, nat_eq, subst, sym, ap, ◌∙◌, arith, append_assoc, drop}
+use Rattle.std.proofs.Common.{◌≡◌, ◌+◌, ◌++◌, ◌∷◌, [], not, nat_eq, subst, sym, ap, ◌∙◌, arith, append_assoc, drop}
 use Rattle.std.proofs.lemmas.List.{append-nil, drop_all}
 use Rattle.rapidhash_portable.specs.declared.form.Options.{Options}
 use Rattle.rapidhash_portable.specs.declared.form.Form.TheVariants.{V3}
@@ -30,8 +30,8 @@ loop-op-preserved g c =
               y,
               subst (λ h. StreamStandsFor P h y) (sym w.hasher-is) (w.write.ensures.adds x message.1),
               message.2
-              ∙ ap (λ a. c.loop-op.answers.items ++ a) (finishes_from-write g.row.LANES options seed secrets x ops i _ w.in-Write.piece (omega arith) w.in-Write.is)
-              ∙ ap (λ v. v.items ++ finishes_from g.row.LANES options seed secrets y (drop (i + 1) ops)) (sym w.answers-is),
+                  ∙ ap (λ a. c.loop-op.answers.items ++ a) (finishes_from-write g.row.LANES options seed secrets x ops i _ w.in-Write.piece (omega arith) w.in-Write.is)
+                  ∙ ap (λ v. v.items ++ finishes_from g.row.LANES options seed secrets y (drop (i + 1) ops)) (sym w.answers-is),
             );
           }
       | in-Finish+in_ok-push-in-Finish w ↦
@@ -45,10 +45,10 @@ loop-op-preserved g c =
               x,
               subst (λ h. StreamStandsFor P h x) (sym w.hasher-is) message.1,
               message.2
-              ∙ ap (λ a. items ++ a) (finishes_from-finish g.row.LANES options seed secrets x ops i _ (omega arith) w.in-Finish.is ∙ ap (λ h. h ∷ rest) (sym hash))
-              ∙ sym (append_assoc items (w.finish.result ∷ []) rest)
-              ∙ ap (λ a. a ++ rest) (sym pushed)
-              ∙ ap (λ v. v.items ++ rest) (sym w.answers-is),
+                  ∙ ap (λ a. items ++ a) (finishes_from-finish g.row.LANES options seed secrets x ops i _ (omega arith) w.in-Finish.is ∙ ap (λ h. h ∷ rest) (sym hash))
+                  ∙ sym (append_assoc items (w.finish.result ∷ []) rest)
+                  ∙ ap (λ a. a ++ rest) (sym pushed)
+                  ∙ ap (λ v. v.items ++ rest) (sym w.answers-is),
             );
           }
       | in-Reset w ↦
@@ -58,8 +58,8 @@ loop-op-preserved g c =
               [],
               subst (λ h. StreamStandsFor P h []) (sym w.hasher-is) w.reset.ensures.empty,
               message.2
-              ∙ ap (λ a. c.loop-op.answers.items ++ a) (finishes_from-reset g.row.LANES options seed secrets x ops i _ (omega arith) w.in-Reset.is)
-              ∙ ap (λ v. v.items ++ finishes_from g.row.LANES options seed secrets [] (drop (i + 1) ops)) (sym w.answers-is),
+                  ∙ ap (λ a. c.loop-op.answers.items ++ a) (finishes_from-reset g.row.LANES options seed secrets x ops i _ (omega arith) w.in-Reset.is)
+                  ∙ ap (λ v. v.items ++ finishes_from g.row.LANES options seed secrets [] (drop (i + 1) ops)) (sym w.answers-is),
             );
           }
     ]
