@@ -1,2 +1,4 @@
+pub mod Absorbing
+pub mod Behind
 pub mod Drawn
 pub mod Replays

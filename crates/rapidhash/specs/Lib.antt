@@ -2,6 +2,7 @@ pub use Rattle.rapidhash_portable.specs.Bytes
 pub use Rattle.rapidhash_portable.specs.Form
 pub use Rattle.rapidhash_portable.specs.Hash
 pub use Rattle.rapidhash_portable.specs.Lanes
+pub use Rattle.rapidhash_portable.specs.Memory
 pub use Rattle.rapidhash_portable.specs.Multiply
 pub use Rattle.rapidhash_portable.specs.Secrets
 pub use Rattle.rapidhash_portable.specs.Seeding
@@ -9,5 +10,10 @@ pub use Rattle.rapidhash_portable.specs.Source
 pub use Rattle.rapidhash_portable.specs.Stream
 pub use Rattle.rapidhash_portable.specs.Tail
 pub use Rattle.rapidhash_portable.specs.Words
+pub mod Empty
 pub mod Generator
+pub mod Hasher
+pub mod Hashers
 pub mod Replay
+pub mod Sponge
+pub mod States

@@ -2,6 +2,9 @@
 //!
 //! - [`v1`], [`v2`], [`v3`]: the portable hashes, whose values never change.
 //! - [`reader`]: the reader with a mark that the hashes of a reader take.
+//! - [`RapidHashMap`] and [`RapidHashSet`]: maps and sets over the fast hasher.
+//! - [`fast`], [`quality`]: the hasher and the states of maps, without and with an avalanche.
+//! - [`inner`]: the hasher of maps, with every option.
 //! - [`rng`]: a small generator.
 //! - [`laws`]: laws of the hashes, each as a call.
 //! - [`util`]: the reads and the multiply that the hashes stand on.
@@ -13,7 +16,12 @@
 //! ```
 #![tactic(auto)]
 
+mod collections;
+pub mod fast;
+pub mod inner;
 pub mod laws;
+pub mod quality;
 pub mod rng;
 
+pub use collections::{HashMapExt, HashSetExt, RapidHashMap, RapidHashSet};
 pub use rapidhash_portable::{util, v1, v2, v3};

@@ -1,0 +1,23 @@
+//! The hasher of maps, with every option, and the states that make it.
+//!
+//! - [`RapidHasher`] absorbs bytes and integers, and answers a hash of what it absorbed.
+//! - [`GlobalState`], [`RandomState`] and [`SeedableState`] make hashers of a seed and secrets.
+//! - [`GlobalSecrets`] and [`SeedSource`] are what a program makes once of two random words, and
+//!   lends to its states.
+//!
+//! Its four options are const parameters, the same for the hasher and for the states:
+//!
+//! - `AVALANCHE` mixes the answer once more, for tables that look at its low bits alone.
+//! - `SPONGE` collects integers and mixes 128 bits at once, in place of one multiply an integer.
+//! - `COMPACT` goes row by row in place of two rows a turn: less code, the same values.
+//! - `PROTECTED` mixes each product with its factors.
+//!
+//! The values may change between versions, other than those of the portable hashes.
+
+mod hasher;
+mod sponge;
+mod state;
+
+pub use hasher::RapidHasher;
+pub use rapidhash_portable::seeding::{GlobalSecrets, SeedSource};
+pub use state::{GlobalState, RandomState, SeedableState};

@@ -1,0 +1,297 @@
+//! The hasher.
+
+ghost use Rattle.std.specs.Prelude.{◌≡◌, ◌<◌, ◌^◌, []};
+ghost use Rattle.std.specs.Int.{cast_unsigned, w8, w16, w32, w64, w128};
+ghost use Rattle.rapidhash_portable.specs.Secrets.{cpp_seeded, default_secrets};
+ghost use Rattle.rapidhash.specs.Sponge.{Bytes, IsWidth, Num, Wide};
+ghost use Rattle.rapidhash.specs.Hasher.{step};
+ghost use Rattle.rapidhash.specs.Hashers.{Absorbs, Answers, Stands, answer_of, fresh, options, secrets_of, written};
+
+use crate::inner::sponge::Sponge;
+use rapidhash_portable::memory::memory_hash;
+use rapidhash_portable::util::rapid_mix;
+use rapidhash_portable::v3::{DEFAULT_RAPID_SECRETS, RapidSecrets};
+use std::hash::Hasher;
+
+/// A hasher of bytes and integers, with every option. Most programs name it by `fast::RapidHasher`
+/// or `quality::RapidHasher`.
+///
+/// The calls of its own, as [`RapidHasher::write_u8`], pack integers. Code that is generic over
+/// `Hasher` has the provided calls of the trait, which hand the bytes of an integer to `write`.
+///
+/// ```
+/// let mut hasher = fast::RapidHasher::new(0);
+/// hasher.write_u64(4711);
+/// hasher.write(b"user");
+/// let hash = hasher.finish();
+/// ```
+#[derive(Clone, Copy)]
+pub struct RapidHasher<
+    's,
+    const AVALANCHE: bool,
+    const SPONGE: bool,
+    const COMPACT: bool,
+    const PROTECTED: bool,
+> {
+    seed: u64,
+    secrets: &'s [u64; 7],
+    sponge: Sponge,
+}
+
+impl<
+    's,
+    const AVALANCHE: bool,
+    const SPONGE: bool,
+    const COMPACT: bool,
+    const PROTECTED: bool,
+> RapidHasher<'s, AVALANCHE, SPONGE, COMPACT, PROTECTED> {
+    /// The seed of `default_const` and of `Default`.
+    pub const DEFAULT_SEED: u64 = 0;
+
+    /// A hasher of the default secrets, and of a seed made of `seed` as `RapidSecrets::seed_cpp`
+    /// makes it.
+    ///
+    /// ```
+    /// let mut hasher = fast::RapidHasher::new(0x1234_5678);
+    /// hasher.write_u32(7);
+    /// let hash = hasher.finish();
+    /// ```
+    #[inline(always)]
+    pub fn new(seed: u64) -> Self
+        ensures secrets { secrets_of result ≡ default_secrets }
+        ensures stands { Stands AVALANCHE SPONGE PROTECTED result (cpp_seeded 2 seed) [] }
+    {
+        RapidHasher::from_parts(
+            RapidSecrets::seed_cpp(seed).seed,
+            &DEFAULT_RAPID_SECRETS.secrets,
+        )
+    }
+
+    /// `new` of the default seed.
+    #[inline(always)]
+    pub fn default_const() -> Self
+        ensures secrets { secrets_of result ≡ default_secrets }
+        ensures stands { Stands AVALANCHE SPONGE PROTECTED result (cpp_seeded 2 0) [] }
+    {
+        RapidHasher::new(0)
+    }
+
+    /// A hasher of a seed and secrets as they are.
+    #[inline(always)]
+    pub(crate) fn from_parts(seed: u64, secrets: &'s [u64; 7]) -> Self
+        ensures value { result ≡ fresh seed secrets.entry }
+        ensures stands { Stands AVALANCHE SPONGE PROTECTED result seed [] }
+    {
+        RapidHasher {
+            seed,
+            secrets,
+            sponge: Sponge::empty(),
+        }
+    }
+
+    /// The seed after a step on 128 bits.
+    #[inline(always)]
+    fn mixed(&self, wide: u128) -> u64
+        ensures { result
+            ≡ step (options AVALANCHE PROTECTED) (secrets_of self.now) self.now.seed (Wide wide) }
+    {
+        let low = (wide % 0x1_0000_0000_0000_0000) as u64;
+        let high = (wide / 0x1_0000_0000_0000_0000) as u64;
+        rapid_mix::<PROTECTED>(low ^ self.seed, high ^ self.secrets[0])
+    }
+
+    /// Absorbs an integer of `width` bits.
+    #[inline(always)]
+    fn write_number(&mut self, value: u64, width: u8)
+        requires width { IsWidth width }
+        requires fits { value < 2 ^ width }
+        ensures secrets { secrets_of self.new ≡ secrets_of self.old }
+        ensures stands { Absorbs AVALANCHE SPONGE PROTECTED self.old self.new (Num width value) }
+    {
+        if SPONGE {
+            if self.sponge.width <= 128 - width {
+                self.sponge = self.sponge.with(value, width);
+            } else {
+                self.seed = self.mixed(self.sponge.bits);
+                self.sponge = Sponge::of(value, width);
+            }
+        } else {
+            self.seed = rapid_mix::<PROTECTED>(value ^ self.secrets[0], value ^ self.seed);
+        }
+    }
+}
+
+impl<
+    's,
+    const AVALANCHE: bool,
+    const SPONGE: bool,
+    const COMPACT: bool,
+    const PROTECTED: bool,
+> RapidHasher<'s, AVALANCHE, SPONGE, COMPACT, PROTECTED> {
+    /// Absorbs an integer of 8 bits. Two integers of one width that share a block count as the joined
+    /// one: `write_u8(2)` and `write_u8(1)` as `write_u16(258)`.
+    ///
+    /// ```
+    /// let mut hasher = fast::RapidHasher::default();
+    /// hasher.write_u8(2);
+    /// let hash = hasher.finish();
+    /// ```
+    #[inline(always)]
+    pub fn write_u8(&mut self, value: u8)
+        ensures secrets { secrets_of self.new ≡ secrets_of self.old }
+        ensures stands { Absorbs AVALANCHE SPONGE PROTECTED self.old self.new (Num 8 value) }
+    {
+        self.write_number(value as u64, 8);
+    }
+
+    /// Absorbs an integer of 16 bits.
+    #[inline(always)]
+    pub fn write_u16(&mut self, value: u16)
+        ensures secrets { secrets_of self.new ≡ secrets_of self.old }
+        ensures stands { Absorbs AVALANCHE SPONGE PROTECTED self.old self.new (Num 16 value) }
+    {
+        self.write_number(value as u64, 16);
+    }
+
+    /// Absorbs an integer of 32 bits.
+    #[inline(always)]
+    pub fn write_u32(&mut self, value: u32)
+        ensures secrets { secrets_of self.new ≡ secrets_of self.old }
+        ensures stands { Absorbs AVALANCHE SPONGE PROTECTED self.old self.new (Num 32 value) }
+    {
+        self.write_number(value as u64, 32);
+    }
+
+    /// Absorbs an integer of 64 bits.
+    #[inline(always)]
+    pub fn write_u64(&mut self, value: u64)
+        ensures secrets { secrets_of self.new ≡ secrets_of self.old }
+        ensures stands { Absorbs AVALANCHE SPONGE PROTECTED self.old self.new (Num 64 value) }
+    {
+        self.write_number(value, 64);
+    }
+
+    /// Absorbs an integer of 64 bits, as [`RapidHasher::write_u64`].
+    #[inline(always)]
+    pub fn write_usize(&mut self, value: usize)
+        ensures secrets { secrets_of self.new ≡ secrets_of self.old }
+        ensures stands { Absorbs AVALANCHE SPONGE PROTECTED self.old self.new (Num 64 value) }
+    {
+        self.write_number(value as u64, 64);
+    }
+
+    /// Absorbs a signed integer of 8 bits, by its bits.
+    #[inline(always)]
+    pub fn write_i8(&mut self, value: i8)
+        ensures secrets { secrets_of self.new ≡ secrets_of self.old }
+        ensures stands { Absorbs AVALANCHE SPONGE PROTECTED self.old self.new (Num 8 (cast_unsigned w8 value)) }
+    {
+        self.write_number(value.cast_unsigned() as u64, 8);
+    }
+
+    /// Absorbs a signed integer of 16 bits, by its bits.
+    #[inline(always)]
+    pub fn write_i16(&mut self, value: i16)
+        ensures secrets { secrets_of self.new ≡ secrets_of self.old }
+        ensures stands { Absorbs AVALANCHE SPONGE PROTECTED self.old self.new (Num 16 (cast_unsigned w16 value)) }
+    {
+        self.write_number(value.cast_unsigned() as u64, 16);
+    }
+
+    /// Absorbs a signed integer of 32 bits, by its bits.
+    #[inline(always)]
+    pub fn write_i32(&mut self, value: i32)
+        ensures secrets { secrets_of self.new ≡ secrets_of self.old }
+        ensures stands { Absorbs AVALANCHE SPONGE PROTECTED self.old self.new (Num 32 (cast_unsigned w32 value)) }
+    {
+        self.write_number(value.cast_unsigned() as u64, 32);
+    }
+
+    /// Absorbs a signed integer of 64 bits, by its bits.
+    #[inline(always)]
+    pub fn write_i64(&mut self, value: i64)
+        ensures secrets { secrets_of self.new ≡ secrets_of self.old }
+        ensures stands { Absorbs AVALANCHE SPONGE PROTECTED self.old self.new (Num 64 (cast_unsigned w64 value)) }
+    {
+        self.write_number(value.cast_unsigned(), 64);
+    }
+
+    /// Absorbs a signed integer of 64 bits, by its bits.
+    #[inline(always)]
+    pub fn write_isize(&mut self, value: isize)
+        ensures secrets { secrets_of self.new ≡ secrets_of self.old }
+        ensures stands { Absorbs AVALANCHE SPONGE PROTECTED self.old self.new (Num 64 (cast_unsigned w64 value)) }
+    {
+        self.write_number(value.cast_unsigned() as u64, 64);
+    }
+
+    /// Absorbs 128 bits in one step. What waits in the sponge stays there.
+    #[inline(always)]
+    pub fn write_u128(&mut self, value: u128)
+        ensures secrets { secrets_of self.new ≡ secrets_of self.old }
+        ensures stands { Absorbs AVALANCHE SPONGE PROTECTED self.old self.new (Wide value) }
+    {
+        self.seed = self.mixed(value);
+    }
+
+    /// Absorbs 128 bits in one step, as [`RapidHasher::write_u128`] does.
+    #[inline(always)]
+    pub fn write_i128(&mut self, value: i128)
+        ensures secrets { secrets_of self.new ≡ secrets_of self.old }
+        ensures stands { Absorbs AVALANCHE SPONGE PROTECTED self.old self.new (Wide (cast_unsigned w128 value)) }
+    {
+        self.write_u128(value.cast_unsigned());
+    }
+}
+
+impl<
+    's,
+    const AVALANCHE: bool,
+    const SPONGE: bool,
+    const COMPACT: bool,
+    const PROTECTED: bool,
+> Hasher for RapidHasher<'s, AVALANCHE, SPONGE, COMPACT, PROTECTED> {
+    ghost write = { λ hasher bytes. written AVALANCHE PROTECTED hasher bytes };
+
+    ghost finish = { λ hasher. answer_of AVALANCHE PROTECTED hasher };
+
+    #[inline(always)]
+    fn write(&mut self, bytes: &[u8])
+        ensures value { self.new ≡ written AVALANCHE PROTECTED self.old bytes.now }
+        ensures secrets { secrets_of self.new ≡ secrets_of self.old }
+        ensures stands { Absorbs AVALANCHE SPONGE PROTECTED self.old self.new (Bytes bytes.now) }
+    {
+        self.seed = memory_hash::<AVALANCHE, COMPACT, PROTECTED>(bytes, self.seed, self.secrets);
+    }
+
+    #[inline(always)]
+    fn finish(&self) -> u64
+        ensures value { result ≡ answer_of AVALANCHE PROTECTED self.now }
+        ensures stands { Answers AVALANCHE SPONGE PROTECTED self.now result }
+    {
+        let mut last = self.seed;
+        if self.sponge.width > 0 {
+            last = self.mixed(self.sponge.bits);
+        }
+        if AVALANCHE {
+            last = rapid_mix::<PROTECTED>(last, DEFAULT_RAPID_SECRETS.secrets[1]);
+        }
+        last
+    }
+}
+
+impl<
+    's,
+    const AVALANCHE: bool,
+    const SPONGE: bool,
+    const COMPACT: bool,
+    const PROTECTED: bool,
+> Default for RapidHasher<'s, AVALANCHE, SPONGE, COMPACT, PROTECTED> {
+    ghost is_default = { λ hasher. (secrets_of hasher ≡ default_secrets)
+        × Stands AVALANCHE SPONGE PROTECTED hasher (cpp_seeded 2 0) [] };
+
+    #[inline(always)]
+    fn default() -> Self {
+        RapidHasher::default_const()
+    }
+}

@@ -1,0 +1,22 @@
+//! The hasher and the states with an avalanche: as `fast`, and each answer is mixed once more, for
+//! tables and filters that look at few bits of it.
+//!
+//! ```
+//! let mut hasher = quality::RapidHasher::default();
+//! hasher.write(b"user:4711");
+//! let hash = hasher.finish();
+//! ```
+
+use crate::inner;
+
+/// The hasher.
+pub type RapidHasher<'s> = inner::RapidHasher<'s, true, true, false, false>;
+
+/// Makes hashers of a seed that differs from map to map.
+pub type RandomState<'s> = inner::RandomState<'s, true, true, false, false>;
+
+/// Makes hashers of a seed of the caller's.
+pub type SeedableState<'s> = inner::SeedableState<'s, true, true, false, false>;
+
+/// Makes hashers of the seed that a program made once.
+pub type GlobalState<'s> = inner::GlobalState<'s, true, true, false, false>;

@@ -1,0 +1,134 @@
+//! Known answers after lists of items.
+
+use rapidhash::inner::{RapidHasher, SeedableState};
+use std::hash::{BuildHasher, Hasher};
+
+/// Secret 0 is 1, and the others are 0.
+const SECRETS: [u64; 7] = [1, 0, 0, 0, 0, 0, 0];
+
+/// A hasher with a sponge, without an avalanche.
+type Packing<'s, const COMPACT: bool> = RapidHasher<'s, false, true, COMPACT, false>;
+
+/// A hasher with neither.
+type Mixing<'s, const COMPACT: bool> = RapidHasher<'s, false, false, COMPACT, false>;
+
+/// A new hasher with a sponge.
+fn packing<'s, const COMPACT: bool>() -> Packing<'s, COMPACT> {
+    SeedableState::custom(0, &SECRETS).build_hasher()
+}
+
+/// A new hasher without one.
+fn mixing<'s, const COMPACT: bool>() -> Mixing<'s, COMPACT> {
+    SeedableState::custom(0, &SECRETS).build_hasher()
+}
+
+/// What the hasher answers after fifteen bytes of 0, each an integer.
+fn fifteen<'s, const COMPACT: bool>() -> Packing<'s, COMPACT> {
+    let mut hasher = packing::<COMPACT>();
+    for _ in 0..15u8 {
+        hasher.write_u8(0);
+    }
+    hasher
+}
+
+/// Integers that share a block are one number, and the answer leaves them there.
+fn sharing<const COMPACT: bool>() -> [u64; 4] {
+    let none = packing::<COMPACT>();
+    let mut pair = packing::<COMPACT>();
+    pair.write_u8(2);
+    pair.write_u8(1);
+    let mut joined = packing::<COMPACT>();
+    joined.write_u16(258);
+    [none.finish(), pair.finish(), pair.finish(), joined.finish()]
+}
+
+/// An integer opens a block where the one before has no room for it.
+fn opening<const COMPACT: bool>() -> [u64; 3] {
+    let mut words = packing::<COMPACT>();
+    words.write_u64(3);
+    words.write_u64(0);
+    words.write_u8(7);
+    let mut wider = fifteen::<COMPACT>();
+    wider.write_u16(9);
+    let mut fitting = fifteen::<COMPACT>();
+    fitting.write_u8(9);
+    [words.finish(), wider.finish(), fitting.finish()]
+}
+
+/// Bytes and numbers of 128 bits leave the open block where it is.
+fn beside<const COMPACT: bool>() -> [u64; 4] {
+    let mut bytes = packing::<COMPACT>();
+    bytes.write_u8(5);
+    bytes.write(&[2]);
+    let mut before = packing::<COMPACT>();
+    before.write_u8(7);
+    before.write_u128((1 << 65) + 3);
+    let mut behind = packing::<COMPACT>();
+    behind.write_u128((1 << 65) + 3);
+    behind.write_u8(7);
+    let mut provided = packing::<COMPACT>();
+    Hasher::write_u8(&mut provided, 2);
+    [
+        bytes.finish(),
+        before.finish(),
+        behind.finish(),
+        provided.finish(),
+    ]
+}
+
+/// Without a sponge each integer is mixed at once, a signed one by its bits.
+fn apart<const COMPACT: bool>() -> [u64; 3] {
+    let mut byte = mixing::<COMPACT>();
+    byte.write_u8(2);
+    let mut signed = mixing::<COMPACT>();
+    signed.write_i8(-1);
+    let mut wider = mixing::<COMPACT>();
+    wider.write_i16(-1);
+    [byte.finish(), signed.finish(), wider.finish()]
+}
+
+/// A text and the byte that ends it, with an avalanche.
+fn text(compact: bool) -> u64 {
+    if compact {
+        let mut hasher = RapidHasher::<true, true, true, false>::default();
+        hasher.write(b"hello world");
+        hasher.write_u8(0xFF);
+        hasher.finish()
+    } else {
+        let mut hasher = RapidHasher::<true, true, false, false>::default();
+        hasher.write(b"hello world");
+        hasher.write_u8(0xFF);
+        hasher.finish()
+    }
+}
+
+#[test]
+fn integers_share_a_block(rt: HostRuntime) {
+    assert_eq!(rt; sharing::<true>(), [0, 258, 258, 258]);
+    assert_eq!(rt; sharing::<false>(), [0, 258, 258, 258]);
+}
+
+#[test]
+fn an_integer_opens_a_block(rt: HostRuntime) {
+    assert_eq!(rt; opening::<true>(), [4, 9, 0]);
+    assert_eq!(rt; opening::<false>(), [4, 9, 0]);
+}
+
+#[test]
+fn bytes_leave_the_open_block(rt: HostRuntime) {
+    let known = [211106232533004, 14, 14, 211106232533001];
+    assert_eq!(rt; beside::<true>(), known);
+    assert_eq!(rt; beside::<false>(), known);
+}
+
+#[test]
+fn integers_without_a_sponge(rt: HostRuntime) {
+    assert_eq!(rt; apart::<true>(), [6, 64770, 4294770690]);
+    assert_eq!(rt; apart::<false>(), [6, 64770, 4294770690]);
+}
+
+#[test]
+fn a_text_and_its_end(rt: HostRuntime) {
+    assert_eq!(rt; text(true), 7608958509739739138);
+    assert_eq!(rt; text(false), 7608958509739739138);
+}
