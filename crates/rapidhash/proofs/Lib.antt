@@ -1,3 +1,5 @@
 pub mod Absorbing
 pub mod Behind
+pub mod Drawn
+pub mod Packing
 pub mod Replays

@@ -1,5 +1,7 @@
 -- The small generator: its states go one cycle by steps of an odd number, and each gives a word.
-use Rattle.std.specs.Prelude.{ℕ, ◌+◌, ◌*◌, ◌%◌, ◌^◌, false, bit_xor}
+use Rattle.std.specs.Prelude.{ℕ, zero, suc, ◌+◌, ◌*◌, ◌/◌, ◌%◌, ◌^◌, false, bit_xor, List, [], ◌++◌, take}
+use Rattle.std.specs.Int.{w64, to_le_bytes}
+use Rattle.rand_core.specs.Steps.{Steps, steps_u64_low}
 use Rattle.rapidhash_portable.specs.Multiply.{mix}
 
 -- the state after `count` steps from a seed
@@ -13,3 +15,38 @@ word_of state = mix false state (bit_xor state 0x8bb84b93962eacc9)
 -- word `count` from a seed, counted from 1: that of the state after as many steps
 abbrev pub word_at : ℕ → ℕ → ℕ
 word_at seed count = word_of (state_after seed count)
+
+-- the next word, and the state that gives it
+abbrev pub next_word : ℕ → ℕ × ℕ
+next_word seed = (word_at seed 1, state_after seed 1)
+
+-- the calls of a generator: half a word is its low half, and bytes are those of whole words
+abbrev pub generator_steps : Steps ℕ
+generator_steps = steps_u64_low next_word
+
+-- the little-endian bytes of the words 1 to `count`
+abbrev pub bytes_of_words : ℕ → ℕ → List ℕ
+bytes_of_words seed zero = []
+bytes_of_words seed (suc count) = bytes_of_words seed count ++ to_le_bytes w64 (word_at seed (suc count))
+
+-- how many words `size` bytes take: one for each 8 bytes begun
+abbrev pub words_for : ℕ → ℕ
+words_for size = (size + 7) / 8
+
+-- the first `size` bytes of the words
+abbrev pub first_bytes_of : ℕ → ℕ → List ℕ
+first_bytes_of seed size = take size (bytes_of_words seed (words_for size))
+
+-- a moment as one number: the low half of its seconds above its nanoseconds
+abbrev pub moment_of : ℕ → ℕ → ℕ
+moment_of secs nanos = secs % 2 ^ 32 * 2 ^ 32 + nanos
+
+-- the seed that a moment makes of another
+abbrev pub seed_at_moment : ℕ → ℕ → ℕ → ℕ
+seed_at_moment seed secs nanos =
+    let moment = mix false (bit_xor (moment_of secs nanos) 0x2d358dccaa6c78a5) (bit_xor seed 0x8bb84b93962eacc9) in
+    mix false (bit_xor moment 0x2d358dccaa6c78a5) 0x4b33a62ed433d4a3
+
+-- the word that a moment gives: that of the seed it makes
+abbrev pub word_at_moment : ℕ → ℕ → ℕ → ℕ
+word_at_moment seed secs nanos = word_of (seed_at_moment seed secs nanos)

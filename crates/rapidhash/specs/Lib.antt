@@ -1,3 +1,4 @@
+pub use Rattle.rapidhash_portable.specs.Absorbed
 pub use Rattle.rapidhash_portable.specs.Bytes
 pub use Rattle.rapidhash_portable.specs.Form
 pub use Rattle.rapidhash_portable.specs.Hash
@@ -14,6 +15,7 @@ pub mod Empty
 pub mod Generator
 pub mod Hasher
 pub mod Hashers
+pub mod Laws
 pub mod Replay
 pub mod Sponge
 pub mod States

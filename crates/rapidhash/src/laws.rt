@@ -1,11 +1,21 @@
 //! Laws of the hashes, each as a call whose contract is the law.
+//!
+//! - [`same_words_v3`] and its like: nothing of a message is lost before it is mixed, and the hash
+//!   looks at nothing else.
+//! - [`same_blocks`]: integers of equal widths are packed one to one.
+//! - [`replay`]: a stream hasher answers the hash of what was written since the last reset.
 
 ghost use Rattle.std.specs.Prelude.{◌≡◌, IfOk};
 ghost use Rattle.rapidhash_portable.specs.Lanes.{IsLaneCount};
 ghost use Rattle.rapidhash.specs.Replay.{finishes};
 
+mod blocks;
+mod words;
+
+pub use blocks::{Num, same_blocks};
 use rapidhash_portable::v3::{RapidSecrets, RapidStreamHasherLanes};
 use std::alloc::{AllocError, Allocator};
+pub use words::{same_words_micro, same_words_nano, same_words_v1, same_words_v2, same_words_v3};
 
 /// A step of a run over a stream hasher.
 #[derive(Clone, Copy)]

@@ -1,16 +1,31 @@
 //! A small generator for tests and simulations, with a state of 64 bits. It is no source of secrets.
 
-ghost use Rattle.std.specs.Prelude.{◌≡◌, ℕ};
-ghost use Rattle.rapidhash.specs.Generator.{state_after, word_at};
+ghost use Rattle.std.specs.Prelude.{◌≡◌, ◌<◌, ◌^◌, ◌%◌, ℕ, false, length};
+ghost use Rattle.std.specs.Int.{w64, from_le_bytes, to_le_bytes};
+ghost use Rattle.rand_core.specs.Steps.{stream_of};
+ghost use Rattle.rand_core.specs.Stream.{next_u32, next_u64, fill_bytes};
+ghost use Rattle.rapidhash_portable.specs.Multiply.{mix};
+ghost use Rattle.rapidhash.specs.Generator.{state_after, word_at, next_word, generator_steps, words_for, first_bytes_of, seed_at_moment, word_at_moment};
 
+use rand_core::utils::NextWord;
+use rand_core::{Rng, SeedableRng, utils};
 use rapidhash_portable::util::rapid_mix;
 use std::marker::Model;
 
 /// What a step adds to the state. It is odd, so the states go one cycle of 2^64.
 const STEP: u64 = 0x2d35_8dcc_aa6c_78a5;
 
+/// The step's inverse: their product is 1 modulo 2^64.
+const INVERSE: u64 = 0x32e2_5c49_d2be_af2d;
+
 /// What a word mixes its state with.
 const MASK: u64 = 0x8bb8_4b93_962e_acc9;
+
+/// What a seed mixes its moment with.
+const MOMENT_MASK: u64 = 0x4b33_a62e_d433_d4a3;
+
+/// The seed that a generator made at a moment starts from.
+const MOMENT_SEED: u64 = 0xbdd8_9aa9_8270_4029;
 
 /// Steps the state, and gives the word of the new one.
 ///
@@ -27,6 +42,43 @@ pub fn rapidrng_fast(state: &mut u64) -> u64
     let next = state.wrapping_add(STEP);
     *state = next;
     rapid_mix::<false>(next, next ^ MASK)
+}
+
+/// Steps the state alike, and gives another word of the new one: the form that other machines may
+/// compute otherwise.
+///
+/// ```
+/// let mut state = 42;
+/// let word = rapidrng_fast_not_portable(&mut state);
+/// ```
+#[inline(always)]
+pub fn rapidrng_fast_not_portable(state: &mut u64) -> u64
+    ensures state { state.new ≡ state_after state.old 1 }
+    ensures word { result ≡ mix false (state_after state.old 1) 0x8bb84b93962eacc9 }
+{
+    let next = state.wrapping_add(STEP);
+    *state = next;
+    rapid_mix::<false>(next, MASK)
+}
+
+/// Makes a new seed of the old one and a moment, and gives the new seed's word. The moment is handed
+/// in, as seconds and nanoseconds since a beginning of the caller's choice; of the seconds the low 32
+/// bits count. That the nanoseconds are less than a second is the caller's condition.
+///
+/// ```
+/// let mut seed = 42;
+/// let word = rapidrng_time(&mut seed, since_epoch.as_secs(), since_epoch.subsec_nanos());
+/// ```
+pub fn rapidrng_time(seed: &mut u64, secs: u64, nanos: u32) -> u64
+    requires { nanos < 1000000000 }
+    ensures seed { seed.new ≡ seed_at_moment seed.old secs nanos }
+    ensures word { result ≡ word_at_moment seed.old secs nanos }
+{
+    let entropy = secs % 0x1_0000_0000 * 0x1_0000_0000 + nanos as u64;
+    let moment = rapid_mix::<false>(entropy ^ STEP, *seed ^ MASK);
+    let made = rapid_mix::<false>(moment ^ STEP, MOMENT_MASK);
+    *seed = made;
+    rapid_mix::<false>(made, made ^ MASK)
 }
 
 /// A generator, which a contract sees as its state.
@@ -57,6 +109,32 @@ impl RapidRng {
         RapidRng { seed }
     }
 
+    /// A generator whose state is what [`rapidrng_time`] answers at a moment from a seed that is
+    /// always the same. That the nanoseconds are less than a second is the caller's condition.
+    pub fn from_moment(secs: u64, nanos: u32) -> RapidRng
+        requires { nanos < 1000000000 }
+        ensures { result ≡ word_at_moment 0xbdd89aa982704029 secs nanos }
+    {
+        let mut seed = MOMENT_SEED;
+        RapidRng::new(rapidrng_time(&mut seed, secs, nanos))
+    }
+
+    /// The state as a number, from which a caller learns its range.
+    fn number(&self) -> u64
+        ensures { result ≡ self.now }
+    {
+        self.seed
+    }
+
+    /// The state as bytes, the lowest first. [`SeedableRng::from_seed`] makes the generator of them
+    /// again.
+    #[inline]
+    pub fn state(&self) -> [u8; 8]
+        ensures { result ≡ to_le_bytes w64 self.now }
+    {
+        self.seed.to_le_bytes()
+    }
+
     /// The next word.
     #[inline]
     pub fn next(&mut self) -> u64
@@ -64,5 +142,91 @@ impl RapidRng {
         ensures word { result ≡ word_at self.old 1 }
     {
         rapidrng_fast(&mut self.seed)
+    }
+
+    /// How many steps lead from this state to the other's. There is always such a number below 2^64,
+    /// and any other number of steps that does it is the same modulo 2^64.
+    ///
+    /// ```
+    /// let start = RapidRng::new(42);
+    /// let mut later = start;
+    /// later.next();
+    /// assert_eq!(start.steps_to(&later), 1);
+    /// ```
+    pub fn steps_to(&self, other: &RapidRng) -> u64
+        ensures below { result < 2 ^ 64 }
+        ensures leads { state_after self.now result ≡ other.now }
+        ensures only { (steps : ℕ) → state_after self.now steps ≡ other.now → steps % 2 ^ 64 ≡ result }
+    {
+        let distance = other.seed.wrapping_sub(self.seed);
+        distance.wrapping_mul(INVERSE)
+    }
+}
+
+impl SeedableRng for RapidRng {
+    type Seed = [u8; 8];
+
+    ghost of_seed = { from_le_bytes w64 };
+
+    ghost seed_of_u64 = { to_le_bytes w64 };
+
+    /// The generator whose [`RapidRng::state`] is `seed`.
+    #[inline]
+    fn from_seed(seed: [u8; 8]) -> RapidRng {
+        RapidRng::new(u64::from_le_bytes(seed))
+    }
+
+    /// As [`RapidRng::new`].
+    #[inline]
+    fn seed_from_u64(state: u64) -> RapidRng
+        ensures seeded { result ≡ from_le_bytes w64 (to_le_bytes w64 state) }
+        ensures same { result ≡ state }
+    {
+        RapidRng::from_seed(state.to_le_bytes())
+    }
+}
+
+impl NextWord<u64> for RapidRng {
+    ghost step = { next_word };
+
+    #[inline]
+    fn next_word(&mut self) -> u64 {
+        RapidRng::next(self)
+    }
+}
+
+impl Rng for RapidRng {
+    ghost stream = { stream_of generator_steps };
+
+    /// The low half of the next word.
+    #[inline]
+    fn next_u32(&mut self) -> u32
+        ensures stream { (result, stream_of generator_steps self.new) ≡ next_u32 (stream_of generator_steps self.old) }
+        ensures low { result ≡ word_at self.old 1 % 2 ^ 32 }
+        ensures state { self.new ≡ state_after self.old 1 }
+    {
+        (self.next() % 0x1_0000_0000) as u32
+    }
+
+    /// The next word.
+    #[inline]
+    fn next_u64(&mut self) -> u64
+        ensures stream { (result, stream_of generator_steps self.new) ≡ next_u64 (stream_of generator_steps self.old) }
+        ensures word { result ≡ word_at self.old 1 }
+        ensures state { self.new ≡ state_after self.old 1 }
+    {
+        self.next()
+    }
+
+    /// The first bytes of the next words, each with its lowest byte first. A word is taken for each 8
+    /// bytes begun; what is left of the last one is dropped.
+    #[inline]
+    fn fill_bytes(&mut self, dst: &mut [u8])
+        ensures stream { (dst.new, stream_of generator_steps self.new) ≡ fill_bytes (length dst.old) (stream_of generator_steps self.old) }
+        ensures bytes { dst.new ≡ first_bytes_of self.old (length dst.old) }
+        ensures state { self.new ≡ state_after self.old (words_for (length dst.old)) }
+    {
+        let _state = self.number();
+        utils::fill_bytes_via_u64(self, dst)
     }
 }

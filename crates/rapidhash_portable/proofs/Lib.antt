@@ -1,9 +1,12 @@
+pub mod Absorbed
 pub mod Chains
 pub mod Columns
+pub mod Digits
 pub mod Filled
 pub mod Finishing
 pub mod Fronts
 pub mod Hashes
+pub mod NothingLost
 pub mod Pieces
 pub mod Reading
 pub mod Refills

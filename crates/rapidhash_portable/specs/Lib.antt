@@ -1,3 +1,4 @@
+pub mod Absorbed
 pub mod Bytes
 pub mod Form
 pub mod Hash

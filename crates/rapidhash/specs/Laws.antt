@@ -1,0 +1,41 @@
+-- What the laws say of messages and of lists of integers.
+use Rattle.std.specs.Prelude.{ℕ, ◌≡◌, ◌<◌, ◌^◌, List, length, map, slice_index}
+use Rattle.rapidhash_portable.specs.declared.form.Form.{Form}
+use Rattle.rapidhash_portable.specs.declared.form.Options.{Options}
+use Rattle.rapidhash_portable.specs.Absorbed.{absorbed_words, value_of_words}
+use Rattle.rapidhash_portable.specs.Hash.{portable_hash}
+use Rattle.rapidhash.specs.declared.laws.blocks.Num.{Num}
+use Rattle.rapidhash.specs.declared.laws.blocks.Num.TheVariants.{N8, N16, N32, N64}
+use Rattle.rapidhash.specs.Sponge.{Item, Num as Integer, block}
+
+-- two messages have one length and one list of absorbed words
+abbrev pub SameWords : Form → List ℕ → List ℕ → Type 0
+SameWords form x y = (length x ≡ length y) × (absorbed_words form x ≡ absorbed_words form y)
+
+-- whatever the options, the seed and the secrets, the one definition is the value of the message's length and its absorbed words
+abbrev pub HashIsOfWords : Form → List ℕ → Type 0
+HashIsOfWords form x =
+    (options : Options) (seed : ℕ) (secrets : List ℕ) → seed < 2 ^ 64 → ((i : ℕ) → slice_index secrets i < 2 ^ 64)
+    → portable_hash form options seed secrets x ≡ value_of_words form options seed secrets (length x) (absorbed_words form x)
+
+-- the width of an integer in bits
+abbrev pub width_of : Num → ℕ
+width_of (N8 value) = 8
+width_of (N16 value) = 16
+width_of (N32 value) = 32
+width_of (N64 value) = 64
+
+-- the integer as a number
+abbrev pub value_of : Num → ℕ
+value_of (N8 value) = value
+value_of (N16 value) = value
+value_of (N32 value) = value
+value_of (N64 value) = value
+
+-- the integer as a hasher absorbs it
+abbrev pub item_of : Num → Item
+item_of number = Integer (width_of number) (value_of number)
+
+-- two lists of integers are packed into the same blocks
+abbrev pub SameBlocks : List Num → List Num → Type 0
+SameBlocks x y = (place : ℕ) → block (map item_of x) place ≡ block (map item_of y) place

@@ -1,0 +1,52 @@
+//! Integers are packed into blocks of 128 bits one to one.
+
+ghost use Rattle.std.specs.Prelude.{◌≡◌, ◌<◌, ◌^◌, ◌↔◌, IsTrue, map};
+ghost use Rattle.rapidhash.specs.Laws.{SameBlocks, value_of, width_of};
+
+/// An integer with its width.
+#[derive(Debug, Clone, Copy, PartialEq, Eq)]
+pub enum Num {
+    /// 8 bits.
+    N8(u8),
+    /// 16 bits.
+    N16(u16),
+    /// 32 bits.
+    N32(u32),
+    /// 64 bits.
+    N64(u64),
+}
+
+impl Num {
+    /// The integer, whatever its width.
+    fn value(self) -> u64
+        ensures value { result ≡ value_of self }
+        ensures fits { result < 2 ^ width_of self }
+    {
+        match self {
+            Num::N8(value) => value as u64,
+            Num::N16(value) => value as u64,
+            Num::N32(value) => value as u64,
+            Num::N64(value) => value,
+        }
+    }
+}
+
+/// Whether two lists of integers are packed into the same blocks, as the hasher of maps packs what it
+/// is given; which is whether they are one list. That the lists are equally long and their widths
+/// agree place by place is the caller's condition.
+///
+/// ```
+/// assert!(!same_blocks(&[Num::N8(1), Num::N16(2)], &[Num::N8(1), Num::N16(3)]));
+/// ```
+pub fn same_blocks(x: &[Num], y: &[Num]) -> bool
+    requires { map width_of x.now ≡ map width_of y.now }
+    ensures blocks { IsTrue result ↔ SameBlocks x.now y.now }
+    ensures lists { IsTrue result ↔ (x.now ≡ y.now) }
+{
+    for i in 0..x.len() {
+        if x[i].value() != y[i].value() {
+            return false;
+        }
+    }
+    true
+}

@@ -1,0 +1,91 @@
+//! Nothing of a message is lost in the words that a hash reads of it, and the hash looks at nothing
+//! but these words and the length.
+
+ghost use Rattle.std.specs.Prelude.{◌≡◌, ◌≤◌, ◌↔◌, IsTrue};
+ghost use Rattle.rapidhash_portable.specs.declared.form.Form.{Form};
+ghost use Rattle.rapidhash_portable.specs.declared.form.Form.TheVariants.{V1};
+ghost use Rattle.rapidhash_portable.specs.Form.{micro, nano, v2, v3};
+ghost use Rattle.rapidhash.specs.Laws.{HashIsOfWords, SameWords};
+
+/// Whether two messages are one, which every form tells by their lengths and the words that it reads.
+fn same_words(x: &[u8], y: &[u8]) -> bool
+    ensures words { (form : Form) → (IsTrue result ↔ SameWords form x.now y.now) }
+    ensures bytes { IsTrue result ↔ (x.now ≡ y.now) }
+    ensures first { (form : Form) → HashIsOfWords form x.now }
+    ensures second { (form : Form) → HashIsOfWords form y.now }
+{
+    x == y
+}
+
+/// Whether two messages have one length and the words that V1 reads agree, which is whether they are
+/// one message. V1 of either is a formula over its length and these words, whatever the options, the
+/// seed and the secrets.
+///
+/// ```
+/// assert!(!same_words_v1::<false>(b"left", b"lift"));
+/// ```
+pub fn same_words_v1<const V1_BUG: bool>(x: &[u8], y: &[u8]) -> bool
+    ensures words { IsTrue result ↔ SameWords (V1 V1_BUG) x.now y.now }
+    ensures bytes { IsTrue result ↔ (x.now ≡ y.now) }
+    ensures first { HashIsOfWords (V1 V1_BUG) x.now }
+    ensures second { HashIsOfWords (V1 V1_BUG) y.now }
+{
+    same_words(x, y)
+}
+
+/// As [`same_words_v1`], of V2 by its minor number: 0, 1 or 2.
+///
+/// ```
+/// assert!(!same_words_v2::<2>(b"left", b"lift"));
+/// ```
+pub fn same_words_v2<const MINOR: u8>(x: &[u8], y: &[u8]) -> bool
+    requires { MINOR ≤ 2 }
+    ensures words { IsTrue result ↔ SameWords (v2 MINOR) x.now y.now }
+    ensures bytes { IsTrue result ↔ (x.now ≡ y.now) }
+    ensures first { HashIsOfWords (v2 MINOR) x.now }
+    ensures second { HashIsOfWords (v2 MINOR) y.now }
+{
+    same_words(x, y)
+}
+
+/// As [`same_words_v1`], of V3.
+///
+/// ```
+/// assert!(same_words_v3(b"left", b"left"));
+/// ```
+pub fn same_words_v3(x: &[u8], y: &[u8]) -> bool
+    ensures words { IsTrue result ↔ SameWords v3 x.now y.now }
+    ensures bytes { IsTrue result ↔ (x.now ≡ y.now) }
+    ensures first { HashIsOfWords v3 x.now }
+    ensures second { HashIsOfWords v3 y.now }
+{
+    same_words(x, y)
+}
+
+/// As [`same_words_v1`], of V3 micro.
+///
+/// ```
+/// assert!(!same_words_micro(b"left", b"lift"));
+/// ```
+pub fn same_words_micro(x: &[u8], y: &[u8]) -> bool
+    ensures words { IsTrue result ↔ SameWords micro x.now y.now }
+    ensures bytes { IsTrue result ↔ (x.now ≡ y.now) }
+    ensures first { HashIsOfWords micro x.now }
+    ensures second { HashIsOfWords micro y.now }
+{
+    same_words(x, y)
+}
+
+/// As [`same_words_v1`], of V3 nano.
+///
+/// ```
+/// assert!(!same_words_nano(b"left", b"lift"));
+/// ```
+pub fn same_words_nano(x: &[u8], y: &[u8]) -> bool
+    ensures words { IsTrue result ↔ SameWords nano x.now y.now }
+    ensures bytes { IsTrue result ↔ (x.now ≡ y.now) }
+    ensures first { HashIsOfWords nano x.now }
+    ensures second { HashIsOfWords nano y.now }
+{
+    same_words(x, y)
+}

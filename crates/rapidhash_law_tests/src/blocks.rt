@@ -1,0 +1,22 @@
+//! Integers that differ are packed into blocks that differ.
+
+use rapidhash::laws::Num::{N8, N16, N64};
+use rapidhash::laws::same_blocks;
+
+#[test]
+fn integers_of_one_block(rt: HostRuntime) {
+    assert_eq!(rt; same_blocks(&[], &[]), true);
+    assert_eq!(rt; same_blocks(&[N8(1), N16(2)], &[N8(1), N16(3)]), false);
+    assert_eq!(rt; same_blocks(&[N64(1), N64(2)], &[N64(1), N64(3)]), false);
+}
+
+#[test]
+fn integers_that_open_a_block(rt: HostRuntime) {
+    let mut x = [N8(0); 16];
+    x[15] = N16(9);
+    let mut y = [N8(0); 16];
+    y[15] = N16(8);
+    assert_eq!(rt; same_blocks(&x, &y), false);
+    let three = [N64(1), N64(2), N8(0)];
+    assert_eq!(rt; same_blocks(&three, &three), true);
+}

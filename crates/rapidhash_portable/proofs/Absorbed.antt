@@ -1,0 +1,103 @@
+-- The hash looks at nothing but a message's length and its absorbed words.
+use Rattle.std.proofs.Common.{◌≡◌, ℕ, zero, suc, ◌+◌, ◌-◌, ◌*◌, ◌/◌, ◌≤◌, ◌<◌, Bool, List, [], ◌∷◌, ◌++◌, map, length, get_or, slice_index, take, refl, sym, ap, ◌∙◌, arith, length-append, ⊎_elim, zero-add}
+use Rattle.std.proofs.Math.Seq.{get_or-append_seam}
+use Rattle.std.specs.List.{range_with_len}
+use Rattle.std.proofs.lemmas.Bool.{cases_lt, lt-ltb, le-ltb}
+use Rattle.std.proofs.lemmas.List.{length-take, get_or_append_left}
+use Rattle.std.proofs.lemmas.List.FromFn.{map-range_with_len_more, fill_by_all, length-map-range_with_len, get_or-map-range_with_len}
+use Rattle.rapidhash_portable.specs.declared.form.Shape.{Shape}
+use Rattle.rapidhash_portable.specs.declared.form.Form.{Form}
+use Rattle.rapidhash_portable.specs.declared.form.Options.{Options}
+use Rattle.rapidhash_portable.specs.Lanes.{pair_of, pairs_of, column, lane_of, joined, after_lanes, row_pairs, row_bytes, step}
+use Rattle.rapidhash_portable.specs.Tail.{after_tail, fold_pairs, picked}
+use Rattle.rapidhash_portable.specs.Form.{shape_of, start_seed, tail_seed, tail_places}
+use Rattle.rapidhash_portable.specs.Hash.{value, portable_hash}
+use Rattle.rapidhash_portable.specs.Words.{last_words}
+use Rattle.rapidhash_portable.specs.Absorbed.{pairs_in, absorbed_words, value_of_words}
+
+-- two ways to take pairs agree on the first `n`
+abbrev pub Agree : ℕ → (ℕ → ℕ × ℕ) → (ℕ → ℕ × ℕ) → Type 0
+Agree n pair pair' = (k : ℕ) → k < n → pair k ≡ pair' k
+
+pairs_of-same : (pair pair' : ℕ → ℕ × ℕ) (first width rows place n : ℕ) → Agree n pair pair' → place < width → first + width * rows ≤ n → pairs_of pair first width rows place ≡ pairs_of pair' first width rows place
+unfolding pairs_of
+pairs_of-same pair pair' first width zero place n same p h = refl
+pairs_of-same pair pair' first width (suc rows) place n same p h =
+    let one : suc rows ≡ rows + 1 = omega arith in
+    let f = λ (row : ℕ). pair (first + (width * row + place)) in
+    let g = λ (row : ℕ). pair' (first + (width * row + place)) in
+    let last : f rows ≡ g rows = same (first + (width * rows + place)) (omega arith) in
+    let front : map f (range_with_len 0 rows) ≡ map g (range_with_len 0 rows) = pairs_of-same pair pair' first width rows place n same p (omega arith) in
+    ap (λ n. map f (range_with_len 0 n)) one
+    ∙ map-range_with_len_more f 0 rows rows (omega arith)
+    ∙ ap (λ ps. ps ++ f rows ∷ []) front
+    ∙ ap (λ v. map g (range_with_len 0 rows) ++ v ∷ []) last
+    ∙ sym (map-range_with_len_more g 0 rows rows (omega arith))
+    ∙ ap (λ n. map g (range_with_len 0 n)) (sym one)
+
+column-same : (pair pair' : ℕ → ℕ × ℕ) (shape : Shape) (lane n : ℕ) → Agree n pair pair' → lane < shape.lanes → row_pairs shape ≤ n → column pair shape lane ≡ column pair' shape lane
+unfolding column
+column-same pair pair' shape lane n same l h =
+    let wide = pairs_of-same pair pair' 0 shape.lanes shape.rows lane n same l (omega arith) in
+    ⊎_elim
+    (λ few. rw (lt-ltb lane 3 few) (cc (wide, pairs_of-same pair pair' (shape.lanes * shape.rows) 3 shape.threes lane n same few (omega arith))))
+    (λ many. rw (le-ltb lane 3 many) (cc wide))
+    (cases_lt lane 3)
+
+after_lanes-same : (protected : Bool) (secrets : List ℕ) (pair pair' : ℕ → ℕ × ℕ) (shape : Shape) (seed n : ℕ) → Agree n pair pair' → row_pairs shape ≤ n → after_lanes protected secrets pair shape seed ≡ after_lanes protected secrets pair' shape seed
+unfolding after_lanes
+after_lanes-same protected secrets pair pair' shape seed n same h =
+    let f = λ (lane : ℕ). lane_of protected (slice_index secrets lane) (column pair shape lane) seed in
+    let g = λ (lane : ℕ). lane_of protected (slice_index secrets lane) (column pair' shape lane) seed in
+    ap joined (fill_by_all g (map f (range_with_len 0 shape.lanes)) shape.lanes 0 (length-map-range_with_len f 0 shape.lanes)
+    (λ i l. get_or-map-range_with_len f 0 shape.lanes i i 0 l (zero-add i) ∙ ap (λ c. lane_of protected (slice_index secrets i) c seed) (column-same pair pair' shape i n same l h)))
+
+fold_pairs-same : (protected : Bool) (cs : List ℕ) (pair pair' : ℕ → ℕ × ℕ) (at seed n : ℕ) → Agree n pair pair' → at + length cs ≤ n → fold_pairs protected cs pair at seed ≡ fold_pairs protected cs pair' at seed
+unfolding fold_pairs
+fold_pairs-same protected [] pair pair' at seed n same h = refl
+fold_pairs-same protected (c ∷ cs) pair pair' at seed n same h =
+    let size : length (c ∷ cs) ≡ length cs + 1 = omega arith in
+    ap (λ p. fold_pairs protected cs pair (at + 1) (step protected c seed p)) (same at (omega arith))
+    ∙ fold_pairs-same protected cs pair pair' (at + 1) (step protected c seed (pair' at)) n same (omega arith)
+
+after_tail-same : (protected : Bool) (table : List ℕ) (pair pair' : ℕ → ℕ × ℕ) (first t seed n : ℕ) → Agree n pair pair' → first + (t - 1) / 16 ≤ n → after_tail protected table pair first t seed ≡ after_tail protected table pair' first t seed
+unfolding after_tail
+after_tail-same protected table pair pair' first t seed n same h =
+    let size = length-take ((t - 1) / 16) table in
+    fold_pairs-same protected (take ((t - 1) / 16) table) pair pair' first seed n same (omega (arith, size))
+
+-- the value looks at no pairs but those that are folded
+value-same : (form : Form) (options : Options) (seed : ℕ) (secrets : List ℕ) (n : ℕ) (pair pair' : ℕ → ℕ × ℕ) (words : ℕ × ℕ) → Agree (pairs_in form n) pair pair' → value form options seed secrets n pair words ≡ value form options seed secrets n pair' words
+unfolding value
+value-same form options seed secrets n pair pair' words same =
+    let shape = shape_of form n in
+    let t = n - row_bytes shape in
+    let rows = after_lanes-same options.protected secrets pair pair' shape (start_seed form n seed) (pairs_in form n) same (omega arith) in
+    let tail = after_tail-same options.protected (picked secrets (tail_places form n)) pair pair' (row_pairs shape) t (tail_seed form secrets t (after_lanes options.protected secrets pair' shape (start_seed form n seed))) (pairs_in form n) same (omega arith) in
+    cc (rows, tail)
+
+-- word pair `k` of the absorbed words
+pub absorbed-pair : (form : Form) (x : List ℕ) (k : ℕ) → k < pairs_in form (length x) → get_or (absorbed_words form x) k (0, 0) ≡ pair_of x k
+unfolding absorbed_words
+absorbed-pair form x k h =
+    let m = pairs_in form (length x) in
+    let front = map (pair_of x) (range_with_len 0 m) in
+    let size : length front ≡ m = length-map-range_with_len (pair_of x) 0 m in
+    get_or_append_left front (last_words form x ∷ []) (0, 0) k (omega (arith, size)) ∙ get_or-map-range_with_len (pair_of x) 0 m k k (0, 0) h (zero-add k)
+
+last_of : (xs : List (ℕ × ℕ)) (y d : ℕ × ℕ) → get_or (xs ++ y ∷ []) (length (xs ++ y ∷ []) - 1) d ≡ y
+last_of xs y d =
+    let e : length (xs ++ y ∷ []) - 1 ≡ length xs = omega (arith, length-append xs (y ∷ [])) in
+    ap (λ k. get_or (xs ++ y ∷ []) k d) e ∙ get_or-append_seam xs y [] d
+
+-- and the last one
+pub absorbed-last : (form : Form) (x : List ℕ) → get_or (absorbed_words form x) (length (absorbed_words form x) - 1) (0, 0) ≡ last_words form x
+unfolding absorbed_words
+absorbed-last form x = last_of (map (pair_of x) (range_with_len 0 (pairs_in form (length x)))) (last_words form x) (0, 0)
+
+-- a message's hash is the value of its length and its absorbed words
+pub hash-absorbed : (form : Form) (options : Options) (seed : ℕ) (secrets x : List ℕ) → portable_hash form options seed secrets x ≡ value_of_words form options seed secrets (length x) (absorbed_words form x)
+hash-absorbed form options seed secrets x =
+    let words = absorbed_words form x in
+    value-same form options seed secrets (length x) (pair_of x) (λ k. get_or words k (0, 0)) (last_words form x) (λ k h. sym (absorbed-pair form x k h))
+    ∙ ap (value form options seed secrets (length x) (λ k. get_or words k (0, 0))) (sym (absorbed-last form x))
