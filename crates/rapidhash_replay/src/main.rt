@@ -6,6 +6,7 @@
 
 mod bulk;
 mod compare;
+mod draws;
 mod readers;
 mod rules;
 mod seeds;
@@ -53,6 +54,9 @@ fn replay(rt: &(impl Files + Print + Eprint + AllocGlobal), name: &str) -> Resul
             seeds::RESEED_COLUMNS => seeds::replay_reseed(rt.alloc(), line)?,
             seeds::MADE_COLUMNS => seeds::replay_made(rt.alloc(), line)?,
             seeds::SOURCE_COLUMNS => seeds::replay_source(rt.alloc(), line)?,
+            draws::COLUMNS => draws::replay(rt.alloc(), line)?,
+            draws::TIME_COLUMNS => draws::replay_time(rt.alloc(), line)?,
+            draws::STEPS_COLUMNS => draws::replay_steps(rt.alloc(), line)?,
             _ => bail!("no cases with the columns {columns}"),
         };
         if tally.differs(case) {

@@ -84,7 +84,7 @@ pub fn numbers(alloc: Global, field: &str) -> Result<Vec<u64>> {
 }
 
 /// Whether two lists are one, for the library's calls and for the definitions.
-fn agreement(expected: &[u64], defined: &[u64], made: &[u64]) -> Agreement {
+pub fn agreement(expected: &[u64], defined: &[u64], made: &[u64]) -> Agreement {
     Agreement {
         definition: defined == expected,
         body: made == expected,
