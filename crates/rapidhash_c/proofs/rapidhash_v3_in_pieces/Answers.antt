@@ -21,9 +21,9 @@ pieces-preserved c =
         message.0 ++ take size rest,
         c.write.ensures.adds message.0 message.1,
         message.2
-        ∙ ap (λ (t : List ℕ). message.0 ++ t) (sym (take-append-drop size rest))
-        ∙ sym (append_assoc message.0 (take size rest) (drop size rest))
-        ∙ ap (λ (t : List ℕ). message.0 ++ take size rest ++ t) (sym (take_rest rest size)),
+            ∙ ap (λ (t : List ℕ). message.0 ++ t) (sym (take-append-drop size rest))
+            ∙ sym (append_assoc message.0 (take size rest) (drop size rest))
+            ∙ ap (λ (t : List ℕ). message.0 ++ take size rest ++ t) (sym (take_rest rest size)),
       );
     }
 
