@@ -15,6 +15,7 @@ check:
 bench:
 	@bench/run
 	@bench/files
+	@bench/memory
 
 clean:
 	rm -rf crates/*/out build

@@ -1,0 +1,33 @@
+//! The generator.
+
+use rand_core::Rng;
+use rapidhash::rng::RapidRng;
+use std::alloc::{AllocError, Allocator};
+
+/// How many bytes are filled at once.
+const SIZE: usize = 1 << 20;
+
+/// 2^28 words, joined.
+pub fn next() -> u64 {
+    let mut rng = RapidRng::new(42);
+    let mut sum = 0u64;
+    for _ in 0..1u64 << 28 {
+        sum ^= rng.next();
+    }
+    sum
+}
+
+/// 2^11 times 1 MiB; the last byte of each time, joined.
+pub fn fill_bytes<A: Allocator>(alloc: A) -> Result<u64, AllocError> {
+    let mut bytes = Vec::new(alloc);
+    bytes.resize(SIZE, 0u8)?;
+    let mut rng = RapidRng::new(42);
+    let mut sum = 0u64;
+    for _ in 0..1u32 << 11 {
+        rng.fill_bytes(&mut bytes);
+        if let Some(last) = bytes.last() {
+            sum ^= *last as u64;
+        }
+    }
+    Ok(sum)
+}
