@@ -25,6 +25,8 @@ fn fill_bytes() -> u64 {
 }
 
 fn texts(len: usize) -> u64 {
+    // As for ours, the compiler does not know the length.
+    let len = std::hint::black_box(len);
     let mut rng = RapidRng::new(0);
     let mut text = [0u8; 256];
     text.fill_with(|| (rng.next() % 256) as u8);
