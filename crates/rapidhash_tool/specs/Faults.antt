@@ -1,32 +1,60 @@
 -- The faults: their numbers, their texts, and which of them a call may answer.
-use Rattle.std.specs.Prelude.{ℕ, codes, List}
+use Rattle.std.specs.Prelude.{ℕ, ◌<◌, codes, List}
 use Rattle.rapidhash_tool.specs.declared.fault.CliFault.{CliFault}
-use Rattle.rapidhash_tool.specs.declared.fault.CliFault.TheVariants.{Memory, NotYet, Stdin, Write}
+use Rattle.rapidhash_tool.specs.declared.fault.CliFault.TheVariants.{File, Memory, Open, Stdin, Versions, Write}
 use Rattle.rapidhash_tool.specs.declared.version.RapidhashVersion.{RapidhashVersion}
-use Rattle.rapidhash_tool.specs.declared.version.RapidhashVersion.TheVariants.{V1}
+use Rattle.rapidhash_tool.specs.declared.version.RapidhashVersion.TheVariants.{V1, V2, V3, V3Micro, V3Nano}
 
 -- each fault's number
 abbrev pub number_of : CliFault → ℕ
+number_of Versions = 1
+number_of Open = 2
 number_of Stdin = 3
 number_of Memory = 4
+number_of File = 5
 number_of Write = 6
-number_of NotYet = 7
 
 -- each fault's line on standard error, without its newline
 abbrev pub text_of : CliFault → List ℕ
+text_of Versions = codes "You must specify a single rapidhash version to use. See --help for more."
+text_of Open = codes "Could not open file."
 text_of Stdin = codes "Could not read from stdin."
 text_of Memory = codes "Out of memory."
+text_of File = codes "Failed to hash file."
 text_of Write = codes "Could not write to stdout."
-text_of NotYet = codes "Not supported yet."
+
+-- the versions that hash no byte before they know how many there are
+abbrev pub NeedsLength : RapidhashVersion → Type 0
+NeedsLength (V1 protected) = Unit {0}
+NeedsLength (V2 protected minor) = Unit {0}
+NeedsLength (V3 protected) = ⊥
+NeedsLength (V3Micro protected) = ⊥
+NeedsLength (V3Nano protected) = ⊥
 
 -- hashing standard input stops where a read failed or the reads had no end, or where memory was refused to a version that keeps the input whole
 abbrev pub MayStopStdin : RapidhashVersion → CliFault → Type 0
 MayStopStdin version Stdin = Unit {0}
-MayStopStdin (V1 protected) Memory = Unit {0}
+MayStopStdin version Memory = NeedsLength version
+MayStopStdin version Versions = ⊥
+MayStopStdin version Open = ⊥
+MayStopStdin version File = ⊥
 MayStopStdin version Write = ⊥
-MayStopStdin version NotYet = ⊥
 
--- printing that hash stops for the same reasons, or where a write failed
-abbrev pub MayStopRun : RapidhashVersion → CliFault → Type 0
-MayStopRun version Write = Unit {0}
-MayStopRun version fault = MayStopStdin version fault
+-- hashing a file of `len` bytes stops where a read failed, where the reads had no end, or where the file is shorter; never where no byte is to be read
+abbrev pub MayStopFile : RapidhashVersion → ℕ → CliFault → Type 0
+MayStopFile version len File = NeedsLength version → 0 < len
+MayStopFile version len Versions = ⊥
+MayStopFile version len Open = ⊥
+MayStopFile version len Stdin = ⊥
+MayStopFile version len Memory = ⊥
+MayStopFile version len Write = ⊥
+
+-- printing the hash of standard input stops for the same reasons, or where a write failed
+abbrev pub MayStopStdinRun : RapidhashVersion → CliFault → Type 0
+MayStopStdinRun version Write = Unit {0}
+MayStopStdinRun version fault = MayStopStdin version fault
+
+-- and so does printing the hash of a file
+abbrev pub MayStopFileRun : RapidhashVersion → ℕ → CliFault → Type 0
+MayStopFileRun version len Write = Unit {0}
+MayStopFileRun version len fault = MayStopFile version len fault

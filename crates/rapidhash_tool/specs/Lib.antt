@@ -1,4 +1,5 @@
 pub mod CommandLine
 pub mod Faults
 pub mod Hashes
+pub mod Help
 pub mod Lines

@@ -6,14 +6,19 @@ ghost use Rattle.rapidhash_tool.specs.Faults.{number_of, text_of};
 /// Why the tool stopped.
 #[derive(Debug, Clone, Copy, PartialEq, Eq)]
 pub enum CliFault {
+    /// The words name two versions.
+    Versions,
+    /// The file could not be opened.
+    Open,
     /// A read of standard input failed, or its reads had no end.
     Stdin,
     /// Memory was refused.
     Memory,
+    /// A read of the file failed, its reads had no end, its length was not told, or it ended before
+    /// that length.
+    File,
     /// A write failed, or took no byte.
     Write,
-    /// The words ask for what this tool cannot do yet.
-    NotYet,
 }
 
 impl CliFault {
@@ -22,10 +27,12 @@ impl CliFault {
         ensures { result ≡ number_of self.now }
     {
         match self {
+            CliFault::Versions => 1,
+            CliFault::Open => 2,
             CliFault::Stdin => 3,
             CliFault::Memory => 4,
+            CliFault::File => 5,
             CliFault::Write => 6,
-            CliFault::NotYet => 7,
         }
     }
 
@@ -34,10 +41,13 @@ impl CliFault {
         ensures { result.now ≡ text_of self.now }
     {
         match self {
+            CliFault::Versions =>
+                "You must specify a single rapidhash version to use. See --help for more.",
+            CliFault::Open => "Could not open file.",
             CliFault::Stdin => "Could not read from stdin.",
             CliFault::Memory => "Out of memory.",
+            CliFault::File => "Failed to hash file.",
             CliFault::Write => "Could not write to stdout.",
-            CliFault::NotYet => "Not supported yet.",
         }
     }
 }

@@ -1,19 +1,24 @@
-//! The command line of rapidhash, but for the call of the operating system: what the words ask for,
+//! The command line of rapidhash, but for the calls of the operating system: what the words ask for,
 //! how the bytes are read and hashed, how the number is written, and what can go wrong.
 //!
-//! [`plan`] says what a line of words asks for, and [`run_stdin`] does it: it prints the decimal
-//! hash of what a reader has left, and a newline. Every call ends with that line or with one
-//! [`CliFault`].
+//! [`plan`] says what a line of words asks for, and [`run_help`], [`run_stdin`] and [`run_file`] do
+//! it: the last two print the decimal hash of what a reader has, and a newline. Every call ends with
+//! that line or with one [`CliFault`].
 #![tactic(auto)]
 
 mod fault;
+mod hashes;
 mod input;
 mod output;
 mod plans;
 mod run;
+mod secrets;
+mod usage;
 mod version;
+mod words;
 
 pub use fault::CliFault;
 pub use plans::plan;
-pub use run::run_stdin;
-pub use version::{Plan, RapidhashVersion};
+pub use run::{run_file, run_help, run_stdin};
+pub use usage::help;
+pub use version::{Minor, Plan, RapidhashVersion};

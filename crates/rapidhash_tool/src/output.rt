@@ -38,7 +38,7 @@ fn fill_line(number: u64, line: &mut [u8; LINE]) -> usize
 }
 
 // Writes all of `bytes`, or stops at a write that fails or takes no byte.
-fn write_whole<W: Write>(out: &mut W, bytes: &[u8]) -> Result<(), CliFault>
+pub(crate) fn write_whole<W: Write>(out: &mut W, bytes: &[u8]) -> Result<(), CliFault>
     ensures { MatchResult result
         (λ done. Appends (W.contents out.old) (W.contents out.new) bytes.now)
         (λ fault. (fault ≡ CliFault.Write)

@@ -4,16 +4,25 @@ ghost use Rattle.std.specs.Prelude.{◌≡◌, map, string_bytes};
 ghost use Rattle.rapidhash_tool.specs.CommandLine.{plan_of};
 
 use crate::version::{Plan, RapidhashVersion};
+use crate::words::{first_plain, has};
 
 /// What a line of words asks for, the program's name being its first word.
+///
+/// It is the help where there are no words or one of them is `--help` or `-h`. Else the words after
+/// the name choose the version, and the first of them that does not begin with a hyphen names the
+/// file.
 pub fn plan(words: &[String]) -> Plan
     ensures { result ≡ plan_of (map string_bytes words.now) }
 {
-    match words {
-        [_, word] if word.as_str() == "--v1" => Plan::Run {
-            version: RapidhashVersion::V1 { protected: false },
-            file: None,
+    if words.is_empty() || has(words, "--help") || has(words, "-h") {
+        return Plan::Help;
+    }
+    let others = &words[1..];
+    match RapidhashVersion::new(others) {
+        None => Plan::Refused,
+        Some(version) => Plan::Run {
+            version,
+            file: first_plain(others).map(|place| place + 1),
         },
-        _ => Plan::NotYet,
     }
 }

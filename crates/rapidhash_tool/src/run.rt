@@ -1,13 +1,15 @@
 //! Hash and print.
 
-ghost use Rattle.std.specs.Prelude.{IfErr, IfSome, OnOk};
+ghost use Rattle.std.specs.Prelude.{◌≡◌, IfErr, IfSome, MatchResult, OnOk};
 ghost use Rattle.std.specs.Io.KnownBytes.{Appends};
-ghost use Rattle.rapidhash_tool.specs.Faults.{MayStopRun};
-ghost use Rattle.rapidhash_tool.specs.Hashes.{hash_of};
-ghost use Rattle.rapidhash_tool.specs.Lines.{KeepsUnlessWrite, LeftBy, line_of};
+ghost use Rattle.rapidhash_tool.specs.Faults.{MayStopFileRun, MayStopStdinRun};
+ghost use Rattle.rapidhash_tool.specs.Hashes.{hash_of, read_of};
+ghost use Rattle.rapidhash_tool.specs.Help.{help_text};
+ghost use Rattle.rapidhash_tool.specs.Lines.{KeepsUnlessWrite, LeftBy, StopsShort, line_of};
 
 use crate::fault::CliFault;
-use crate::output::write_number;
+use crate::output::{write_number, write_whole};
+use crate::usage::help;
 use crate::version::RapidhashVersion;
 use std::alloc::Allocator;
 use std::io::{Read, Write};
@@ -15,7 +17,8 @@ use std::io::{Read, Write};
 /// Prints the hash of all that a reader has left: its decimal digits and a newline.
 ///
 /// With [`CliFault::Write`] a beginning of that line was written, short of the whole, and with any
-/// other fault nothing was. It does not flush.
+/// other fault nothing was. It does not flush. The faults of reading are those of
+/// [`RapidhashVersion::hash_stdin`].
 pub fn run_stdin<A: Allocator, R: Read + Drop, W: Write>(
     alloc: A,
     version: &RapidhashVersion,
@@ -28,8 +31,43 @@ pub fn run_stdin<A: Allocator, R: Read + Drop, W: Write>(
         LeftBy fault (W.contents out.old) (W.contents out.new) (line_of (hash_of version.now bytes)))) }
     ensures nothing { IfErr result (λ fault.
         KeepsUnlessWrite fault (W.contents out.old) (W.contents out.new)) }
-    ensures fault { IfErr result (λ fault. MayStopRun version.now fault) }
+    ensures fault { IfErr result (λ fault. MayStopStdinRun version.now fault) }
 {
     let hash = version.hash_stdin(alloc, input)?;
     write_number(out, hash)
+}
+
+/// Prints the hash of a file's bytes: its decimal digits and a newline. It takes no memory.
+///
+/// V1 and V2 hash the first `len` bytes; the others all bytes, and do not look at `len`.
+///
+/// With [`CliFault::Write`] a beginning of that line was written, short of the whole, and with
+/// [`CliFault::File`] nothing was. It does not flush.
+pub fn run_file<R: Read + Drop, W: Write>(
+    version: &RapidhashVersion,
+    reader: R,
+    len: u64,
+    out: &mut W,
+) -> Result<(), CliFault>
+    ensures line { OnOk result (IfSome (R.remaining reader) (λ bytes.
+        Appends (W.contents out.old) (W.contents out.new) (line_of (hash_of version.now (read_of version.now len bytes))))) }
+    ensures short { IfErr result (λ fault. IfSome (R.remaining reader) (λ bytes.
+        LeftBy fault (W.contents out.old) (W.contents out.new) (line_of (hash_of version.now (read_of version.now len bytes))))) }
+    ensures nothing { IfErr result (λ fault.
+        KeepsUnlessWrite fault (W.contents out.old) (W.contents out.new)) }
+    ensures fault { IfErr result (λ fault. MayStopFileRun version.now len fault) }
+{
+    let hash = version.hash_file(reader, len)?;
+    write_number(out, hash)
+}
+
+/// Prints the help. With the one fault, [`CliFault::Write`], a beginning of it was written, short of
+/// the whole. It does not flush.
+pub fn run_help<W: Write>(out: &mut W) -> Result<(), CliFault>
+    ensures { MatchResult result
+        (λ done. Appends (W.contents out.old) (W.contents out.new) help_text)
+        (λ fault. (fault ≡ CliFault.Write)
+        × StopsShort (W.contents out.old) (W.contents out.new) help_text) }
+{
+    write_whole(out, help().as_bytes())
 }

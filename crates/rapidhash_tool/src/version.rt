@@ -1,5 +1,21 @@
 //! The versions that the tool hashes by, and the plans that its words can make.
 
+ghost use Rattle.std.specs.Prelude.{◌≡◌, map, string_bytes};
+ghost use Rattle.rapidhash_tool.specs.CommandLine.{version_of, versions, word_of};
+
+use crate::words::has;
+
+/// A minor version of V2.
+#[derive(Debug, Clone, Copy, PartialEq, Eq)]
+pub enum Minor {
+    /// V2.0.
+    M0,
+    /// V2.1.
+    M1,
+    /// V2.2.
+    M2,
+}
+
 /// A version of the portable hash, as the words choose it.
 #[derive(Debug, Clone, Copy, PartialEq, Eq)]
 pub enum RapidhashVersion {
@@ -8,11 +24,37 @@ pub enum RapidhashVersion {
         /// Whether each product is mixed with its factors.
         protected: bool,
     },
+    /// V2, in one of its minor versions.
+    V2 {
+        /// Whether each product is mixed with its factors.
+        protected: bool,
+        /// The minor version.
+        version: Minor,
+    },
+    /// V3.
+    V3 {
+        /// Whether each product is mixed with its factors.
+        protected: bool,
+    },
+    /// V3 micro.
+    V3Micro {
+        /// Whether each product is mixed with its factors.
+        protected: bool,
+    },
+    /// V3 nano.
+    V3Nano {
+        /// Whether each product is mixed with its factors.
+        protected: bool,
+    },
 }
 
 /// What a line of words asks for.
 #[derive(Debug, Clone, Copy, PartialEq, Eq)]
 pub enum Plan {
+    /// To print the help.
+    Help,
+    /// Nothing: the words name two versions.
+    Refused,
     /// To print a hash.
     Run {
         /// The version to hash by.
@@ -21,6 +63,73 @@ pub enum Plan {
         /// input is hashed.
         file: Option<usize>,
     },
-    /// What the tool cannot do yet.
-    NotYet,
+}
+
+impl RapidhashVersion {
+    /// The version that the words name, which are those after the program's name: V3 where they
+    /// name none, and `None` where they name two. A version named twice is one, `--protected` may
+    /// stand in any place, and all other words count for nothing, `--help` too.
+    pub fn new(words: &[String]) -> Option<Self>
+        ensures { result ≡ version_of (map string_bytes words.now) }
+    {
+        let protected = has(words, "--protected");
+        let mut chosen = None;
+        for version in RapidhashVersion::all(protected) {
+            if has(words, version.word()) {
+                if chosen.is_some() {
+                    return None;
+                }
+                chosen = Some(version);
+            }
+        }
+        Some(chosen.unwrap_or(RapidhashVersion::V3 { protected }))
+    }
+
+    // All versions.
+    fn all(protected: bool) -> [Self; 7]
+        ensures { result ≡ versions protected }
+    {
+        [
+            RapidhashVersion::V1 { protected },
+            RapidhashVersion::V2 {
+                protected,
+                version: Minor::M0,
+            },
+            RapidhashVersion::V2 {
+                protected,
+                version: Minor::M1,
+            },
+            RapidhashVersion::V2 {
+                protected,
+                version: Minor::M2,
+            },
+            RapidhashVersion::V3 { protected },
+            RapidhashVersion::V3Micro { protected },
+            RapidhashVersion::V3Nano { protected },
+        ]
+    }
+
+    // The word that names the version.
+    fn word(&self) -> &'static str
+        ensures { result.now ≡ word_of self.now }
+    {
+        match self {
+            RapidhashVersion::V1 { .. } => "--v1",
+            RapidhashVersion::V2 {
+                version: Minor::M0,
+                ..
+            } => "--v2.0",
+            RapidhashVersion::V2 {
+                version: Minor::M1,
+                ..
+            } => "--v2.1",
+            RapidhashVersion::V2 {
+                version: Minor::M2,
+                ..
+            } => "--v2.2",
+            RapidhashVersion::V3 { .. } => "--v3",
+            RapidhashVersion::V3Micro { .. } => "--v3-micro",
+            RapidhashVersion::V3Nano { .. } => "--v3-nano",
+        }
+    }
 }

@@ -1,0 +1,7 @@
+-- The one version that the words name.
+use Rattle.std.proofs.Common.{List, [], ◌∷◌, Option, None, Some}
+
+-- what an option holds, as a list
+abbrev pub list_of : {A : Type 0} → Option A → List A
+list_of None = []
+list_of (Some a) = a ∷ []

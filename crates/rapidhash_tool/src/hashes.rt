@@ -1,0 +1,142 @@
+//! The hash by each version.
+
+ghost use Rattle.std.specs.Prelude.{◌≡◌, true, IfErr, IfOk, IfSome};
+ghost use Rattle.rapidhash_portable.specs.Reading.{FellShort, Gave};
+ghost use Rattle.rapidhash_tool.specs.Faults.{MayStopFile, MayStopStdin};
+ghost use Rattle.rapidhash_tool.specs.Hashes.{hash_of, read_of, HasLength};
+
+use crate::fault::CliFault;
+use crate::input::{hash_to_end, read_whole};
+use crate::secrets::{secrets, secrets_v1};
+use crate::version::{Minor, RapidhashVersion};
+use rapidhash::v1::{rapidhash_v1_file_inline, rapidhash_v1_inline};
+use rapidhash::v2::{rapidhash_v2_file_inline, rapidhash_v2_inline};
+use std::alloc::Allocator;
+use std::io;
+use std::io::Read;
+
+impl RapidhashVersion {
+    /// The hash of all that a reader has left, with the version's default seed and secrets.
+    ///
+    /// V1 and V2 keep all bytes in memory, the others none. An interrupted read is
+    /// [`CliFault::Stdin`], and so is a reader that has no end: after 2^64 - 1 reads that gave bytes
+    /// the call gives up.
+    pub fn hash_stdin<A: Allocator, R: Read + Drop>(
+        &self,
+        alloc: A,
+        input: R,
+    ) -> Result<u64, CliFault>
+        ensures hash { IfOk result (λ hash. IfSome (R.remaining input) (λ bytes.
+            hash ≡ hash_of self.now bytes)) }
+        ensures fault { IfErr result (λ fault. MayStopStdin self.now fault) }
+    {
+        let mut input = input;
+        let streamed = match *self {
+            RapidhashVersion::V1 { protected } => {
+                let bytes = read_whole(alloc, &mut input)?;
+                return Ok(hash_v1(protected, bytes.as_slice()));
+            }
+            RapidhashVersion::V2 { protected, version } => {
+                let bytes = read_whole(alloc, &mut input)?;
+                return Ok(hash_v2(version, protected, bytes.as_slice()));
+            }
+            RapidhashVersion::V3 { protected } => hash_to_end::<R, 7>(&mut input, protected),
+            RapidhashVersion::V3Micro { protected } => hash_to_end::<R, 5>(&mut input, protected),
+            RapidhashVersion::V3Nano { protected } => hash_to_end::<R, 3>(&mut input, protected),
+        };
+        match streamed {
+            Ok(hash) => Ok(hash),
+            Err(_) => Err(CliFault::Stdin),
+        }
+    }
+
+    /// The hash of a file's bytes, with the version's default seed and secrets. It takes no memory.
+    ///
+    /// V1 and V2 hash the first `len` bytes, and read no further. The others hash all bytes, and do
+    /// not look at `len`.
+    ///
+    /// The one fault is [`CliFault::File`]: a read failed, an interrupted one too; the reader had
+    /// fewer than `len` bytes; or, but for V1 and V2, it has no end.
+    pub fn hash_file<R: Read + Drop>(&self, reader: R, len: u64) -> Result<u64, CliFault>
+        ensures hash { IfOk result (λ hash. IfSome (R.remaining reader) (λ bytes.
+            hash ≡ hash_of self.now (read_of self.now len bytes))) }
+        ensures enough { IfOk result (λ hash. IfSome (R.remaining reader) (λ bytes.
+            HasLength self.now len bytes)) }
+        ensures fault { IfErr result (λ fault. MayStopFile self.now len fault) }
+    {
+        let mut reader = reader;
+        let hash = match *self {
+            RapidhashVersion::V1 { protected } => hash_v1_file(protected, &mut reader, len),
+            RapidhashVersion::V2 { protected, version } => hash_v2_file(
+                version,
+                protected,
+                &mut reader,
+                len,
+            ),
+            RapidhashVersion::V3 { protected } => hash_to_end::<R, 7>(&mut reader, protected),
+            RapidhashVersion::V3Micro { protected } => hash_to_end::<R, 5>(&mut reader, protected),
+            RapidhashVersion::V3Nano { protected } => hash_to_end::<R, 3>(&mut reader, protected),
+        };
+        match hash {
+            Ok(hash) => Ok(hash),
+            Err(_) => Err(CliFault::File),
+        }
+    }
+}
+
+fn hash_v1(protected: bool, bytes: &[u8]) -> u64
+    ensures { result ≡ hash_of (RapidhashVersion.V1 protected) bytes.now }
+{
+    if protected {
+        rapidhash_v1_inline::<true, false, true, false>(bytes, secrets_v1())
+    } else {
+        rapidhash_v1_inline::<true, false, false, false>(bytes, secrets_v1())
+    }
+}
+
+fn hash_v2(version: Minor, protected: bool, bytes: &[u8]) -> u64
+    ensures { result ≡ hash_of (RapidhashVersion.V2 protected version) bytes.now }
+{
+    let secrets = secrets();
+    match (version, protected) {
+        (Minor::M0, false) => rapidhash_v2_inline::<0, true, false, false>(bytes, secrets),
+        (Minor::M0, true) => rapidhash_v2_inline::<0, true, false, true>(bytes, secrets),
+        (Minor::M1, false) => rapidhash_v2_inline::<1, true, false, false>(bytes, secrets),
+        (Minor::M1, true) => rapidhash_v2_inline::<1, true, false, true>(bytes, secrets),
+        (Minor::M2, false) => rapidhash_v2_inline::<2, true, false, false>(bytes, secrets),
+        (Minor::M2, true) => rapidhash_v2_inline::<2, true, false, true>(bytes, secrets),
+    }
+}
+
+fn hash_v1_file<R: Read>(protected: bool, reader: &mut R, len: u64) -> io::Result<u64>
+    ensures ok { IfOk result (λ hash. Gave (R.remaining reader.old) (R.remaining reader.new) len (λ bytes.
+        hash ≡ hash_of (RapidhashVersion.V1 protected) bytes)) }
+    ensures short { IfErr result (λ _. FellShort (R.remaining reader.old) (R.remaining reader.new) len true) }
+{
+    if protected {
+        rapidhash_v1_file_inline::<R, true>(reader, len, secrets_v1())
+    } else {
+        rapidhash_v1_file_inline::<R, false>(reader, len, secrets_v1())
+    }
+}
+
+fn hash_v2_file<R: Read>(
+    version: Minor,
+    protected: bool,
+    reader: &mut R,
+    len: u64,
+) -> io::Result<u64>
+    ensures ok { IfOk result (λ hash. Gave (R.remaining reader.old) (R.remaining reader.new) len (λ bytes.
+        hash ≡ hash_of (RapidhashVersion.V2 protected version) bytes)) }
+    ensures short { IfErr result (λ _. FellShort (R.remaining reader.old) (R.remaining reader.new) len true) }
+{
+    let secrets = secrets();
+    match (version, protected) {
+        (Minor::M0, false) => rapidhash_v2_file_inline::<R, 0, false>(reader, len, secrets),
+        (Minor::M0, true) => rapidhash_v2_file_inline::<R, 0, true>(reader, len, secrets),
+        (Minor::M1, false) => rapidhash_v2_file_inline::<R, 1, false>(reader, len, secrets),
+        (Minor::M1, true) => rapidhash_v2_file_inline::<R, 1, true>(reader, len, secrets),
+        (Minor::M2, false) => rapidhash_v2_file_inline::<R, 2, false>(reader, len, secrets),
+        (Minor::M2, true) => rapidhash_v2_file_inline::<R, 2, true>(reader, len, secrets),
+    }
+}
