@@ -2,18 +2,19 @@
 //! standard error, with status 1. All rules are in `rapidhash_tool`.
 #![tactic(auto)]
 
-use rapidhash_tool::{CliFault, Plan, plan, run_stdin};
+use rapidhash_tool::{CliFault, Plan, RapidhashVersion, plan, run_file, run_help, run_stdin};
 use std::env;
+use std::fs::File;
 use std::io::{ErrorKind, Write};
 use std::process::ExitCode;
 
-// All words, the program's name first. A line with a word that is not UTF-8 is one that the tool
-// does not know.
+// All words, the program's name first. A word that is not UTF-8 could only name a file, and such a
+// file cannot be opened.
 fn gather(rt: &HostRuntime) -> Result<Vec<String>, CliFault> {
     let words = match env::args(rt) {
         Ok(words) => words,
         Err(error) if error.kind() == ErrorKind::OutOfMemory => return Err(CliFault::Memory),
-        Err(_) => return Err(CliFault::NotYet),
+        Err(_) => return Err(CliFault::Open),
     };
     let Ok(words) = words.collect(rt.alloc()) else {
         return Err(CliFault::Memory);
@@ -21,14 +22,41 @@ fn gather(rt: &HostRuntime) -> Result<Vec<String>, CliFault> {
     Ok(words)
 }
 
+// The bytes of the file that V1 and V2 hash; the others read it to its end.
+fn length(version: &RapidhashVersion, file: &File) -> Result<u64, CliFault> {
+    match version {
+        RapidhashVersion::V1 { .. } | RapidhashVersion::V2 { .. } => match file.metadata() {
+            Ok(metadata) => Ok(metadata.len()),
+            Err(_) => Err(CliFault::File),
+        },
+        _ => Ok(0),
+    }
+}
+
+fn hash_named(rt: &HostRuntime, version: &RapidhashVersion, path: &str) -> Result<(), CliFault> {
+    let Ok(file) = File::open(rt, path) else {
+        return Err(CliFault::Open);
+    };
+    let len = length(version, &file)?;
+    run_file(version, file, len, &mut rt.stdout())
+}
+
 fn run(rt: &HostRuntime) -> Result<(), CliFault> {
     let words = gather(rt)?;
     match plan(words.as_slice()) {
+        Plan::Help => run_help(&mut rt.stdout())?,
+        Plan::Refused => return Err(CliFault::Versions),
         Plan::Run {
             version,
             file: None,
         } => run_stdin(rt.alloc(), &version, rt.stdin(), &mut rt.stdout())?,
-        Plan::Run { file: Some(_), .. } | Plan::NotYet => return Err(CliFault::NotYet),
+        Plan::Run {
+            version,
+            file: Some(place),
+        } => match words.as_slice().get(place) {
+            Some(path) => hash_named(rt, &version, path.as_str())?,
+            None => return Err(CliFault::Open),
+        },
     }
     if rt.stdout().flush().is_err() {
         return Err(CliFault::Write);

@@ -1,18 +1,51 @@
 //! A run of the tool between two ends that may fail.
 
 use rapidhash_fakes::{OneByteReader, OneByteWriter};
-use rapidhash_tool::{CliFault, RapidhashVersion, run_stdin};
-use std::alloc::{Allocator, Global};
+use rapidhash_tool::{CliFault, Minor, RapidhashVersion, run_file, run_stdin};
+use std::alloc::Allocator;
 use std::io::ErrorKind;
 
 /// V1 as `--v1` chooses it.
 pub const V1: RapidhashVersion = RapidhashVersion::V1 { protected: false };
 
+/// V3 as no word chooses it.
+pub const V3: RapidhashVersion = RapidhashVersion::V3 { protected: false };
+
 /// The bytes that most tests hash.
 pub const SOMETHING: &[u8] = b"something\n";
 
-/// What is printed for them.
+/// The line that V1 prints for them.
 pub const SOMETHING_LINE: &[u8] = b"15965596575264898037\n";
+
+/// All versions.
+pub fn versions(protected: bool) -> [RapidhashVersion; 7] {
+    [
+        RapidhashVersion::V1 { protected },
+        RapidhashVersion::V2 {
+            protected,
+            version: Minor::M0,
+        },
+        RapidhashVersion::V2 {
+            protected,
+            version: Minor::M1,
+        },
+        RapidhashVersion::V2 {
+            protected,
+            version: Minor::M2,
+        },
+        RapidhashVersion::V3 { protected },
+        RapidhashVersion::V3Micro { protected },
+        RapidhashVersion::V3Nano { protected },
+    ]
+}
+
+/// Whether a version keeps standard input in memory, and asks a file's length.
+pub fn wants_all(version: RapidhashVersion) -> bool {
+    matches!(
+        version,
+        RapidhashVersion::V1 { .. } | RapidhashVersion::V2 { .. }
+    )
+}
 
 /// A reader of the bytes that never fails.
 pub fn whole(bytes: &[u8]) -> OneByteReader<'_> {
@@ -29,6 +62,15 @@ pub fn failing(bytes: &[u8], fails_at: u64, kind: ErrorKind) -> OneByteReader<'_
     }
 }
 
+/// A writer that holds nothing yet and fails at a write.
+pub fn writer(held: Vec<u8>, fails_at: u64) -> OneByteWriter {
+    OneByteWriter {
+        held,
+        writes: 0,
+        fails_at,
+    }
+}
+
 /// What a run answered, and what it left written.
 #[derive(Drop)]
 pub struct Ended {
@@ -38,19 +80,30 @@ pub struct Ended {
     pub written: Vec<u8>,
 }
 
-/// Runs V1 from the reader to a writer that fails at a write.
-pub fn run_to<A: Allocator>(
+/// Hashes standard input to a writer.
+pub fn of_stdin<A: Allocator>(
     alloc: A,
+    version: RapidhashVersion,
     input: OneByteReader<'_>,
-    held: Vec<u8>,
-    fails_at: u64,
+    out: OneByteWriter,
 ) -> Ended {
-    let mut out = OneByteWriter {
-        held,
-        writes: 0,
-        fails_at,
-    };
-    let result = run_stdin(alloc, &V1, input, &mut out);
+    let mut out = out;
+    let result = run_stdin(alloc, &version, input, &mut out);
+    Ended {
+        result,
+        written: out.held,
+    }
+}
+
+/// Hashes a file of `len` bytes to a writer.
+pub fn of_file(
+    version: RapidhashVersion,
+    reader: OneByteReader<'_>,
+    len: u64,
+    out: OneByteWriter,
+) -> Ended {
+    let mut out = out;
+    let result = run_file(&version, reader, len, &mut out);
     Ended {
         result,
         written: out.held,
