@@ -2,8 +2,7 @@
 # Runs the built tool as its users do, and compares what it prints and how it ends. It prints a line
 # for each case, and at last how many passed.
 #
-# The numbers are those of the Rust crate. Where none is known, as for 10 MB, two ways to give the
-# same bytes have to print the same line.
+# The numbers are those of the Rust crate.
 set -u
 
 top=$(cd "$(dirname "${BASH_SOURCE[0]}")/.." && pwd) || exit 1
@@ -57,11 +56,78 @@ slowly() {
   done
 }
 
+# hashes_of BYTES: each version's hash of so many bytes of the file `large`, and its protected one.
+hashes_of() {
+  case $1 in
+    0) cat <<'HASHES' ;;
+--v1 6516417773221693515 1130253769276497464
+--v2.0 232177599295442350 2799093577786027767
+--v2.1 232177599295442350 2799093577786027767
+--v2.2 232177599295442350 2799093577786027767
+--v3 232177599295442350 2799093577786027767
+--v3-micro 232177599295442350 2799093577786027767
+--v3-nano 232177599295442350 2799093577786027767
+HASHES
+    60) cat <<'HASHES' ;;
+--v1 4934313604114864032 12541985259661268790
+--v2.0 819606547795797687 8218894412092406644
+--v2.1 11331222238298878914 6261047284034634993
+--v2.2 13680132568611284615 2909398824946463676
+--v3 464933352035604485 10445341500862438060
+--v3-micro 464933352035604485 10445341500862438060
+--v3-nano 9691613464477772595 11968106375315404469
+HASHES
+    65537) cat <<'HASHES' ;;
+--v1 3098927480108968539 13244083048479907867
+--v2.0 7459062879434803914 8441919766209204894
+--v2.1 7459062879434803914 8441919766209204894
+--v2.2 7459062879434803914 8441919766209204894
+--v3 6916092668803370101 11800252859291862728
+--v3-micro 11109900478142185354 7744990140787621594
+--v3-nano 14746431379887877106 15549505124260343107
+HASHES
+    100000000) cat <<'HASHES' ;;
+--v1 15984905982109241549 7060114031743406527
+--v2.0 4230584181448816188 18311042698232738596
+--v2.1 4230584181448816188 18311042698232738596
+--v2.2 4230584181448816188 18311042698232738596
+--v3 17274253787457370873 7403770911747945897
+--v3-micro 463558115858540857 14648383807045838472
+--v3-nano 4447162916058394582 10835451083796232757
+HASHES
+  esac
+}
+
+# Every version over so many bytes, protected or not, from standard input, a pipe and a file.
+every_version() {
+  local bytes=$1 version plain protected
+  head -c "$bytes" large >part
+  while read -r version plain protected; do
+    three_ways "$bytes$version" "$plain" "$version"
+    three_ways "$bytes$version--protected" "$protected" --protected "$version"
+  done < <(hashes_of "$bytes")
+  rm part
+}
+
+# three_ways NAME HASH WORDS..: the hash of the file `part`, however it is given.
+three_ways() {
+  local name=$1 wanted=$2
+  shift 2
+  run "$@" <part
+  ended "$name-of-stdin" 0 "$wanted"$'\n' ''
+  cat part | run "$@"
+  ended "$name-of-a-pipe" 0 "$wanted"$'\n' ''
+  run "$@" part </dev/null
+  ended "$name-of-a-file" 0 "$wanted"$'\n' ''
+}
+
 line=$'15965596575264898037\n'
+versions_fault=$'You must specify a single rapidhash version to use. See --help for more.\n'
+open_fault=$'Could not open file.\n'
 stdin_fault=$'Could not read from stdin.\n'
 memory_fault=$'Out of memory.\n'
+file_fault=$'Failed to hash file.\n'
 write_fault=$'Could not write to stdout.\n'
-not_yet_fault=$'Not supported yet.\n'
 
 # The first call builds the tool where it must, and says so on standard error.
 if ! "$tool" --v1 </dev/null >/dev/null; then
@@ -70,17 +136,42 @@ if ! "$tool" --v1 </dev/null >/dev/null; then
   exit 1
 fi
 
+seq 1 20000000 | head -c 100000000 >large
+for bytes in 0 60 65537 100000000; do
+  every_version "$bytes"
+done
+head -c 10000000 large >ten_million
+
 echo something | run --v1
 ended stored_run 0 "$line" ''
 
-run --v1 </dev/null
-ended empty_input 0 $'6516417773221693515\n' ''
+echo | run --v1 --v1 --strange -
+ended words_that_count_for_nothing 0 $'5006746792674864303\n' ''
 
-echo | run --v1
-ended one_newline 0 $'5006746792674864303\n' ''
+echo something >'a file with spaces'
+run --v1 'a file with spaces'
+ended file_with_spaces 0 "$line" ''
+
+cp 'a file with spaces' ./--v3
+run ./--v3 --v1
+ended file_named_as_an_option 0 "$line" ''
+
+run 'a file with spaces' missing --v1
+ended first_of_two_files 0 "$line" ''
 
 { printf some; sleep 0.1; echo thing; } | run --v1
 ended two_pieces 0 "$line" ''
+
+slowly ten_million | run
+mv out of_a_slow_pipe
+run ten_million
+ended slow_pipe 0 "$(cat of_a_slow_pipe)"$'\n' ''
+
+mkfifo fifo
+cat large >fifo &
+run --v3 fifo
+ended file_that_is_a_pipe 0 $'17274253787457370873\n' ''
+wait
 
 # By a link, from another folder, by the name that the link has.
 ln -s "$tool" linked
@@ -88,46 +179,114 @@ echo something | ./linked --v1 >out 2>err
 echo $? >status
 ended by_a_link 0 "$line" ''
 
-seq 1 2000000 | head -c 10000000 >large
-run --v1 <large
-mv out large_line
-if [ "$(cat status)" = 0 ] && [ ! -s err ] && [[ $(cat large_line) =~ ^[0-9]{1,20}$ ]]; then
-  ok large_file
-else
-  fail large_file "status $(cat status), standard error: $(head -c 200 err)"
-fi
-slowly large | run --v1
-ended large_slow_pipe 0 "$(cat large_line)"$'\n' ''
+# Five thousand words, of which the last one chooses.
+words=()
+for i in $(seq 1 4999); do words+=("--word$i"); done
+echo something | run "${words[@]}" --v1
+ended many_words 0 "$line" ''
 
-# One byte less is another message.
-head -c 9999999 large | run --v1
-if [ "$(cat status)" = 0 ] && ! cmp -s out large_line; then
-  ok one_byte_less
-else
-  fail one_byte_less "status $(cat status), it printed: $(head -c 200 out)"
-fi
+# The help, wherever its word stands.
+cat >help <<'HELP'
+Usage: rapidhash <version> [opts] [filename]
+<version>
+  --v1    Use v1 hashing algorithm (no streaming)
+  --v2.0  Use v2.0 hashing algorithm (no streaming)
+  --v2.1  Use v2.1 hashing algorithm (no streaming)
+  --v2.2  Use v2.2 hashing algorithm (no streaming)
+  --v3    Use v3 hashing algorithm (default)
+  --v3-micro  Use v3 micro hashing algorithm
+  --v3-nano   Use v3 nano hashing algorithm
+[opts]
+  --protected  Use the protected variant (default: false)
+[filename]
+  Providing a filename is optional and will read a file directly. Otherwise input
+  is read from stdin.
+
+Note that only some rapidhash versions support streaming, others require
+buffering the entire input in memory.
+
+Docs: https://github.com/hoxxep/rapidhash?tab=readme-ov-file#cli
+HELP
+help=$(cat help)$'\n'
+run --help </dev/null
+ended help 0 "$help" ''
+
+run missing --v1 --v3 -h </dev/null
+ended help_last 0 "$help" ''
+
+"$tool" --help 2>err >/dev/full
+echo $? >status
+: >out
+ended help_to_a_full_output 1 '' "$write_fault"
+
+# Words that are refused.
+run --v1 --v3 </dev/null
+ended two_versions 1 '' "$versions_fault"
+
+run missing --v3-micro --v3-nano
+ended two_versions_and_a_file 1 '' "$versions_fault"
+
+run missing
+ended missing_file 1 '' "$open_fault"
+
+run ''
+ended empty_name 1 '' "$open_fault"
+
+run $'\xff' </dev/null
+ended name_of_other_bytes 1 '' "$open_fault"
 
 # Reads and memory that fail: a folder cannot be read, and the limit is below the input's length.
 run --v1 <"$top"
 ended unreadable_input 1 '' "$stdin_fault"
 
+run <"$top"
+ended unreadable_input_by_v3 1 '' "$stdin_fault"
+
+run "$top"
+ended folder 1 '' "$file_fault"
+
 run --v1 <&-
 ended closed_input 1 '' "$stdin_fault"
 
-(
-  # The limit would stop a shell too, so the launcher is left out.
-  tool=$top/crates/rapidhash_cli/out/rapidhash_cli
-  ulimit -v 8000
-  exec "$tool" --v1 <large >out 2>err
-)
+# in_little_memory WORDS..: the limit would stop a shell too, so the launcher is left out.
+in_little_memory() {
+  (
+    ulimit -v 8000
+    exec "$top/crates/rapidhash_cli/out/rapidhash_cli" "$@" >out 2>err
+  )
+  echo $? >status
+}
+
+in_little_memory --v1 <ten_million
+ended v1_in_little_memory 1 '' "$memory_fault"
+
+in_little_memory --v2.2 <ten_million
+ended v2_in_little_memory 1 '' "$memory_fault"
+
+in_little_memory --v1 ten_million
+ended file_by_v1_in_little_memory 0 "$("$tool" --v1 ten_million)"$'\n' ''
+
+in_little_memory <large
+ended v3_in_little_memory 0 $'17274253787457370873\n' ''
+
+# Words that there is no room for.
+word=-$(head -c 120000 /dev/zero | tr '\0' x)
+prlimit --as=4500000 "$top/crates/rapidhash_cli/out/rapidhash_cli" \
+  "$word" "$word" "$word" "$word" "$word" "$word" "$word" "$word" "$word" "$word" "$word" "$word" \
+  </dev/null >out 2>err
 echo $? >status
-ended too_little_memory 1 '' "$memory_fault"
+ended no_room_for_the_words 1 '' "$memory_fault"
 
 # Writes that fail.
 echo something | "$tool" --v1 2>err >/dev/full
 echo $? >status
 : >out
 ended full_output 1 '' "$write_fault"
+
+"$tool" large 2>err >/dev/full
+echo $? >status
+: >out
+ended full_output_of_a_file 1 '' "$write_fault"
 
 echo something | "$tool" --v1 2>err >&-
 echo $? >status
@@ -149,21 +308,8 @@ ended closed_output 1 '' "$write_fault"
 : >out
 ended reader_gone 1 '' "$write_fault"
 
-# Words that it does not know: nothing is read, and nothing is printed but the fault.
-run </dev/null
-ended no_word 1 '' "$not_yet_fault"
-
-run --strange </dev/null
-ended strange_word 1 '' "$not_yet_fault"
-
-run --v1 --v1 </dev/null
-ended two_words 1 '' "$not_yet_fault"
-
-run $'\xff' </dev/null
-ended word_of_other_bytes 1 '' "$not_yet_fault"
-
 # Where standard error takes no text either, the status still tells.
-"$tool" --strange </dev/null >out 2>/dev/full
+"$tool" --v1 --v3 </dev/null >out 2>/dev/full
 echo $? >status
 : >err
 ended full_error 1 '' ''

@@ -1,0 +1,77 @@
+#!/usr/bin/env bash
+# Installs the tool and the library for C into a room of its own, uses each installed file, and
+# removes them again. The last line counts the cases.
+set -u
+
+top=$(cd "$(dirname "${BASH_SOURCE[0]}")/.." && pwd) || exit 1
+room=$(mktemp -d) || exit 1
+trap 'rm -rf "$room"' EXIT
+passed=0
+failed=0
+
+# Counts a case by the status of a command: NAME COMMAND..
+try() {
+  local name=$1
+  shift
+  if "$@" >"$room/log" 2>&1; then
+    passed=$((passed + 1))
+    printf 'ok %s\n' "$name"
+  else
+    failed=$((failed + 1))
+    printf 'FAILED %s: %s\n' "$name" "$(head -c 400 "$room/log")"
+  fi
+}
+
+prefix=$room/usr
+
+prints_the_known_hash() {
+  [ "$(echo something | "$prefix/bin/rapidhash" --v1)" = 15965596575264898037 ]
+}
+
+# The words that pkg-config tells are all that a C program needs.
+links_by_pkg_config() {
+  local words
+  words=$(PKG_CONFIG_PATH=$prefix/lib/pkgconfig pkg-config --cflags --libs rapidhash) || return 1
+  # shellcheck disable=SC2086
+  cc -O2 -Wall -Werror "$top/examples/known_values.c" $words -o "$room/known_values" &&
+    "$room/known_values"
+}
+
+# Completes a word with bash, and compares the answers.
+completes() {
+  bash -c '
+    . "$1"
+    COMP_WORDS=(rapidhash "$2") COMP_CWORD=1
+    _rapidhash 2>/dev/null
+    echo "${COMPREPLY[*]}"
+  ' - "$prefix/share/bash-completion/completions/rapidhash" "$1" | grep -qx -- "$2"
+}
+
+# Every option that the help names stands in each completion and in the manual.
+names_every_option() {
+  local file=$1 option
+  for option in $("$prefix/bin/rapidhash" --help | grep -o '^  --[a-z0-9.-]*'); do
+    sed 's/\\//g' "$file" | grep -q -- "${option#--}" || {
+      echo "$option is not in $file"
+      return 1
+    }
+  done
+}
+
+is_empty() {
+  [ -z "$(find "$prefix" -type f)" ]
+}
+
+try install make -s -C "$top" install PREFIX="$prefix"
+try program prints_the_known_hash
+try library links_by_pkg_config
+try bash_completion completes --v3- '--v3-micro --v3-nano'
+for file in man/man1/rapidhash.1 bash-completion/completions/rapidhash \
+  zsh/site-functions/_rapidhash fish/vendor_completions.d/rapidhash.fish; do
+  try "options_in_$(basename "$file")" names_every_option "$prefix/share/$file"
+done
+try uninstall make -s -C "$top" uninstall PREFIX="$prefix"
+try nothing_left is_empty
+
+printf '%s passed, %s failed\n' "$passed" "$failed"
+[ "$failed" -eq 0 ]
