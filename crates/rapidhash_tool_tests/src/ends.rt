@@ -17,6 +17,9 @@ pub const SOMETHING: &[u8] = b"something\n";
 /// The line that V1 prints for them.
 pub const SOMETHING_LINE: &[u8] = b"15965596575264898037\n";
 
+/// The line that V3, micro and nano print for them.
+pub const V3_LINE: &[u8] = b"11612086640089003834\n";
+
 /// All versions.
 pub fn versions(protected: bool) -> [RapidhashVersion; 7] {
     [

@@ -1,41 +1,47 @@
 //! Reads, writes and requests for memory that fail, each in turn.
 
 use crate::ends::{
-    SOMETHING, SOMETHING_LINE, V1, V3, failing, of_file, of_stdin, versions, wants_all, whole,
-    writer,
+    SOMETHING, SOMETHING_LINE, V1, V3, V3_LINE, failing, of_file, of_stdin, versions, wants_all,
+    whole, writer,
 };
 use rapidhash_fakes::Rationed;
-use rapidhash_tool::{CliFault, run_help};
+use rapidhash_tool::{CliFault, RapidhashVersion, run_help};
 use std::io::ErrorKind;
+use std::process::Abort;
 
-// Each byte of the line is a write of its own.
-#[test]
-fn writes_that_fail(rt: HostRuntime) {
+// Each byte of the line is a write of its own, and each of them fails in turn.
+fn each_write_fails(rt: &(impl Abort + AllocGlobal), version: RapidhashVersion, line: &[u8]) {
     let mut kept = 0usize;
     for fails_at in 1..22u64 {
         let out = writer(Vec::new(rt.alloc()), fails_at);
-        let ended = of_stdin(rt.alloc(), V1, whole(SOMETHING), out);
-        assert_eq!(rt; ended.result, Err(CliFault::Write));
-        assert!(rt; kept < SOMETHING_LINE.len());
-        assert_eq!(rt; ended.written.as_slice(), &SOMETHING_LINE[..kept]);
+        let of_stdin = of_stdin(rt.alloc(), version, whole(SOMETHING), out);
+        let out = writer(Vec::new(rt.alloc()), fails_at);
+        let of_file = of_file(version, whole(SOMETHING), 10, out);
+        assert_eq!(rt; of_stdin.result, Err(CliFault::Write), "at {version:?}");
+        assert_eq!(rt; of_file.result, Err(CliFault::Write), "at {version:?}");
+        assert!(rt; kept < line.len());
+        assert_eq!(rt; of_stdin.written.as_slice(), &line[..kept]);
+        assert_eq!(rt; of_file.written.as_slice(), &line[..kept]);
         kept += 1;
     }
     let out = writer(Vec::new(rt.alloc()), 22);
-    let ended = of_stdin(rt.alloc(), V1, whole(SOMETHING), out);
-    assert_eq!(rt; ended.result, Ok(()));
-    assert_eq!(rt; ended.written.as_slice(), SOMETHING_LINE);
+    let ended = of_stdin(rt.alloc(), version, whole(SOMETHING), out);
+    assert_eq!(rt; ended.result, Ok(()), "at {version:?}");
+    assert_eq!(rt; ended.written.as_slice(), line);
 }
 
 #[test]
-fn writes_of_a_file_that_fail(rt: HostRuntime) {
-    let mut kept = 0usize;
-    for fails_at in 1..22u64 {
-        let out = writer(Vec::new(rt.alloc()), fails_at);
-        let ended = of_file(V1, whole(SOMETHING), 10, out);
-        assert_eq!(rt; ended.result, Err(CliFault::Write));
-        assert!(rt; kept < SOMETHING_LINE.len());
-        assert_eq!(rt; ended.written.as_slice(), &SOMETHING_LINE[..kept]);
-        kept += 1;
+fn writes_that_fail(rt: HostRuntime) {
+    let micro = RapidhashVersion::V3Micro { protected: false };
+    let nano = RapidhashVersion::V3Nano { protected: false };
+    let lines: [(RapidhashVersion, &[u8]); 4] = [
+        (V1, SOMETHING_LINE),
+        (V3, V3_LINE),
+        (micro, V3_LINE),
+        (nano, V3_LINE),
+    ];
+    for (version, line) in lines {
+        each_write_fails(&rt, version, line);
     }
 }
 

@@ -1,7 +1,8 @@
 //! The lines that are printed.
 
 use crate::ends::{
-    SOMETHING, SOMETHING_LINE, V1, V3, of_file, of_stdin, versions, wants_all, whole, writer,
+    SOMETHING, SOMETHING_LINE, V1, V3, V3_LINE, of_file, of_stdin, versions, wants_all, whole,
+    writer,
 };
 use rapidhash_fakes::FullWriter;
 use rapidhash_tool::{CliFault, help, run_file, run_help, run_stdin};
@@ -70,9 +71,6 @@ const OF_200_PROTECTED: [u64; 7] = [
     4897950914338820965,
     16770306864220385383,
 ];
-
-// What V3, micro and nano print for a short line.
-const V3_LINE: &[u8] = b"11612086640089003834\n";
 
 // The bytes 0 to 199.
 fn counted() -> [u8; 200] {
