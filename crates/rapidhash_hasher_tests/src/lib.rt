@@ -7,6 +7,8 @@ mod blocks;
 #[cfg(test)]
 mod collections;
 #[cfg(test)]
+mod examples;
+#[cfg(test)]
 mod integers;
 #[cfg(test)]
 mod items;
