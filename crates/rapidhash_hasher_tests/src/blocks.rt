@@ -29,18 +29,23 @@ fn by_blocks(length: u32, value: u8) -> u64 {
     hasher.finish()
 }
 
+/// The first value for which bytes answer otherwise when they are written again, in compact code, or
+/// as blocks.
+fn first_unstable(length: u32) -> Option<u8> {
+    for value in 0..=u8::MAX {
+        let answer = by_bytes::<false>(length, value);
+        let again = by_bytes::<false>(length, value);
+        let compact = by_bytes::<true>(length, value);
+        if answer != again || answer != compact || answer != by_blocks(length, value) {
+            return Some(value);
+        }
+    }
+    None
+}
+
 #[test]
 fn sponge_buffer_stability(rt: HostRuntime) {
     for length in 1..65u32 {
-        for value in 0..=u8::MAX {
-            let answer = by_bytes::<false>(length, value);
-            assert_eq!(rt;
-                answer,
-                by_bytes::<false>(length, value),
-                "{length} {value}"
-            );
-            assert_eq!(rt; answer, by_bytes::<true>(length, value), "{length} {value}");
-            assert_eq!(rt; answer, by_blocks(length, value), "{length} {value}");
-        }
+        assert_eq!(rt; first_unstable(length), None, "{length}");
     }
 }

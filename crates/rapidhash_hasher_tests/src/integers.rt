@@ -58,7 +58,7 @@ fn of_128<const SPONGE: bool>(signed: i128, bits: u128) -> (u64, u64) {
 }
 
 #[test]
-fn signed_integers_count_by_their_bits(rt: HostRuntime) {
+fn signed_integers_of_32_bits(rt: HostRuntime) {
     let all = [
         (i32::MIN, 0x8000_0000),
         (-2, 0xFFFF_FFFE),
@@ -72,6 +72,10 @@ fn signed_integers_count_by_their_bits(rt: HostRuntime) {
         let (one, other) = of_32::<false>(signed, bits);
         assert_eq!(rt; one, other, "{signed}");
     }
+}
+
+#[test]
+fn signed_integers_of_128_bits(rt: HostRuntime) {
     let all = [
         (i128::MIN, 1 << 127),
         (-2, u128::MAX - 1),
@@ -87,7 +91,7 @@ fn signed_integers_count_by_their_bits(rt: HostRuntime) {
 }
 
 #[test]
-fn four_calls_take_64_bits(rt: HostRuntime) {
+fn integers_of_64_bits(rt: HostRuntime) {
     let all = [
         (i64::MIN, 0x8000_0000_0000_0000),
         (-2, 0xFFFF_FFFF_FFFF_FFFE),
