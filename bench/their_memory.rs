@@ -1,5 +1,6 @@
 //! Does what `rapidhash_memory_bench` does, by the Rust crate: it prints a number that all its work
-//! goes into, and the nanoseconds it took.
+//! goes into, and the nanoseconds it took. As there, what is timed is not inlined, so that what stands
+//! beside it changes nothing.
 
 use rapidhash::{fast, quality, rng::RapidRng};
 use std::collections::HashMap;
@@ -10,11 +11,13 @@ const ITEMS: u64 = 1 << 27;
 
 const KEYS: u64 = 1 << 24;
 
+#[inline(never)]
 fn next() -> u64 {
     let mut rng = RapidRng::new(42);
     (0..1u64 << 28).fold(0, |sum, _| sum ^ rng.next())
 }
 
+#[inline(never)]
 fn fill_bytes() -> u64 {
     let mut bytes = vec![0u8; 1 << 20];
     let mut rng = RapidRng::new(42);
@@ -27,17 +30,23 @@ fn fill_bytes() -> u64 {
     })
 }
 
+#[inline(never)]
 fn texts<H: Hasher + Default>(len: usize) -> u64 {
     let mut rng = RapidRng::new(0);
     let mut text = [0u8; 256];
     text.fill_with(|| (rng.next() % 256) as u8);
-    items::<H>(|hasher, i| {
+    let mut sum = 0u64;
+    for i in 0..ITEMS {
         let from = (i % 64) as usize;
+        let mut hasher = H::default();
         hasher.write(&text[from..from + len.min(128)]);
         hasher.write_u8(0xFF);
-    })
+        sum = sum.wrapping_add(hasher.finish());
+    }
+    sum
 }
 
+#[inline(never)]
 fn items<H: Hasher + Default>(put: impl Fn(&mut H, u64)) -> u64 {
     (0..ITEMS).fold(0u64, |sum, i| {
         let mut hasher = H::default();
@@ -69,10 +78,12 @@ fn filled<S: BuildHasher>(state: S, keys: u64) -> HashMap<u64, u64, S> {
     map
 }
 
+#[inline(never)]
 fn fill<S: BuildHasher + Clone>(state: S, keys: u64) -> u64 {
     (0..KEYS / keys).fold(0, |sum, _| sum + filled(state.clone(), keys).len() as u64)
 }
 
+#[inline(never)]
 fn found<S: BuildHasher>(map: &HashMap<u64, u64, S>, first: u64, keys: u64) -> u64 {
     let (mut sum, mut key) = (0, first);
     for _ in 0..KEYS {

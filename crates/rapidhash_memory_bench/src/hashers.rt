@@ -25,6 +25,7 @@ pub fn hashed<const AVALANCHE: bool>(item: &str) -> Result<u64> {
 }
 
 /// Integers of 8 bits.
+#[inline(never)]
 fn bytes<const AVALANCHE: bool>() -> u64 {
     let mut sum = 0u64;
     for i in 0..ITEMS {
@@ -36,6 +37,7 @@ fn bytes<const AVALANCHE: bool>() -> u64 {
 }
 
 /// Integers of 64 bits.
+#[inline(never)]
 fn words<const AVALANCHE: bool>() -> u64 {
     let mut sum = 0u64;
     for i in 0..ITEMS {
@@ -47,6 +49,7 @@ fn words<const AVALANCHE: bool>() -> u64 {
 }
 
 /// Pairs of integers of 64 bits.
+#[inline(never)]
 fn pairs<const AVALANCHE: bool>() -> u64 {
     let mut sum = 0u64;
     for i in 0..ITEMS {
@@ -59,6 +62,7 @@ fn pairs<const AVALANCHE: bool>() -> u64 {
 }
 
 /// Texts of `len` bytes, and the byte that ends one.
+#[inline(never)]
 fn texts<const AVALANCHE: bool>(len: usize) -> u64 {
     let mut rng = RapidRng::new(0);
     let mut text = [0u8; 256];

@@ -59,6 +59,7 @@ fn filled<S: BuildHasher + Copy, A: Allocator + Clone>(
 }
 
 /// Fills a map anew, over and over.
+#[inline(never)]
 fn fill<S: BuildHasher + Copy, A: Allocator + Clone>(
     alloc: A,
     state: S,
@@ -73,6 +74,7 @@ fn fill<S: BuildHasher + Copy, A: Allocator + Clone>(
 }
 
 /// Looks up the integers from `first` on, `keys` of them over and over; tells how many were there.
+#[inline(never)]
 fn found<S: BuildHasher + Copy, A: Allocator>(
     map: &HashMap<u64, u64, S, A>,
     first: u64,
