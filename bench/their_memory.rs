@@ -1,17 +1,23 @@
 //! Does what `rapidhash_memory_bench` does, by the Rust crate: it prints a number that all its work
-//! goes into, and the nanoseconds it took.
+//! goes into, and the nanoseconds it took. As there, what is timed is not inlined, so that what stands
+//! beside it changes nothing.
 
-use rapidhash::{HashMapExt, RapidHashMap, fast, quality, rng::RapidRng};
-use std::hash::Hasher;
+use rapidhash::{fast, quality, rng::RapidRng};
+use std::collections::HashMap;
+use std::hash::{BuildHasher, Hasher};
 use std::time::Instant;
 
 const ITEMS: u64 = 1 << 27;
 
+const KEYS: u64 = 1 << 24;
+
+#[inline(never)]
 fn next() -> u64 {
     let mut rng = RapidRng::new(42);
     (0..1u64 << 28).fold(0, |sum, _| sum ^ rng.next())
 }
 
+#[inline(never)]
 fn fill_bytes() -> u64 {
     let mut bytes = vec![0u8; 1 << 20];
     let mut rng = RapidRng::new(42);
@@ -24,67 +30,109 @@ fn fill_bytes() -> u64 {
     })
 }
 
-fn texts(len: usize) -> u64 {
-    // As for ours, the compiler does not know the length.
-    let len = std::hint::black_box(len);
+#[inline(never)]
+fn texts<H: Hasher + Default>(len: usize) -> u64 {
     let mut rng = RapidRng::new(0);
     let mut text = [0u8; 256];
     text.fill_with(|| (rng.next() % 256) as u8);
-    (0..ITEMS).fold(0, |sum, i| {
+    let mut sum = 0u64;
+    for i in 0..ITEMS {
         let from = (i % 64) as usize;
-        let mut hasher = fast::RapidHasher::default();
+        let mut hasher = H::default();
         hasher.write(&text[from..from + len.min(128)]);
         hasher.write_u8(0xFF);
-        sum ^ hasher.finish()
-    })
-}
-
-fn items(put: impl Fn(&mut fast::RapidHasher, u64)) -> u64 {
-    (0..ITEMS).fold(0, |sum, i| {
-        let mut hasher = fast::RapidHasher::default();
-        put(&mut hasher, i);
-        sum ^ hasher.finish()
-    })
-}
-
-fn quality_words() -> u64 {
-    (0..ITEMS).fold(0, |sum, i| {
-        let mut hasher = quality::RapidHasher::default();
-        hasher.write_u64(i);
-        sum ^ hasher.finish()
-    })
-}
-
-fn table(keys: u64) -> u64 {
-    let mut found = 0u64;
-    for _ in 0..(1u64 << 24) / keys {
-        let mut map: RapidHashMap<u64, u64> = RapidHashMap::new();
-        for key in 0..keys {
-            map.insert(key, key);
-        }
-        found += (0..keys * 2).filter(|key| map.contains_key(key)).count() as u64;
+        sum = sum.wrapping_add(hasher.finish());
     }
-    found
+    sum
+}
+
+#[inline(never)]
+fn items<H: Hasher + Default>(put: impl Fn(&mut H, u64)) -> u64 {
+    (0..ITEMS).fold(0u64, |sum, i| {
+        let mut hasher = H::default();
+        put(&mut hasher, i);
+        sum.wrapping_add(hasher.finish())
+    })
+}
+
+fn hashed<H: Hasher + Default>(item: &str) -> u64 {
+    if let Some(len) = item.strip_prefix("str") {
+        return texts::<H>(len.parse().unwrap());
+    }
+    match item {
+        "u8" => items::<H>(|hasher, i| hasher.write_u8((i % 256) as u8)),
+        "u64" => items::<H>(|hasher, i| hasher.write_u64(i)),
+        "pair" => items::<H>(|hasher, i| {
+            hasher.write_u64(i);
+            hasher.write_u64(i ^ 0xFF);
+        }),
+        _ => panic!("no form {item}"),
+    }
+}
+
+fn filled<S: BuildHasher>(state: S, keys: u64) -> HashMap<u64, u64, S> {
+    let mut map = HashMap::with_hasher(state);
+    for key in 0..keys {
+        map.insert(key, key);
+    }
+    map
+}
+
+#[inline(never)]
+fn fill<S: BuildHasher + Clone>(state: S, keys: u64) -> u64 {
+    (0..KEYS / keys).fold(0, |sum, _| sum + filled(state.clone(), keys).len() as u64)
+}
+
+#[inline(never)]
+fn found<S: BuildHasher>(map: &HashMap<u64, u64, S>, first: u64, keys: u64) -> u64 {
+    let (mut sum, mut key) = (0, first);
+    for _ in 0..KEYS {
+        sum += map.contains_key(&key) as u64;
+        key += 1;
+        if key == first + keys {
+            key = first;
+        }
+    }
+    sum
+}
+
+/// The sum, and when the time began: a map that keys are looked up in is filled before.
+fn table<S: BuildHasher + Clone>(state: S, name: &str) -> (u64, Instant) {
+    let keys = |work| name.strip_prefix(work).map(|keys| keys.parse::<u64>().unwrap());
+    if let Some(keys) = keys("insert") {
+        let start = Instant::now();
+        return (fill(state, keys), start);
+    }
+    let (first, keys) = match keys("hit") {
+        Some(keys) => (0, keys),
+        None => (keys("miss").unwrap(), keys("miss").unwrap()),
+    };
+    let map = filled(state, keys);
+    let start = Instant::now();
+    (found(&map, first, keys), start)
+}
+
+fn work(form: &str) -> (u64, Instant) {
+    if let Some(name) = form.strip_prefix("map_") {
+        return table(fast::RandomState::new(), name);
+    }
+    if let Some(name) = form.strip_prefix("std_") {
+        return table(std::hash::RandomState::new(), name);
+    }
+    let start = Instant::now();
+    let sum = match form {
+        "next" => next(),
+        "fill_bytes" => fill_bytes(),
+        _ => match form.strip_prefix("quality_") {
+            Some(item) => hashed::<quality::RapidHasher>(item),
+            None => hashed::<fast::RapidHasher>(form),
+        },
+    };
+    (sum, start)
 }
 
 fn main() {
     let form = std::env::args().nth(1).unwrap_or_default();
-    let start = Instant::now();
-    let sum = match form.as_str() {
-        "next" => next(),
-        "fill_bytes" => fill_bytes(),
-        "u8" => items(|hasher, i| hasher.write_u8((i % 256) as u8)),
-        "u64" => items(|hasher, i| hasher.write_u64(i)),
-        "pair" => items(|hasher, i| {
-            hasher.write_u64(i);
-            hasher.write_u64(i ^ 0xFF);
-        }),
-        "str5" => texts(5),
-        "str20" => texts(20),
-        "str100" => texts(100),
-        "quality" => quality_words(),
-        "map1000" => table(1000),
-        _ => table(1_000_000),
-    };
+    let (sum, start) = work(&form);
     println!("{sum} {}", start.elapsed().as_nanos());
 }

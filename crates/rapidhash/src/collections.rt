@@ -9,17 +9,32 @@ use std::hash::Hash;
 
 /// The map of std over [`RandomState`].
 ///
+/// How often each word stands in a text. The two random words are the program's own, drawn once:
+///
 /// ```
-/// let mut map: RapidHashMap<&str, u32> = HashMapExt::new(alloc, state);
-/// map.insert("user", 4711)?;
+/// let secrets = GlobalSecrets::new(random_word);
+/// let mut source = SeedSource::new(&secrets, second_random_word);
+/// let state = fast::RandomState::new(&secrets, &mut source);
+/// let mut counts: RapidHashMap<&str, u64> = HashMapExt::new(alloc, state);
+/// for word in text.split_whitespace() {
+///     let count = counts.entry(word)?.or_insert(0);
+///     *count = count.saturating_add(1);
+/// }
 /// ```
 pub type RapidHashMap<'s, K, V, A = Global> = HashMap<K, V, RandomState<'s>, A>;
 
 /// The set of std over [`RandomState`].
 ///
+/// Names without their doubles, each where it stands first:
+///
 /// ```
-/// let mut set: RapidHashSet<&str> = HashSetExt::new(alloc, state);
-/// set.insert("user")?;
+/// let mut seen: RapidHashSet<&str> = HashSetExt::new(alloc, state);
+/// let mut firsts = Vec::new(alloc);
+/// for name in names {
+///     if seen.insert(*name)? {
+///         firsts.push(*name)?;
+///     }
+/// }
 /// ```
 pub type RapidHashSet<'s, K, A = Global> = HashSet<K, RandomState<'s>, A>;
 

@@ -6,6 +6,13 @@
 //! hasher.write(b"user:4711");
 //! let hash = hasher.finish();
 //! ```
+//!
+//! A state hashes one value at once:
+//!
+//! ```
+//! let state = fast::SeedableState::fixed();
+//! let hash = state.hash_one("user:4711");
+//! ```
 
 use crate::inner;
 

@@ -6,6 +6,15 @@
 //! hasher.write(b"user:4711");
 //! let hash = hasher.finish();
 //! ```
+//!
+//! A number that a program keeps makes the same state in each of its runs, so a user stays in one
+//! shard while the version of this library stays:
+//!
+//! ```
+//! let secrets = RapidSecrets::seed(kept);
+//! let state = quality::SeedableState::custom(secrets.seed, &secrets.secrets);
+//! let shard = state.hash_one(user) % 64;
+//! ```
 
 use crate::inner;
 

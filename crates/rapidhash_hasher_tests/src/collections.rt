@@ -41,7 +41,8 @@ fn test_hashset_new(rt: HostRuntime) -> Result<(), Fail> {
     Ok(())
 }
 
-/// Each request for memory is refused in turn, until a map and a set meet no refusal.
+/// Each request for memory is refused in turn: `with_capacity` tells it each time, until it meets no
+/// refusal.
 #[test]
 fn room_that_is_refused(rt: HostRuntime) {
     let secrets = GlobalSecrets::new(1);
@@ -55,16 +56,63 @@ fn room_that_is_refused(rt: HostRuntime) {
             &ration, 10, state,
         );
         match map {
-            Ok(map) => assert!(rt; map.is_empty()),
-            Err(_) => maps = requests + 1,
+            Ok(map) => assert!(rt; map.is_empty() && map.capacity() >= 10),
+            Err(_) => {
+                assert_eq!(rt; maps, requests);
+                maps = requests + 1;
+            }
         }
         let ration = Rationed::new(rt.alloc(), requests);
         let set: Result<RapidHashSet<u32, _>, _> = HashSetExt::with_capacity(&ration, 10, state);
         match set {
-            Ok(set) => assert!(rt; set.is_empty()),
-            Err(_) => sets = requests + 1,
+            Ok(set) => assert!(rt; set.is_empty() && set.capacity() >= 10),
+            Err(_) => {
+                assert_eq!(rt; sets, requests);
+                sets = requests + 1;
+            }
         }
     }
     assert!(rt; 0 < maps && maps < 9);
     assert!(rt; 0 < sets && sets < 9);
+}
+
+/// Where every request is refused, empty maps and sets are made and asked, and only the first key
+/// meets the refusal.
+#[test]
+fn new_asks_for_no_memory(rt: HostRuntime) {
+    let secrets = GlobalSecrets::new(1);
+    let mut source = SeedSource::new(&secrets, 2);
+    let state = fast::RandomState::new(&secrets, &mut source);
+    let ration = Rationed::new(rt.alloc(), 0);
+    let mut map: RapidHashMap<u32, u32, _> = HashMapExt::new(&ration, state);
+    assert_eq!(rt; map.get(&4711), None);
+    assert!(rt; map.insert(4711, 1).is_err());
+    assert!(rt; map.is_empty());
+    let mut set: RapidHashSet<u32, _> = HashSetExt::new(&ration, state);
+    assert!(rt; !set.contains(&4711));
+    assert!(rt; set.insert(4711).is_err());
+    assert!(rt; set.is_empty());
+}
+
+/// Room for ten keys is enough for ten keys: none of them asks for more.
+#[test]
+fn room_for_ten(rt: HostRuntime) -> Result<(), Fail> {
+    let secrets = GlobalSecrets::new(1);
+    let mut source = SeedSource::new(&secrets, 2);
+    let state = fast::RandomState::new(&secrets, &mut source);
+    let ration = Rationed::new(rt.alloc(), 9);
+    let mut map: RapidHashMap<u32, u32, _> = HashMapExt::with_capacity(&ration, 10, state)?;
+    let mut set: RapidHashSet<u32, _> = HashSetExt::with_capacity(&ration, 10, state)?;
+    let left = ration.left();
+    for key in 0..10u32 {
+        let _ = map.insert(key, key + 1)?;
+        let _ = set.insert(key)?;
+    }
+    assert_eq!(rt; ration.left(), left);
+    assert_eq!(rt; (map.len(), set.len()), (10, 10));
+    assert_eq!(rt; map.get(&9).copied(), Some(10));
+    assert_eq!(rt; map.get(&0).copied(), Some(1));
+    assert!(rt; set.contains(&9) && set.contains(&0));
+    assert!(rt; map.get(&10).is_none() && !set.contains(&10));
+    Ok(())
 }

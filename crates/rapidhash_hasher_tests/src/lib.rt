@@ -1,10 +1,18 @@
 //! The tests of the in-memory hasher: what no contract says. The numbers are worked out by hand, or
-//! are those of the Rust crate.
+//! are those of the Rust crate; messages of every length are compared with the definition.
 #![tactic(auto)]
 
 #[cfg(test)]
+mod blocks;
+#[cfg(test)]
 mod collections;
 #[cfg(test)]
+mod examples;
+#[cfg(test)]
+mod integers;
+#[cfg(test)]
 mod items;
+#[cfg(test)]
+mod sizes;
 #[cfg(test)]
 mod states;

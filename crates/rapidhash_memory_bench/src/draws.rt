@@ -8,6 +8,7 @@ use std::alloc::{AllocError, Allocator};
 const SIZE: usize = 1 << 20;
 
 /// 2^28 words, joined.
+#[inline(never)]
 pub fn next() -> u64 {
     let mut rng = RapidRng::new(42);
     let mut sum = 0u64;
@@ -18,6 +19,7 @@ pub fn next() -> u64 {
 }
 
 /// 2^11 times 1 MiB; the last byte of each time, joined.
+#[inline(never)]
 pub fn fill_bytes<A: Allocator>(alloc: A) -> Result<u64, AllocError> {
     let mut bytes = Vec::new(alloc);
     bytes.resize(SIZE, 0u8)?;

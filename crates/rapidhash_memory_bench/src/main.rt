@@ -8,7 +8,9 @@ mod tables;
 
 use anyhow::{Context, Result};
 use std::env;
+use std::rt::Clock;
 use std::time::Instant;
+use tables::Taken;
 
 fn main(rt: HostRuntime) -> Result<()> {
     let words: Vec<String> = env::args(&rt)?.skip(1).collect(rt.alloc())?;
@@ -16,22 +18,29 @@ fn main(rt: HostRuntime) -> Result<()> {
         // With no form there is nothing to measure.
         return Ok(());
     };
-    let start = Instant::now(&rt)?;
-    let sum = match form.as_str() {
-        "next" => draws::next(),
-        "fill_bytes" => draws::fill_bytes(rt.alloc())?,
-        "u8" => hashers::bytes(),
-        "u64" => hashers::words(),
-        "pair" => hashers::pairs(),
-        "str5" => hashers::texts(5),
-        "str20" => hashers::texts(20),
-        "str100" => hashers::texts(100),
-        "quality" => hashers::quality_words(),
-        "map1000" => tables::rapid(rt.alloc(), 1000)?,
-        "map1000000" => tables::rapid(rt.alloc(), 1_000_000)?,
-        other => anyhow::bail!("no form {other}"),
-    };
-    let nanos = start.elapsed(&rt)?.as_nanos();
+    let Taken { sum, nanos } = measured(&rt, form.as_str())?;
     println!(rt; "{sum} {nanos}")?;
     Ok(())
+}
+
+/// Does the work of a form. A number in its name comes from the command line, so that the compiler
+/// does not know it.
+fn measured(rt: &(impl Clock + AllocGlobal), form: &str) -> Result<Taken> {
+    if let Some(table) = form.strip_prefix("std_") {
+        return tables::standard(rt, table);
+    }
+    if let Some(table) = form.strip_prefix("map_") {
+        return tables::rapid(rt, table);
+    }
+    let start = Instant::now(rt)?;
+    let sum = match form {
+        "next" => draws::next(),
+        "fill_bytes" => draws::fill_bytes(rt.alloc())?,
+        _ => match form.strip_prefix("quality_") {
+            Some(item) => hashers::hashed::<true>(item)?,
+            None => hashers::hashed::<false>(form)?,
+        },
+    };
+    let nanos = start.elapsed(rt)?.as_nanos();
+    Ok(Taken { sum, nanos })
 }

@@ -4,7 +4,6 @@ use crate::rules::{message, number, secrets_of};
 use crate::tally::Agreement;
 use anyhow::{Result, bail};
 use rapidhash_portable::form::Options;
-use rapidhash_portable::util::rapid_mix;
 use rapidhash_portable::v3::DEFAULT_RAPID_SECRETS;
 use rapidhash_vectors::bodies::{Version, body, defined, memory_body};
 use rapidhash_vectors::plain;
@@ -74,12 +73,12 @@ pub fn replay(alloc: Global, line: &str) -> Result<Agreement> {
 
 /// What the hasher answers of the core's value: with AVALANCHE it mixes once more, with the second
 /// default secret.
-fn finished(options: Options, value: u64) -> u64 {
+pub fn finished(options: Options, value: u64) -> u64 {
     let [_, second, ..] = DEFAULT_RAPID_SECRETS.secrets;
-    match (options.avalanche, options.protected) {
-        (true, true) => rapid_mix::<true>(value, second),
-        (true, false) => rapid_mix::<false>(value, second),
-        (false, _) => value,
+    if options.avalanche {
+        plain::mix(options.protected, value, second)
+    } else {
+        value
     }
 }
 

@@ -7,6 +7,8 @@
 mod bulk;
 mod compare;
 mod draws;
+mod hashers;
+mod items;
 mod readers;
 mod rules;
 mod seeds;
@@ -47,6 +49,7 @@ fn replay(rt: &(impl Files + Print + Eprint + AllocGlobal), name: &str) -> Resul
         let case = match columns {
             bulk::COLUMNS => bulk::replay(rt.alloc(), line)?,
             bulk::MEMORY_COLUMNS => bulk::replay_memory(rt.alloc(), line)?,
+            hashers::COLUMNS => hashers::replay(rt.alloc(), line)?,
             readers::COLUMNS => readers::replay(rt.alloc(), line)?,
             streams::COLUMNS => streams::replay(rt.alloc(), line)?,
             streams::LANES_COLUMNS => streams::replay_with_lanes(rt.alloc(), line)?,

@@ -26,7 +26,7 @@ fn multiply(protected: bool, a: u64, b: u64) -> (u64, u64)
 }
 
 /// The two folded into one word.
-fn mix(protected: bool, a: u64, b: u64) -> u64
+pub fn mix(protected: bool, a: u64, b: u64) -> u64
     ensures { result ≡ mix protected a b }
 {
     if protected {

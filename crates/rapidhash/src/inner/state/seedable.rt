@@ -21,6 +21,14 @@ use std::hash::BuildHasher;
 /// hasher.write_u64(4711);
 /// let hash = hasher.finish();
 /// ```
+///
+/// Seed and secrets that are kept between runs are made anew of one number:
+///
+/// ```
+/// let secrets = RapidSecrets::seed(kept);
+/// let state = SeedableState::<true, true, false, false>::custom(secrets.seed, &secrets.secrets);
+/// let hash = state.hash_one("user:4711");
+/// ```
 #[derive(Clone, Copy)]
 pub struct SeedableState<
     's,

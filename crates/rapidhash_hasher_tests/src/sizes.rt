@@ -1,0 +1,63 @@
+//! Messages of every length, against the definition as a plain program.
+
+use rapidhash::inner::RapidHasher;
+use rapidhash::rng::RapidRng;
+use rapidhash_portable::form::Options;
+use rapidhash_portable::v3::DEFAULT_RAPID_SECRETS;
+use rapidhash_vectors::plain;
+use std::alloc::{AllocError, Global};
+use std::hash::Hasher;
+use std::test::Fail;
+
+/// What the definition answers of a hasher with the default seed, after one write.
+fn defined(options: Options, bytes: &[u8]) -> u64 {
+    let secrets = &DEFAULT_RAPID_SECRETS.secrets;
+    let seed = plain::memory_hash(options, plain::cpp_seeded(2, 0), secrets, bytes);
+    if options.avalanche {
+        plain::mix(options.protected, seed, secrets[1])
+    } else {
+        seed
+    }
+}
+
+/// What the hasher answers.
+fn answer<const AVALANCHE: bool, const COMPACT: bool, const PROTECTED: bool>(bytes: &[u8]) -> u64 {
+    let mut hasher = RapidHasher::<AVALANCHE, true, COMPACT, PROTECTED>::default();
+    hasher.write(bytes);
+    hasher.finish()
+}
+
+/// Whether both bodies answer as the definition does.
+fn agree<const AVALANCHE: bool, const PROTECTED: bool>(bytes: &[u8]) -> bool {
+    let options = Options {
+        avalanche: AVALANCHE,
+        protected: PROTECTED,
+    };
+    let defined = defined(options, bytes);
+    answer::<AVALANCHE, true, PROTECTED>(bytes) == defined
+        && answer::<AVALANCHE, false, PROTECTED>(bytes) == defined
+}
+
+/// 1,024 bytes of the generator that starts at 0.
+fn drawn(alloc: Global) -> Result<Vec<u8>, AllocError> {
+    let mut bytes = Vec::new(alloc);
+    let mut rng = RapidRng::new(0);
+    for _ in 0..128u8 {
+        bytes.extend_from_slice(&rng.next().to_le_bytes())?;
+    }
+    Ok(bytes)
+}
+
+#[test]
+fn all_sizes(rt: HostRuntime) -> Result<(), Fail> {
+    let bytes = drawn(rt.alloc())?;
+    assert_eq!(rt; bytes.len(), 1024);
+    for n in 0..bytes.len() + 1 {
+        let message = &bytes[..n];
+        assert!(rt; agree::<true, false>(message), "{n}");
+        assert!(rt; agree::<false, false>(message), "{n}");
+        assert!(rt; agree::<true, true>(message), "{n}");
+        assert!(rt; agree::<false, true>(message), "{n}");
+    }
+    Ok(())
+}
