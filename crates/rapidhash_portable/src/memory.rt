@@ -44,7 +44,7 @@ fn long<const AVALANCHE: bool, const COMPACT: bool, const PROTECTED: bool>(
     close_long::<AVALANCHE, PROTECTED>(bytes, bytes, seed, secrets)
 }
 
-/// The value above 48 bytes.
+/// The value above 48 bytes. Up to 400 bytes have eight rows at the most, too few for turns of two.
 #[inline(never)]
 fn with_rows<const AVALANCHE: bool, const COMPACT: bool, const PROTECTED: bool>(
     bytes: &[u8],
@@ -58,7 +58,7 @@ fn with_rows<const AVALANCHE: bool, const COMPACT: bool, const PROTECTED: bool>(
     if bytes.len() > 400 {
         return with_wide_rows::<AVALANCHE, COMPACT, PROTECTED>(bytes, seed, secrets);
     }
-    let (joined, tail) = wide_lanes::<3, 0, COMPACT, PROTECTED>(bytes, seed, secrets);
+    let (joined, tail) = wide_lanes::<3, 0, true, PROTECTED>(bytes, seed, secrets);
     close_long::<AVALANCHE, PROTECTED>(bytes, tail, joined, secrets)
 }
 
