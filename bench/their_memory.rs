@@ -25,15 +25,13 @@ fn fill_bytes() -> u64 {
 }
 
 fn texts(len: usize) -> u64 {
-    // As for ours, the compiler does not know the length.
-    let len = std::hint::black_box(len);
     let mut rng = RapidRng::new(0);
-    let mut text = [0u8; 256];
+    let mut text = [0u8; 1088];
     text.fill_with(|| (rng.next() % 256) as u8);
     (0..ITEMS).fold(0, |sum, i| {
         let from = (i % 64) as usize;
         let mut hasher = fast::RapidHasher::default();
-        hasher.write(&text[from..from + len.min(128)]);
+        hasher.write(&text[from..from + len.min(1024)]);
         hasher.write_u8(0xFF);
         sum ^ hasher.finish()
     })
@@ -79,12 +77,14 @@ fn main() {
             hasher.write_u64(i);
             hasher.write_u64(i ^ 0xFF);
         }),
-        "str5" => texts(5),
-        "str20" => texts(20),
-        "str100" => texts(100),
         "quality" => quality_words(),
         "map1000" => table(1000),
-        _ => table(1_000_000),
+        "map1000000" => table(1_000_000),
+        // No compiler knows the length.
+        other => match other.strip_prefix("str") {
+            Some(len) => texts(len.parse().expect("a length")),
+            None => panic!("no form {other}"),
+        },
     };
     println!("{sum} {}", start.elapsed().as_nanos());
 }

@@ -52,18 +52,18 @@ pub fn pairs() -> u64 {
     sum
 }
 
-/// Texts of `len` bytes, and the byte that ends one.
+/// Texts of `len` bytes, 1024 at the most, and the byte that ends one.
 pub fn texts(len: usize) -> u64 {
     let mut rng = RapidRng::new(0);
-    let mut text = [0u8; 256];
-    for i in 0..256usize {
+    let mut text = [0u8; 1088];
+    for i in 0..1088usize {
         text[i] = (rng.next() % 256) as u8;
     }
     let mut sum = 0u64;
     for i in 0..ITEMS {
         let from = (i % 64) as usize;
         let mut hasher = fast::RapidHasher::default();
-        hasher.write(&text[from..from + len.min(128)]);
+        hasher.write(&text[from..from + len.min(1024)]);
         hasher.write_u8(0xFF);
         sum ^= hasher.finish();
     }

@@ -23,13 +23,14 @@ fn main(rt: HostRuntime) -> Result<()> {
         "u8" => hashers::bytes(),
         "u64" => hashers::words(),
         "pair" => hashers::pairs(),
-        "str5" => hashers::texts(5),
-        "str20" => hashers::texts(20),
-        "str100" => hashers::texts(100),
         "quality" => hashers::quality_words(),
         "map1000" => tables::rapid(rt.alloc(), 1000)?,
         "map1000000" => tables::rapid(rt.alloc(), 1_000_000)?,
-        other => anyhow::bail!("no form {other}"),
+        // No compiler knows the length.
+        other => match other.strip_prefix("str") {
+            Some(len) => hashers::texts(len.parse::<usize>()?),
+            None => anyhow::bail!("no form {other}"),
+        },
     };
     let nanos = start.elapsed(&rt)?.as_nanos();
     println!(rt; "{sum} {nanos}")?;
