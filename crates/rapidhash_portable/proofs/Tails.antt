@@ -33,6 +33,12 @@ after_tail-stop protected table pair t seed j low high =
     let e : (t - 1) / 16 ≡ j = omega arith in
     ap (λ k. fold_pairs protected (take k table) pair 0 seed) e
 
+-- a tail that takes the whole table
+pub after_tail-all : (protected : Bool) (table : List ℕ) (pair : ℕ → ℕ × ℕ) (t seed : ℕ) → 16 * length table ≤ t - 1 → after_tail protected table pair 0 t seed ≡ fold_pairs protected (take (length table) table) pair 0 seed
+unfolding after_tail
+after_tail-all protected table pair t seed low =
+    ap (λ cs. fold_pairs protected cs pair 0 seed) (take_all ((t - 1) / 16) table (omega arith) ∙ sym (take_all (length table) table (omega arith)))
+
 -- no secret
 pub after_tail-none : (protected : Bool) (pair : ℕ → ℕ × ℕ) (t seed : ℕ) → after_tail protected [] pair 0 t seed ≡ seed
 unfolding after_tail fold_pairs
