@@ -134,16 +134,15 @@ pub memory_shape-mixed : (n : ℕ) → 400 < n → memory_shape n ≡ mixed_shap
 unfolding memory_shape
 memory_shape-mixed n h = rw (lt-ltb 400 n h) refl
 
-pub after_pairs-none : (protected : Bool) (seed : ℕ) (secrets x : List ℕ) (all : ℕ) → length x ≤ 48 → all ≡ after_tail protected (picked secrets (0 ∷ 0 ∷ [])) (pair_of x) 0 (length x) seed → all ≡ after_pairs protected seed secrets x
-after_pairs-none protected seed secrets x all h e =
+pub memory_rows-none : (protected : Bool) (seed : ℕ) (secrets x : List ℕ) → length x ≤ 48 → (x ≡ drop (row_bytes (memory_shape (length x))) x) × (seed ≡ after_lanes protected secrets (pair_of x) (memory_shape (length x)) seed)
+memory_rows-none protected seed secrets x h =
     let none = memory_shape-none (length x) h in
-    after_pairs-is protected seed secrets x x seed all
-    (rest-none 3 x ∙ ap (λ shape. drop (row_bytes shape) x) (sym none))
-    (after_lanes-none protected secrets x 3 seed (omega arith) ∙ ap (λ shape. after_lanes protected secrets (pair_of x) shape seed) (sym none)) e
+    (rest-none 3 x ∙ ap (λ shape. drop (row_bytes shape) x) (sym none), after_lanes-none protected secrets x 3 seed (omega arith) ∙ ap (λ shape. after_lanes protected secrets (pair_of x) shape seed) (sym none))
 
 pub after_pairs-short : (protected : Bool) (seed : ℕ) (secrets x : List ℕ) → length x ≤ 16 → after_pairs protected seed secrets x ≡ seed
 after_pairs-short protected seed secrets x h =
-    sym (after_pairs-none protected seed secrets x seed (omega arith) (sym (after_tail-short protected (picked secrets (0 ∷ 0 ∷ [])) x seed h)))
+    let rows = memory_rows-none protected seed secrets x (omega arith) in
+    sym (after_pairs-is protected seed secrets x x seed seed rows.0 rows.1 (sym (after_tail-short protected (picked secrets (0 ∷ 0 ∷ [])) x seed h)))
 
 -- the value of the core, from its last words and its seed
 pub memory_hash-is : (options : Options) (seed : ℕ) (secrets x : List ℕ) (words : ℕ × ℕ) (all : ℕ) → words ≡ last_words (V3 7) x → all ≡ after_pairs options.protected seed secrets x → close options (get_or secrets 0 0) (bit_xor 0xaaaa_aaaa_aaaa_aaaa ((all + length x) % 2 ^ 64), get_or secrets 1 0) words ((all + length x) % 2 ^ 64) ≡ memory_hash options seed secrets x

@@ -1,5 +1,5 @@
 use Rattle.std.proofs.Common.{◌≡◌, ℕ, ◌+◌, ◌-◌, ◌*◌, ◌/◌, ◌≤◌, ◌<◌, Bool, List, [], ◌∷◌, ◌++◌, length, get_or, take, drop, refl, sym, ap, ◌∙◌, arith, length-drop}
-use Rattle.std.proofs.lemmas.List.{take_all, take_more, length-take-le}
+use Rattle.std.proofs.lemmas.List.{take_all, take_more, take-take, length-take-le}
 use Rattle.rapidhash_portable.specs.Lanes.{pair_of, pair_at, step}
 use Rattle.rapidhash_portable.specs.Tail.{after_tail, fold_pairs}
 use Rattle.rapidhash_portable.proofs.Columns.{pair_at-drop}
@@ -38,6 +38,34 @@ pub after_tail-all : (protected : Bool) (table : List ℕ) (pair : ℕ → ℕ �
 unfolding after_tail
 after_tail-all protected table pair t seed low =
     ap (λ cs. fold_pairs protected cs pair 0 seed) (take_all ((t - 1) / 16) table (omega arith) ∙ sym (take_all (length table) table (omega arith)))
+
+-- no secret
+pub after_tail-none : (protected : Bool) (pair : ℕ → ℕ × ℕ) (t seed : ℕ) → after_tail protected [] pair 0 t seed ≡ seed
+unfolding after_tail fold_pairs
+after_tail-none protected pair t seed = ap (λ cs. fold_pairs protected cs pair 0 seed) (take_all ((t - 1) / 16) [] (omega arith))
+
+-- a secret more, for a pair that the tail has
+pub after_tail-more : (protected : Bool) (table : List ℕ) (pair : ℕ → ℕ × ℕ) (t seed j : ℕ) → j < length table → 16 * j + 16 < t → after_tail protected (take (j + 1) table) pair 0 t seed ≡ step protected (get_or table j 0) (after_tail protected (take j table) pair 0 t seed) (pair j)
+unfolding after_tail
+after_tail-more protected table pair t seed j h long =
+    let k = (t - 1) / 16 in
+    let more : length (take (j + 1) table) ≤ k = omega (arith, length-take-le (j + 1) table (omega arith)) in
+    let few : length (take j table) ≤ k = omega (arith, length-take-le j table (omega arith)) in
+    ap (λ cs. fold_pairs protected cs pair 0 seed) (take_all k (take (j + 1) table) more)
+    ∙ fold_pairs-more protected table pair j seed h
+    ∙ ap (λ cs. step protected (get_or table j 0) (fold_pairs protected cs pair 0 seed) (pair j)) (sym (take_all k (take j table) few))
+
+-- a secret more, for a pair that it has not
+pub after_tail-same : (protected : Bool) (table : List ℕ) (pair : ℕ → ℕ × ℕ) (t seed j : ℕ) → t ≤ 16 * j + 16 → after_tail protected (take (j + 1) table) pair 0 t seed ≡ after_tail protected (take j table) pair 0 t seed
+unfolding after_tail
+after_tail-same protected table pair t seed j short =
+    let k = (t - 1) / 16 in
+    ap (λ cs. fold_pairs protected cs pair 0 seed) (take-take k (j + 1) table (omega arith) ∙ sym (take-take k j table (omega arith)))
+
+-- all secrets
+pub after_tail-whole : (protected : Bool) (table : List ℕ) (pair : ℕ → ℕ × ℕ) (t seed n : ℕ) → n ≡ length table → after_tail protected (take n table) pair 0 t seed ≡ after_tail protected table pair 0 t seed
+after_tail-whole protected table pair t seed n e =
+    ap (λ cs. after_tail protected cs pair 0 t seed) (take_all n table (omega arith))
 
 -- the pairs of what is left of a message are the message's own
 fold_pairs-drop : (protected : Bool) (cs x : List ℕ) (first at seed : ℕ) → fold_pairs protected cs (pair_of (drop (16 * first) x)) at seed ≡ fold_pairs protected cs (pair_of x) (first + at) seed

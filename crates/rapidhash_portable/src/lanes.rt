@@ -210,13 +210,12 @@ pub(crate) fn fold_tail<const COUNT: usize, const PROTECTED: bool>(
 {
     let mut seed = start;
     for j in 0..COUNT {
-        if tail.len() <= 16 * j + 16 {
-            return seed;
+        if tail.len() > 16 * j + 16 {
+            seed = rapid_mix::<PROTECTED>(
+                read_u64(tail, 16 * j) ^ table[j],
+                read_u64(tail, 16 * j + 8) ^ seed,
+            );
         }
-        seed = rapid_mix::<PROTECTED>(
-            read_u64(tail, 16 * j) ^ table[j],
-            read_u64(tail, 16 * j + 8) ^ seed,
-        );
     }
     seed
 }

@@ -1,8 +1,11 @@
 //! The core of the in-memory hasher: one value of a byte list, a seed and secrets. It stands on the
 //! portable kernel, and is for the crate above alone: its values may change between versions.
 
-ghost use Rattle.std.specs.Prelude.{◌≡◌, ◌<◌, length};
-ghost use Rattle.rapidhash_portable.specs.Memory.{after_pairs, memory_hash};
+ghost use Rattle.std.specs.Prelude.{◌≡◌, ◌<◌, ℕ, length, drop};
+ghost use Rattle.rapidhash_portable.specs.declared.form.Form.TheVariants.{V3};
+ghost use Rattle.rapidhash_portable.specs.Lanes.{after_lanes, pair_of, row_bytes};
+ghost use Rattle.rapidhash_portable.specs.Memory.{after_pairs, memory_hash, memory_shape};
+ghost use Rattle.rapidhash_portable.specs.Words.{last_words};
 
 use crate::lanes::{close, fold_tail, mixed_lanes, wide_lanes};
 use crate::words::{last_16, short_words_v3};
@@ -17,14 +20,95 @@ pub fn memory_hash<const AVALANCHE: bool, const COMPACT: bool, const PROTECTED: 
     ensures { result
         ≡ memory_hash (record { avalanche = AVALANCHE; protected = PROTECTED }) seed secrets.now bytes.now }
 {
-    let (words, seed) = if bytes.len() > 16 {
-        (
-            last_16(bytes),
-            after_pairs::<COMPACT, PROTECTED>(bytes, seed, secrets),
-        )
-    } else {
-        (short_words_v3(bytes), seed)
-    };
+    if bytes.len() > 16 {
+        return long::<AVALANCHE, COMPACT, PROTECTED>(bytes, seed, secrets);
+    }
+    close_sum::<AVALANCHE, PROTECTED>(bytes, short_words_v3(bytes), seed, secrets)
+}
+
+/// The value above 16 bytes. It stands out of line, so that a short message, whose code goes into
+/// each caller, pays for none of it, and so do the rows, so that a message of none pays for no lane.
+#[inline(never)]
+fn long<const AVALANCHE: bool, const COMPACT: bool, const PROTECTED: bool>(
+    bytes: &[u8],
+    seed: u64,
+    secrets: &[u64; 7],
+) -> u64
+    requires { 16 < length bytes.now }
+    ensures { result
+        ≡ memory_hash (record { avalanche = AVALANCHE; protected = PROTECTED }) seed secrets.now bytes.now }
+{
+    if bytes.len() > 48 {
+        return with_rows::<AVALANCHE, COMPACT, PROTECTED>(bytes, seed, secrets);
+    }
+    close_long::<AVALANCHE, PROTECTED>(bytes, bytes, seed, secrets)
+}
+
+/// The value above 48 bytes. Up to 400 bytes have eight rows at the most, too few for turns of two.
+#[inline(never)]
+fn with_rows<const AVALANCHE: bool, const COMPACT: bool, const PROTECTED: bool>(
+    bytes: &[u8],
+    seed: u64,
+    secrets: &[u64; 7],
+) -> u64
+    requires { 48 < length bytes.now }
+    ensures { result
+        ≡ memory_hash (record { avalanche = AVALANCHE; protected = PROTECTED }) seed secrets.now bytes.now }
+{
+    if bytes.len() > 400 {
+        return with_wide_rows::<AVALANCHE, COMPACT, PROTECTED>(bytes, seed, secrets);
+    }
+    let (joined, tail) = wide_lanes::<3, 0, true, PROTECTED>(bytes, seed, secrets);
+    close_long::<AVALANCHE, PROTECTED>(bytes, tail, joined, secrets)
+}
+
+/// The value above 400 bytes, by rows of seven pairs and then of three.
+#[inline(never)]
+fn with_wide_rows<const AVALANCHE: bool, const COMPACT: bool, const PROTECTED: bool>(
+    bytes: &[u8],
+    seed: u64,
+    secrets: &[u64; 7],
+) -> u64
+    requires { 400 < length bytes.now }
+    ensures { result
+        ≡ memory_hash (record { avalanche = AVALANCHE; protected = PROTECTED }) seed secrets.now bytes.now }
+{
+    let (joined, tail) = mixed_lanes::<COMPACT, PROTECTED>(bytes, seed, secrets);
+    close_long::<AVALANCHE, PROTECTED>(bytes, tail, joined, secrets)
+}
+
+/// The value above 16 bytes, made of the joined lanes and the tail.
+#[inline(always)]
+fn close_long<const AVALANCHE: bool, const PROTECTED: bool>(
+    bytes: &[u8],
+    tail: &[u8],
+    joined: u64,
+    secrets: &[u64; 7],
+) -> u64
+    requires { 16 < length bytes.now }
+    ensures { (start : ℕ) → let shape = memory_shape (length bytes.now) in
+        tail.now ≡ drop (row_bytes shape) bytes.now →
+        joined ≡ after_lanes PROTECTED secrets.now (pair_of bytes.now) shape start →
+        result
+        ≡ memory_hash (record { avalanche = AVALANCHE; protected = PROTECTED }) start secrets.now bytes.now }
+{
+    let seed = fold_tail::<2, PROTECTED>(tail, &[secrets[0], secrets[0]], joined);
+    close_sum::<AVALANCHE, PROTECTED>(bytes, last_16(bytes), seed, secrets)
+}
+
+/// The value, made of the last words and the seed after all pairs.
+#[inline(always)]
+fn close_sum<const AVALANCHE: bool, const PROTECTED: bool>(
+    bytes: &[u8],
+    words: (u64, u64),
+    seed: u64,
+    secrets: &[u64; 7],
+) -> u64
+    ensures { (start : ℕ) → words ≡ last_words (V3 7) bytes.now →
+        seed ≡ after_pairs PROTECTED start secrets.now bytes.now →
+        result
+        ≡ memory_hash (record { avalanche = AVALANCHE; protected = PROTECTED }) start secrets.now bytes.now }
+{
     let sum = seed.wrapping_add(bytes.len() as u64);
     close::<AVALANCHE, PROTECTED>(
         words,
@@ -32,26 +116,4 @@ pub fn memory_hash<const AVALANCHE: bool, const COMPACT: bool, const PROTECTED: 
         secrets[0],
         (0xaaaa_aaaa_aaaa_aaaa ^ sum, secrets[1]),
     )
-}
-
-/// The seed after all pairs of a message above 16 bytes.
-#[inline(always)]
-fn after_pairs<const COMPACT: bool, const PROTECTED: bool>(
-    bytes: &[u8],
-    seed: u64,
-    secrets: &[u64; 7],
-) -> u64
-    requires { 16 < length bytes.now }
-    ensures { result ≡ after_pairs PROTECTED seed secrets.now bytes.now }
-{
-    let table = [secrets[0], secrets[0]];
-    if bytes.len() > 400 {
-        let (seed, rest) = mixed_lanes::<COMPACT, PROTECTED>(bytes, seed, secrets);
-        return fold_tail::<2, PROTECTED>(rest, &table, seed);
-    }
-    if bytes.len() > 48 {
-        let (seed, rest) = wide_lanes::<3, 0, COMPACT, PROTECTED>(bytes, seed, secrets);
-        return fold_tail::<2, PROTECTED>(rest, &table, seed);
-    }
-    fold_tail::<2, PROTECTED>(bytes, &table, seed)
 }

@@ -2,7 +2,7 @@
 
 ghost use Rattle.std.specs.Prelude.{◌≡◌, ◌<◌, ◌≤◌, ◌%◌, ℕ, List, true, false, length, drop};
 ghost use Rattle.rapidhash_portable.specs.declared.form.Form.TheVariants.{V3};
-ghost use Rattle.rapidhash_portable.specs.Form.{v3, micro, nano, shape_of, start_seed};
+ghost use Rattle.rapidhash_portable.specs.Form.{v3, micro, nano, shape_of};
 ghost use Rattle.rapidhash_portable.specs.Hash.{portable_hash};
 ghost use Rattle.rapidhash_portable.specs.Lanes.{after_lanes, pair_of, row_bytes};
 ghost use Rattle.rapidhash_portable.specs.Secrets.{cpp_seeded, default_secrets};
@@ -13,7 +13,7 @@ mod stream;
 
 use crate::lanes::{close, fold_tail, wide_lanes};
 pub use crate::secrets::{DEFAULT_RAPID_SECRETS, RapidSecrets};
-use crate::words::{last_16, short_words_v3};
+use crate::words::{last_16, short_start_v3};
 pub use readers::{
     rapidhash_v3_file, rapidhash_v3_file_inline, rapidhash_v3_file_seeded, rapidhash_v3_file_sized,
     rapidhash_v3_source, rapidhash_v3_source_sized,
@@ -114,26 +114,19 @@ pub(crate) fn hash<
         return long::<LANES, AVALANCHE, COMPACT, PROTECTED>(bytes, secrets);
     }
     let second = secrets.secrets[1];
+    let (words, seed) = short_start_v3(bytes, secrets.seed);
     close::<AVALANCHE, PROTECTED>(
-        short_words_v3(bytes),
-        short_seed::<LANES>(bytes.len(), secrets.seed),
+        words,
+        seed,
         second,
         (0xaaaa_aaaa_aaaa_aaaa, second ^ bytes.len() as u64),
     )
 }
 
-/// The seed of a message of at most 16 bytes: up to 3 bytes the length is not mixed in.
-#[inline(always)]
-#[tactic(auto, using(std::proofs::lemmas::Bool::Decides::nat_tests), unfolding(crate::specs::Form::start_seed))]
-fn short_seed<const LANES: usize>(len: usize, seed: u64) -> u64
-    requires { len ≤ 16 }
-    ensures { result ≡ start_seed (V3 LANES) len seed }
-{
-    if len >= 4 { seed ^ len as u64 } else { seed }
-}
-
 /// The hash above 16 bytes. It stands out of line, so that a short message pays for no registers,
-/// and so do the rows, so that a message of none pays for no lanes.
+/// and so do the rows, so that a message of none pays for no lanes. That it is cold lays the short
+/// path straight ahead.
+#[cold]
 #[inline(never)]
 fn long<const LANES: usize, const AVALANCHE: bool, const COMPACT: bool, const PROTECTED: bool>(
     bytes: &[u8],

@@ -2,6 +2,7 @@
 
 ghost use Rattle.std.specs.Prelude.{◌≡◌, ◌≤◌, ◌<◌, Bool, ℕ, length};
 ghost use Rattle.rapidhash_portable.specs.declared.form.Form.TheVariants.{V1, V2, V3};
+ghost use Rattle.rapidhash_portable.specs.Form.{start_seed};
 ghost use Rattle.rapidhash_portable.specs.Words.{last_16, short_words, three_bytes};
 
 use crate::util::{read_u32, read_u32_combined, read_u64};
@@ -80,15 +81,33 @@ pub(crate) fn short_words_v3(bytes: &[u8]) -> (u64, u64)
     requires { length bytes.now ≤ 16 }
     ensures { (lanes : ℕ) → result ≡ short_words (V3 lanes) bytes.now }
 {
+    short_start_v3(bytes, 0).0
+}
+
+/// The two words of V3, micro and nano, of at most 16 bytes, and the seed they start from: up to 3
+/// bytes the length is not mixed in. Both hang on the same tests, so they are made at once.
+#[inline(always)]
+#[tactic(auto, using(std::proofs::lemmas::Bool::Decides::nat_tests), unfolding(crate::specs::Form::start_seed))]
+pub(crate) fn short_start_v3(bytes: &[u8], seed: u64) -> ((u64, u64), u64)
+    requires { length bytes.now ≤ 16 }
+    ensures words { (lanes : ℕ) → result.0 ≡ short_words (V3 lanes) bytes.now }
+    ensures seed { (lanes : ℕ) → result.1 ≡ start_seed (V3 lanes) (length bytes.now) seed }
+{
     let n = bytes.len();
     if n >= 8 {
-        (read_u64(bytes, 0), read_u64(bytes, n - 8))
+        (
+            (read_u64(bytes, 0), read_u64(bytes, n - 8)),
+            seed ^ n as u64,
+        )
     } else if n >= 4 {
-        (read_u32(bytes, 0) as u64, read_u32(bytes, n - 4) as u64)
+        (
+            (read_u32(bytes, 0) as u64, read_u32(bytes, n - 4) as u64),
+            seed ^ n as u64,
+        )
     } else if n > 0 {
         let (first, middle, last) = (bytes[0], bytes[n / 2], bytes[n - 1]);
-        ((first as u64) << 45 | last as u64, middle as u64)
+        (((first as u64) << 45 | last as u64, middle as u64), seed)
     } else {
-        (0, 0)
+        ((0, 0), seed)
     }
 }

@@ -1,4 +1,4 @@
-use Rattle.std.proofs.Common.{length, refl}
+use Rattle.std.proofs.Common.{refl}
 use Rattle.rapidhash_portable.specs.Form.{shape_of}
 use Rattle.rapidhash_portable.proofs.v3.after_rows.Goals as goal
 

@@ -12,4 +12,4 @@ returns g c =
     let options : Options = record { avalanche = not (nat_eq g.row.AVALANCHE 0); protected = not (nat_eq g.row.PROTECTED 0) } in
     let none = shape_of-v3-none g.row.LANES (length x) (omega arith) (omega arith) in
     hash-short (V3 g.row.LANES) options g.row.LANES c.args.secrets.now.seed c.args.secrets.now.secrets x c.requires.odd none c.if-bytes-gt16.false c.close.result
-    (cc (c.close.ensures, c.short_words_v3.ensures g.row.LANES, c.short_seed.ensures))
+    (cc (c.close.ensures, c.short_start_v3-seed.ensures.words g.row.LANES, c.short_start_v3-seed.ensures.seed g.row.LANES))

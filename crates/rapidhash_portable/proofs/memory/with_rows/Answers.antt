@@ -1,0 +1,9 @@
+use Rattle.std.proofs.Common.{length}
+use Rattle.rapidhash_portable.proofs.Hashes.{memory_shape-wide}
+use Rattle.rapidhash_portable.proofs.memory.with_rows.Goals as goal
+
+pub returns : goal.returns
+returns g c =
+    let shape = memory_shape-wide (length c.args.bytes.now) c.requires c.if-bytes-gt400.false in
+    let rows = c.wide_lanes-joined.ensures in
+    c.close_long.ensures c.args.seed (cc (rows.rest, shape)) (cc (rows.joined, shape))

@@ -1,0 +1,9 @@
+use Rattle.std.proofs.Common.{length}
+use Rattle.rapidhash_portable.proofs.Hashes.{memory_shape-mixed}
+use Rattle.rapidhash_portable.proofs.memory.with_wide_rows.Goals as goal
+
+pub returns : goal.returns
+returns g c =
+    let shape = memory_shape-mixed (length c.args.bytes.now) c.requires in
+    let rows = c.mixed_lanes-joined.ensures in
+    c.close_long.ensures c.args.seed (cc (rows.rest, shape)) (cc (rows.joined, shape))
