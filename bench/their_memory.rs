@@ -14,7 +14,7 @@ const KEYS: u64 = 1 << 24;
 #[inline(never)]
 fn next() -> u64 {
     let mut rng = RapidRng::new(42);
-    (0..1u64 << 28).fold(0, |sum, _| sum ^ rng.next())
+    (0..1u64 << 28).fold(0u64, |sum, _| sum.wrapping_mul(3) ^ rng.next())
 }
 
 #[inline(never)]
@@ -41,7 +41,7 @@ fn texts<H: Hasher + Default>(len: usize) -> u64 {
         let mut hasher = H::default();
         hasher.write(&text[from..from + len.min(128)]);
         hasher.write_u8(0xFF);
-        sum = sum.wrapping_add(hasher.finish());
+        sum = sum.wrapping_mul(3) ^ hasher.finish();
     }
     sum
 }
@@ -51,7 +51,7 @@ fn items<H: Hasher + Default>(put: impl Fn(&mut H, u64)) -> u64 {
     (0..ITEMS).fold(0u64, |sum, i| {
         let mut hasher = H::default();
         put(&mut hasher, i);
-        sum.wrapping_add(hasher.finish())
+        sum.wrapping_mul(3) ^ hasher.finish()
     })
 }
 

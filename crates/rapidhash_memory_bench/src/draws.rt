@@ -13,7 +13,7 @@ pub fn next() -> u64 {
     let mut rng = RapidRng::new(42);
     let mut sum = 0u64;
     for _ in 0..1u64 << 28 {
-        sum ^= rng.next();
+        sum = sum.wrapping_mul(3) ^ rng.next();
     }
     sum
 }

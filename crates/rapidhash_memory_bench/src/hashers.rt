@@ -1,4 +1,5 @@
-//! The hasher, built anew for each item.
+//! The hasher, built anew for each item. Each answer goes into a sum that is taken three times before,
+//! so that no compiler makes two answers at once.
 
 use anyhow::{Result, bail};
 use rapidhash::inner::RapidHasher;
@@ -31,7 +32,7 @@ fn bytes<const AVALANCHE: bool>() -> u64 {
     for i in 0..ITEMS {
         let mut hasher = Built::<AVALANCHE>::default();
         hasher.write_u8((i % 256) as u8);
-        sum = sum.wrapping_add(hasher.finish());
+        sum = sum.wrapping_mul(3) ^ hasher.finish();
     }
     sum
 }
@@ -43,7 +44,7 @@ fn words<const AVALANCHE: bool>() -> u64 {
     for i in 0..ITEMS {
         let mut hasher = Built::<AVALANCHE>::default();
         hasher.write_u64(i);
-        sum = sum.wrapping_add(hasher.finish());
+        sum = sum.wrapping_mul(3) ^ hasher.finish();
     }
     sum
 }
@@ -56,7 +57,7 @@ fn pairs<const AVALANCHE: bool>() -> u64 {
         let mut hasher = Built::<AVALANCHE>::default();
         hasher.write_u64(i);
         hasher.write_u64(i ^ 0xFF);
-        sum = sum.wrapping_add(hasher.finish());
+        sum = sum.wrapping_mul(3) ^ hasher.finish();
     }
     sum
 }
@@ -75,7 +76,7 @@ fn texts<const AVALANCHE: bool>(len: usize) -> u64 {
         let mut hasher = Built::<AVALANCHE>::default();
         hasher.write(&text[from..from + len.min(128)]);
         hasher.write_u8(0xFF);
-        sum = sum.wrapping_add(hasher.finish());
+        sum = sum.wrapping_mul(3) ^ hasher.finish();
     }
     sum
 }
