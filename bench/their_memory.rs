@@ -31,14 +31,14 @@ fn fill_bytes() -> u64 {
 }
 
 #[inline(never)]
-fn texts<H: Hasher + Default>(len: usize) -> u64 {
+fn texts<S: BuildHasher>(state: &S, len: usize) -> u64 {
     let mut rng = RapidRng::new(0);
     let mut text = [0u8; 256];
     text.fill_with(|| (rng.next() % 256) as u8);
     let mut sum = 0u64;
     for i in 0..ITEMS {
         let from = (i % 64) as usize;
-        let mut hasher = H::default();
+        let mut hasher = state.build_hasher();
         hasher.write(&text[from..from + len.min(128)]);
         hasher.write_u8(0xFF);
         sum = sum.wrapping_mul(3) ^ hasher.finish();
@@ -47,22 +47,22 @@ fn texts<H: Hasher + Default>(len: usize) -> u64 {
 }
 
 #[inline(never)]
-fn items<H: Hasher + Default>(put: impl Fn(&mut H, u64)) -> u64 {
+fn items<S: BuildHasher>(state: &S, put: impl Fn(&mut S::Hasher, u64)) -> u64 {
     (0..ITEMS).fold(0u64, |sum, i| {
-        let mut hasher = H::default();
+        let mut hasher = state.build_hasher();
         put(&mut hasher, i);
         sum.wrapping_mul(3) ^ hasher.finish()
     })
 }
 
-fn hashed<H: Hasher + Default>(item: &str) -> u64 {
+fn hashed<S: BuildHasher>(state: &S, item: &str) -> u64 {
     if let Some(len) = item.strip_prefix("str") {
-        return texts::<H>(len.parse().unwrap());
+        return texts(state, len.parse().unwrap());
     }
     match item {
-        "u8" => items::<H>(|hasher, i| hasher.write_u8((i % 256) as u8)),
-        "u64" => items::<H>(|hasher, i| hasher.write_u64(i)),
-        "pair" => items::<H>(|hasher, i| {
+        "u8" => items(state, |hasher, i| hasher.write_u8((i % 256) as u8)),
+        "u64" => items(state, |hasher, i| hasher.write_u64(i)),
+        "pair" => items(state, |hasher, i| {
             hasher.write_u64(i);
             hasher.write_u64(i ^ 0xFF);
         }),
@@ -112,27 +112,33 @@ fn table<S: BuildHasher + Clone>(state: S, name: &str) -> (u64, Instant) {
     (found(&map, first, keys), start)
 }
 
-fn work(form: &str) -> (u64, Instant) {
+fn work(form: &str, number: u64) -> (u64, Instant) {
     if let Some(name) = form.strip_prefix("map_") {
         return table(fast::RandomState::new(), name);
     }
     if let Some(name) = form.strip_prefix("std_") {
         return table(std::hash::RandomState::new(), name);
     }
+    // A seed and secrets that the compiler does not know.
+    let mut rng = RapidRng::new(number);
+    let secrets: [u64; 7] = std::array::from_fn(|_| rng.next());
+    let seed = rng.next();
     let start = Instant::now();
     let sum = match form {
         "next" => next(),
         "fill_bytes" => fill_bytes(),
         _ => match form.strip_prefix("quality_") {
-            Some(item) => hashed::<quality::RapidHasher>(item),
-            None => hashed::<fast::RapidHasher>(form),
+            Some(item) => hashed(&quality::SeedableState::custom(seed, &secrets), item),
+            None => hashed(&fast::SeedableState::custom(seed, &secrets), form),
         },
     };
     (sum, start)
 }
 
 fn main() {
-    let form = std::env::args().nth(1).unwrap_or_default();
-    let (sum, start) = work(&form);
+    let mut words = std::env::args().skip(1);
+    let form = words.next().expect("a form");
+    let number = words.next().expect("a number").parse().expect("a number");
+    let (sum, start) = work(&form, number);
     println!("{sum} {}", start.elapsed().as_nanos());
 }
