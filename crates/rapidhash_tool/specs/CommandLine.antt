@@ -46,6 +46,7 @@ version_of words =
     let protected = occurs (codes "--protected") words in
     the_only (V3 protected) (named words (versions protected))
 
+-- whether there are no words, or a help word is among them, the program's name included
 abbrev pub wants_help : List (List ℕ) → Bool
 wants_help [] = true
 wants_help (name ∷ others) = occurs (codes "--help") (name ∷ others) || occurs (codes "-h") (name ∷ others)
@@ -54,6 +55,7 @@ wants_help (name ∷ others) = occurs (codes "--help") (name ∷ others) || occu
 abbrev pub file_of : List (List ℕ) → Option ℕ
 file_of words = option_map (λ place. place + 1) (position (λ w. not (is_option w)) (drop 1 words))
 
+-- the plan of a version and a file, where no help is wanted
 abbrev pub run_of : Option RapidhashVersion → Option ℕ → Plan
 run_of None file = Refused
 run_of (Some version) file = Run version file

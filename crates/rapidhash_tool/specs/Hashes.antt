@@ -5,6 +5,7 @@ use Rattle.rapidhash.specs.Hash.{portable_hash}
 use Rattle.rapidhash.specs.Secrets.{cpp_seeded, default_secrets, default_secrets_v1}
 use Rattle.rapidhash_portable.specs.declared.form.Form.{Form}
 use Rattle.rapidhash_portable.specs.declared.form.Options.{Options}
+use Rattle.rapidhash_tool.specs.Faults.{NeedsLength}
 use Rattle.rapidhash_tool.specs.declared.version.Minor.{Minor}
 use Rattle.rapidhash_tool.specs.declared.version.Minor.TheVariants.{M0, M1, M2}
 use Rattle.rapidhash_tool.specs.declared.version.RapidhashVersion.{RapidhashVersion}
@@ -42,8 +43,4 @@ read_of (V3Nano protected) len bytes = bytes
 
 -- a file has the bytes that a version asks for
 abbrev pub HasLength : RapidhashVersion → ℕ → List ℕ → Type 0
-HasLength (V1 protected) len bytes = len ≤ length bytes
-HasLength (V2 protected minor) len bytes = len ≤ length bytes
-HasLength (V3 protected) len bytes = Unit {0}
-HasLength (V3Micro protected) len bytes = Unit {0}
-HasLength (V3Nano protected) len bytes = Unit {0}
+HasLength version len bytes = NeedsLength version → len ≤ length bytes

@@ -122,6 +122,17 @@ fn all_versions(rt: HostRuntime) -> Result<(), Fail> {
     Ok(())
 }
 
+// The hashes themselves, which the lines are made of.
+#[test]
+fn hashes_by_themselves(rt: HostRuntime) {
+    let all = versions(false);
+    for i in 0..7usize {
+        let of_stdin = all[i].hash_stdin(rt.alloc(), whole(SOMETHING));
+        assert_eq!(rt; of_stdin, Ok(OF_SOMETHING[i]));
+        assert_eq!(rt; all[i].hash_file(whole(SOMETHING), 10), Ok(OF_SOMETHING[i]));
+    }
+}
+
 #[test]
 fn short_inputs(rt: HostRuntime) {
     let lines: [(&[u8], &[u8]); 3] = [
