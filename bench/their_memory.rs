@@ -7,7 +7,7 @@ use std::collections::HashMap;
 use std::hash::{BuildHasher, Hasher};
 use std::time::Instant;
 
-const ITEMS: u64 = 1 << 27;
+const ITEMS: u64 = 1 << 21;
 
 const KEYS: u64 = 1 << 24;
 
@@ -31,38 +31,57 @@ fn fill_bytes() -> u64 {
 }
 
 #[inline(never)]
-fn texts<S: BuildHasher>(state: &S, len: usize) -> u64 {
-    let mut rng = RapidRng::new(0);
-    let mut text = [0u8; 256];
-    text.fill_with(|| (rng.next() % 256) as u8);
-    let mut sum = 0u64;
-    for i in 0..ITEMS {
-        let from = (i % 64) as usize;
+fn items<S: BuildHasher, const PLACE: u64>(state: S, put: impl Fn(&mut S::Hasher, u64)) -> u64 {
+    (0..ITEMS).fold(PLACE, |sum, i| {
         let mut hasher = state.build_hasher();
-        hasher.write(&text[from..from + len.min(128)]);
-        hasher.write_u8(0xFF);
-        sum = sum.wrapping_mul(3) ^ hasher.finish();
+        put(&mut hasher, i);
+        (sum ^ hasher.finish()).wrapping_mul(3)
+    })
+}
+
+#[inline(never)]
+fn texts<S: BuildHasher, const PLACE: u64>(state: S, len: usize) -> u64 {
+    let mut rng = RapidRng::new(0);
+    let mut bytes = [0u8; 192];
+    bytes.fill_with(|| (rng.next() % 256) as u8);
+    let mut list = [&bytes[..0]; 64];
+    for i in 0..64 {
+        list[i] = &bytes[i..i + len.min(128)];
+    }
+    let mut sum = PLACE;
+    for _ in 0..ITEMS / 64 {
+        for text in list {
+            let mut hasher = state.build_hasher();
+            hasher.write(text);
+            hasher.write_u8(0xFF);
+            sum = (sum ^ hasher.finish()).wrapping_mul(3);
+        }
     }
     sum
 }
 
-#[inline(never)]
-fn items<S: BuildHasher>(state: &S, put: impl Fn(&mut S::Hasher, u64)) -> u64 {
-    (0..ITEMS).fold(0u64, |sum, i| {
-        let mut hasher = state.build_hasher();
-        put(&mut hasher, i);
-        sum.wrapping_mul(3) ^ hasher.finish()
-    })
+fn hashed<S: BuildHasher>(state: S, item: &str, place: u64) -> u64 {
+    match place {
+        0 => hashed_at::<S, 0>(state, item),
+        1 => hashed_at::<S, 1>(state, item),
+        2 => hashed_at::<S, 2>(state, item),
+        3 => hashed_at::<S, 3>(state, item),
+        4 => hashed_at::<S, 4>(state, item),
+        5 => hashed_at::<S, 5>(state, item),
+        6 => hashed_at::<S, 6>(state, item),
+        7 => hashed_at::<S, 7>(state, item),
+        _ => panic!("no place {place}"),
+    }
 }
 
-fn hashed<S: BuildHasher>(state: &S, item: &str) -> u64 {
+fn hashed_at<S: BuildHasher, const PLACE: u64>(state: S, item: &str) -> u64 {
     if let Some(len) = item.strip_prefix("str") {
-        return texts(state, len.parse().unwrap());
+        return texts::<S, PLACE>(state, len.parse().unwrap());
     }
     match item {
-        "u8" => items(state, |hasher, i| hasher.write_u8((i % 256) as u8)),
-        "u64" => items(state, |hasher, i| hasher.write_u64(i)),
-        "pair" => items(state, |hasher, i| {
+        "u8" => items::<S, PLACE>(state, |hasher, i| hasher.write_u8((i % 256) as u8)),
+        "u64" => items::<S, PLACE>(state, |hasher, i| hasher.write_u64(i)),
+        "pair" => items::<S, PLACE>(state, |hasher, i| {
             hasher.write_u64(i);
             hasher.write_u64(i ^ 0xFF);
         }),
@@ -112,7 +131,7 @@ fn table<S: BuildHasher + Clone>(state: S, name: &str) -> (u64, Instant) {
     (found(&map, first, keys), start)
 }
 
-fn work(form: &str, number: u64) -> (u64, Instant) {
+fn work(form: &str, number: u64, place: u64) -> (u64, Instant) {
     if let Some(name) = form.strip_prefix("map_") {
         return table(fast::RandomState::new(), name);
     }
@@ -128,8 +147,8 @@ fn work(form: &str, number: u64) -> (u64, Instant) {
         "next" => next(),
         "fill_bytes" => fill_bytes(),
         _ => match form.strip_prefix("quality_") {
-            Some(item) => hashed(&quality::SeedableState::custom(seed, &secrets), item),
-            None => hashed(&fast::SeedableState::custom(seed, &secrets), form),
+            Some(item) => hashed(quality::SeedableState::custom(seed, &secrets), item, place),
+            None => hashed(fast::SeedableState::custom(seed, &secrets), form, place),
         },
     };
     (sum, start)
@@ -139,6 +158,7 @@ fn main() {
     let mut words = std::env::args().skip(1);
     let form = words.next().expect("a form");
     let number = words.next().expect("a number").parse().expect("a number");
-    let (sum, start) = work(&form, number);
+    let place = words.next().expect("a place").parse().expect("a place");
+    let (sum, start) = work(&form, number, place);
     println!("{sum} {}", start.elapsed().as_nanos());
 }

@@ -1,5 +1,9 @@
 //! The hasher, built anew for each item by a state. Each answer goes into a sum that is taken three
 //! times before, so that no compiler makes two answers at once.
+//!
+//! Each loop is compiled eight times, with a number that the sum starts from, so that the copies differ
+//! and stand at eight places in memory: on some processors the place of a jump costs as much as the
+//! hash.
 
 use anyhow::{Result, bail};
 use rapidhash::inner::SeedableState;
@@ -7,83 +11,107 @@ use rapidhash::rng::RapidRng;
 use std::hash::{BuildHasher, Hasher};
 
 /// How many items are hashed.
-const ITEMS: u64 = 1 << 27;
+const ITEMS: u64 = 1 << 21;
 
 /// A state of `fast`, or with an avalanche of `quality`.
 type State<'s, const AVALANCHE: bool> = SeedableState<'s, AVALANCHE, true, false, false>;
 
-/// Hashes items by their name. The number makes the state's secrets and its seed; where it is
-/// unknown to the compiler, so are they.
-pub fn hashed<const AVALANCHE: bool>(item: &str, number: u64) -> Result<u64> {
+/// Hashes items by their name, in the loop at one of the eight places. The number makes the state's
+/// secrets and its seed; where it is unknown to the compiler, so are they.
+pub fn hashed<const AVALANCHE: bool>(item: &str, number: u64, place: u64) -> Result<u64> {
     let mut rng = RapidRng::new(number);
     let mut secrets = [0u64; 7];
     for i in 0..7usize {
         secrets[i] = rng.next();
     }
     let state = State::<AVALANCHE>::custom(rng.next(), &secrets);
+    match place {
+        0 => hashed_at::<AVALANCHE, 0>(item, state),
+        1 => hashed_at::<AVALANCHE, 1>(item, state),
+        2 => hashed_at::<AVALANCHE, 2>(item, state),
+        3 => hashed_at::<AVALANCHE, 3>(item, state),
+        4 => hashed_at::<AVALANCHE, 4>(item, state),
+        5 => hashed_at::<AVALANCHE, 5>(item, state),
+        6 => hashed_at::<AVALANCHE, 6>(item, state),
+        7 => hashed_at::<AVALANCHE, 7>(item, state),
+        _ => bail!("no place {place}"),
+    }
+}
+
+/// Hashes items by their name, in one copy of each loop.
+fn hashed_at<const AVALANCHE: bool, const PLACE: u64>(
+    item: &str,
+    state: State<'_, AVALANCHE>,
+) -> Result<u64> {
     if let Some(len) = item.strip_prefix("str") {
-        return Ok(texts::<AVALANCHE>(state, len.parse::<usize>()?));
+        return Ok(texts::<AVALANCHE, PLACE>(state, len.parse::<usize>()?));
     }
     Ok(match item {
-        "u8" => bytes::<AVALANCHE>(state),
-        "u64" => words::<AVALANCHE>(state),
-        "pair" => pairs::<AVALANCHE>(state),
+        "u8" => bytes::<AVALANCHE, PLACE>(state),
+        "u64" => words::<AVALANCHE, PLACE>(state),
+        "pair" => pairs::<AVALANCHE, PLACE>(state),
         _ => bail!("no form {item}"),
     })
 }
 
 /// Integers of 8 bits.
 #[inline(never)]
-fn bytes<const AVALANCHE: bool>(state: State<'_, AVALANCHE>) -> u64 {
-    let mut sum = 0u64;
+fn bytes<const AVALANCHE: bool, const PLACE: u64>(state: State<'_, AVALANCHE>) -> u64 {
+    let mut sum = PLACE;
     for i in 0..ITEMS {
         let mut hasher = state.build_hasher();
         hasher.write_u8((i % 256) as u8);
-        sum = sum.wrapping_mul(3) ^ hasher.finish();
+        sum = (sum ^ hasher.finish()).wrapping_mul(3);
     }
     sum
 }
 
 /// Integers of 64 bits.
 #[inline(never)]
-fn words<const AVALANCHE: bool>(state: State<'_, AVALANCHE>) -> u64 {
-    let mut sum = 0u64;
+fn words<const AVALANCHE: bool, const PLACE: u64>(state: State<'_, AVALANCHE>) -> u64 {
+    let mut sum = PLACE;
     for i in 0..ITEMS {
         let mut hasher = state.build_hasher();
         hasher.write_u64(i);
-        sum = sum.wrapping_mul(3) ^ hasher.finish();
+        sum = (sum ^ hasher.finish()).wrapping_mul(3);
     }
     sum
 }
 
 /// Pairs of integers of 64 bits.
 #[inline(never)]
-fn pairs<const AVALANCHE: bool>(state: State<'_, AVALANCHE>) -> u64 {
-    let mut sum = 0u64;
+fn pairs<const AVALANCHE: bool, const PLACE: u64>(state: State<'_, AVALANCHE>) -> u64 {
+    let mut sum = PLACE;
     for i in 0..ITEMS {
         let mut hasher = state.build_hasher();
         hasher.write_u64(i);
         hasher.write_u64(i ^ 0xFF);
-        sum = sum.wrapping_mul(3) ^ hasher.finish();
+        sum = (sum ^ hasher.finish()).wrapping_mul(3);
     }
     sum
 }
 
-/// Texts of `len` bytes, and the byte that ends one.
+/// Texts of `len` bytes, and the byte that ends one. They stand in a list, whose lengths the compiler
+/// does not know.
 #[inline(never)]
-fn texts<const AVALANCHE: bool>(state: State<'_, AVALANCHE>, len: usize) -> u64 {
+fn texts<const AVALANCHE: bool, const PLACE: u64>(state: State<'_, AVALANCHE>, len: usize) -> u64 {
     let mut rng = RapidRng::new(0);
-    let mut text = [0u8; 256];
-    for i in 0..256usize {
-        text[i] = (rng.next() % 256) as u8;
+    let mut bytes = [0u8; 192];
+    for i in 0..192usize {
+        bytes[i] = (rng.next() % 256) as u8;
     }
-    let mut sum = 0u64;
-    for i in 0..ITEMS {
-        let from = (i % 64) as usize;
-        let mut hasher = state.build_hasher();
-        hasher.write(&text[from..from + len.min(128)]);
-        hasher.write_u8(0xFF);
-        sum = sum.wrapping_mul(3) ^ hasher.finish();
+    let mut list = [&bytes[..0]; 64];
+    for i in 0..64usize {
+        list[i] = &bytes[i..i + len.min(128)];
+    }
+    let mut sum = PLACE;
+    for _ in 0..ITEMS / 64 {
+        for text in list {
+            let mut hasher = state.build_hasher();
+            hasher.write(text);
+            hasher.write_u8(0xFF);
+            sum = (sum ^ hasher.finish()).wrapping_mul(3);
+        }
     }
     sum
 }

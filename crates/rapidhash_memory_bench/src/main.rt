@@ -1,5 +1,5 @@
 //! Times the generator, the hasher of maps, and maps: `rapidhash_memory_bench FORM
-//! NUMBER`, for `bench/memory`. It prints a number that all its work goes into, and the nanoseconds
+//! NUMBER PLACE`, for `bench/memory`. It prints a number that all its work goes into, and the nanoseconds
 //! it took.
 #![tactic(auto)]
 
@@ -15,18 +15,23 @@ use tables::Taken;
 
 fn main(rt: HostRuntime) -> Result<()> {
     let words: Vec<String> = env::args(&rt)?.skip(1).collect(rt.alloc())?;
-    let [form, number] = words.as_slice() else {
+    let [form, number, place] = words.as_slice() else {
         // With no form there is nothing to measure.
         return Ok(());
     };
-    let Taken { sum, nanos } = measured(&rt, form.as_str(), number.parse::<u64>()?)?;
+    let Taken { sum, nanos } = measured(
+        &rt,
+        form.as_str(),
+        number.parse::<u64>()?,
+        place.parse::<u64>()?,
+    )?;
     println!(rt; "{sum} {nanos}")?;
     Ok(())
 }
 
 /// Does the work of a form. The number, and those in the form's name, come from the command line, so
 /// that the compiler does not know them.
-fn measured(rt: &(impl Clock + AllocGlobal), form: &str, number: u64) -> Result<Taken> {
+fn measured(rt: &(impl Clock + AllocGlobal), form: &str, number: u64, place: u64) -> Result<Taken> {
     if let Some(table) = form.strip_prefix("std_") {
         return tables::standard(rt, table);
     }
@@ -38,8 +43,8 @@ fn measured(rt: &(impl Clock + AllocGlobal), form: &str, number: u64) -> Result<
         "next" => draws::next(),
         "fill_bytes" => draws::fill_bytes(rt.alloc())?,
         _ => match form.strip_prefix("quality_") {
-            Some(item) => hashers::hashed::<true>(item, number)?,
-            None => hashers::hashed::<false>(form, number)?,
+            Some(item) => hashers::hashed::<true>(item, number, place)?,
+            None => hashers::hashed::<false>(form, number, place)?,
         },
     };
     let nanos = start.elapsed(rt)?.as_nanos();

@@ -75,13 +75,32 @@ pub(crate) fn short_words_v2<const MINOR: u8>(bytes: &[u8]) -> (u64, u64)
     }
 }
 
-/// The two words of V3, micro, nano and the in-memory core, of at most 16 bytes.
+/// The two words of V3, micro, nano and the in-memory core, of 4 to 16 bytes.
 #[inline(always)]
-pub(crate) fn short_words_v3(bytes: &[u8]) -> (u64, u64)
-    requires { length bytes.now ≤ 16 }
+#[tactic(auto, using(std::proofs::lemmas::Bool::Decides::nat_tests))]
+pub(crate) fn words_from_4_v3(bytes: &[u8]) -> (u64, u64)
+    requires some { 4 ≤ length bytes.now }
+    requires few { length bytes.now ≤ 16 }
     ensures { (lanes : ℕ) → result ≡ short_words (V3 lanes) bytes.now }
 {
-    short_start_v3(bytes, 0).0
+    let n = bytes.len();
+    if n >= 8 {
+        (read_u64(bytes, 0), read_u64(bytes, n - 8))
+    } else {
+        (read_u32(bytes, 0) as u64, read_u32(bytes, n - 4) as u64)
+    }
+}
+
+/// The two words of V3, micro, nano and the in-memory core, of 1 to 3 bytes.
+#[inline(always)]
+pub(crate) fn words_to_3_v3(bytes: &[u8]) -> (u64, u64)
+    requires some { 0 < length bytes.now }
+    requires few { length bytes.now ≤ 3 }
+    ensures { (lanes : ℕ) → result ≡ short_words (V3 lanes) bytes.now }
+{
+    let n = bytes.len();
+    let (first, middle, last) = (bytes[0], bytes[n / 2], bytes[n - 1]);
+    ((first as u64) << 45 | last as u64, middle as u64)
 }
 
 /// The two words of V3, micro and nano, of at most 16 bytes, and the seed they start from: up to 3
@@ -94,19 +113,10 @@ pub(crate) fn short_start_v3(bytes: &[u8], seed: u64) -> ((u64, u64), u64)
     ensures seed { (lanes : ℕ) → result.1 ≡ start_seed (V3 lanes) (length bytes.now) seed }
 {
     let n = bytes.len();
-    if n >= 8 {
-        (
-            (read_u64(bytes, 0), read_u64(bytes, n - 8)),
-            seed ^ n as u64,
-        )
-    } else if n >= 4 {
-        (
-            (read_u32(bytes, 0) as u64, read_u32(bytes, n - 4) as u64),
-            seed ^ n as u64,
-        )
+    if n >= 4 {
+        (words_from_4_v3(bytes), seed ^ n as u64)
     } else if n > 0 {
-        let (first, middle, last) = (bytes[0], bytes[n / 2], bytes[n - 1]);
-        (((first as u64) << 45 | last as u64, middle as u64), seed)
+        (words_to_3_v3(bytes), seed)
     } else {
         ((0, 0), seed)
     }
