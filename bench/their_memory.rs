@@ -30,9 +30,18 @@ fn fill_bytes() -> u64 {
     })
 }
 
+#[inline(always)]
+fn start<const PLACE: u64>(number: u64) -> u64 {
+    (0..PLACE).fold(number, |sum, _| (sum ^ sum / 128).wrapping_mul(3))
+}
+
 #[inline(never)]
-fn items<S: BuildHasher, const PLACE: u64>(state: S, put: impl Fn(&mut S::Hasher, u64)) -> u64 {
-    (0..ITEMS).fold(PLACE, |sum, i| {
+fn items<S: BuildHasher, const PLACE: u64>(
+    state: S,
+    number: u64,
+    put: impl Fn(&mut S::Hasher, u64),
+) -> u64 {
+    (0..ITEMS).fold(start::<PLACE>(number), |sum, i| {
         let mut hasher = state.build_hasher();
         put(&mut hasher, i);
         (sum ^ hasher.finish()).wrapping_mul(3)
@@ -40,7 +49,7 @@ fn items<S: BuildHasher, const PLACE: u64>(state: S, put: impl Fn(&mut S::Hasher
 }
 
 #[inline(never)]
-fn texts<S: BuildHasher, const PLACE: u64>(state: S, len: usize) -> u64 {
+fn texts<S: BuildHasher, const PLACE: u64>(state: S, number: u64, len: usize) -> u64 {
     let mut rng = RapidRng::new(0);
     let mut bytes = [0u8; 192];
     bytes.fill_with(|| (rng.next() % 256) as u8);
@@ -48,7 +57,7 @@ fn texts<S: BuildHasher, const PLACE: u64>(state: S, len: usize) -> u64 {
     for i in 0..64 {
         list[i] = &bytes[i..i + len.min(128)];
     }
-    let mut sum = PLACE;
+    let mut sum = start::<PLACE>(number);
     for _ in 0..ITEMS / 64 {
         for text in list {
             let mut hasher = state.build_hasher();
@@ -60,28 +69,28 @@ fn texts<S: BuildHasher, const PLACE: u64>(state: S, len: usize) -> u64 {
     sum
 }
 
-fn hashed<S: BuildHasher>(state: S, item: &str, place: u64) -> u64 {
+fn hashed<S: BuildHasher>(state: S, item: &str, number: u64, place: u64) -> u64 {
     match place {
-        0 => hashed_at::<S, 0>(state, item),
-        1 => hashed_at::<S, 1>(state, item),
-        2 => hashed_at::<S, 2>(state, item),
-        3 => hashed_at::<S, 3>(state, item),
-        4 => hashed_at::<S, 4>(state, item),
-        5 => hashed_at::<S, 5>(state, item),
-        6 => hashed_at::<S, 6>(state, item),
-        7 => hashed_at::<S, 7>(state, item),
+        0 => hashed_at::<S, 0>(state, item, number),
+        1 => hashed_at::<S, 1>(state, item, number),
+        2 => hashed_at::<S, 2>(state, item, number),
+        3 => hashed_at::<S, 3>(state, item, number),
+        4 => hashed_at::<S, 4>(state, item, number),
+        5 => hashed_at::<S, 5>(state, item, number),
+        6 => hashed_at::<S, 6>(state, item, number),
+        7 => hashed_at::<S, 7>(state, item, number),
         _ => panic!("no place {place}"),
     }
 }
 
-fn hashed_at<S: BuildHasher, const PLACE: u64>(state: S, item: &str) -> u64 {
+fn hashed_at<S: BuildHasher, const PLACE: u64>(state: S, item: &str, number: u64) -> u64 {
     if let Some(len) = item.strip_prefix("str") {
-        return texts::<S, PLACE>(state, len.parse().unwrap());
+        return texts::<S, PLACE>(state, number, len.parse().unwrap());
     }
     match item {
-        "u8" => items::<S, PLACE>(state, |hasher, i| hasher.write_u8((i % 256) as u8)),
-        "u64" => items::<S, PLACE>(state, |hasher, i| hasher.write_u64(i)),
-        "pair" => items::<S, PLACE>(state, |hasher, i| {
+        "u8" => items::<S, PLACE>(state, number, |hasher, i| hasher.write_u8((i % 256) as u8)),
+        "u64" => items::<S, PLACE>(state, number, |hasher, i| hasher.write_u64(i)),
+        "pair" => items::<S, PLACE>(state, number, |hasher, i| {
             hasher.write_u64(i);
             hasher.write_u64(i ^ 0xFF);
         }),
@@ -147,8 +156,8 @@ fn work(form: &str, number: u64, place: u64) -> (u64, Instant) {
         "next" => next(),
         "fill_bytes" => fill_bytes(),
         _ => match form.strip_prefix("quality_") {
-            Some(item) => hashed(quality::SeedableState::custom(seed, &secrets), item, place),
-            None => hashed(fast::SeedableState::custom(seed, &secrets), form, place),
+            Some(item) => hashed(quality::SeedableState::custom(seed, &secrets), item, number, place),
+            None => hashed(fast::SeedableState::custom(seed, &secrets), form, number, place),
         },
     };
     (sum, start)

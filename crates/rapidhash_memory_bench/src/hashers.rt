@@ -1,9 +1,8 @@
 //! The hasher, built anew for each item by a state. Each answer goes into a sum that is taken three
 //! times before, so that no compiler makes two answers at once.
 //!
-//! Each loop is compiled eight times, with a number that the sum starts from, so that the copies differ
-//! and stand at eight places in memory: on some processors the place of a jump costs as much as the
-//! hash.
+//! Each loop is compiled eight times, behind more and more code, so that it stands at eight places in
+//! memory: on some processors the place of a jump costs as much as the hash.
 
 use anyhow::{Result, bail};
 use rapidhash::inner::SeedableState;
@@ -26,14 +25,14 @@ pub fn hashed<const AVALANCHE: bool>(item: &str, number: u64, place: u64) -> Res
     }
     let state = State::<AVALANCHE>::custom(rng.next(), &secrets);
     match place {
-        0 => hashed_at::<AVALANCHE, 0>(item, state),
-        1 => hashed_at::<AVALANCHE, 1>(item, state),
-        2 => hashed_at::<AVALANCHE, 2>(item, state),
-        3 => hashed_at::<AVALANCHE, 3>(item, state),
-        4 => hashed_at::<AVALANCHE, 4>(item, state),
-        5 => hashed_at::<AVALANCHE, 5>(item, state),
-        6 => hashed_at::<AVALANCHE, 6>(item, state),
-        7 => hashed_at::<AVALANCHE, 7>(item, state),
+        0 => hashed_at::<AVALANCHE, 0>(item, state, number),
+        1 => hashed_at::<AVALANCHE, 1>(item, state, number),
+        2 => hashed_at::<AVALANCHE, 2>(item, state, number),
+        3 => hashed_at::<AVALANCHE, 3>(item, state, number),
+        4 => hashed_at::<AVALANCHE, 4>(item, state, number),
+        5 => hashed_at::<AVALANCHE, 5>(item, state, number),
+        6 => hashed_at::<AVALANCHE, 6>(item, state, number),
+        7 => hashed_at::<AVALANCHE, 7>(item, state, number),
         _ => bail!("no place {place}"),
     }
 }
@@ -42,22 +41,33 @@ pub fn hashed<const AVALANCHE: bool>(item: &str, number: u64, place: u64) -> Res
 fn hashed_at<const AVALANCHE: bool, const PLACE: u64>(
     item: &str,
     state: State<'_, AVALANCHE>,
+    number: u64,
 ) -> Result<u64> {
     if let Some(len) = item.strip_prefix("str") {
-        return Ok(texts::<AVALANCHE, PLACE>(state, len.parse::<usize>()?));
+        return Ok(texts::<AVALANCHE, PLACE>(state, number, len.parse::<usize>()?));
     }
     Ok(match item {
-        "u8" => bytes::<AVALANCHE, PLACE>(state),
-        "u64" => words::<AVALANCHE, PLACE>(state),
-        "pair" => pairs::<AVALANCHE, PLACE>(state),
+        "u8" => bytes::<AVALANCHE, PLACE>(state, number),
+        "u64" => words::<AVALANCHE, PLACE>(state, number),
+        "pair" => pairs::<AVALANCHE, PLACE>(state, number),
         _ => bail!("no form {item}"),
     })
 }
 
+/// What a sum starts from. Each step is code in front of the loop.
+#[inline(always)]
+fn start<const PLACE: u64>(number: u64) -> u64 {
+    let mut sum = number;
+    for _ in 0..PLACE {
+        sum = (sum ^ sum / 128).wrapping_mul(3);
+    }
+    sum
+}
+
 /// Integers of 8 bits.
 #[inline(never)]
-fn bytes<const AVALANCHE: bool, const PLACE: u64>(state: State<'_, AVALANCHE>) -> u64 {
-    let mut sum = PLACE;
+fn bytes<const AVALANCHE: bool, const PLACE: u64>(state: State<'_, AVALANCHE>, number: u64) -> u64 {
+    let mut sum = start::<PLACE>(number);
     for i in 0..ITEMS {
         let mut hasher = state.build_hasher();
         hasher.write_u8((i % 256) as u8);
@@ -68,8 +78,8 @@ fn bytes<const AVALANCHE: bool, const PLACE: u64>(state: State<'_, AVALANCHE>) -
 
 /// Integers of 64 bits.
 #[inline(never)]
-fn words<const AVALANCHE: bool, const PLACE: u64>(state: State<'_, AVALANCHE>) -> u64 {
-    let mut sum = PLACE;
+fn words<const AVALANCHE: bool, const PLACE: u64>(state: State<'_, AVALANCHE>, number: u64) -> u64 {
+    let mut sum = start::<PLACE>(number);
     for i in 0..ITEMS {
         let mut hasher = state.build_hasher();
         hasher.write_u64(i);
@@ -80,8 +90,8 @@ fn words<const AVALANCHE: bool, const PLACE: u64>(state: State<'_, AVALANCHE>) -
 
 /// Pairs of integers of 64 bits.
 #[inline(never)]
-fn pairs<const AVALANCHE: bool, const PLACE: u64>(state: State<'_, AVALANCHE>) -> u64 {
-    let mut sum = PLACE;
+fn pairs<const AVALANCHE: bool, const PLACE: u64>(state: State<'_, AVALANCHE>, number: u64) -> u64 {
+    let mut sum = start::<PLACE>(number);
     for i in 0..ITEMS {
         let mut hasher = state.build_hasher();
         hasher.write_u64(i);
@@ -94,7 +104,11 @@ fn pairs<const AVALANCHE: bool, const PLACE: u64>(state: State<'_, AVALANCHE>) -
 /// Texts of `len` bytes, and the byte that ends one. They stand in a list, whose lengths the compiler
 /// does not know.
 #[inline(never)]
-fn texts<const AVALANCHE: bool, const PLACE: u64>(state: State<'_, AVALANCHE>, len: usize) -> u64 {
+fn texts<const AVALANCHE: bool, const PLACE: u64>(
+    state: State<'_, AVALANCHE>,
+    number: u64,
+    len: usize,
+) -> u64 {
     let mut rng = RapidRng::new(0);
     let mut bytes = [0u8; 192];
     for i in 0..192usize {
@@ -104,7 +118,7 @@ fn texts<const AVALANCHE: bool, const PLACE: u64>(state: State<'_, AVALANCHE>, l
     for i in 0..64usize {
         list[i] = &bytes[i..i + len.min(128)];
     }
-    let mut sum = PLACE;
+    let mut sum = start::<PLACE>(number);
     for _ in 0..ITEMS / 64 {
         for text in list {
             let mut hasher = state.build_hasher();

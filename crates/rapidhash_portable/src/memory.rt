@@ -1,14 +1,14 @@
 //! The core of the in-memory hasher: one value of a byte list, a seed and secrets. It stands on the
 //! portable kernel, and is for the crate above alone: its values may change between versions.
 
-ghost use Rattle.std.specs.Prelude.{◌≡◌, ◌<◌, ℕ, List, length, drop, slice_index};
+ghost use Rattle.std.specs.Prelude.{◌≡◌, ◌<◌, ℕ, length, drop};
 ghost use Rattle.rapidhash_portable.specs.declared.form.Form.TheVariants.{V3};
 ghost use Rattle.rapidhash_portable.specs.Lanes.{after_lanes, pair_of, row_bytes};
 ghost use Rattle.rapidhash_portable.specs.Memory.{after_pairs, memory_hash, memory_shape};
 ghost use Rattle.rapidhash_portable.specs.Words.{last_words};
 
 use crate::lanes::{close, fold_tail, mixed_lanes, wide_lanes};
-use crate::words::{last_16, words_from_4_v3, words_to_3_v3};
+use crate::words::{last_16, words_to_3_v3, words_to_7_v3, words_to_16_v3};
 
 /// The value of `bytes`. `COMPACT` changes the code and no value.
 #[inline(always)]
@@ -20,20 +20,20 @@ pub fn memory_hash<const AVALANCHE: bool, const COMPACT: bool, const PROTECTED: 
     ensures { result
         ≡ memory_hash (record { avalanche = AVALANCHE; protected = PROTECTED }) seed secrets.now bytes.now }
 {
-    // Read before the first test, they stay in registers while one short message follows another.
-    let ends = (secrets[0], secrets[1]);
     let n = bytes.len();
     if n > 16 {
         return long::<AVALANCHE, COMPACT, PROTECTED>(bytes, seed, secrets);
     }
     // Each class of lengths has a close of its own: a common one would stand behind a jump from each.
-    if n >= 4 {
-        return close_sum::<AVALANCHE, PROTECTED>(bytes, words_from_4_v3(bytes), seed, ends);
+    if n >= 8 {
+        close_sum::<AVALANCHE, PROTECTED>(bytes, words_to_16_v3(bytes), seed, secrets)
+    } else if n >= 4 {
+        close_sum::<AVALANCHE, PROTECTED>(bytes, words_to_7_v3(bytes), seed, secrets)
+    } else if n > 0 {
+        close_sum::<AVALANCHE, PROTECTED>(bytes, words_to_3_v3(bytes), seed, secrets)
+    } else {
+        close_sum::<AVALANCHE, PROTECTED>(bytes, (0, 0), seed, secrets)
     }
-    if n > 0 {
-        return close_sum::<AVALANCHE, PROTECTED>(bytes, words_to_3_v3(bytes), seed, ends);
-    }
-    close_sum::<AVALANCHE, PROTECTED>(bytes, (0, 0), seed, ends)
 }
 
 /// The value above 16 bytes. It stands out of line and counts as cold, so that the code of a short
@@ -105,24 +105,27 @@ fn close_long<const AVALANCHE: bool, const PROTECTED: bool>(
         ≡ memory_hash (record { avalanche = AVALANCHE; protected = PROTECTED }) start secrets.now bytes.now }
 {
     let seed = fold_tail::<2, PROTECTED>(tail, &[secrets[0], secrets[0]], joined);
-    let ends = (secrets[0], secrets[1]);
-    close_sum::<AVALANCHE, PROTECTED>(bytes, last_16(bytes), seed, ends)
+    close_sum::<AVALANCHE, PROTECTED>(bytes, last_16(bytes), seed, secrets)
 }
 
-/// The value, made of the last words, the seed after all pairs, and the secrets 0 and 1.
+/// The value, made of the last words and the seed after all pairs.
 #[inline(always)]
 fn close_sum<const AVALANCHE: bool, const PROTECTED: bool>(
     bytes: &[u8],
     words: (u64, u64),
     seed: u64,
-    ends: (u64, u64),
+    secrets: &[u64; 7],
 ) -> u64
-    ensures { (start : ℕ) (secrets : List ℕ) → words ≡ last_words (V3 7) bytes.now →
-        ends ≡ (slice_index secrets 0, slice_index secrets 1) →
-        seed ≡ after_pairs PROTECTED start secrets bytes.now →
+    ensures { (start : ℕ) → words ≡ last_words (V3 7) bytes.now →
+        seed ≡ after_pairs PROTECTED start secrets.now bytes.now →
         result
-        ≡ memory_hash (record { avalanche = AVALANCHE; protected = PROTECTED }) start secrets bytes.now }
+        ≡ memory_hash (record { avalanche = AVALANCHE; protected = PROTECTED }) start secrets.now bytes.now }
 {
     let sum = seed.wrapping_add(bytes.len() as u64);
-    close::<AVALANCHE, PROTECTED>(words, sum, ends.0, (0xaaaa_aaaa_aaaa_aaaa ^ sum, ends.1))
+    close::<AVALANCHE, PROTECTED>(
+        words,
+        sum,
+        secrets[0],
+        (0xaaaa_aaaa_aaaa_aaaa ^ sum, secrets[1]),
+    )
 }

@@ -75,20 +75,27 @@ pub(crate) fn short_words_v2<const MINOR: u8>(bytes: &[u8]) -> (u64, u64)
     }
 }
 
-/// The two words of V3, micro, nano and the in-memory core, of 4 to 16 bytes.
+/// The two words of V3, micro, nano and the in-memory core, of 8 to 16 bytes.
 #[inline(always)]
-#[tactic(auto, using(std::proofs::lemmas::Bool::Decides::nat_tests))]
-pub(crate) fn words_from_4_v3(bytes: &[u8]) -> (u64, u64)
-    requires some { 4 ≤ length bytes.now }
+pub(crate) fn words_to_16_v3(bytes: &[u8]) -> (u64, u64)
+    requires some { 8 ≤ length bytes.now }
     requires few { length bytes.now ≤ 16 }
     ensures { (lanes : ℕ) → result ≡ short_words (V3 lanes) bytes.now }
 {
-    let n = bytes.len();
-    if n >= 8 {
-        (read_u64(bytes, 0), read_u64(bytes, n - 8))
-    } else {
-        (read_u32(bytes, 0) as u64, read_u32(bytes, n - 4) as u64)
-    }
+    (read_u64(bytes, 0), read_u64(bytes, bytes.len() - 8))
+}
+
+/// The two words of V3, micro, nano and the in-memory core, of 4 to 7 bytes.
+#[inline(always)]
+pub(crate) fn words_to_7_v3(bytes: &[u8]) -> (u64, u64)
+    requires some { 4 ≤ length bytes.now }
+    requires few { length bytes.now ≤ 7 }
+    ensures { (lanes : ℕ) → result ≡ short_words (V3 lanes) bytes.now }
+{
+    (
+        read_u32(bytes, 0) as u64,
+        read_u32(bytes, bytes.len() - 4) as u64,
+    )
 }
 
 /// The two words of V3, micro, nano and the in-memory core, of 1 to 3 bytes.
@@ -113,8 +120,10 @@ pub(crate) fn short_start_v3(bytes: &[u8], seed: u64) -> ((u64, u64), u64)
     ensures seed { (lanes : ℕ) → result.1 ≡ start_seed (V3 lanes) (length bytes.now) seed }
 {
     let n = bytes.len();
-    if n >= 4 {
-        (words_from_4_v3(bytes), seed ^ n as u64)
+    if n >= 8 {
+        (words_to_16_v3(bytes), seed ^ n as u64)
+    } else if n >= 4 {
+        (words_to_7_v3(bytes), seed ^ n as u64)
     } else if n > 0 {
         (words_to_3_v3(bytes), seed)
     } else {

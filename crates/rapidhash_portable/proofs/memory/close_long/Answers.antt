@@ -1,4 +1,4 @@
-use Rattle.std.proofs.Common.{not, nat_eq, refl, sym, ◌∙◌}
+use Rattle.std.proofs.Common.{not, nat_eq, sym, ◌∙◌}
 use Rattle.rapidhash_portable.specs.declared.form.Form.TheVariants.{V3}
 use Rattle.rapidhash_portable.proofs.Hashes.{after_pairs-is, last_words-long}
 use Rattle.rapidhash_portable.proofs.memory.close_long.Goals as goal
@@ -8,5 +8,5 @@ returns g c = λ start rest joined.
     let x = c.args.bytes.now in
     let s = c.args.secrets.now in
     let protected = not (nat_eq g.row.PROTECTED 0) in
-    c.close_sum.ensures start s (c.last_16.ensures ∙ sym (last_words-long (V3 7) x c.requires)) refl
+    c.close_sum.ensures start (c.last_16.ensures ∙ sym (last_words-long (V3 7) x c.requires))
     (after_pairs-is protected start s x c.args.tail.now c.args.joined c.fold_tail-seed.result rest joined c.fold_tail-seed.ensures)
