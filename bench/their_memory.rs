@@ -48,8 +48,25 @@ fn items<S: BuildHasher, const PLACE: u64>(
     })
 }
 
+#[inline(always)]
+fn text<S: BuildHasher>(state: &S, item: &[u8]) -> u64 {
+    let mut hasher = state.build_hasher();
+    hasher.write(item);
+    hasher.write_u8(0xFF);
+    hasher.finish()
+}
+
 #[inline(never)]
-fn texts<S: BuildHasher, const PLACE: u64>(state: S, number: u64, len: usize) -> u64 {
+fn text_call<S: BuildHasher, const PLACE: u64>(state: &S, item: &[u8]) -> u64 {
+    text(state, item) ^ PLACE
+}
+
+#[inline(never)]
+fn texts<S: BuildHasher, const PLACE: u64, const CALL: bool>(
+    state: S,
+    number: u64,
+    len: usize,
+) -> u64 {
     let mut rng = RapidRng::new(0);
     let mut bytes = [0u8; 192];
     bytes.fill_with(|| (rng.next() % 256) as u8);
@@ -59,11 +76,12 @@ fn texts<S: BuildHasher, const PLACE: u64>(state: S, number: u64, len: usize) ->
     }
     let mut sum = start::<PLACE>(number);
     for _ in 0..ITEMS / 64 {
-        for text in list {
-            let mut hasher = state.build_hasher();
-            hasher.write(text);
-            hasher.write_u8(0xFF);
-            sum = (sum ^ hasher.finish()).wrapping_mul(3);
+        for item in list {
+            let hash = match CALL {
+                true => text_call::<S, PLACE>(&state, item),
+                false => text(&state, item),
+            };
+            sum = (sum ^ hash).wrapping_mul(3);
         }
     }
     sum
@@ -85,7 +103,10 @@ fn hashed<S: BuildHasher>(state: S, item: &str, number: u64, place: u64) -> u64 
 
 fn hashed_at<S: BuildHasher, const PLACE: u64>(state: S, item: &str, number: u64) -> u64 {
     if let Some(len) = item.strip_prefix("str") {
-        return texts::<S, PLACE>(state, number, len.parse().unwrap());
+        return texts::<S, PLACE, false>(state, number, len.parse().unwrap());
+    }
+    if let Some(len) = item.strip_prefix("call") {
+        return texts::<S, PLACE, true>(state, number, len.parse().unwrap());
     }
     match item {
         "u8" => items::<S, PLACE>(state, number, |hasher, i| hasher.write_u8((i % 256) as u8)),

@@ -1,5 +1,6 @@
-//! The hasher, built anew for each item by a state. Each answer goes into a sum that is taken three
-//! times before, so that no compiler makes two answers at once.
+//! The hasher, built anew for each item by a state. Each answer goes into a sum that is then taken
+//! three times. Texts are hashed in the loop (`strN`), and by a function that stands out of line
+//! (`callN`), so that no compiler takes a part of the hash out of the loop.
 //!
 //! Each loop is compiled eight times, behind more and more code, so that it stands at eight places in
 //! memory: on some processors the place of a jump costs as much as the hash.
@@ -44,7 +45,10 @@ fn hashed_at<const AVALANCHE: bool, const PLACE: u64>(
     number: u64,
 ) -> Result<u64> {
     if let Some(len) = item.strip_prefix("str") {
-        return Ok(texts::<AVALANCHE, PLACE>(state, number, len.parse::<usize>()?));
+        return Ok(texts::<AVALANCHE, PLACE, false>(state, number, len.parse::<usize>()?));
+    }
+    if let Some(len) = item.strip_prefix("call") {
+        return Ok(texts::<AVALANCHE, PLACE, true>(state, number, len.parse::<usize>()?));
     }
     Ok(match item {
         "u8" => bytes::<AVALANCHE, PLACE>(state, number),
@@ -101,10 +105,27 @@ fn pairs<const AVALANCHE: bool, const PLACE: u64>(state: State<'_, AVALANCHE>, n
     sum
 }
 
-/// Texts of `len` bytes, and the byte that ends one. They stand in a list, whose lengths the compiler
-/// does not know.
+/// The hash of a text, with the byte that ends one.
+#[inline(always)]
+fn text<const AVALANCHE: bool>(state: &State<'_, AVALANCHE>, item: &[u8]) -> u64 {
+    let mut hasher = state.build_hasher();
+    hasher.write(item);
+    hasher.write_u8(0xFF);
+    hasher.finish()
+}
+
+/// The same out of line, once for each place.
 #[inline(never)]
-fn texts<const AVALANCHE: bool, const PLACE: u64>(
+fn text_call<const AVALANCHE: bool, const PLACE: u64>(
+    state: &State<'_, AVALANCHE>,
+    item: &[u8],
+) -> u64 {
+    text(state, item) ^ PLACE
+}
+
+/// Texts of `len` bytes, which stand in a list, so that the compiler does not know their lengths.
+#[inline(never)]
+fn texts<const AVALANCHE: bool, const PLACE: u64, const CALL: bool>(
     state: State<'_, AVALANCHE>,
     number: u64,
     len: usize,
@@ -120,11 +141,13 @@ fn texts<const AVALANCHE: bool, const PLACE: u64>(
     }
     let mut sum = start::<PLACE>(number);
     for _ in 0..ITEMS / 64 {
-        for text in list {
-            let mut hasher = state.build_hasher();
-            hasher.write(text);
-            hasher.write_u8(0xFF);
-            sum = (sum ^ hasher.finish()).wrapping_mul(3);
+        for item in list {
+            let hash = if CALL {
+                text_call::<AVALANCHE, PLACE>(&state, item)
+            } else {
+                text(&state, item)
+            };
+            sum = (sum ^ hash).wrapping_mul(3);
         }
     }
     sum
