@@ -6,7 +6,7 @@ use Rattle.rapidhash_portable.specs.Lanes.{pair_of, rows_in, no_rows, row_bytes,
 use Rattle.rapidhash_portable.specs.Tail.{after_tail, picked}
 use Rattle.rapidhash_portable.specs.declared.form.Form.{Form}
 use Rattle.rapidhash_portable.specs.declared.form.Form.TheVariants.{V1, V2, V3}
-use Rattle.rapidhash_portable.specs.Form.{v2_limit, shape_of, start_seed, tail_seed, tail_places, masks}
+use Rattle.rapidhash_portable.specs.Form.{alternating_bits, v2_limit, shape_of, start_seed, tail_seed, tail_places, masks}
 use Rattle.rapidhash_portable.specs.Words.{last_words, last_16, mixed_words, short_words}
 use Rattle.rapidhash_portable.specs.Memory.{after_pairs, memory_hash, memory_shape}
 use Rattle.rapidhash_portable.specs.declared.form.Options.{Options}
@@ -15,7 +15,7 @@ use Rattle.rapidhash_portable.proofs.Columns.{after_lanes-none, cond_same}
 use Rattle.rapidhash_portable.proofs.Tails.{after_tail-stop, after_tail-rest, fold_pairs-none}
 
 -- a value made piece by piece
-pub hash-is : (form : Form) (options : Options) (seed : ℕ) (secrets x rest : List ℕ) (joined all made : ℕ) → rest ≡ drop (row_bytes (shape_of form (length x))) x → joined ≡ after_lanes options.protected secrets (pair_of x) (shape_of form (length x)) (start_seed form (length x) seed) → all ≡ after_tail options.protected (picked secrets (tail_places form (length x))) (pair_of rest) 0 (length rest) (tail_seed form secrets (length rest) joined) → made ≡ close options (get_or secrets 1 0) (masks form secrets (length x) (length rest)) (mixed_words form (length x) (length rest) (last_words form x)) all → made ≡ portable_hash form options seed secrets x
+pub hash-is : (form : Form) (options : Options) (seed : ℕ) (secrets x rest : List ℕ) (joined all made : ℕ) → rest ≡ drop (row_bytes (shape_of form (length x))) x → joined ≡ after_lanes options.protected secrets (pair_of x) (shape_of form (length x)) (start_seed form (length x) seed) → all ≡ after_tail options.protected (picked secrets (tail_places form (length x))) (pair_of rest) 0 (length rest) (tail_seed form secrets (length rest) joined) → made ≡ close options (mixed_words form (length x) (length rest) (last_words form x)) all (get_or secrets 1 0) (masks form secrets (length x) (length rest)) → made ≡ portable_hash form options seed secrets x
 unfolding value
 hash-is form options seed secrets x rest joined all made e f g h =
     let shape = shape_of form (length x) in
@@ -107,14 +107,14 @@ pub shape_of-v2-few : (minor n : ℕ) → n ≤ 16 → shape_of (V2 minor) n ≡
 shape_of-v2-few minor n h = shape_of-v2-none minor n (grind (arith, nat_tests))
 
 -- a message of at most 16 bytes
-pub hash-short : (form : Form) (options : Options) (lanes seed : ℕ) (secrets x : List ℕ) → lanes % 2 ≡ 1 → shape_of form (length x) ≡ no_rows lanes → length x ≤ 16 → (value : ℕ) → value ≡ close options (get_or secrets 1 0) (masks form secrets (length x) (length x)) (short_words form x) (start_seed form (length x) seed) → value ≡ portable_hash form options seed secrets x
+pub hash-short : (form : Form) (options : Options) (lanes seed : ℕ) (secrets x : List ℕ) → lanes % 2 ≡ 1 → shape_of form (length x) ≡ no_rows lanes → length x ≤ 16 → (value : ℕ) → value ≡ close options (short_words form x) (start_seed form (length x) seed) (get_or secrets 1 0) (masks form secrets (length x) (length x)) → value ≡ portable_hash form options seed secrets x
 hash-short form options lanes seed secrets x odd none short value e =
     let start = start_seed form (length x) seed in
     let tail = after_tail-short options.protected (picked secrets (tail_places form (length x))) x (tail_seed form secrets (length x) start) short in
     let rows = rows-none form lanes (length x) options.protected secrets x start odd none in
     hash-is form options seed secrets x x start start value rows.0 rows.1
     (sym (tail ∙ tail_seed-short form secrets (length x) start short))
-    (e ∙ ap (λ w. close options (get_or secrets 1 0) (masks form secrets (length x) (length x)) w start) (sym (mixed_words-short form (length x) (length x) (last_words form x) short ∙ last_words-short form x short)))
+    (e ∙ ap (λ w. close options w start (get_or secrets 1 0) (masks form secrets (length x) (length x))) (sym (mixed_words-short form (length x) (length x) (last_words form x) short ∙ last_words-short form x short)))
 
 -- the seed of the memory core, made piece by piece
 pub after_pairs-is : (protected : Bool) (seed : ℕ) (secrets x rest : List ℕ) (joined all : ℕ) → rest ≡ drop (row_bytes (memory_shape (length x))) x → joined ≡ after_lanes protected secrets (pair_of x) (memory_shape (length x)) seed → all ≡ after_tail protected (picked secrets (0 ∷ 0 ∷ [])) (pair_of rest) 0 (length rest) joined → all ≡ after_pairs protected seed secrets x
@@ -145,6 +145,6 @@ after_pairs-short protected seed secrets x h =
     sym (after_pairs-is protected seed secrets x x seed seed rows.0 rows.1 (sym (after_tail-short protected (picked secrets (0 ∷ 0 ∷ [])) x seed h)))
 
 -- the value of the core, from its last words and its seed
-pub memory_hash-is : (options : Options) (seed : ℕ) (secrets x : List ℕ) (words : ℕ × ℕ) (all : ℕ) → words ≡ last_words (V3 7) x → all ≡ after_pairs options.protected seed secrets x → close options (get_or secrets 0 0) (bit_xor 0xaaaa_aaaa_aaaa_aaaa ((all + length x) % 2 ^ 64), get_or secrets 1 0) words ((all + length x) % 2 ^ 64) ≡ memory_hash options seed secrets x
+pub memory_hash-is : (options : Options) (seed : ℕ) (secrets x : List ℕ) (words : ℕ × ℕ) (all : ℕ) → words ≡ last_words (V3 7) x → all ≡ after_pairs options.protected seed secrets x → close options words ((all + length x) % 2 ^ 64) (get_or secrets 0 0) (bit_xor alternating_bits ((all + length x) % 2 ^ 64), get_or secrets 1 0) ≡ memory_hash options x seed secrets
 unfolding memory_hash
 memory_hash-is options seed secrets x words all e f = cc

@@ -17,9 +17,9 @@ capped : (a : ℕ) → min (max a 1) 1 ≡ 1
 capped a = omega arith
 
 -- the repaired part has a bit
-with_bit-sets : (mask bit word i : ℕ) → bit_at bit i ≡ 1 → bit_at mask i ≡ 1 → bit_and (with_bit mask bit word) mask ≢ 0
+with_bit-sets : (word mask bit i : ℕ) → bit_at bit i ≡ 1 → bit_at mask i ≡ 1 → bit_and (with_bit word mask bit) mask ≢ 0
 unfolding with_bit
-with_bit-sets mask bit word i in_bit in_mask =
+with_bit-sets word mask bit i in_bit in_mask =
     let set : bit_at (bit_and (bit_or word bit) mask) i ≡ 1 =
     bit_at_and (bit_or word bit) mask i ∙ ap (λ m. min (bit_at (bit_or word bit) i) m) in_mask
     ∙ ap (λ m. min m 1) (bit_at_or word bit i ∙ ap (max (bit_at word i)) in_bit) ∙ capped (bit_at word i) in
@@ -28,22 +28,26 @@ with_bit-sets mask bit word i in_bit in_mask =
     (λ none. eqb-false (bit_and word mask) 0 none)
 
 -- and the others keep theirs
-with_bit-keeps : (mask bit word other : ℕ) → bit_and bit other ≡ 0 → bit_and word other ≢ 0 → bit_and (with_bit mask bit word) other ≢ 0
+with_bit-keeps : (word mask bit other : ℕ) → bit_and bit other ≡ 0 → bit_and word other ≢ 0 → bit_and (with_bit word mask bit) other ≢ 0
 unfolding with_bit
-with_bit-keeps mask bit word other apart has =
+with_bit-keeps word mask bit other apart has =
     cond_both (nat_eq (bit_and word mask) 0) (bit_or word bit) word (λ v. bit_and v other ≢ 0)
     (λ _ e. has (sym (and_or_apart other word bit apart) ∙ e))
     (λ _. has)
 
+-- a repaired word is good
 pub IsGood-repaired : (word : ℕ) → IsGood (repaired word)
 unfolding repaired
 IsGood-repaired word =
-    let upper = with_bit 0xffff000000000000 0x8000000000000000 word in
-    let middle = with_bit 0xffff000000 0x80000000 upper in
+    let upper = with_bit word 0xffff000000000000 0x8000000000000000 in
+    let middle = with_bit upper 0xffff000000 0x80000000 in
+    let has_upper = with_bit-sets word 0xffff000000000000 0x8000000000000000 63 refl refl in
+    let kept_upper = with_bit-keeps upper 0xffff000000 0x80000000 0xffff000000000000 refl has_upper in
+    let has_middle = with_bit-sets upper 0xffff000000 0x80000000 31 refl refl in
     record {
-      upper = with_bit-keeps 0xffff 1 middle 0xffff000000000000 refl (with_bit-keeps 0xffff000000 0x80000000 upper 0xffff000000000000 refl (with_bit-sets 0xffff000000000000 0x8000000000000000 word 63 refl refl));
-      middle = with_bit-keeps 0xffff 1 middle 0xffff000000 refl (with_bit-sets 0xffff000000 0x80000000 upper 31 refl refl);
-      lower = with_bit-sets 0xffff 1 middle 0 refl refl;
+      upper = with_bit-keeps middle 0xffff 1 0xffff000000000000 refl kept_upper;
+      middle = with_bit-keeps middle 0xffff 1 0xffff000000 refl has_middle;
+      lower = with_bit-sets middle 0xffff 1 0 refl refl;
     }
 
 -- a good word is not 0

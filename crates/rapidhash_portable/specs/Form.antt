@@ -54,8 +54,12 @@ tail_places (V1 bug) n = 2 ∷ 2 ∷ []
 tail_places (V2 minor) n = if nat_lt (v2_limit minor) n then 2 ∷ 2 ∷ [] else 0 ∷ 1 ∷ (if nat_lt minor 2 then 0 else 1) ∷ []
 tail_places (V3 lanes) n = 2 ∷ 2 ∷ 1 ∷ 1 ∷ 2 ∷ 1 ∷ []
 
+-- every other bit, from the highest on
+abbrev pub alternating_bits : ℕ
+alternating_bits = 0xaaaa_aaaa_aaaa_aaaa
+
 -- what the avalanche mixes into the two halves of the last product, where the tail has `t` of the `n` bytes
 unfoldable pub masks : Form → List ℕ → ℕ → ℕ → ℕ × ℕ
 masks (V1 bug) secrets n t = (bit_xor (slice_index secrets 0) n, slice_index secrets 1)
-masks (V2 minor) secrets n t = (bit_xor 0xaaaa_aaaa_aaaa_aaaa n, slice_index secrets 1)
-masks (V3 lanes) secrets n t = (0xaaaa_aaaa_aaaa_aaaa, bit_xor (slice_index secrets 1) t)
+masks (V2 minor) secrets n t = (bit_xor alternating_bits n, slice_index secrets 1)
+masks (V3 lanes) secrets n t = (alternating_bits, bit_xor (slice_index secrets 1) t)

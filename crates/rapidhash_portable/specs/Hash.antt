@@ -9,8 +9,8 @@ use Rattle.rapidhash_portable.specs.Form.{shape_of, start_seed, tail_seed, tail_
 use Rattle.rapidhash_portable.specs.Words.{last_words, mixed_words}
 
 -- the value of the last two words and the seed
-unfoldable pub close : Options → ℕ → ℕ × ℕ → ℕ × ℕ → ℕ → ℕ
-close options secret masks words seed =
+unfoldable pub close : Options → ℕ × ℕ → ℕ → ℕ → ℕ × ℕ → ℕ
+close options words seed secret masks =
     let ab = multiply options.protected (bit_xor words.0 secret) (bit_xor words.1 seed) in
     if options.avalanche
     then mix options.protected (bit_xor ab.0 masks.0) (bit_xor ab.1 masks.1)
@@ -23,7 +23,7 @@ value form options seed secrets n pair words =
     let t = n - row_bytes shape in
     let after_rows = after_lanes options.protected secrets pair shape (start_seed form n seed) in
     let after_all = after_tail options.protected (picked secrets (tail_places form n)) pair (row_pairs shape) t (tail_seed form secrets t after_rows) in
-    close options (slice_index secrets 1) (masks form secrets n t) (mixed_words form n t words) after_all
+    close options (mixed_words form n t words) after_all (slice_index secrets 1) (masks form secrets n t)
 
 -- the one definition, of a message
 abbrev pub portable_hash : Form → Options → ℕ → List ℕ → List ℕ → ℕ

@@ -5,8 +5,10 @@ pub mod Hash
 pub mod Lanes
 pub mod Memory
 pub mod Multiply
+pub mod Options
 pub mod Reading
 pub mod Secrets
+pub mod Seeded
 pub mod Seeding
 pub mod Source
 pub mod Stream

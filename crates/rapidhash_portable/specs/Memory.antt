@@ -5,6 +5,7 @@ use Rattle.rapidhash_portable.specs.declared.form.Options.{Options}
 use Rattle.rapidhash_portable.specs.declared.form.Form.TheVariants.{V3}
 use Rattle.rapidhash_portable.specs.Lanes.{no_rows, row_bytes, row_pairs, pair_of, wide_shape, mixed_shape, after_lanes}
 use Rattle.rapidhash_portable.specs.Tail.{after_tail, picked}
+use Rattle.rapidhash_portable.specs.Form.{alternating_bits}
 use Rattle.rapidhash_portable.specs.Words.{last_words}
 use Rattle.rapidhash_portable.specs.Hash.{close}
 
@@ -22,7 +23,7 @@ after_pairs protected seed secrets x =
     after_tail protected (picked secrets (0 ∷ 0 ∷ [])) (pair_of x) (row_pairs shape) (length x - row_bytes shape) (after_lanes protected secrets (pair_of x) shape seed)
 
 -- the value: the length is added to the seed, and the last words are those of V3 with no tail's length
-unfoldable pub memory_hash : Options → ℕ → List ℕ → List ℕ → ℕ
-memory_hash options seed secrets x =
+unfoldable pub memory_hash : Options → List ℕ → ℕ → List ℕ → ℕ
+memory_hash options x seed secrets =
     let sum = (after_pairs options.protected seed secrets x + length x) % 2 ^ 64 in
-    close options (slice_index secrets 0) (bit_xor 0xaaaa_aaaa_aaaa_aaaa sum, slice_index secrets 1) (last_words (V3 7) x) sum
+    close options (last_words (V3 7) x) sum (slice_index secrets 0) (bit_xor alternating_bits sum, slice_index secrets 1)

@@ -3,21 +3,37 @@ use Rattle.std.specs.Prelude.{◌≢◌, ℕ, zero, suc, ◌+◌, ◌%◌, ◌^�
 use Rattle.std.specs.List.{range_with_len}
 use Rattle.rapidhash_portable.specs.Multiply.{mix}
 
--- the default secrets, of which V1 has the first three
-abbrev pub default_secrets : List ℕ
-default_secrets =
-    0x2d358dccaa6c78a5
-    ∷ 0x8bb84b93962eacc9
-    ∷ 0x4b33a62ed433d4a3
-    ∷ 0x4d5a2da51de1aa47
-    ∷ 0xa0761d6478bd642f
-    ∷ 0xe7037ed1a0b428db
-    ∷ 0x90ed1765281c388c
-    ∷ []
+-- the seven default secrets, of which V1 has the first three
+abbrev pub s0 : ℕ
+s0 = 0x2d358dccaa6c78a5
 
--- those of V1
+abbrev pub s1 : ℕ
+s1 = 0x8bb84b93962eacc9
+
+abbrev pub s2 : ℕ
+s2 = 0x4b33a62ed433d4a3
+
+abbrev pub s3 : ℕ
+s3 = 0x4d5a2da51de1aa47
+
+abbrev pub s4 : ℕ
+s4 = 0xa0761d6478bd642f
+
+abbrev pub s5 : ℕ
+s5 = 0xe7037ed1a0b428db
+
+abbrev pub s6 : ℕ
+s6 = 0x90ed1765281c388c
+
+abbrev pub default_secrets : List ℕ
+default_secrets = s0 ∷ s1 ∷ s2 ∷ s3 ∷ s4 ∷ s5 ∷ s6 ∷ []
+
 abbrev pub default_secrets_v1 : List ℕ
-default_secrets_v1 = 0x2d358dccaa6c78a5 ∷ 0x8bb84b93962eacc9 ∷ 0x4b33a62ed433d4a3 ∷ []
+default_secrets_v1 = s0 ∷ s1 ∷ s2 ∷ []
+
+-- the number that V1's default seed is made of, and that a random word's global seed is mixed with
+abbrev pub v1_number : ℕ
+v1_number = 0xbdd89aa982704029
 
 -- a word with a set bit in its upper, its middle and its lower part, which so is not 0
 pub record IsGood (word : ℕ) : Type 0 where
@@ -27,15 +43,18 @@ pub record IsGood (word : ℕ) : Type 0 where
 
 -- a word, with a bit set where it has none of a mask's
 unfoldable pub with_bit : ℕ → ℕ → ℕ → ℕ
-with_bit mask bit word = if bit_and word mask == 0 then bit_or word bit else word
+with_bit word mask bit = if bit_and word mask == 0 then bit_or word bit else word
 
 -- a word, made good by at most one bit in each part
 unfoldable pub repaired : ℕ → ℕ
-repaired word = with_bit 0xffff 1 (with_bit 0xffff000000 0x80000000 (with_bit 0xffff000000000000 0x8000000000000000 word))
+repaired word =
+    let upper = with_bit word 0xffff000000000000 0x8000000000000000 in
+    let middle = with_bit upper 0xffff000000 0x80000000 in
+    with_bit middle 0xffff 1
 
 -- a word mixed with the default secret at a place, and repaired
 unfoldable pub premixed : ℕ → ℕ → ℕ
-premixed word place = repaired (bit_xor word (mix false (bit_xor word (slice_index default_secrets 2)) (slice_index default_secrets place)))
+premixed word place = repaired (bit_xor word (mix false (bit_xor word s2) (slice_index default_secrets place)))
 
 -- a word after `count` premixes, with default secret 0, then 1, and so on
 unfoldable pub chained : ℕ → ℕ → ℕ
@@ -56,21 +75,28 @@ seeded_secrets count number = chained_secrets count (seeded number)
 
 -- the seed that a number makes beside the default secrets, mixed with default secret 0 in V1, and with 2 in the others
 unfoldable pub cpp_seeded : ℕ → ℕ → ℕ
-cpp_seeded place number = bit_xor number (mix false (bit_xor number (slice_index default_secrets place)) (slice_index default_secrets 1))
+cpp_seeded number place = bit_xor number (mix false (bit_xor number (slice_index default_secrets place)) s1)
+
+-- the default seed of V1, and that of the others
+abbrev pub default_seed_v1 : ℕ
+default_seed_v1 = cpp_seeded v1_number 0
+
+abbrev pub default_seed : ℕ
+default_seed = cpp_seeded 0 2
 
 -- the seed made of a seed, with the version's last default secret: place 2 in V1, 6 in the others
 unfoldable pub reseeded : ℕ → ℕ → ℕ
-reseeded place seed = premixed seed place
+reseeded seed place = premixed seed place
 
 -- the global seed that a random word gives
 unfoldable pub global_seed : ℕ → ℕ
-global_seed random = mix false (bit_xor random 0x2d358dccaa6c78a5) 0xbdd89aa982704029
+global_seed random = mix false (bit_xor random s0) v1_number
 
 -- what a random word's secrets are made of: a first state, and then one repaired mix after another, with default secret 0, then 1, and so on
 unfoldable pub made_state : ℕ → ℕ → ℕ
-made_state random zero = mix false (bit_xor random 0x4b33a62ed433d4a3) 0x8bb84b93962eacc9
+made_state random zero = mix false (bit_xor random s2) s1
 made_state random (suc count) =
-    repaired (mix false (bit_xor (made_state random count) 0x2d358dccaa6c78a5) (bit_xor random (slice_index default_secrets count)))
+    repaired (mix false (bit_xor (made_state random count) s0) (bit_xor random (slice_index default_secrets count)))
 
 -- the seven secrets that a random word makes: the states after the first
 unfoldable pub made_secrets : ℕ → List ℕ
@@ -78,12 +104,12 @@ made_secrets random = map (λ place. made_state random (place + 1)) (range_with_
 
 -- where the counter of a seed source starts, by a global seed and a second random word
 unfoldable pub source_start : ℕ → ℕ → ℕ
-source_start global random = mix false (bit_xor ((1 + random) % 2 ^ 64) 0x4d5a2da51de1aa47) (bit_xor global 0xa0761d6478bd642f)
+source_start global random = mix false (bit_xor ((1 + random) % 2 ^ 64) s3) (bit_xor global s4)
 
 -- the counter after one answer more
 abbrev pub source_next : ℕ → ℕ
-source_next counter = (counter + 0x2d358dccaa6c78a5) % 2 ^ 64
+source_next counter = (counter + s0) % 2 ^ 64
 
 -- what a seed source answers at a counter
 unfoldable pub source_answer : ℕ → ℕ → ℕ
-source_answer random counter = bit_xor counter (mix false (bit_xor counter 0x4b33a62ed433d4a3) (bit_xor random 0x8bb84b93962eacc9))
+source_answer random counter = bit_xor counter (mix false (bit_xor counter s2) (bit_xor random s1))

@@ -7,6 +7,7 @@
 ghost use Rattle.std.specs.Prelude.{◌≡◌, ◌+◌, ◌*◌, ◌≤◌, ◌<◌, ◌++◌, ℕ, List, length, slice_index, drop};
 ghost use Rattle.rapidhash_portable.specs.Hash.{close};
 ghost use Rattle.rapidhash_portable.specs.Lanes.{LanesHold, pair_of, after_lanes, joined, lane_of, mixed_shape, pair_at, pairs_of, row_bytes, rows_in, step, wide_shape};
+ghost use Rattle.rapidhash_portable.specs.Options.{options};
 ghost use Rattle.rapidhash_portable.specs.Tail.{after_tail};
 
 use crate::util::{rapid_mix, rapid_mum, read_u64};
@@ -232,8 +233,7 @@ pub(crate) fn close<const AVALANCHE: bool, const PROTECTED: bool>(
     secret: u64,
     masks: (u64, u64),
 ) -> u64
-    ensures { result
-        ≡ close (record { avalanche = AVALANCHE; protected = PROTECTED }) secret masks words seed }
+    ensures { result ≡ close (options AVALANCHE PROTECTED) words seed secret masks }
 {
     let (a, b) = rapid_mum::<PROTECTED>(words.0 ^ secret, words.1 ^ seed);
     if AVALANCHE {

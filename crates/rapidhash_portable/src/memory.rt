@@ -5,6 +5,7 @@ ghost use Rattle.std.specs.Prelude.{◌≡◌, ◌<◌, ℕ, length, drop};
 ghost use Rattle.rapidhash_portable.specs.declared.form.Form.TheVariants.{V3};
 ghost use Rattle.rapidhash_portable.specs.Lanes.{after_lanes, pair_of, row_bytes};
 ghost use Rattle.rapidhash_portable.specs.Memory.{after_pairs, memory_hash, memory_shape};
+ghost use Rattle.rapidhash_portable.specs.Options.{options};
 ghost use Rattle.rapidhash_portable.specs.Words.{last_words};
 
 use crate::lanes::{close, fold_tail, mixed_lanes, wide_lanes};
@@ -17,8 +18,7 @@ pub fn memory_hash<const AVALANCHE: bool, const COMPACT: bool, const PROTECTED: 
     seed: u64,
     secrets: &[u64; 7],
 ) -> u64
-    ensures { result
-        ≡ memory_hash (record { avalanche = AVALANCHE; protected = PROTECTED }) seed secrets.now bytes.now }
+    ensures { result ≡ memory_hash (options AVALANCHE PROTECTED) bytes.now seed secrets.now }
 {
     let n = bytes.len();
     if n > 16 {
@@ -47,8 +47,7 @@ fn long<const AVALANCHE: bool, const COMPACT: bool, const PROTECTED: bool>(
     secrets: &[u64; 7],
 ) -> u64
     requires { 16 < length bytes.now }
-    ensures { result
-        ≡ memory_hash (record { avalanche = AVALANCHE; protected = PROTECTED }) seed secrets.now bytes.now }
+    ensures { result ≡ memory_hash (options AVALANCHE PROTECTED) bytes.now seed secrets.now }
 {
     if bytes.len() > 48 {
         return with_rows::<AVALANCHE, COMPACT, PROTECTED>(bytes, seed, secrets);
@@ -64,8 +63,7 @@ fn with_rows<const AVALANCHE: bool, const COMPACT: bool, const PROTECTED: bool>(
     secrets: &[u64; 7],
 ) -> u64
     requires { 48 < length bytes.now }
-    ensures { result
-        ≡ memory_hash (record { avalanche = AVALANCHE; protected = PROTECTED }) seed secrets.now bytes.now }
+    ensures { result ≡ memory_hash (options AVALANCHE PROTECTED) bytes.now seed secrets.now }
 {
     if bytes.len() > 400 {
         return with_wide_rows::<AVALANCHE, COMPACT, PROTECTED>(bytes, seed, secrets);
@@ -82,8 +80,7 @@ fn with_wide_rows<const AVALANCHE: bool, const COMPACT: bool, const PROTECTED: b
     secrets: &[u64; 7],
 ) -> u64
     requires { 400 < length bytes.now }
-    ensures { result
-        ≡ memory_hash (record { avalanche = AVALANCHE; protected = PROTECTED }) seed secrets.now bytes.now }
+    ensures { result ≡ memory_hash (options AVALANCHE PROTECTED) bytes.now seed secrets.now }
 {
     let (joined, tail) = mixed_lanes::<COMPACT, PROTECTED>(bytes, seed, secrets);
     close_long::<AVALANCHE, PROTECTED>(bytes, tail, joined, secrets)
@@ -102,7 +99,7 @@ fn close_long<const AVALANCHE: bool, const PROTECTED: bool>(
         tail.now ≡ drop (row_bytes shape) bytes.now →
         joined ≡ after_lanes PROTECTED secrets.now (pair_of bytes.now) shape start →
         result
-        ≡ memory_hash (record { avalanche = AVALANCHE; protected = PROTECTED }) start secrets.now bytes.now }
+        ≡ memory_hash (options AVALANCHE PROTECTED) bytes.now start secrets.now }
 {
     let seed = fold_tail::<2, PROTECTED>(tail, &[secrets[0], secrets[0]], joined);
     close_sum::<AVALANCHE, PROTECTED>(bytes, last_16(bytes), seed, secrets)
@@ -119,7 +116,7 @@ fn close_sum<const AVALANCHE: bool, const PROTECTED: bool>(
     ensures { (start : ℕ) → words ≡ last_words (V3 7) bytes.now →
         seed ≡ after_pairs PROTECTED start secrets.now bytes.now →
         result
-        ≡ memory_hash (record { avalanche = AVALANCHE; protected = PROTECTED }) start secrets.now bytes.now }
+        ≡ memory_hash (options AVALANCHE PROTECTED) bytes.now start secrets.now }
 {
     let sum = seed.wrapping_add(bytes.len() as u64);
     close::<AVALANCHE, PROTECTED>(

@@ -1,7 +1,7 @@
 //! Secrets made of a seed: the arithmetic behind every `RapidSecrets`, and the type of V2 and V3.
 
-ghost use Rattle.std.specs.Prelude.{◌≡◌, ◌<◌, ◌≤◌, ℕ, length, slice_index};
-ghost use Rattle.rapidhash_portable.specs.Secrets.{IsGood, chained_secrets, cpp_seeded, default_secrets, global_seed, made_secrets, premixed, repaired, seeded, seeded_secrets, source_answer, source_next, reseeded, with_bit};
+ghost use Rattle.std.specs.Prelude.{◌≡◌, ◌<◌, ◌≤◌, All};
+ghost use Rattle.rapidhash_portable.specs.Secrets.{IsGood, chained_secrets, cpp_seeded, default_secrets, default_seed, global_seed, made_secrets, premixed, repaired, seeded, seeded_secrets, source_answer, source_next, reseeded, with_bit};
 
 use crate::seeding::{GlobalSecrets, SeedSource};
 use crate::util::rapid_mix;
@@ -26,6 +26,20 @@ pub const DEFAULT_RAPID_SECRETS: RapidSecrets = RapidSecrets {
 impl RapidSecrets {
     ghost use Rattle.rapidhash_portable.specs.Seeding.{counter_of, random_of, secrets_of};
 
+    /// The default seed and secrets, [`DEFAULT_RAPID_SECRETS`], by reference.
+    ///
+    /// ```
+    /// let hash = rapidhash_v3_inline::<true, true, false>(b"hello", RapidSecrets::default_ref());
+    /// ```
+    #[inline(always)]
+    #[tactic(auto, unfolding(crate::specs::Secrets::cpp_seeded, crate::specs::Multiply::mix, crate::specs::Multiply::multiply))]
+    pub fn default_ref() -> &'static Self
+        ensures seed { result.now.seed ≡ default_seed }
+        ensures secrets { result.now.secrets ≡ default_secrets }
+    {
+        &DEFAULT_RAPID_SECRETS
+    }
+
     /// A seed and secrets of its own, made of a number. Each has a set bit in its upper, its middle
     /// and its lower part, so none is 0.
     ///
@@ -37,7 +51,7 @@ impl RapidSecrets {
         ensures seed { result.seed ≡ seeded seed }
         ensures secrets { result.secrets ≡ seeded_secrets 7 seed }
         ensures good_seed { IsGood result.seed }
-        ensures good_secrets { (i : ℕ) → i < 7 → IsGood (slice_index result.secrets i) }
+        ensures good_secrets { All IsGood result.secrets }
     {
         let seed = seed_of(seed);
         RapidSecrets {
@@ -49,7 +63,7 @@ impl RapidSecrets {
     /// The same secrets beside a new seed, which is made of the old one with the last default
     /// secret.
     pub fn reseed(&self) -> Self
-        ensures seed { result.seed ≡ reseeded 6 self.now.seed }
+        ensures seed { result.seed ≡ reseeded self.now.seed 6 }
         ensures secrets { result.secrets ≡ self.now.secrets }
         ensures good { IsGood result.seed }
     {
@@ -63,7 +77,7 @@ impl RapidSecrets {
     /// the default secrets can find messages with one hash at every seed: see [`RapidSecrets::seed`]
     /// where that matters.
     pub fn seed_cpp(seed: u64) -> Self
-        ensures seed { result.seed ≡ cpp_seeded 2 seed }
+        ensures seed { result.seed ≡ cpp_seeded seed 2 }
         ensures secrets { result.secrets ≡ default_secrets }
     {
         RapidSecrets {
@@ -109,7 +123,7 @@ const GLOBAL_MASK: u64 = 0xbdd8_9aa9_8270_4029;
 /// The word, with `bit` set where it has no bit of `mask`.
 #[tactic(auto, using(std::proofs::lemmas::Bool::Decides::nat_tests), unfolding(crate::specs::Secrets::with_bit))]
 fn with_bit(word: u64, mask: u64, bit: u64) -> u64
-    ensures { result ≡ with_bit mask bit word }
+    ensures { result ≡ with_bit word mask bit }
 {
     if word & mask == 0 { word | bit } else { word }
 }
@@ -149,7 +163,7 @@ pub(crate) fn seed_of(number: u64) -> u64
 pub(crate) fn chain<const COUNT: usize>(seed: u64) -> [u64; COUNT]
     requires { COUNT ≤ 7 }
     ensures value { result ≡ chained_secrets COUNT seed }
-    ensures good { (i : ℕ) → i < COUNT → IsGood (slice_index result i) }
+    ensures good { All IsGood result }
 {
     let mut secrets = [0; COUNT];
     let mut last = seed;
@@ -164,7 +178,7 @@ pub(crate) fn chain<const COUNT: usize>(seed: u64) -> [u64; COUNT]
 #[tactic(auto, unfolding(crate::specs::Secrets::cpp_seeded))]
 pub(crate) fn cpp_seed_of(number: u64, place: usize) -> u64
     requires { place < 7 }
-    ensures { result ≡ cpp_seeded place number }
+    ensures { result ≡ cpp_seeded number place }
 {
     number ^ rapid_mix::<false>(number ^ DEFAULT_SECRETS[place], DEFAULT_SECRETS[1])
 }
@@ -173,7 +187,7 @@ pub(crate) fn cpp_seed_of(number: u64, place: usize) -> u64
 #[tactic(auto, unfolding(crate::specs::Secrets::reseeded))]
 pub(crate) fn reseed_of(seed: u64, place: usize) -> u64
     requires { place < 7 }
-    ensures value { result ≡ reseeded place seed }
+    ensures value { result ≡ reseeded seed place }
     ensures good { IsGood result }
 {
     premix(seed, place)
@@ -190,7 +204,7 @@ pub(crate) fn global_seed_of(random: u64) -> u64
 /// The seven secrets that a random word makes, each of the one before.
 pub(crate) fn made_secrets(random: u64) -> [u64; 7]
     ensures value { result ≡ made_secrets random }
-    ensures good { (i : ℕ) → i < 7 → IsGood (slice_index result i) }
+    ensures good { All IsGood result }
 {
     let mut secrets = [0; 7];
     let mut state = rapid_mix::<false>(random ^ DEFAULT_SECRETS[2], DEFAULT_SECRETS[1]);

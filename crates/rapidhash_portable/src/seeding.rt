@@ -1,7 +1,7 @@
 //! Secrets and seeds made of random words. Nothing here is global: the caller hands the words in,
 //! keeps the values, and lends them to what hashes with them.
 
-ghost use Rattle.std.specs.Prelude.{◌≡◌, ◌<◌, ℕ, length, slice_index};
+ghost use Rattle.std.specs.Prelude.{◌≡◌, All};
 
 use crate::secrets::{DEFAULT_SECRETS, global_seed_of, made_secrets};
 use crate::util::rapid_mix;
@@ -27,7 +27,7 @@ impl GlobalSecrets {
     pub fn new(random: u64) -> Self
         ensures seed { seed_of result ≡ global_seed random }
         ensures secrets { secrets_of result ≡ made_secrets random }
-        ensures good { (i : ℕ) → i < 7 → IsGood (slice_index (secrets_of result) i) }
+        ensures good { All IsGood (secrets_of result) }
     {
         GlobalSecrets {
             seed: global_seed_of(random),

@@ -1,11 +1,13 @@
 //! rapidhash V1.
 
-ghost use Rattle.std.specs.Prelude.{◌≡◌, ◌<◌, ◌≤◌, ℕ, Bool, List, false, true, if◌then◌else◌, length, slice_index, drop};
+ghost use Rattle.std.specs.Prelude.{◌≡◌, ◌<◌, ◌≤◌, ℕ, All, Bool, List, false, true, if◌then◌else◌, length, slice_index, drop};
 ghost use Rattle.rapidhash_portable.specs.declared.form.Form.TheVariants.{V1};
 ghost use Rattle.rapidhash_portable.specs.Form.{shape_of, start_seed};
 ghost use Rattle.rapidhash_portable.specs.Hash.{portable_hash};
 ghost use Rattle.rapidhash_portable.specs.Lanes.{after_lanes, pair_of, row_bytes};
-ghost use Rattle.rapidhash_portable.specs.Secrets.{IsGood, cpp_seeded, default_secrets_v1, reseeded, seeded, seeded_secrets};
+ghost use Rattle.rapidhash_portable.specs.Options.{options};
+ghost use Rattle.rapidhash_portable.specs.Secrets.{IsGood, cpp_seeded, default_secrets_v1, default_seed_v1, reseeded, seeded, seeded_secrets};
+ghost use Rattle.rapidhash_portable.specs.Seeded.{default_hash, seeded_hash_v1};
 ghost use Rattle.rapidhash_portable.specs.Words.{last_16};
 
 mod readers;
@@ -39,6 +41,16 @@ pub const DEFAULT_RAPID_SECRETS: RapidSecrets = RapidSecrets {
 };
 
 impl RapidSecrets {
+    /// The default seed and secrets, [`DEFAULT_RAPID_SECRETS`], by reference.
+    #[inline(always)]
+    #[tactic(auto, unfolding(crate::specs::Secrets::cpp_seeded, crate::specs::Multiply::mix, crate::specs::Multiply::multiply))]
+    pub fn default_ref() -> &'static Self
+        ensures seed { result.now.seed ≡ default_seed_v1 }
+        ensures secrets { result.now.secrets ≡ default_secrets_v1 }
+    {
+        &DEFAULT_RAPID_SECRETS
+    }
+
     /// A seed and secrets of its own, made of a number. Each has a set bit in its upper, its middle
     /// and its lower part, so none is 0.
     ///
@@ -50,7 +62,7 @@ impl RapidSecrets {
         ensures seed { result.seed ≡ seeded seed }
         ensures secrets { result.secrets ≡ seeded_secrets 3 seed }
         ensures good_seed { IsGood result.seed }
-        ensures good_secrets { (i : ℕ) → i < 3 → IsGood (slice_index result.secrets i) }
+        ensures good_secrets { All IsGood result.secrets }
     {
         let seed = seed_of(seed);
         RapidSecrets {
@@ -62,7 +74,7 @@ impl RapidSecrets {
     /// The same secrets beside a new seed, which is made of the old one with the last default
     /// secret of V1.
     pub fn reseed(&self) -> Self
-        ensures seed { result.seed ≡ reseeded 2 self.now.seed }
+        ensures seed { result.seed ≡ reseeded self.now.seed 2 }
         ensures secrets { result.secrets ≡ self.now.secrets }
         ensures good { IsGood result.seed }
     {
@@ -76,7 +88,7 @@ impl RapidSecrets {
     /// the default secrets can find messages with one hash at every seed: see [`RapidSecrets::seed`]
     /// where that matters.
     pub fn seed_cpp(seed: u64) -> Self
-        ensures seed { result.seed ≡ cpp_seeded 0 seed }
+        ensures seed { result.seed ≡ cpp_seeded seed 0 }
         ensures secrets { result.secrets ≡ default_secrets_v1 }
     {
         RapidSecrets {
@@ -93,19 +105,15 @@ impl RapidSecrets {
 /// ```
 #[inline]
 pub fn rapidhash_v1(bytes: &[u8]) -> u64
-    ensures { result
-        ≡ portable_hash (V1 false) (record { avalanche = true; protected = false })
-        (cpp_seeded 0 0xbdd89aa982704029) default_secrets_v1 bytes.now }
+    ensures { result ≡ default_hash (V1 false) (options true false) bytes.now }
 {
-    rapidhash_v1_inline::<true, false, false, false>(bytes, &DEFAULT_RAPID_SECRETS)
+    rapidhash_v1_inline::<true, false, false, false>(bytes, RapidSecrets::default_ref())
 }
 
 /// The hash of `bytes` with a seed and secrets of the caller's.
 #[inline]
 pub fn rapidhash_v1_seeded(bytes: &[u8], secrets: &RapidSecrets) -> u64
-    ensures { result
-        ≡ portable_hash (V1 false) (record { avalanche = true; protected = false })
-        secrets.now.seed secrets.now.secrets bytes.now }
+    ensures { result ≡ seeded_hash_v1 false (options true false) secrets.now bytes.now }
 {
     rapidhash_v1_inline::<true, false, false, false>(bytes, secrets)
 }
@@ -123,9 +131,7 @@ pub fn rapidhash_v1_inline<
     const PROTECTED: bool,
     const V1_BUG: bool,
 >(bytes: &[u8], secrets: &RapidSecrets) -> u64
-    ensures { result
-        ≡ portable_hash (V1 V1_BUG) (record { avalanche = AVALANCHE; protected = PROTECTED })
-        secrets.now.seed secrets.now.secrets bytes.now }
+    ensures { result ≡ seeded_hash_v1 V1_BUG (options AVALANCHE PROTECTED) secrets.now bytes.now }
 {
     if bytes.len() > 16 {
         return long::<AVALANCHE, COMPACT, PROTECTED, V1_BUG>(bytes, secrets);
@@ -148,9 +154,7 @@ fn long<const AVALANCHE: bool, const COMPACT: bool, const PROTECTED: bool, const
     secrets: &RapidSecrets,
 ) -> u64
     requires { 16 < length bytes.now }
-    ensures { result
-        ≡ portable_hash (V1 V1_BUG) (record { avalanche = AVALANCHE; protected = PROTECTED })
-        secrets.now.seed secrets.now.secrets bytes.now }
+    ensures { result ≡ seeded_hash_v1 V1_BUG (options AVALANCHE PROTECTED) secrets.now bytes.now }
 {
     if bytes.len() >= least_row::<V1_BUG>() {
         return with_rows::<AVALANCHE, COMPACT, PROTECTED, V1_BUG>(bytes, secrets);
@@ -165,9 +169,7 @@ fn with_rows<const AVALANCHE: bool, const COMPACT: bool, const PROTECTED: bool, 
     secrets: &RapidSecrets,
 ) -> u64
     requires { 16 < length bytes.now }
-    ensures { result
-        ≡ portable_hash (V1 V1_BUG) (record { avalanche = AVALANCHE; protected = PROTECTED })
-        secrets.now.seed secrets.now.secrets bytes.now }
+    ensures { result ≡ seeded_hash_v1 V1_BUG (options AVALANCHE PROTECTED) secrets.now bytes.now }
 {
     above_16::<AVALANCHE, COMPACT, PROTECTED, V1_BUG>(bytes, secrets)
 }
@@ -179,9 +181,7 @@ fn above_16<const AVALANCHE: bool, const COMPACT: bool, const PROTECTED: bool, c
     secrets: &RapidSecrets,
 ) -> u64
     requires { 16 < length bytes.now }
-    ensures { result
-        ≡ portable_hash (V1 V1_BUG) (record { avalanche = AVALANCHE; protected = PROTECTED })
-        secrets.now.seed secrets.now.secrets bytes.now }
+    ensures { result ≡ seeded_hash_v1 V1_BUG (options AVALANCHE PROTECTED) secrets.now bytes.now }
 {
     let len = bytes.len() as u64;
     let s = &secrets.secrets;
@@ -211,9 +211,7 @@ fn close_tail<const AVALANCHE: bool, const PROTECTED: bool>(
         joined
         ≡ after_lanes PROTECTED secrets.now (pair_of x) (shape_of (V1 bug) (length x))
         (start_seed (V1 bug) (length x) seed) →
-        result
-        ≡ portable_hash (V1 bug) (record { avalanche = AVALANCHE; protected = PROTECTED })
-        seed secrets.now x }
+        result ≡ portable_hash (V1 bug) (options AVALANCHE PROTECTED) seed secrets.now x }
 {
     let s = secrets;
     let mut seed = joined;

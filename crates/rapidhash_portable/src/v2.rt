@@ -3,9 +3,10 @@
 ghost use Rattle.std.specs.Prelude.{◌≡◌, ◌<◌, ◌≤◌, ◌-◌, ◌∷◌, [], ℕ, true, false, if◌then◌else◌, nat_lt, length, slice_index};
 ghost use Rattle.rapidhash_portable.specs.declared.form.Form.TheVariants.{V2};
 ghost use Rattle.rapidhash_portable.specs.Form.{masks, shape_of, start_seed, tail_places, v2_limit};
-ghost use Rattle.rapidhash_portable.specs.Hash.{close, portable_hash};
+ghost use Rattle.rapidhash_portable.specs.Hash.{close};
 ghost use Rattle.rapidhash_portable.specs.Lanes.{after_lanes, pair_of, row_bytes, row_pairs};
-ghost use Rattle.rapidhash_portable.specs.Secrets.{cpp_seeded, default_secrets};
+ghost use Rattle.rapidhash_portable.specs.Options.{options};
+ghost use Rattle.rapidhash_portable.specs.Seeded.{default_hash, seeded_hash};
 ghost use Rattle.rapidhash_portable.specs.Tail.{after_tail, picked};
 ghost use Rattle.rapidhash_portable.specs.Words.{last_16};
 
@@ -21,19 +22,15 @@ pub use readers::{
 /// The hash of `bytes` by V2.2 with the default seed and secrets.
 #[inline]
 pub fn rapidhash_v2_2(bytes: &[u8]) -> u64
-    ensures { result
-        ≡ portable_hash (V2 2) (record { avalanche = true; protected = false })
-        (cpp_seeded 2 0) default_secrets bytes.now }
+    ensures { result ≡ default_hash (V2 2) (options true false) bytes.now }
 {
-    rapidhash_v2_inline::<2, true, false, false>(bytes, &DEFAULT_RAPID_SECRETS)
+    rapidhash_v2_inline::<2, true, false, false>(bytes, RapidSecrets::default_ref())
 }
 
 /// The hash of `bytes` by V2.2 with a seed and secrets of the caller's.
 #[inline]
 pub fn rapidhash_v2_2_seeded(bytes: &[u8], secrets: &RapidSecrets) -> u64
-    ensures { result
-        ≡ portable_hash (V2 2) (record { avalanche = true; protected = false })
-        secrets.now.seed secrets.now.secrets bytes.now }
+    ensures { result ≡ seeded_hash (V2 2) (options true false) secrets.now bytes.now }
 {
     rapidhash_v2_inline::<2, true, false, false>(bytes, secrets)
 }
@@ -52,9 +49,7 @@ pub fn rapidhash_v2_inline<
     const PROTECTED: bool,
 >(bytes: &[u8], secrets: &RapidSecrets) -> u64
     requires { MINOR ≤ 2 }
-    ensures { result
-        ≡ portable_hash (V2 MINOR) (record { avalanche = AVALANCHE; protected = PROTECTED })
-        secrets.now.seed secrets.now.secrets bytes.now }
+    ensures { result ≡ seeded_hash (V2 MINOR) (options AVALANCHE PROTECTED) secrets.now bytes.now }
 {
     if bytes.len() > 16 {
         return long::<MINOR, AVALANCHE, COMPACT, PROTECTED>(bytes, secrets);
@@ -78,9 +73,7 @@ fn long<const MINOR: u8, const AVALANCHE: bool, const COMPACT: bool, const PROTE
 ) -> u64
     requires long { 16 < length bytes.now }
     requires minor { MINOR ≤ 2 }
-    ensures { result
-        ≡ portable_hash (V2 MINOR) (record { avalanche = AVALANCHE; protected = PROTECTED })
-        secrets.now.seed secrets.now.secrets bytes.now }
+    ensures { result ≡ seeded_hash (V2 MINOR) (options AVALANCHE PROTECTED) secrets.now bytes.now }
 {
     if bytes.len() > limit::<MINOR>() {
         return with_rows::<MINOR, AVALANCHE, COMPACT, PROTECTED>(bytes, secrets);
@@ -96,9 +89,7 @@ fn with_rows<const MINOR: u8, const AVALANCHE: bool, const COMPACT: bool, const 
 ) -> u64
     requires long { 16 < length bytes.now }
     requires minor { MINOR ≤ 2 }
-    ensures { result
-        ≡ portable_hash (V2 MINOR) (record { avalanche = AVALANCHE; protected = PROTECTED })
-        secrets.now.seed secrets.now.secrets bytes.now }
+    ensures { result ≡ seeded_hash (V2 MINOR) (options AVALANCHE PROTECTED) secrets.now bytes.now }
 {
     above_16::<MINOR, AVALANCHE, COMPACT, PROTECTED>(bytes, secrets)
 }
@@ -111,9 +102,7 @@ fn above_16<const MINOR: u8, const AVALANCHE: bool, const COMPACT: bool, const P
 ) -> u64
     requires long { 16 < length bytes.now }
     requires minor { MINOR ≤ 2 }
-    ensures { result
-        ≡ portable_hash (V2 MINOR) (record { avalanche = AVALANCHE; protected = PROTECTED })
-        secrets.now.seed secrets.now.secrets bytes.now }
+    ensures { result ≡ seeded_hash (V2 MINOR) (options AVALANCHE PROTECTED) secrets.now bytes.now }
 {
     let len = bytes.len() as u64;
     let s = &secrets.secrets;
@@ -132,8 +121,8 @@ fn close_long<const AVALANCHE: bool, const PROTECTED: bool>(
 ) -> u64
     requires { 16 ≤ length ending.now }
     ensures { (minor tail : ℕ) → result
-        ≡ close (record { avalanche = AVALANCHE; protected = PROTECTED }) (slice_index secrets.now 1)
-        (masks (V2 minor) secrets.now len tail) (last_16 ending.now) seed }
+        ≡ close (options AVALANCHE PROTECTED) (last_16 ending.now) seed (slice_index secrets.now 1)
+        (masks (V2 minor) secrets.now len tail) }
 {
     close::<AVALANCHE, PROTECTED>(
         last_16(ending),

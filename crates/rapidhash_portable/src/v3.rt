@@ -5,7 +5,8 @@ ghost use Rattle.rapidhash_portable.specs.declared.form.Form.TheVariants.{V3};
 ghost use Rattle.rapidhash_portable.specs.Form.{v3, micro, nano, shape_of};
 ghost use Rattle.rapidhash_portable.specs.Hash.{portable_hash};
 ghost use Rattle.rapidhash_portable.specs.Lanes.{after_lanes, pair_of, row_bytes};
-ghost use Rattle.rapidhash_portable.specs.Secrets.{cpp_seeded, default_secrets};
+ghost use Rattle.rapidhash_portable.specs.Options.{options};
+ghost use Rattle.rapidhash_portable.specs.Seeded.{default_hash, seeded_hash};
 ghost use Rattle.rapidhash_portable.specs.Words.{last_16};
 
 mod readers;
@@ -30,11 +31,9 @@ pub use stream::{
 /// ```
 #[inline]
 pub fn rapidhash_v3(bytes: &[u8]) -> u64
-    ensures { result
-        ≡ portable_hash v3 (record { avalanche = true; protected = false })
-        (cpp_seeded 2 0) default_secrets bytes.now }
+    ensures { result ≡ default_hash v3 (options true false) bytes.now }
 {
-    rapidhash_v3_inline::<true, false, false>(bytes, &DEFAULT_RAPID_SECRETS)
+    rapidhash_v3_inline::<true, false, false>(bytes, RapidSecrets::default_ref())
 }
 
 /// The hash of `bytes` with a seed and secrets of the caller's.
@@ -45,9 +44,7 @@ pub fn rapidhash_v3(bytes: &[u8]) -> u64
 /// ```
 #[inline]
 pub fn rapidhash_v3_seeded(bytes: &[u8], secrets: &RapidSecrets) -> u64
-    ensures { result
-        ≡ portable_hash v3 (record { avalanche = true; protected = false })
-        secrets.now.seed secrets.now.secrets bytes.now }
+    ensures { result ≡ seeded_hash v3 (options true false) secrets.now bytes.now }
 {
     rapidhash_v3_inline::<true, false, false>(bytes, secrets)
 }
@@ -62,9 +59,7 @@ pub fn rapidhash_v3_inline<const AVALANCHE: bool, const COMPACT: bool, const PRO
     bytes: &[u8],
     secrets: &RapidSecrets,
 ) -> u64
-    ensures { result
-        ≡ portable_hash v3 (record { avalanche = AVALANCHE; protected = PROTECTED })
-        secrets.now.seed secrets.now.secrets bytes.now }
+    ensures { result ≡ seeded_hash v3 (options AVALANCHE PROTECTED) secrets.now bytes.now }
 {
     hash::<7, AVALANCHE, COMPACT, PROTECTED>(bytes, secrets)
 }
@@ -76,9 +71,7 @@ pub fn rapidhash_v3_micro_inline<const AVALANCHE: bool, const PROTECTED: bool>(
     bytes: &[u8],
     secrets: &RapidSecrets,
 ) -> u64
-    ensures { result
-        ≡ portable_hash micro (record { avalanche = AVALANCHE; protected = PROTECTED })
-        secrets.now.seed secrets.now.secrets bytes.now }
+    ensures { result ≡ seeded_hash micro (options AVALANCHE PROTECTED) secrets.now bytes.now }
 {
     hash::<5, AVALANCHE, false, PROTECTED>(bytes, secrets)
 }
@@ -89,9 +82,7 @@ pub fn rapidhash_v3_nano_inline<const AVALANCHE: bool, const PROTECTED: bool>(
     bytes: &[u8],
     secrets: &RapidSecrets,
 ) -> u64
-    ensures { result
-        ≡ portable_hash nano (record { avalanche = AVALANCHE; protected = PROTECTED })
-        secrets.now.seed secrets.now.secrets bytes.now }
+    ensures { result ≡ seeded_hash nano (options AVALANCHE PROTECTED) secrets.now bytes.now }
 {
     hash::<3, AVALANCHE, false, PROTECTED>(bytes, secrets)
 }
@@ -106,9 +97,7 @@ pub(crate) fn hash<
 >(bytes: &[u8], secrets: &RapidSecrets) -> u64
     requires few { LANES ≤ 7 }
     requires odd { LANES % 2 ≡ 1 }
-    ensures { result
-        ≡ portable_hash (V3 LANES) (record { avalanche = AVALANCHE; protected = PROTECTED })
-        secrets.now.seed secrets.now.secrets bytes.now }
+    ensures { result ≡ seeded_hash (V3 LANES) (options AVALANCHE PROTECTED) secrets.now bytes.now }
 {
     if bytes.len() > 16 {
         return long::<LANES, AVALANCHE, COMPACT, PROTECTED>(bytes, secrets);
@@ -135,9 +124,7 @@ fn long<const LANES: usize, const AVALANCHE: bool, const COMPACT: bool, const PR
     requires long { 16 < length bytes.now }
     requires few { LANES ≤ 7 }
     requires odd { LANES % 2 ≡ 1 }
-    ensures { result
-        ≡ portable_hash (V3 LANES) (record { avalanche = AVALANCHE; protected = PROTECTED })
-        secrets.now.seed secrets.now.secrets bytes.now }
+    ensures { result ≡ seeded_hash (V3 LANES) (options AVALANCHE PROTECTED) secrets.now bytes.now }
 {
     if bytes.len() > 16 * LANES {
         return after_rows::<LANES, AVALANCHE, COMPACT, PROTECTED>(bytes, secrets);
@@ -156,9 +143,7 @@ fn after_rows<
     requires long { 16 < length bytes.now }
     requires some { 0 < LANES }
     requires few { LANES ≤ 7 }
-    ensures { result
-        ≡ portable_hash (V3 LANES) (record { avalanche = AVALANCHE; protected = PROTECTED })
-        secrets.now.seed secrets.now.secrets bytes.now }
+    ensures { result ≡ seeded_hash (V3 LANES) (options AVALANCHE PROTECTED) secrets.now bytes.now }
 {
     let s = &secrets.secrets;
     let (joined, tail) = wide_lanes::<LANES, 1, COMPACT, PROTECTED>(bytes, secrets.seed, s);
@@ -179,9 +164,7 @@ pub(crate) fn close_tail<const AVALANCHE: bool, const PROTECTED: bool>(
         tail.now ≡ drop (row_bytes (shape_of (V3 lanes) (length x))) x →
         last_16 ending.now ≡ last_16 x →
         joined ≡ after_lanes PROTECTED secrets.now (pair_of x) (shape_of (V3 lanes) (length x)) seed →
-        result
-        ≡ portable_hash (V3 lanes) (record { avalanche = AVALANCHE; protected = PROTECTED })
-        seed secrets.now x }
+        result ≡ portable_hash (V3 lanes) (options AVALANCHE PROTECTED) seed secrets.now x }
 {
     let (second, third) = (secrets[1], secrets[2]);
     let table = [third, third, second, second, third, second];

@@ -3,12 +3,12 @@
 ghost use Rattle.std.specs.Prelude.{◌≡◌, ◌<◌, false, true, IfErr, IfOk, OnOk};
 ghost use Rattle.std.specs.IoError.{error_kind};
 ghost use Rattle.rapidhash_portable.specs.declared.form.Form.TheVariants.{V1};
-ghost use Rattle.rapidhash_portable.specs.Hash.{portable_hash};
+ghost use Rattle.rapidhash_portable.specs.Options.{options};
 ghost use Rattle.rapidhash_portable.specs.Reading.{FellShort, Gave};
-ghost use Rattle.rapidhash_portable.specs.Secrets.{cpp_seeded, default_secrets_v1};
+ghost use Rattle.rapidhash_portable.specs.Seeded.{default_hash, seeded_hash_v1};
 ghost use Rattle.rapidhash_portable.specs.Source.{is_marked, reader_of};
 
-use super::{DEFAULT_RAPID_SECRETS, RapidSecrets, close_tail, rapidhash_v1_inline};
+use super::{RapidSecrets, close_tail, rapidhash_v1_inline};
 use crate::lanes::join_wide;
 use crate::reader::Source;
 use crate::sized::{BUFFER, SHORT, fill, fold_front};
@@ -33,8 +33,7 @@ pub fn rapidhash_v1_source<R: Read, const PROTECTED: bool>(
 ) -> io::Result<u64>
     ensures ok { IfOk result (λ h.
         Gave (R.remaining (reader_of source.old)) (R.remaining (reader_of source.new)) len (λ x. h
-        ≡ portable_hash (V1 false) (record { avalanche = true; protected = PROTECTED })
-        secrets.now.seed secrets.now.secrets x)) }
+        ≡ seeded_hash_v1 false (options true PROTECTED) secrets.now x)) }
     ensures clean { OnOk result (is_marked source.new ≡ false) }
     ensures short { IfErr result (λ _.
         FellShort (R.remaining (reader_of source.old)) (R.remaining (reader_of source.new)) len (is_marked source.new)) }
@@ -55,12 +54,11 @@ pub fn rapidhash_v1_source<R: Read, const PROTECTED: bool>(
 pub fn rapidhash_v1_file<R: Read>(data: &mut R, len: u64) -> io::Result<u64>
     ensures ok { IfOk result (λ h.
         Gave (R.remaining «data».old) (R.remaining «data».new) len (λ x. h
-        ≡ portable_hash (V1 false) (record { avalanche = true; protected = false })
-        (cpp_seeded 0 0xbdd89aa982704029) default_secrets_v1 x)) }
+        ≡ default_hash (V1 false) (options true false) x)) }
     ensures short { IfErr result (λ _.
         FellShort (R.remaining «data».old) (R.remaining «data».new) len true) }
 {
-    rapidhash_v1_file_inline::<R, false>(data, len, &DEFAULT_RAPID_SECRETS)
+    rapidhash_v1_file_inline::<R, false>(data, len, RapidSecrets::default_ref())
 }
 
 /// The hash of the next `len` bytes of a reader, with a seed and secrets of the caller's. Errors are
@@ -72,8 +70,7 @@ pub fn rapidhash_v1_file_seeded<R: Read>(
 ) -> io::Result<u64>
     ensures ok { IfOk result (λ h.
         Gave (R.remaining «data».old) (R.remaining «data».new) len (λ x. h
-        ≡ portable_hash (V1 false) (record { avalanche = true; protected = false })
-        secrets.now.seed secrets.now.secrets x)) }
+        ≡ seeded_hash_v1 false (options true false) secrets.now x)) }
     ensures short { IfErr result (λ _.
         FellShort (R.remaining «data».old) (R.remaining «data».new) len true) }
 {
@@ -89,8 +86,7 @@ pub fn rapidhash_v1_file_inline<R: Read, const PROTECTED: bool>(
 ) -> io::Result<u64>
     ensures ok { IfOk result (λ h.
         Gave (R.remaining «data».old) (R.remaining «data».new) len (λ x. h
-        ≡ portable_hash (V1 false) (record { avalanche = true; protected = PROTECTED })
-        secrets.now.seed secrets.now.secrets x)) }
+        ≡ seeded_hash_v1 false (options true PROTECTED) secrets.now x)) }
     ensures short { IfErr result (λ _.
         FellShort (R.remaining «data».old) (R.remaining «data».new) len true) }
 {
@@ -108,8 +104,7 @@ fn next_of<R: Read, const PROTECTED: bool>(
     requires clean { mark.old ≡ false }
     ensures ok { IfOk result (λ h.
         Gave (R.remaining reader.old) (R.remaining reader.new) len (λ x. h
-        ≡ portable_hash (V1 false) (record { avalanche = true; protected = PROTECTED })
-        secrets.now.seed secrets.now.secrets x)) }
+        ≡ seeded_hash_v1 false (options true PROTECTED) secrets.now x)) }
     ensures clean { OnOk result (mark.new ≡ false) }
     ensures short { IfErr result (λ _. FellShort (R.remaining reader.old) (R.remaining reader.new) len mark.new) }
     ensures kind { IfErr result (λ e. mark.new ≡ false → error_kind e ≡ ErrorKind.UnexpectedEof) }
@@ -136,8 +131,7 @@ fn long<R: Read, const PROTECTED: bool>(
     requires clean { mark.old ≡ false }
     ensures ok { IfOk result (λ h.
         Gave (R.remaining reader.old) (R.remaining reader.new) len (λ x. h
-        ≡ portable_hash (V1 false) (record { avalanche = true; protected = PROTECTED })
-        secrets.now.seed secrets.now.secrets x)) }
+        ≡ seeded_hash_v1 false (options true PROTECTED) secrets.now x)) }
     ensures clean { OnOk result (mark.new ≡ false) }
     ensures short { IfErr result (λ _. FellShort (R.remaining reader.old) (R.remaining reader.new) len mark.new) }
     ensures kind { IfErr result (λ e. mark.new ≡ false → error_kind e ≡ ErrorKind.UnexpectedEof) }

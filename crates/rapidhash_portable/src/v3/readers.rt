@@ -7,8 +7,8 @@ ghost use Rattle.std.specs.Prelude.{◌≡◌, ◌<◌, ◌≤◌, ◌-◌, ◌^
 ghost use Rattle.std.specs.Io.KnownBytes.{IsAtEnd};
 ghost use Rattle.std.specs.IoError.{error_kind};
 ghost use Rattle.rapidhash_portable.specs.Form.{v3};
-ghost use Rattle.rapidhash_portable.specs.Hash.{portable_hash};
-ghost use Rattle.rapidhash_portable.specs.Secrets.{cpp_seeded, default_secrets};
+ghost use Rattle.rapidhash_portable.specs.Options.{options};
+ghost use Rattle.rapidhash_portable.specs.Seeded.{default_hash, seeded_hash};
 ghost use Rattle.rapidhash_portable.specs.Source.{ReadsOn, is_marked, reader_of};
 
 #[cfg(test)]
@@ -16,7 +16,7 @@ mod tests;
 
 use super::stream::RapidStreamHasherInlineV3;
 use crate::reader::Source;
-use crate::secrets::{DEFAULT_RAPID_SECRETS, RapidSecrets};
+use crate::secrets::RapidSecrets;
 use std::io;
 use std::io::{ErrorKind, Read};
 
@@ -31,8 +31,7 @@ pub fn rapidhash_v3_source<R: Read, const PROTECTED: bool>(
 ) -> io::Result<u64>
     ensures ok { IfOk result (λ h. IfSome (R.remaining (reader_of source.old)) (λ x.
         h
-        ≡ portable_hash v3 (record { avalanche = true; protected = PROTECTED })
-        secrets.now.seed secrets.now.secrets x)) }
+        ≡ seeded_hash v3 (options true PROTECTED) secrets.now x)) }
     ensures clean { OnOk result (is_marked source.new ≡ false) }
     ensures end { OnOk result (IsAtEnd (R.remaining (reader_of source.new))) }
     ensures begun { OnErr result (ReadsOn (R.remaining (reader_of source.old)) (R.remaining (reader_of source.new))) }
@@ -51,8 +50,7 @@ pub fn rapidhash_v3_source_sized<R: Read, const SIZE: usize, const PROTECTED: bo
     requires room { 0 < SIZE }
     ensures ok { IfOk result (λ h. IfSome (R.remaining (reader_of source.old)) (λ x.
         h
-        ≡ portable_hash v3 (record { avalanche = true; protected = PROTECTED })
-        secrets.now.seed secrets.now.secrets x)) }
+        ≡ seeded_hash v3 (options true PROTECTED) secrets.now x)) }
     ensures clean { OnOk result (is_marked source.new ≡ false) }
     ensures end { OnOk result (IsAtEnd (R.remaining (reader_of source.new))) }
     ensures begun { OnErr result (ReadsOn (R.remaining (reader_of source.old)) (R.remaining (reader_of source.new))) }
@@ -78,8 +76,7 @@ fn read_all<R: Read, const SIZE: usize, const PROTECTED: bool>(
     requires few { SIZE < 2 ^ 63 }
     ensures ok { IfOk result (λ h. IfSome (R.remaining (reader_of source.old)) (λ x.
         h
-        ≡ portable_hash v3 (record { avalanche = true; protected = PROTECTED })
-        secrets.now.seed secrets.now.secrets x)) }
+        ≡ seeded_hash v3 (options true PROTECTED) secrets.now x)) }
     ensures clean { OnOk result (is_marked source.new ≡ false) }
     ensures end { OnOk result (IsAtEnd (R.remaining (reader_of source.new))) }
     ensures begun { OnErr result (ReadsOn (R.remaining (reader_of source.old)) (R.remaining (reader_of source.new))) }
@@ -111,10 +108,9 @@ fn read_all<R: Read, const SIZE: usize, const PROTECTED: bool>(
 pub fn rapidhash_v3_file<R: Read + Drop>(data: R) -> io::Result<u64>
     ensures { IfOk result (λ h. IfSome (R.remaining «data») (λ x.
         h
-        ≡ portable_hash v3 (record { avalanche = true; protected = false })
-        (cpp_seeded 2 0) default_secrets x)) }
+        ≡ default_hash v3 (options true false) x)) }
 {
-    rapidhash_v3_file_inline::<R, false>(data, &DEFAULT_RAPID_SECRETS)
+    rapidhash_v3_file_inline::<R, false>(data, RapidSecrets::default_ref())
 }
 
 /// The hash of all that a reader has, with a seed and secrets of the caller's. Errors are those of
@@ -122,8 +118,7 @@ pub fn rapidhash_v3_file<R: Read + Drop>(data: R) -> io::Result<u64>
 pub fn rapidhash_v3_file_seeded<R: Read + Drop>(data: R, secrets: &RapidSecrets) -> io::Result<u64>
     ensures { IfOk result (λ h. IfSome (R.remaining «data») (λ x.
         h
-        ≡ portable_hash v3 (record { avalanche = true; protected = false })
-        secrets.now.seed secrets.now.secrets x)) }
+        ≡ seeded_hash v3 (options true false) secrets.now x)) }
 {
     rapidhash_v3_file_inline::<R, false>(data, secrets)
 }
@@ -136,8 +131,7 @@ pub fn rapidhash_v3_file_inline<R: Read + Drop, const PROTECTED: bool>(
 ) -> io::Result<u64>
     ensures { IfOk result (λ h. IfSome (R.remaining «data») (λ x.
         h
-        ≡ portable_hash v3 (record { avalanche = true; protected = PROTECTED })
-        secrets.now.seed secrets.now.secrets x)) }
+        ≡ seeded_hash v3 (options true PROTECTED) secrets.now x)) }
 {
     rapidhash_v3_file_sized::<R, 8192, PROTECTED>(data, secrets)
 }
@@ -150,8 +144,7 @@ pub fn rapidhash_v3_file_sized<R: Read + Drop, const SIZE: usize, const PROTECTE
     requires { 0 < SIZE }
     ensures { IfOk result (λ h. IfSome (R.remaining «data») (λ x.
         h
-        ≡ portable_hash v3 (record { avalanche = true; protected = PROTECTED })
-        secrets.now.seed secrets.now.secrets x)) }
+        ≡ seeded_hash v3 (options true PROTECTED) secrets.now x)) }
 {
     let mut source = Source::new(data);
     rapidhash_v3_source_sized::<R, SIZE, PROTECTED>(&mut source, secrets)

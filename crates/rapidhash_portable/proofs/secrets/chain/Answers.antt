@@ -1,6 +1,7 @@
 use Rattle.std.proofs.Common.{◌≡◌, ◌+◌, get_or, set, subst, sym, ap, ◌∙◌, arith, length-set}
 use Rattle.std.proofs.lemmas.List.{length-replicate}
 use Rattle.std.proofs.lemmas.List.Edits.{fill_by_more}
+use Rattle.std.proofs.lemmas.List.Elements.{All-from_get_or}
 use Rattle.std.proofs.lemmas.List.FromFn.{fill_by_all}
 use Rattle.rapidhash_portable.specs.Secrets.{IsGood, chained, chained_secrets}
 use Rattle.rapidhash_portable.proofs.Chains.{chained-none, chained-more, IsGood-chained}
@@ -34,6 +35,7 @@ returns-clause-value g c =
     fill_by_all (λ k. chained c.args.seed (k + 1)) c.loop-place.secrets g.row.COUNT 0 c.loop-place.invariant.whole (λ k l. made k (omega arith))
 
 pub returns-clause-good : goal.returns-clause-good
-returns-clause-good g c = λ i l.
-    let made = c.loop-place.invariant.made i (omega arith) in
-    subst IsGood (sym made) (IsGood-chained c.args.seed i)
+returns-clause-good g c =
+    let made = c.loop-place.invariant.made in
+    let whole = c.loop-place.invariant.whole in
+    All-from_get_or IsGood c.loop-place.secrets 0 (λ i l. subst IsGood (sym (made i (omega arith))) (IsGood-chained c.args.seed i))

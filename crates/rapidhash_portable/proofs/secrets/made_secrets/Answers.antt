@@ -1,5 +1,6 @@
 use Rattle.std.proofs.Common.{◌≡◌, ◌+◌, get_or, set, refl, subst, sym, ap, ◌∙◌, arith, length-set}
 use Rattle.std.proofs.lemmas.List.Edits.{fill_by_more}
+use Rattle.std.proofs.lemmas.List.Elements.{All-from_get_or}
 use Rattle.std.proofs.lemmas.List.FromFn.{fill_by_all}
 use Rattle.rapidhash_portable.specs.Secrets.{IsGood, made_state, made_secrets}
 use Rattle.rapidhash_portable.proofs.Chains.{made_state-none, made_state-more, IsGood-made_state}
@@ -33,6 +34,7 @@ returns-clause-value c =
     fill_by_all (λ k. made_state c.args.random (k + 1)) c.loop-place.secrets 7 0 c.loop-place.invariant.whole (λ k l. made k (omega arith))
 
 pub returns-clause-good : goal.returns-clause-good
-returns-clause-good c = λ i l.
-    let made = c.loop-place.invariant.made i (omega arith) in
-    subst IsGood (sym made) (IsGood-made_state c.args.random i)
+returns-clause-good c =
+    let made = c.loop-place.invariant.made in
+    let whole = c.loop-place.invariant.whole in
+    All-from_get_or IsGood c.loop-place.secrets 0 (λ i l. subst IsGood (sym (made i (omega arith))) (IsGood-made_state c.args.random i))

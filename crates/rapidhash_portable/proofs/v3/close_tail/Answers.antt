@@ -21,4 +21,4 @@ returns g c = λ lanes seed x long rest last joined.
     let words = ap (λ w. (bit_xor w.0 t, w.1)) (c.last_16-a.ensures ∙ last ∙ sym (last_words-long form x long)) ∙ sym (mixed_words-long lanes (length x) t (last_words form x) long) in
     hash-is form options seed s x c.args.tail.now c.args.joined c.fold_tail-seed.result c.close.result rest
     (joined ∙ ap (after_lanes options.protected s (pair_of x) (shape_of form (length x))) (sym start)) c.fold_tail-seed.ensures
-    (c.close.ensures ∙ ap (λ w. close options (get_or s 1 0) (masks form s (length x) t) w c.fold_tail-seed.result) words)
+    (c.close.ensures ∙ ap (λ w. close options w c.fold_tail-seed.result (get_or s 1 0) (masks form s (length x) t)) words)

@@ -1,6 +1,7 @@
 ghost use Rattle.std.specs.Prelude.{Some};
 
 use super::*;
+use crate::secrets::DEFAULT_RAPID_SECRETS;
 use crate::v3::rapidhash_v3_inline;
 use std::test::*;
 

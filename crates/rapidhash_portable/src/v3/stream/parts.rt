@@ -10,8 +10,9 @@
 
 ghost use Rattle.std.specs.Prelude.{◌≡◌, ◌+◌, ◌-◌, ◌*◌, ◌<◌, ◌≤◌, ◌++◌, ℕ, List, [], length, take, drop};
 ghost use Rattle.rapidhash_portable.specs.declared.form.Form.TheVariants.{V3};
-ghost use Rattle.rapidhash_portable.specs.Hash.{portable_hash};
 ghost use Rattle.rapidhash_portable.specs.Lanes.{IsLaneCount};
+ghost use Rattle.rapidhash_portable.specs.Options.{options};
+ghost use Rattle.rapidhash_portable.specs.Seeded.{seeded_hash};
 
 use super::folded::Folded;
 use crate::lanes::join;
@@ -125,8 +126,7 @@ impl<'a, const LANES: usize> Parts<'a, LANES> {
         requires fits { self.now.len ≤ 16 * LANES }
         ensures { (x : List ℕ) → PartsStandFor PROTECTED self.now x →
             result
-            ≡ portable_hash (V3 LANES) (record { avalanche = AVALANCHE; protected = PROTECTED })
-            self.now.secrets.now.seed self.now.secrets.now.secrets x }
+            ≡ seeded_hash (V3 LANES) (options AVALANCHE PROTECTED) self.now.secrets.now x }
     {
         let kept: &[u8] = &self.kept;
         let new = &kept[16..16 + self.len];

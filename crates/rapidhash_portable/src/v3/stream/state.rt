@@ -3,8 +3,9 @@
 
 ghost use Rattle.std.specs.Prelude.{◌≡◌, ◌*◌, ◌≤◌, ◌++◌, ℕ, List, []};
 ghost use Rattle.rapidhash_portable.specs.declared.form.Form.TheVariants.{V3};
-ghost use Rattle.rapidhash_portable.specs.Hash.{portable_hash};
 ghost use Rattle.rapidhash_portable.specs.Lanes.{IsLaneCount};
+ghost use Rattle.rapidhash_portable.specs.Options.{options};
+ghost use Rattle.rapidhash_portable.specs.Seeded.{seeded_hash};
 
 use super::parts::Parts;
 use crate::secrets::RapidSecrets;
@@ -44,8 +45,7 @@ impl<'a, const LANES: usize> State<'a, LANES> {
     pub(crate) fn finish<const AVALANCHE: bool, const PROTECTED: bool>(&self) -> u64
         ensures { (x : List ℕ) → PartsStandFor PROTECTED self.now.parts x →
             result
-            ≡ portable_hash (V3 LANES) (record { avalanche = AVALANCHE; protected = PROTECTED })
-            self.now.parts.secrets.now.seed self.now.parts.secrets.now.secrets x }
+            ≡ seeded_hash (V3 LANES) (options AVALANCHE PROTECTED) self.now.parts.secrets.now x }
     {
         self.parts.finish::<AVALANCHE, PROTECTED>()
     }

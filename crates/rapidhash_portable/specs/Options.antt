@@ -1,0 +1,7 @@
+-- The options of a call, by its const parameters.
+use Rattle.std.specs.Prelude.{Bool}
+use Rattle.rapidhash_portable.specs.declared.form.Options.{Options}
+
+-- whether the last product is mixed once more, and whether each product is mixed with its factors
+abbrev pub options : Bool → Bool → Options
+options avalanche protected = record { avalanche = avalanche; protected = protected }
