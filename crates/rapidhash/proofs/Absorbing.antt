@@ -139,7 +139,7 @@ stands_more options s seed v w start xs y seed' v' w' i h e f g = record {
 }
 
 pub stands_bytes : (options : Options) (s : List ℕ) (seed v w start : ℕ) (xs : List Item) (x : List ℕ) → All (λ b. b < 2 ^ 8) x
-    → StandsFor options true s seed v w start xs → StandsFor options true s (memory_hash options seed s x) v w start (xs ++ Bytes x ∷ [])
+    → StandsFor options true s seed v w start xs → StandsFor options true s (memory_hash options x seed s) v w start (xs ++ Bytes x ∷ [])
 stands_bytes options s seed v w start xs x i h =
     stands_more options s seed v w start xs (Bytes x) _ v w i h refl (h.bits_are ∙ width_on xs) (omega (arith, h.number_is, pending_on xs))
 
@@ -232,7 +232,7 @@ number_step options true s seed v w start xs k n seed' t i j d h = absurd (cc)
 number_step options false s seed v w start xs k n seed' t i j d h = rw d (stands_step options s seed v w start xs (Num k n) (i, j) h)
 
 pub bytes_more : (options : Options) (sponge : Bool) (s : List ℕ) (seed v w start : ℕ) (xs : List Item) (x : List ℕ) (seed' : ℕ) → All (λ b. b < 2 ^ 8) x
-    → seed' ≡ memory_hash options seed s x → StandsFor options sponge s seed v w start xs → StandsFor options sponge s seed' v w start (xs ++ Bytes x ∷ [])
+    → seed' ≡ memory_hash options x seed s → StandsFor options sponge s seed v w start xs → StandsFor options sponge s seed' v w start (xs ++ Bytes x ∷ [])
 bytes_more options true s seed v w start xs x seed' i d h = rw d (stands_bytes options s seed v w start xs x i h)
 bytes_more options false s seed v w start xs x seed' i d h = rw d (stands_step options s seed v w start xs (Bytes x) i h)
 

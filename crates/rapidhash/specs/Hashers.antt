@@ -1,16 +1,12 @@
 -- What contracts see of a hasher.
 use Rattle.std.specs.Prelude.{ℕ, ◌≡◌, Bool, List, [], ◌∷◌, ◌++◌}
 use Rattle.std.specs.Borrow.{Bor}
-use Rattle.rapidhash_portable.specs.declared.form.Options.{Options}
 use Rattle.rapidhash_portable.specs.Memory.{memory_hash}
+use Rattle.rapidhash_portable.specs.Options.{options}
 use Rattle.rapidhash.specs.Sponge.{Item}
 use Rattle.rapidhash.specs.Hasher.{StandsFor, closed, finished}
 use Rattle.rapidhash.specs.Empty.{empty_sponge}
 use Rattle.rapidhash.specs.declared.inner.hasher.RapidHasher.{RapidHasher}
-
--- the options of the mixes
-abbrev pub options : Bool → Bool → Options
-options avalanche protected = record { avalanche = avalanche; protected = protected }
 
 -- the secrets of a hasher
 abbrev pub secrets_of : {i j k l : ℕ} → RapidHasher i j k l → List ℕ
@@ -38,7 +34,7 @@ fresh seed secrets = record { seed = seed; secrets = secrets; sponge = empty_spo
 -- a hasher after bytes
 abbrev pub written : {i j k l : ℕ} → (avalanche protected : Bool) → RapidHasher i j k l → List ℕ → RapidHasher i j k l
 written avalanche protected hasher bytes =
-    record hasher { seed = memory_hash (options avalanche protected) hasher.seed hasher.secrets.now bytes }
+    record hasher { seed = memory_hash (options avalanche protected) bytes hasher.seed hasher.secrets.now }
 
 -- the answer of a hasher
 abbrev pub answer_of : {i j k l : ℕ} → (avalanche protected : Bool) → RapidHasher i j k l → ℕ

@@ -5,7 +5,10 @@ pub use Rattle.rapidhash_portable.specs.Hash
 pub use Rattle.rapidhash_portable.specs.Lanes
 pub use Rattle.rapidhash_portable.specs.Memory
 pub use Rattle.rapidhash_portable.specs.Multiply
+pub use Rattle.rapidhash_portable.specs.Options
+pub use Rattle.rapidhash_portable.specs.Reading
 pub use Rattle.rapidhash_portable.specs.Secrets
+pub use Rattle.rapidhash_portable.specs.Seeded
 pub use Rattle.rapidhash_portable.specs.Seeding
 pub use Rattle.rapidhash_portable.specs.Source
 pub use Rattle.rapidhash_portable.specs.Stream

@@ -2,10 +2,11 @@
 
 ghost use Rattle.std.specs.Prelude.{◌≡◌, ◌<◌, ◌^◌, []};
 ghost use Rattle.std.specs.Int.{cast_unsigned, w8, w16, w32, w64, w128};
-ghost use Rattle.rapidhash_portable.specs.Secrets.{cpp_seeded, default_secrets};
+ghost use Rattle.rapidhash_portable.specs.Options.{options};
+ghost use Rattle.rapidhash_portable.specs.Secrets.{cpp_seeded, default_secrets, default_seed};
 ghost use Rattle.rapidhash.specs.Sponge.{Bytes, IsWidth, Num, Wide};
 ghost use Rattle.rapidhash.specs.Hasher.{step};
-ghost use Rattle.rapidhash.specs.Hashers.{Absorbs, Answers, Stands, answer_of, fresh, options, secrets_of, written};
+ghost use Rattle.rapidhash.specs.Hashers.{Absorbs, Answers, Stands, answer_of, fresh, secrets_of, written};
 
 use crate::inner::sponge::Sponge;
 use rapidhash_portable::memory::memory_hash;
@@ -59,7 +60,7 @@ impl<
     #[inline(always)]
     pub fn new(seed: u64) -> Self
         ensures secrets { secrets_of result ≡ default_secrets }
-        ensures stands { Stands AVALANCHE SPONGE PROTECTED result (cpp_seeded 2 seed) [] }
+        ensures stands { Stands AVALANCHE SPONGE PROTECTED result (cpp_seeded seed 2) [] }
     {
         RapidHasher::from_parts(
             RapidSecrets::seed_cpp(seed).seed,
@@ -71,7 +72,7 @@ impl<
     #[inline(always)]
     pub fn default_const() -> Self
         ensures secrets { secrets_of result ≡ default_secrets }
-        ensures stands { Stands AVALANCHE SPONGE PROTECTED result (cpp_seeded 2 0) [] }
+        ensures stands { Stands AVALANCHE SPONGE PROTECTED result default_seed [] }
     {
         RapidHasher::new(0)
     }
@@ -288,7 +289,7 @@ impl<
     const PROTECTED: bool,
 > Default for RapidHasher<'s, AVALANCHE, SPONGE, COMPACT, PROTECTED> {
     ghost is_default = { λ hasher. (secrets_of hasher ≡ default_secrets)
-        × Stands AVALANCHE SPONGE PROTECTED hasher (cpp_seeded 2 0) [] };
+        × Stands AVALANCHE SPONGE PROTECTED hasher default_seed [] };
 
     #[inline(always)]
     fn default() -> Self {

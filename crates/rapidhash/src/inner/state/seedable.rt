@@ -4,7 +4,7 @@ ghost use Rattle.std.specs.Prelude.{◌≡◌, ◌↔◌, ◌==◌, ◌&&◌, []
 ghost use Rattle.std.specs.Cmp.Lexicographic.{pointwise};
 ghost use Rattle.std.specs.Cmp.Rules.{comparing};
 ghost use Rattle.std.proofs.Common.{rules};
-ghost use Rattle.rapidhash_portable.specs.Secrets.{cpp_seeded, default_secrets};
+ghost use Rattle.rapidhash_portable.specs.Secrets.{cpp_seeded, default_secrets, default_seed};
 ghost use Rattle.rapidhash.specs.Hashers.{Stands, fresh, secrets_of};
 
 use crate::inner::hasher::RapidHasher;
@@ -56,7 +56,7 @@ impl<
     /// A seed made of `seed` as `RapidSecrets::seed_cpp` makes it, and the made secrets.
     #[inline(always)]
     pub fn new(seed: u64, secrets: &'s GlobalSecrets) -> Self
-        ensures seed { seed_of_seedable result ≡ cpp_seeded 2 seed }
+        ensures seed { seed_of_seedable result ≡ cpp_seeded seed 2 }
         ensures secrets { secrets_of_seedable result ≡ made_of secrets.now }
     {
         SeedableState {
@@ -84,7 +84,7 @@ impl<
     /// knows them can find keys that all have one hash.
     #[inline(always)]
     pub fn fixed() -> Self
-        ensures seed { seed_of_seedable result ≡ cpp_seeded 2 0 }
+        ensures seed { seed_of_seedable result ≡ default_seed }
         ensures secrets { secrets_of_seedable result ≡ default_secrets }
     {
         SeedableState {
