@@ -17,10 +17,11 @@ abbrev pub Stands : {i j k l : ℕ} → (avalanche sponge protected : Bool) → 
 Stands avalanche sponge protected hasher start items =
     StandsFor (options avalanche protected) sponge hasher.secrets.now hasher.seed hasher.sponge.bits hasher.sponge.width start items
 
--- for every start and list that the old hasher stands for, the new one stands for the list with one item more at its end
-abbrev pub Absorbs : {i j k l : ℕ} → (avalanche sponge protected : Bool) → RapidHasher i j k l → RapidHasher i j k l → Item → Type 0
-Absorbs avalanche sponge protected old new item =
-    (start : ℕ) (items : List Item) → Stands avalanche sponge protected old start items → Stands avalanche sponge protected new start (items ++ item ∷ [])
+-- one item more is absorbed: the secrets stay, and for every start and list that the old hasher stands for, the new one stands for the list with the item at its end
+pub record Absorbs {i j k l : ℕ} (avalanche sponge protected : Bool) (old new : RapidHasher i j k l) (item : Item) : Type 0 where
+  pub secrets : secrets_of new ≡ secrets_of old
+  pub stands : (start : ℕ) (items : List Item) → Stands avalanche sponge protected old start items
+      → Stands avalanche sponge protected new start (items ++ item ∷ [])
 
 -- for every start and list that the hasher stands for, the answer is theirs
 abbrev pub Answers : {i j k l : ℕ} → (avalanche sponge protected : Bool) → RapidHasher i j k l → ℕ → Type 0

@@ -106,8 +106,7 @@ impl<
     fn write_number(&mut self, value: u64, width: u8)
         requires width { IsWidth width }
         requires fits { value < 2 ^ width }
-        ensures secrets { secrets_of self.new ≡ secrets_of self.old }
-        ensures stands { Absorbs AVALANCHE SPONGE PROTECTED self.old self.new (Num width value) }
+        ensures { Absorbs AVALANCHE SPONGE PROTECTED self.old self.new (Num width value) }
     {
         if SPONGE {
             if self.sponge.width <= 128 - width {
@@ -139,8 +138,7 @@ impl<
     /// ```
     #[inline(always)]
     pub fn write_u8(&mut self, value: u8)
-        ensures secrets { secrets_of self.new ≡ secrets_of self.old }
-        ensures stands { Absorbs AVALANCHE SPONGE PROTECTED self.old self.new (Num 8 value) }
+        ensures { Absorbs AVALANCHE SPONGE PROTECTED self.old self.new (Num 8 value) }
     {
         self.write_number(value as u64, 8);
     }
@@ -148,8 +146,7 @@ impl<
     /// Absorbs an integer of 16 bits.
     #[inline(always)]
     pub fn write_u16(&mut self, value: u16)
-        ensures secrets { secrets_of self.new ≡ secrets_of self.old }
-        ensures stands { Absorbs AVALANCHE SPONGE PROTECTED self.old self.new (Num 16 value) }
+        ensures { Absorbs AVALANCHE SPONGE PROTECTED self.old self.new (Num 16 value) }
     {
         self.write_number(value as u64, 16);
     }
@@ -157,8 +154,7 @@ impl<
     /// Absorbs an integer of 32 bits.
     #[inline(always)]
     pub fn write_u32(&mut self, value: u32)
-        ensures secrets { secrets_of self.new ≡ secrets_of self.old }
-        ensures stands { Absorbs AVALANCHE SPONGE PROTECTED self.old self.new (Num 32 value) }
+        ensures { Absorbs AVALANCHE SPONGE PROTECTED self.old self.new (Num 32 value) }
     {
         self.write_number(value as u64, 32);
     }
@@ -166,8 +162,7 @@ impl<
     /// Absorbs an integer of 64 bits.
     #[inline(always)]
     pub fn write_u64(&mut self, value: u64)
-        ensures secrets { secrets_of self.new ≡ secrets_of self.old }
-        ensures stands { Absorbs AVALANCHE SPONGE PROTECTED self.old self.new (Num 64 value) }
+        ensures { Absorbs AVALANCHE SPONGE PROTECTED self.old self.new (Num 64 value) }
     {
         self.write_number(value, 64);
     }
@@ -175,8 +170,7 @@ impl<
     /// Absorbs an integer of 64 bits, as [`RapidHasher::write_u64`].
     #[inline(always)]
     pub fn write_usize(&mut self, value: usize)
-        ensures secrets { secrets_of self.new ≡ secrets_of self.old }
-        ensures stands { Absorbs AVALANCHE SPONGE PROTECTED self.old self.new (Num 64 value) }
+        ensures { Absorbs AVALANCHE SPONGE PROTECTED self.old self.new (Num 64 value) }
     {
         self.write_number(value as u64, 64);
     }
@@ -184,8 +178,8 @@ impl<
     /// Absorbs a signed integer of 8 bits, by its bits.
     #[inline(always)]
     pub fn write_i8(&mut self, value: i8)
-        ensures secrets { secrets_of self.new ≡ secrets_of self.old }
-        ensures stands { Absorbs AVALANCHE SPONGE PROTECTED self.old self.new (Num 8 (cast_unsigned w8 value)) }
+        ensures { Absorbs AVALANCHE SPONGE PROTECTED self.old self.new
+            (Num 8 (cast_unsigned w8 value)) }
     {
         self.write_number(value.cast_unsigned() as u64, 8);
     }
@@ -193,8 +187,8 @@ impl<
     /// Absorbs a signed integer of 16 bits, by its bits.
     #[inline(always)]
     pub fn write_i16(&mut self, value: i16)
-        ensures secrets { secrets_of self.new ≡ secrets_of self.old }
-        ensures stands { Absorbs AVALANCHE SPONGE PROTECTED self.old self.new (Num 16 (cast_unsigned w16 value)) }
+        ensures { Absorbs AVALANCHE SPONGE PROTECTED self.old self.new
+            (Num 16 (cast_unsigned w16 value)) }
     {
         self.write_number(value.cast_unsigned() as u64, 16);
     }
@@ -202,8 +196,8 @@ impl<
     /// Absorbs a signed integer of 32 bits, by its bits.
     #[inline(always)]
     pub fn write_i32(&mut self, value: i32)
-        ensures secrets { secrets_of self.new ≡ secrets_of self.old }
-        ensures stands { Absorbs AVALANCHE SPONGE PROTECTED self.old self.new (Num 32 (cast_unsigned w32 value)) }
+        ensures { Absorbs AVALANCHE SPONGE PROTECTED self.old self.new
+            (Num 32 (cast_unsigned w32 value)) }
     {
         self.write_number(value.cast_unsigned() as u64, 32);
     }
@@ -211,8 +205,8 @@ impl<
     /// Absorbs a signed integer of 64 bits, by its bits.
     #[inline(always)]
     pub fn write_i64(&mut self, value: i64)
-        ensures secrets { secrets_of self.new ≡ secrets_of self.old }
-        ensures stands { Absorbs AVALANCHE SPONGE PROTECTED self.old self.new (Num 64 (cast_unsigned w64 value)) }
+        ensures { Absorbs AVALANCHE SPONGE PROTECTED self.old self.new
+            (Num 64 (cast_unsigned w64 value)) }
     {
         self.write_number(value.cast_unsigned(), 64);
     }
@@ -220,8 +214,8 @@ impl<
     /// Absorbs a signed integer of 64 bits, by its bits.
     #[inline(always)]
     pub fn write_isize(&mut self, value: isize)
-        ensures secrets { secrets_of self.new ≡ secrets_of self.old }
-        ensures stands { Absorbs AVALANCHE SPONGE PROTECTED self.old self.new (Num 64 (cast_unsigned w64 value)) }
+        ensures { Absorbs AVALANCHE SPONGE PROTECTED self.old self.new
+            (Num 64 (cast_unsigned w64 value)) }
     {
         self.write_number(value.cast_unsigned() as u64, 64);
     }
@@ -229,8 +223,7 @@ impl<
     /// Absorbs 128 bits in one step. What waits in the sponge stays there.
     #[inline(always)]
     pub fn write_u128(&mut self, value: u128)
-        ensures secrets { secrets_of self.new ≡ secrets_of self.old }
-        ensures stands { Absorbs AVALANCHE SPONGE PROTECTED self.old self.new (Wide value) }
+        ensures { Absorbs AVALANCHE SPONGE PROTECTED self.old self.new (Wide value) }
     {
         self.seed = self.mixed(value);
     }
@@ -238,8 +231,8 @@ impl<
     /// Absorbs 128 bits in one step, as [`RapidHasher::write_u128`] does.
     #[inline(always)]
     pub fn write_i128(&mut self, value: i128)
-        ensures secrets { secrets_of self.new ≡ secrets_of self.old }
-        ensures stands { Absorbs AVALANCHE SPONGE PROTECTED self.old self.new (Wide (cast_unsigned w128 value)) }
+        ensures { Absorbs AVALANCHE SPONGE PROTECTED self.old self.new
+            (Wide (cast_unsigned w128 value)) }
     {
         self.write_u128(value.cast_unsigned());
     }
@@ -259,8 +252,7 @@ impl<
     #[inline(always)]
     fn write(&mut self, bytes: &[u8])
         ensures value { self.new ≡ written AVALANCHE PROTECTED self.old bytes.now }
-        ensures secrets { secrets_of self.new ≡ secrets_of self.old }
-        ensures stands { Absorbs AVALANCHE SPONGE PROTECTED self.old self.new (Bytes bytes.now) }
+        ensures item { Absorbs AVALANCHE SPONGE PROTECTED self.old self.new (Bytes bytes.now) }
     {
         self.seed = memory_hash::<AVALANCHE, COMPACT, PROTECTED>(bytes, self.seed, self.secrets);
     }
