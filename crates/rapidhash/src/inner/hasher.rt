@@ -60,7 +60,7 @@ impl<
     #[inline(always)]
     pub fn new(seed: u64) -> Self
         ensures secrets { secrets_of result ≡ default_secrets }
-        ensures stands { Stands AVALANCHE SPONGE PROTECTED result (cpp_seeded seed 2) [] }
+        ensures stands { Stands result (cpp_seeded seed 2) [] }
     {
         RapidHasher::from_parts(
             RapidSecrets::seed_cpp(seed).seed,
@@ -72,7 +72,7 @@ impl<
     #[inline(always)]
     pub fn default_const() -> Self
         ensures secrets { secrets_of result ≡ default_secrets }
-        ensures stands { Stands AVALANCHE SPONGE PROTECTED result default_seed [] }
+        ensures stands { Stands result default_seed [] }
     {
         RapidHasher::new(0)
     }
@@ -81,7 +81,7 @@ impl<
     #[inline(always)]
     pub(crate) fn from_parts(seed: u64, secrets: &'s [u64; 7]) -> Self
         ensures value { result ≡ fresh seed secrets.entry }
-        ensures stands { Stands AVALANCHE SPONGE PROTECTED result seed [] }
+        ensures stands { Stands result seed [] }
     {
         RapidHasher {
             seed,
@@ -106,7 +106,7 @@ impl<
     fn write_number(&mut self, value: u64, width: u8)
         requires width { IsWidth width }
         requires fits { value < 2 ^ width }
-        ensures { Absorbs AVALANCHE SPONGE PROTECTED self.old self.new (Num width value) }
+        ensures { Absorbs self.old self.new (Num width value) }
     {
         if SPONGE {
             if self.sponge.width <= 128 - width {
@@ -138,7 +138,7 @@ impl<
     /// ```
     #[inline(always)]
     pub fn write_u8(&mut self, value: u8)
-        ensures { Absorbs AVALANCHE SPONGE PROTECTED self.old self.new (Num 8 value) }
+        ensures { Absorbs self.old self.new (Num 8 value) }
     {
         self.write_number(value as u64, 8);
     }
@@ -146,7 +146,7 @@ impl<
     /// Absorbs an integer of 16 bits.
     #[inline(always)]
     pub fn write_u16(&mut self, value: u16)
-        ensures { Absorbs AVALANCHE SPONGE PROTECTED self.old self.new (Num 16 value) }
+        ensures { Absorbs self.old self.new (Num 16 value) }
     {
         self.write_number(value as u64, 16);
     }
@@ -154,7 +154,7 @@ impl<
     /// Absorbs an integer of 32 bits.
     #[inline(always)]
     pub fn write_u32(&mut self, value: u32)
-        ensures { Absorbs AVALANCHE SPONGE PROTECTED self.old self.new (Num 32 value) }
+        ensures { Absorbs self.old self.new (Num 32 value) }
     {
         self.write_number(value as u64, 32);
     }
@@ -162,7 +162,7 @@ impl<
     /// Absorbs an integer of 64 bits.
     #[inline(always)]
     pub fn write_u64(&mut self, value: u64)
-        ensures { Absorbs AVALANCHE SPONGE PROTECTED self.old self.new (Num 64 value) }
+        ensures { Absorbs self.old self.new (Num 64 value) }
     {
         self.write_number(value, 64);
     }
@@ -170,7 +170,7 @@ impl<
     /// Absorbs an integer of 64 bits, as [`RapidHasher::write_u64`].
     #[inline(always)]
     pub fn write_usize(&mut self, value: usize)
-        ensures { Absorbs AVALANCHE SPONGE PROTECTED self.old self.new (Num 64 value) }
+        ensures { Absorbs self.old self.new (Num 64 value) }
     {
         self.write_number(value as u64, 64);
     }
@@ -178,8 +178,7 @@ impl<
     /// Absorbs a signed integer of 8 bits, by its bits.
     #[inline(always)]
     pub fn write_i8(&mut self, value: i8)
-        ensures { Absorbs AVALANCHE SPONGE PROTECTED self.old self.new
-            (Num 8 (cast_unsigned w8 value)) }
+        ensures { Absorbs self.old self.new (Num 8 (cast_unsigned w8 value)) }
     {
         self.write_number(value.cast_unsigned() as u64, 8);
     }
@@ -187,8 +186,7 @@ impl<
     /// Absorbs a signed integer of 16 bits, by its bits.
     #[inline(always)]
     pub fn write_i16(&mut self, value: i16)
-        ensures { Absorbs AVALANCHE SPONGE PROTECTED self.old self.new
-            (Num 16 (cast_unsigned w16 value)) }
+        ensures { Absorbs self.old self.new (Num 16 (cast_unsigned w16 value)) }
     {
         self.write_number(value.cast_unsigned() as u64, 16);
     }
@@ -196,8 +194,7 @@ impl<
     /// Absorbs a signed integer of 32 bits, by its bits.
     #[inline(always)]
     pub fn write_i32(&mut self, value: i32)
-        ensures { Absorbs AVALANCHE SPONGE PROTECTED self.old self.new
-            (Num 32 (cast_unsigned w32 value)) }
+        ensures { Absorbs self.old self.new (Num 32 (cast_unsigned w32 value)) }
     {
         self.write_number(value.cast_unsigned() as u64, 32);
     }
@@ -205,8 +202,7 @@ impl<
     /// Absorbs a signed integer of 64 bits, by its bits.
     #[inline(always)]
     pub fn write_i64(&mut self, value: i64)
-        ensures { Absorbs AVALANCHE SPONGE PROTECTED self.old self.new
-            (Num 64 (cast_unsigned w64 value)) }
+        ensures { Absorbs self.old self.new (Num 64 (cast_unsigned w64 value)) }
     {
         self.write_number(value.cast_unsigned(), 64);
     }
@@ -214,8 +210,7 @@ impl<
     /// Absorbs a signed integer of 64 bits, by its bits.
     #[inline(always)]
     pub fn write_isize(&mut self, value: isize)
-        ensures { Absorbs AVALANCHE SPONGE PROTECTED self.old self.new
-            (Num 64 (cast_unsigned w64 value)) }
+        ensures { Absorbs self.old self.new (Num 64 (cast_unsigned w64 value)) }
     {
         self.write_number(value.cast_unsigned() as u64, 64);
     }
@@ -223,7 +218,7 @@ impl<
     /// Absorbs 128 bits in one step. What waits in the sponge stays there.
     #[inline(always)]
     pub fn write_u128(&mut self, value: u128)
-        ensures { Absorbs AVALANCHE SPONGE PROTECTED self.old self.new (Wide value) }
+        ensures { Absorbs self.old self.new (Wide value) }
     {
         self.seed = self.mixed(value);
     }
@@ -231,8 +226,7 @@ impl<
     /// Absorbs 128 bits in one step, as [`RapidHasher::write_u128`] does.
     #[inline(always)]
     pub fn write_i128(&mut self, value: i128)
-        ensures { Absorbs AVALANCHE SPONGE PROTECTED self.old self.new
-            (Wide (cast_unsigned w128 value)) }
+        ensures { Absorbs self.old self.new (Wide (cast_unsigned w128 value)) }
     {
         self.write_u128(value.cast_unsigned());
     }
@@ -245,22 +239,22 @@ impl<
     const COMPACT: bool,
     const PROTECTED: bool,
 > Hasher for RapidHasher<'s, AVALANCHE, SPONGE, COMPACT, PROTECTED> {
-    ghost write = { λ hasher bytes. written AVALANCHE PROTECTED hasher bytes };
+    ghost write = { written };
 
-    ghost finish = { λ hasher. answer_of AVALANCHE PROTECTED hasher };
+    ghost finish = { answer_of };
 
     #[inline(always)]
     fn write(&mut self, bytes: &[u8])
-        ensures value { self.new ≡ written AVALANCHE PROTECTED self.old bytes.now }
-        ensures item { Absorbs AVALANCHE SPONGE PROTECTED self.old self.new (Bytes bytes.now) }
+        ensures value { self.new ≡ written self.old bytes.now }
+        ensures item { Absorbs self.old self.new (Bytes bytes.now) }
     {
         self.seed = memory_hash::<AVALANCHE, COMPACT, PROTECTED>(bytes, self.seed, self.secrets);
     }
 
     #[inline(always)]
     fn finish(&self) -> u64
-        ensures value { result ≡ answer_of AVALANCHE PROTECTED self.now }
-        ensures stands { Answers AVALANCHE SPONGE PROTECTED self.now result }
+        ensures value { result ≡ answer_of self.now }
+        ensures stands { Answers self.now result }
     {
         let mut last = self.seed;
         if self.sponge.width > 0 {
@@ -281,7 +275,7 @@ impl<
     const PROTECTED: bool,
 > Default for RapidHasher<'s, AVALANCHE, SPONGE, COMPACT, PROTECTED> {
     ghost is_default = { λ hasher. (secrets_of hasher ≡ default_secrets)
-        × Stands AVALANCHE SPONGE PROTECTED hasher default_seed [] };
+        × Stands hasher default_seed [] };
 
     #[inline(always)]
     fn default() -> Self {

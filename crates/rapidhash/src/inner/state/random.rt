@@ -104,7 +104,7 @@ impl<
     fn build_hasher(&self) -> RapidHasher<'s, AVALANCHE, SPONGE, COMPACT, PROTECTED>
         ensures value { result ≡ fresh self.now.seed self.now.secrets }
         ensures secrets { secrets_of result ≡ secrets_of_random self.now }
-        ensures stands { Stands AVALANCHE SPONGE PROTECTED result (seed_of_random self.now) [] }
+        ensures stands { Stands result (seed_of_random self.now) [] }
     {
         RapidHasher::from_parts(self.seed, self.secrets)
     }
