@@ -14,11 +14,10 @@ pub use Rattle.rapidhash_portable.specs.Source
 pub use Rattle.rapidhash_portable.specs.Stream
 pub use Rattle.rapidhash_portable.specs.Tail
 pub use Rattle.rapidhash_portable.specs.Words
-pub mod Empty
 pub mod Generator
 pub mod Hasher
-pub mod Hashers
 pub mod Laws
+pub mod RapidHasher
 pub mod Replay
 pub mod Sponge
 pub mod States

@@ -2,11 +2,10 @@
 
 ghost use Rattle.std.specs.Prelude.{◌≡◌, ◌<◌, ◌^◌, []};
 ghost use Rattle.std.specs.Int.{cast_unsigned, w8, w16, w32, w64, w128};
-ghost use Rattle.rapidhash_portable.specs.Options.{options};
 ghost use Rattle.rapidhash_portable.specs.Secrets.{cpp_seeded, default_secrets, default_seed};
 ghost use Rattle.rapidhash.specs.Sponge.{Bytes, IsWidth, Num, Wide};
 ghost use Rattle.rapidhash.specs.Hasher.{step};
-ghost use Rattle.rapidhash.specs.Hashers.{Absorbs, Answers, Stands, answer_of, fresh, secrets_of, written};
+ghost use Rattle.rapidhash.specs.RapidHasher.{Absorbs, Answers, Stands, answer_of, fresh, options_of, secrets_of, written};
 
 use crate::inner::sponge::Sponge;
 use rapidhash_portable::memory::memory_hash;
@@ -94,7 +93,7 @@ impl<
     #[inline(always)]
     fn mixed(&self, wide: u128) -> u64
         ensures { result
-            ≡ step (options AVALANCHE PROTECTED) (secrets_of self.now) self.now.seed (Wide wide) }
+            ≡ step (options_of self.now) (secrets_of self.now) self.now.seed (Wide wide) }
     {
         let low = (wide % 0x1_0000_0000_0000_0000) as u64;
         let high = (wide / 0x1_0000_0000_0000_0000) as u64;

@@ -4,7 +4,7 @@ ghost use Rattle.std.specs.Prelude.{◌≡◌, ◌↔◌, ◌==◌, ◌&&◌, []
 ghost use Rattle.std.specs.Cmp.Lexicographic.{pointwise};
 ghost use Rattle.std.specs.Cmp.Rules.{comparing};
 ghost use Rattle.std.proofs.Common.{rules};
-ghost use Rattle.rapidhash.specs.Hashers.{Stands, fresh, secrets_of};
+ghost use Rattle.rapidhash.specs.RapidHasher.{Stands, fresh, secrets_of};
 
 use crate::inner::hasher::RapidHasher;
 use rapidhash_portable::seeding::GlobalSecrets;
