@@ -7,7 +7,8 @@ ghost use Rattle.rapidhash_portable.specs.declared.form.Form.TheVariants.{V1};
 ghost use Rattle.rapidhash_portable.specs.Form.{micro, nano, v2, v3};
 ghost use Rattle.rapidhash.specs.Laws.{HashIsOfWords, SameWords};
 
-/// Whether two messages are one, which every form tells by their lengths and the words that it reads.
+/// Whether two messages are one, which every form tells by their lengths and the words that it
+/// reads.
 fn same_words(x: &[u8], y: &[u8]) -> bool
     ensures words { (form : Form) → (IsTrue result ↔ SameWords form x.now y.now) }
     ensures bytes { IsTrue result ↔ (x.now ≡ y.now) }
@@ -17,9 +18,9 @@ fn same_words(x: &[u8], y: &[u8]) -> bool
     x == y
 }
 
-/// Whether two messages have one length and the words that V1 reads agree, which is whether they are
-/// one message. V1 of either is a formula over its length and these words, whatever the options, the
-/// seed and the secrets.
+/// Whether two messages have one length and the words that V1 reads agree, which is whether they
+/// are one message. V1 of either is a formula over its length and these words, whatever the options,
+/// the seed and the secrets.
 ///
 /// ```
 /// assert!(!same_words_v1::<false>(b"left", b"lift"));
