@@ -1,6 +1,6 @@
 //! What every state is made of: a seed and secrets.
 
-ghost use Rattle.std.specs.Prelude.{◌≡◌, ◌↔◌, ◌==◌, ◌&&◌, [], IsTrue, nat_eq};
+ghost use Rattle.std.specs.Prelude.{◌≡◌, ◌==◌, ◌&&◌, [], nat_eq};
 ghost use Rattle.std.specs.Cmp.Lexicographic.{pointwise};
 ghost use Rattle.std.specs.Cmp.Rules.{comparing};
 ghost use Rattle.std.proofs.Common.{rules};
@@ -36,11 +36,8 @@ impl<'s> PartialEq for Seeded<'s> {
 
     ghost laws = { Prim.search (comparing, rules) };
 
-    #[inline(always)]
-    fn eq(&self, other: &Self) -> bool
-        ensures { IsTrue result
-            ↔ (self.now.seed ≡ other.now.seed) × (self.now.secrets.now ≡ other.now.secrets.now) }
-    {
+    #[inline]
+    fn eq(&self, other: &Self) -> bool {
         self.seed == other.seed && *self.secrets == *other.secrets
     }
 }
