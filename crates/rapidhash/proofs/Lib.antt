@@ -2,4 +2,4 @@ pub mod Absorbing
 pub mod Behind
 pub mod Drawn
 pub mod Packing
-pub mod Replays
+pub mod ReplayLemmas
