@@ -64,8 +64,8 @@ pub fn rapidrng_fast_not_portable(state: &mut u64) -> u64
 }
 
 /// Makes a new seed of the old one and a moment, and returns the new seed's word. The moment is
-/// handed in, as seconds and nanoseconds since a beginning of the caller's choice; of the seconds the
-/// low 32 bits count. Precondition: the nanoseconds are less than a second.
+/// handed in, as seconds and nanoseconds since a beginning of the caller's choice; of the seconds
+/// the low 32 bits count. Precondition: the nanoseconds are less than a second.
 ///
 /// ```
 /// let mut seed = 42;
@@ -204,7 +204,8 @@ impl Rng for RapidRng {
     /// The low half of the next word.
     #[inline]
     fn next_u32(&mut self) -> u32
-        ensures stream { (result, generator_stream self.new) ≡ next_u32 (generator_stream self.old) }
+        ensures stream { (result, generator_stream self.new)
+            ≡ next_u32 (generator_stream self.old) }
         ensures low { result ≡ word_at self.old 1 % 2 ^ 32 }
         ensures state { self.new ≡ state_after self.old 1 }
     {
@@ -214,7 +215,8 @@ impl Rng for RapidRng {
     /// The next word.
     #[inline]
     fn next_u64(&mut self) -> u64
-        ensures stream { (result, generator_stream self.new) ≡ next_u64 (generator_stream self.old) }
+        ensures stream { (result, generator_stream self.new)
+            ≡ next_u64 (generator_stream self.old) }
         ensures word { result ≡ word_at self.old 1 }
         ensures state { self.new ≡ state_after self.old 1 }
     {

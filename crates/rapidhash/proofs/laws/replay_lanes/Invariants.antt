@@ -12,5 +12,5 @@ invariant-loop-op g l =
       kept : secrets_of l.hasher ≡ l.secrets;
       message : (x : List ℕ) × StreamStandsFor protected l.hasher x
           × (finishes g.row.LANES chosen l.secrets l.ops
-              ≡ l.answers.items ++ finishes_from g.row.LANES chosen l.secrets x (drop l.op-index l.ops));
+          ≡ l.answers.items ++ finishes_from g.row.LANES chosen l.secrets x (drop l.op-index l.ops));
     }
