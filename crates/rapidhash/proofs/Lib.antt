@@ -1,5 +1,5 @@
-pub mod Absorbing
-pub mod Behind
-pub mod Drawn
-pub mod Packing
-pub mod Replays
+pub mod GeneratorLemmas
+pub mod HasherLemmas
+pub mod LawsLemmas
+pub mod ReplayLemmas
+pub mod SpongeLemmas

@@ -1,16 +1,18 @@
 -- The small generator: its states go one cycle by steps of an odd number, and each gives a word.
 use Rattle.std.specs.Prelude.{ℕ, zero, suc, ◌+◌, ◌*◌, ◌/◌, ◌%◌, ◌^◌, false, bit_xor, List, [], ◌++◌, take}
 use Rattle.std.specs.Int.{w64, to_le_bytes}
-use Rattle.rand_core.specs.Steps.{Steps, steps_u64_low}
+use Rattle.rand_core.specs.Steps.{steps_u64_low, stream_of}
+use Rattle.rand_core.specs.Stream.{Stream}
 use Rattle.rapidhash_portable.specs.Multiply.{mix}
+use Rattle.rapidhash_portable.specs.Secrets.{s0, s1, s2}
 
 -- the state after `count` steps from a seed
 abbrev pub state_after : ℕ → ℕ → ℕ
-state_after seed count = (seed + count * 0x2d358dccaa6c78a5) % 2 ^ 64
+state_after seed count = (seed + count * s0) % 2 ^ 64
 
 -- the word that a state gives
 abbrev pub word_of : ℕ → ℕ
-word_of state = mix false state (bit_xor state 0x8bb84b93962eacc9)
+word_of state = mix false state (bit_xor state s1)
 
 -- word `count` from a seed, counted from 1: that of the state after as many steps
 abbrev pub word_at : ℕ → ℕ → ℕ
@@ -20,9 +22,9 @@ word_at seed count = word_of (state_after seed count)
 abbrev pub next_word : ℕ → ℕ × ℕ
 next_word seed = (word_at seed 1, state_after seed 1)
 
--- the calls of a generator: half a word is its low half, and bytes are those of whole words
-abbrev pub generator_steps : Steps ℕ
-generator_steps = steps_u64_low next_word
+-- what all calls answer from a state on: half a word is its low half, and bytes are those of whole words
+abbrev pub generator_stream : ℕ → Stream
+generator_stream state = stream_of (steps_u64_low next_word) state
 
 -- the little-endian bytes of the words 1 to `count`
 abbrev pub bytes_of_words : ℕ → ℕ → List ℕ
@@ -44,8 +46,8 @@ moment_of secs nanos = secs % 2 ^ 32 * 2 ^ 32 + nanos
 -- the seed that a moment makes of another
 abbrev pub seed_at_moment : ℕ → ℕ → ℕ → ℕ
 seed_at_moment seed secs nanos =
-    let moment = mix false (bit_xor (moment_of secs nanos) 0x2d358dccaa6c78a5) (bit_xor seed 0x8bb84b93962eacc9) in
-    mix false (bit_xor moment 0x2d358dccaa6c78a5) 0x4b33a62ed433d4a3
+    let moment = mix false (bit_xor (moment_of secs nanos) s0) (bit_xor seed s1) in
+    mix false (bit_xor moment s0) s2
 
 -- the word that a moment gives: that of the seed it makes
 abbrev pub word_at_moment : ℕ → ℕ → ℕ → ℕ

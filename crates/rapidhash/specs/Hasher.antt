@@ -24,7 +24,7 @@ steps false items = items
 
 -- a step on the seed
 abbrev pub step : Options → List ℕ → ℕ → Item → ℕ
-step options secrets seed (Bytes bytes) = memory_hash options seed secrets bytes
+step options secrets seed (Bytes bytes) = memory_hash options bytes seed secrets
 step options secrets seed (Wide value) = mix options.protected (bit_xor (value % 2 ^ 64) seed) (bit_xor (value / 2 ^ 64) (slice_index secrets 0))
 step options secrets seed (Num width value) = mix options.protected (bit_xor value (slice_index secrets 0)) (bit_xor value seed)
 

@@ -18,6 +18,11 @@ HashIsOfWords form x =
     (options : Options) (seed : ℕ) (secrets : List ℕ) → seed < 2 ^ 64 → ((i : ℕ) → slice_index secrets i < 2 ^ 64)
     → portable_hash form options seed secrets x ≡ value_of_words form options seed secrets (length x) (absorbed_words form x)
 
+-- and so of two messages
+pub record HashesAreOfWords (form : Form) (x y : List ℕ) : Type 0 where
+  pub first : HashIsOfWords form x
+  pub second : HashIsOfWords form y
+
 -- the width of an integer in bits
 abbrev pub width_of : Num → ℕ
 width_of (N8 value) = 8

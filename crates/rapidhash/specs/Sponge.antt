@@ -1,5 +1,11 @@
 -- What a hasher absorbs, and its integers packed into blocks of 128 bits, at places that widths alone fix.
 use Rattle.std.specs.Prelude.{ℕ, ◌≡◌, ◌+◌, ◌*◌, ◌^◌, ◌<◌, ◌⊎◌, if◌then◌else◌, nat_le, nat_eq, List, [], ◌∷◌, All}
+use Rattle.std.proofs.Common.{lit≤, lit<}
+use Rattle.rapidhash.specs.declared.inner.sponge.Sponge.{Sponge}
+
+-- the sponge of a hasher in which nothing waits
+abbrev pub empty_sponge : Sponge
+empty_sponge = record { bits = 0; width = 0; small = lit≤ tt; fits = lit< tt }
 
 -- what a hasher absorbs: bytes, a number of 128 bits, or an integer by its width in bits and its value
 pub data Item : Type 0 where

@@ -7,6 +7,7 @@
 
 ghost use Rattle.std.specs.Prelude.{◌≡◌, IfOk};
 ghost use Rattle.rapidhash_portable.specs.Lanes.{IsLaneCount};
+ghost use Rattle.rapidhash_portable.specs.Options.{options};
 ghost use Rattle.rapidhash.specs.Replay.{finishes};
 
 mod blocks;
@@ -40,10 +41,8 @@ pub fn replay<A: Allocator, const AVALANCHE: bool, const PROTECTED: bool>(
     secrets: &RapidSecrets,
     ops: &[StreamOp<'_>],
 ) -> Result<Vec<u64, A>, AllocError>
-    ensures { IfOk result (λ answers.
-        answers.items
-        ≡ finishes 7 (record { avalanche = AVALANCHE; protected = PROTECTED })
-        secrets.now.seed secrets.now.secrets ops.now) }
+    ensures { IfOk result (λ answers. answers.items
+        ≡ finishes 7 (options AVALANCHE PROTECTED) secrets.now ops.now) }
 {
     replay_lanes::<A, 7, AVALANCHE, PROTECTED>(alloc, secrets, ops)
 }
@@ -55,10 +54,8 @@ pub fn replay_lanes<A: Allocator, const LANES: usize, const AVALANCHE: bool, con
     ops: &[StreamOp<'_>],
 ) -> Result<Vec<u64, A>, AllocError>
     requires { IsLaneCount LANES }
-    ensures { IfOk result (λ answers.
-        answers.items
-        ≡ finishes LANES (record { avalanche = AVALANCHE; protected = PROTECTED })
-        secrets.now.seed secrets.now.secrets ops.now) }
+    ensures { IfOk result (λ answers. answers.items
+        ≡ finishes LANES (options AVALANCHE PROTECTED) secrets.now ops.now) }
 {
     let mut answers = Vec::new(alloc);
     let mut hasher = RapidStreamHasherLanes::<LANES, AVALANCHE, PROTECTED>::new(secrets);

@@ -1,33 +1,35 @@
-//! A small generator for tests and simulations, with a state of 64 bits. It is no source of secrets.
+//! A small generator for tests and simulations, with a state of 64 bits. It is not a source of
+//! secrets.
 
 ghost use Rattle.std.specs.Prelude.{◌≡◌, ◌<◌, ◌^◌, ◌%◌, ℕ, false, length};
 ghost use Rattle.std.specs.Int.{w64, from_le_bytes, to_le_bytes};
-ghost use Rattle.rand_core.specs.Steps.{stream_of};
 ghost use Rattle.rand_core.specs.Stream.{next_u32, next_u64, fill_bytes};
 ghost use Rattle.rapidhash_portable.specs.Multiply.{mix};
-ghost use Rattle.rapidhash.specs.Generator.{state_after, word_at, next_word, generator_steps, words_for, first_bytes_of, seed_at_moment, word_at_moment};
+ghost use Rattle.rapidhash_portable.specs.Secrets.{s1, v1_number};
+ghost use Rattle.rapidhash.specs.Generator.{state_after, word_at, next_word, generator_stream, words_for, first_bytes_of, seed_at_moment, word_at_moment};
 
 use rand_core::utils::NextWord;
 use rand_core::{Rng, SeedableRng, utils};
 use rapidhash_portable::util::rapid_mix;
+use rapidhash_portable::v3::DEFAULT_RAPID_SECRETS;
 use std::marker::Model;
 
 /// What a step adds to the state. It is odd, so the states go one cycle of 2^64.
-const STEP: u64 = 0x2d35_8dcc_aa6c_78a5;
+const STEP: u64 = DEFAULT_RAPID_SECRETS.secrets[0];
 
 /// The step's inverse: their product is 1 modulo 2^64.
 const INVERSE: u64 = 0x32e2_5c49_d2be_af2d;
 
 /// What a word mixes its state with.
-const MASK: u64 = 0x8bb8_4b93_962e_acc9;
+const MASK: u64 = DEFAULT_RAPID_SECRETS.secrets[1];
 
 /// What a seed mixes its moment with.
-const MOMENT_MASK: u64 = 0x4b33_a62e_d433_d4a3;
+const MOMENT_MASK: u64 = DEFAULT_RAPID_SECRETS.secrets[2];
 
 /// The seed that a generator made at a moment starts from.
 const MOMENT_SEED: u64 = 0xbdd8_9aa9_8270_4029;
 
-/// Steps the state, and gives the word of the new one.
+/// Steps the state, and returns the word of the new one.
 ///
 /// ```
 /// let mut state = 42;
@@ -44,7 +46,7 @@ pub fn rapidrng_fast(state: &mut u64) -> u64
     rapid_mix::<false>(next, next ^ MASK)
 }
 
-/// Steps the state alike, and gives another word of the new one: the form that other machines may
+/// Steps the state alike, and returns another word of the new one: the form that other machines may
 /// compute otherwise.
 ///
 /// ```
@@ -54,16 +56,16 @@ pub fn rapidrng_fast(state: &mut u64) -> u64
 #[inline(always)]
 pub fn rapidrng_fast_not_portable(state: &mut u64) -> u64
     ensures state { state.new ≡ state_after state.old 1 }
-    ensures word { result ≡ mix false (state_after state.old 1) 0x8bb84b93962eacc9 }
+    ensures word { result ≡ mix false (state_after state.old 1) s1 }
 {
     let next = state.wrapping_add(STEP);
     *state = next;
     rapid_mix::<false>(next, MASK)
 }
 
-/// Makes a new seed of the old one and a moment, and gives the new seed's word. The moment is handed
-/// in, as seconds and nanoseconds since a beginning of the caller's choice; of the seconds the low 32
-/// bits count. That the nanoseconds are less than a second is the caller's condition.
+/// Makes a new seed of the old one and a moment, and returns the new seed's word. The moment is
+/// handed in, as seconds and nanoseconds since a beginning of the caller's choice; of the seconds
+/// the low 32 bits count. Precondition: the nanoseconds are less than a second.
 ///
 /// ```
 /// let mut seed = 42;
@@ -109,11 +111,11 @@ impl RapidRng {
         RapidRng { seed }
     }
 
-    /// A generator whose state is what [`rapidrng_time`] answers at a moment from a seed that is
-    /// always the same. That the nanoseconds are less than a second is the caller's condition.
+    /// A generator whose state is what [`rapidrng_time`] returns at a moment from a seed that is
+    /// always the same. Precondition: the nanoseconds are less than a second.
     pub fn from_moment(secs: u64, nanos: u32) -> RapidRng
         requires { nanos < 1000000000 }
-        ensures { result ≡ word_at_moment 0xbdd89aa982704029 secs nanos }
+        ensures { result ≡ word_at_moment v1_number secs nanos }
     {
         let mut seed = MOMENT_SEED;
         RapidRng::new(rapidrng_time(&mut seed, secs, nanos))
@@ -144,8 +146,8 @@ impl RapidRng {
         rapidrng_fast(&mut self.seed)
     }
 
-    /// How many steps lead from this state to the other's. There is always such a number below 2^64,
-    /// and any other number of steps that does it is the same modulo 2^64.
+    /// How many steps lead from this state to the other's. There is always such a number below
+    /// 2^64, and any other number of steps that does it is the same modulo 2^64.
     ///
     /// ```
     /// let start = RapidRng::new(42);
@@ -156,7 +158,8 @@ impl RapidRng {
     pub fn steps_to(&self, other: &RapidRng) -> u64
         ensures below { result < 2 ^ 64 }
         ensures leads { state_after self.now result ≡ other.now }
-        ensures only { (steps : ℕ) → state_after self.now steps ≡ other.now → steps % 2 ^ 64 ≡ result }
+        ensures only { (steps : ℕ) → state_after self.now steps ≡ other.now →
+            steps % 2 ^ 64 ≡ result }
     {
         let distance = other.seed.wrapping_sub(self.seed);
         distance.wrapping_mul(INVERSE)
@@ -196,12 +199,13 @@ impl NextWord<u64> for RapidRng {
 }
 
 impl Rng for RapidRng {
-    ghost stream = { stream_of generator_steps };
+    ghost stream = { generator_stream };
 
     /// The low half of the next word.
     #[inline]
     fn next_u32(&mut self) -> u32
-        ensures stream { (result, stream_of generator_steps self.new) ≡ next_u32 (stream_of generator_steps self.old) }
+        ensures stream { (result, generator_stream self.new)
+            ≡ next_u32 (generator_stream self.old) }
         ensures low { result ≡ word_at self.old 1 % 2 ^ 32 }
         ensures state { self.new ≡ state_after self.old 1 }
     {
@@ -211,18 +215,20 @@ impl Rng for RapidRng {
     /// The next word.
     #[inline]
     fn next_u64(&mut self) -> u64
-        ensures stream { (result, stream_of generator_steps self.new) ≡ next_u64 (stream_of generator_steps self.old) }
+        ensures stream { (result, generator_stream self.new)
+            ≡ next_u64 (generator_stream self.old) }
         ensures word { result ≡ word_at self.old 1 }
         ensures state { self.new ≡ state_after self.old 1 }
     {
         self.next()
     }
 
-    /// The first bytes of the next words, each with its lowest byte first. A word is taken for each 8
-    /// bytes begun; what is left of the last one is dropped.
+    /// The first bytes of the next words, each with its lowest byte first. A word is taken for each
+    /// 8 bytes begun; what is left of the last one is dropped.
     #[inline]
     fn fill_bytes(&mut self, dst: &mut [u8])
-        ensures stream { (dst.new, stream_of generator_steps self.new) ≡ fill_bytes (length dst.old) (stream_of generator_steps self.old) }
+        ensures stream { (dst.new, generator_stream self.new)
+            ≡ fill_bytes (length dst.old) (generator_stream self.old) }
         ensures bytes { dst.new ≡ first_bytes_of self.old (length dst.old) }
         ensures state { self.new ≡ state_after self.old (words_for (length dst.old)) }
     {

@@ -1,7 +1,8 @@
 -- Secrets and sources of random words, seen from outside.
-use Rattle.std.specs.Prelude.{ℕ, List}
+use Rattle.std.specs.Prelude.{ℕ, ◌≡◌, List}
 use Rattle.rapidhash_portable.specs.declared.seeding.GlobalSecrets.{GlobalSecrets}
 use Rattle.rapidhash_portable.specs.declared.seeding.SeedSource.{SeedSource}
+use Rattle.rapidhash_portable.specs.Secrets.{source_answer, source_next}
 
 -- the global seed
 abbrev pub seed_of : GlobalSecrets → ℕ
@@ -17,3 +18,9 @@ counter_of source = source.counter
 
 abbrev pub random_of : SeedSource → ℕ
 random_of source = source.random
+
+-- a seed is drawn from a source: the counter goes on, the random word stays, and the seed is what they make
+pub record Draws (old new : SeedSource) (seed : ℕ) : Type 0 where
+  pub counter : counter_of new ≡ source_next (counter_of old)
+  pub random : random_of new ≡ random_of old
+  pub answer : seed ≡ source_answer (random_of old) (counter_of new)

@@ -1,7 +1,7 @@
 //! Secrets made of a seed: the arithmetic behind every `RapidSecrets`, and the type of V2 and V3.
 
-ghost use Rattle.std.specs.Prelude.{◌≡◌, ◌<◌, ◌≤◌, All};
-ghost use Rattle.rapidhash_portable.specs.Secrets.{IsGood, chained_secrets, cpp_seeded, default_secrets, default_seed, global_seed, made_secrets, premixed, repaired, seeded, seeded_secrets, source_answer, source_next, reseeded, with_bit};
+ghost use Rattle.std.specs.Prelude.{◌≡◌, ◌<◌, ◌≤◌, ◌∷◌, All};
+ghost use Rattle.rapidhash_portable.specs.Secrets.{IsGood, chained_secrets, cpp_seeded, default_secrets, default_seed, global_seed, made_secrets, premixed, repaired, seeded, seeded_secrets, reseeded, with_bit};
 
 use crate::seeding::{GlobalSecrets, SeedSource};
 use crate::util::rapid_mix;
@@ -24,7 +24,7 @@ pub const DEFAULT_RAPID_SECRETS: RapidSecrets = RapidSecrets {
 };
 
 impl RapidSecrets {
-    ghost use Rattle.rapidhash_portable.specs.Seeding.{counter_of, random_of, secrets_of};
+    ghost use Rattle.rapidhash_portable.specs.Seeding.{Draws, secrets_of};
 
     /// The default seed and secrets, [`DEFAULT_RAPID_SECRETS`], by reference.
     ///
@@ -50,8 +50,7 @@ impl RapidSecrets {
     pub fn seed(seed: u64) -> Self
         ensures seed { result.seed ≡ seeded seed }
         ensures secrets { result.secrets ≡ seeded_secrets 7 seed }
-        ensures good_seed { IsGood result.seed }
-        ensures good_secrets { All IsGood result.secrets }
+        ensures good { All IsGood (result.seed ∷ result.secrets) }
     {
         let seed = seed_of(seed);
         RapidSecrets {
@@ -94,10 +93,8 @@ impl RapidSecrets {
     /// let secrets = RapidSecrets::random(&global, &mut source);
     /// ```
     pub fn random(global: &GlobalSecrets, source: &mut SeedSource) -> Self
-        ensures seed { result.seed ≡ source_answer (random_of source.old) (counter_of source.new) }
+        ensures seed { Draws source.old source.new result.seed }
         ensures secrets { result.secrets ≡ secrets_of global.now }
-        ensures counter { counter_of source.new ≡ source_next (counter_of source.old) }
-        ensures random { random_of source.new ≡ random_of source.old }
     {
         RapidSecrets {
             seed: source.next(),

@@ -66,8 +66,8 @@ pub struct SeedSource {
 
 #[tactic(auto, unfolding(crate::specs::Secrets::source_start, crate::specs::Secrets::source_answer))]
 impl SeedSource {
-    ghost use Rattle.rapidhash_portable.specs.Seeding.{counter_of, random_of, seed_of};
-    ghost use Rattle.rapidhash_portable.specs.Secrets.{source_answer, source_next, source_start};
+    ghost use Rattle.rapidhash_portable.specs.Seeding.{Draws, counter_of, random_of, seed_of};
+    ghost use Rattle.rapidhash_portable.specs.Secrets.{source_start};
 
     /// The source of a seed and a second random word.
     pub fn new(secrets: &GlobalSecrets, random: u64) -> Self
@@ -81,9 +81,7 @@ impl SeedSource {
 
     /// The next seed.
     pub fn next(&mut self) -> u64
-        ensures counter { counter_of self.new ≡ source_next (counter_of self.old) }
-        ensures answer { result ≡ source_answer (random_of self.old) (counter_of self.new) }
-        ensures random { random_of self.new ≡ random_of self.old }
+        ensures { Draws self.old self.new result }
     {
         let counter = self.counter.wrapping_add(DEFAULT_SECRETS[0]);
         self.counter = counter;

@@ -1,6 +1,6 @@
 //! rapidhash V1.
 
-ghost use Rattle.std.specs.Prelude.{◌≡◌, ◌<◌, ◌≤◌, ℕ, All, Bool, List, false, true, if◌then◌else◌, length, slice_index, drop};
+ghost use Rattle.std.specs.Prelude.{◌≡◌, ◌<◌, ◌≤◌, ◌∷◌, ℕ, All, Bool, List, false, true, if◌then◌else◌, length, slice_index, drop};
 ghost use Rattle.rapidhash_portable.specs.declared.form.Form.TheVariants.{V1};
 ghost use Rattle.rapidhash_portable.specs.Form.{shape_of, start_seed};
 ghost use Rattle.rapidhash_portable.specs.Hash.{portable_hash};
@@ -61,8 +61,7 @@ impl RapidSecrets {
     pub fn seed(seed: u64) -> Self
         ensures seed { result.seed ≡ seeded seed }
         ensures secrets { result.secrets ≡ seeded_secrets 3 seed }
-        ensures good_seed { IsGood result.seed }
-        ensures good_secrets { All IsGood result.secrets }
+        ensures good { All IsGood (result.seed ∷ result.secrets) }
     {
         let seed = seed_of(seed);
         RapidSecrets {

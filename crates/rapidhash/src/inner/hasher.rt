@@ -2,10 +2,10 @@
 
 ghost use Rattle.std.specs.Prelude.{◌≡◌, ◌<◌, ◌^◌, []};
 ghost use Rattle.std.specs.Int.{cast_unsigned, w8, w16, w32, w64, w128};
-ghost use Rattle.rapidhash_portable.specs.Secrets.{cpp_seeded, default_secrets};
+ghost use Rattle.rapidhash_portable.specs.Secrets.{cpp_seeded, default_secrets, default_seed};
 ghost use Rattle.rapidhash.specs.Sponge.{Bytes, IsWidth, Num, Wide};
 ghost use Rattle.rapidhash.specs.Hasher.{step};
-ghost use Rattle.rapidhash.specs.Hashers.{Absorbs, Answers, Stands, answer_of, fresh, options, secrets_of, written};
+ghost use Rattle.rapidhash.specs.RapidHasher.{Absorbs, Answers, Stands, answer_of, fresh, options_of, secrets_of, written};
 
 use crate::inner::sponge::Sponge;
 use rapidhash_portable::memory::memory_hash;
@@ -59,7 +59,7 @@ impl<
     #[inline(always)]
     pub fn new(seed: u64) -> Self
         ensures secrets { secrets_of result ≡ default_secrets }
-        ensures stands { Stands AVALANCHE SPONGE PROTECTED result (cpp_seeded 2 seed) [] }
+        ensures stands { Stands result (cpp_seeded seed 2) [] }
     {
         RapidHasher::from_parts(
             RapidSecrets::seed_cpp(seed).seed,
@@ -71,7 +71,7 @@ impl<
     #[inline(always)]
     pub fn default_const() -> Self
         ensures secrets { secrets_of result ≡ default_secrets }
-        ensures stands { Stands AVALANCHE SPONGE PROTECTED result (cpp_seeded 2 0) [] }
+        ensures stands { Stands result default_seed [] }
     {
         RapidHasher::new(0)
     }
@@ -80,7 +80,7 @@ impl<
     #[inline(always)]
     pub(crate) fn from_parts(seed: u64, secrets: &'s [u64; 7]) -> Self
         ensures value { result ≡ fresh seed secrets.entry }
-        ensures stands { Stands AVALANCHE SPONGE PROTECTED result seed [] }
+        ensures stands { Stands result seed [] }
     {
         RapidHasher {
             seed,
@@ -93,7 +93,7 @@ impl<
     #[inline(always)]
     fn mixed(&self, wide: u128) -> u64
         ensures { result
-            ≡ step (options AVALANCHE PROTECTED) (secrets_of self.now) self.now.seed (Wide wide) }
+            ≡ step (options_of self.now) (secrets_of self.now) self.now.seed (Wide wide) }
     {
         let low = (wide % 0x1_0000_0000_0000_0000) as u64;
         let high = (wide / 0x1_0000_0000_0000_0000) as u64;
@@ -105,8 +105,7 @@ impl<
     fn write_number(&mut self, value: u64, width: u8)
         requires width { IsWidth width }
         requires fits { value < 2 ^ width }
-        ensures secrets { secrets_of self.new ≡ secrets_of self.old }
-        ensures stands { Absorbs AVALANCHE SPONGE PROTECTED self.old self.new (Num width value) }
+        ensures { Absorbs self.old self.new (Num width value) }
     {
         if SPONGE {
             if self.sponge.width <= 128 - width {
@@ -128,8 +127,8 @@ impl<
     const COMPACT: bool,
     const PROTECTED: bool,
 > RapidHasher<'s, AVALANCHE, SPONGE, COMPACT, PROTECTED> {
-    /// Absorbs an integer of 8 bits. Two integers of one width that share a block count as the joined
-    /// one: `write_u8(2)` and `write_u8(1)` as `write_u16(258)`.
+    /// Absorbs an integer of 8 bits. Two integers of one width that share a block count as the
+    /// joined one: `write_u8(2)` and `write_u8(1)` as `write_u16(258)`.
     ///
     /// ```
     /// let mut hasher = fast::RapidHasher::default();
@@ -138,8 +137,7 @@ impl<
     /// ```
     #[inline(always)]
     pub fn write_u8(&mut self, value: u8)
-        ensures secrets { secrets_of self.new ≡ secrets_of self.old }
-        ensures stands { Absorbs AVALANCHE SPONGE PROTECTED self.old self.new (Num 8 value) }
+        ensures { Absorbs self.old self.new (Num 8 value) }
     {
         self.write_number(value as u64, 8);
     }
@@ -147,8 +145,7 @@ impl<
     /// Absorbs an integer of 16 bits.
     #[inline(always)]
     pub fn write_u16(&mut self, value: u16)
-        ensures secrets { secrets_of self.new ≡ secrets_of self.old }
-        ensures stands { Absorbs AVALANCHE SPONGE PROTECTED self.old self.new (Num 16 value) }
+        ensures { Absorbs self.old self.new (Num 16 value) }
     {
         self.write_number(value as u64, 16);
     }
@@ -156,8 +153,7 @@ impl<
     /// Absorbs an integer of 32 bits.
     #[inline(always)]
     pub fn write_u32(&mut self, value: u32)
-        ensures secrets { secrets_of self.new ≡ secrets_of self.old }
-        ensures stands { Absorbs AVALANCHE SPONGE PROTECTED self.old self.new (Num 32 value) }
+        ensures { Absorbs self.old self.new (Num 32 value) }
     {
         self.write_number(value as u64, 32);
     }
@@ -165,8 +161,7 @@ impl<
     /// Absorbs an integer of 64 bits.
     #[inline(always)]
     pub fn write_u64(&mut self, value: u64)
-        ensures secrets { secrets_of self.new ≡ secrets_of self.old }
-        ensures stands { Absorbs AVALANCHE SPONGE PROTECTED self.old self.new (Num 64 value) }
+        ensures { Absorbs self.old self.new (Num 64 value) }
     {
         self.write_number(value, 64);
     }
@@ -174,8 +169,7 @@ impl<
     /// Absorbs an integer of 64 bits, as [`RapidHasher::write_u64`].
     #[inline(always)]
     pub fn write_usize(&mut self, value: usize)
-        ensures secrets { secrets_of self.new ≡ secrets_of self.old }
-        ensures stands { Absorbs AVALANCHE SPONGE PROTECTED self.old self.new (Num 64 value) }
+        ensures { Absorbs self.old self.new (Num 64 value) }
     {
         self.write_number(value as u64, 64);
     }
@@ -183,8 +177,7 @@ impl<
     /// Absorbs a signed integer of 8 bits, by its bits.
     #[inline(always)]
     pub fn write_i8(&mut self, value: i8)
-        ensures secrets { secrets_of self.new ≡ secrets_of self.old }
-        ensures stands { Absorbs AVALANCHE SPONGE PROTECTED self.old self.new (Num 8 (cast_unsigned w8 value)) }
+        ensures { Absorbs self.old self.new (Num 8 (cast_unsigned w8 value)) }
     {
         self.write_number(value.cast_unsigned() as u64, 8);
     }
@@ -192,8 +185,7 @@ impl<
     /// Absorbs a signed integer of 16 bits, by its bits.
     #[inline(always)]
     pub fn write_i16(&mut self, value: i16)
-        ensures secrets { secrets_of self.new ≡ secrets_of self.old }
-        ensures stands { Absorbs AVALANCHE SPONGE PROTECTED self.old self.new (Num 16 (cast_unsigned w16 value)) }
+        ensures { Absorbs self.old self.new (Num 16 (cast_unsigned w16 value)) }
     {
         self.write_number(value.cast_unsigned() as u64, 16);
     }
@@ -201,8 +193,7 @@ impl<
     /// Absorbs a signed integer of 32 bits, by its bits.
     #[inline(always)]
     pub fn write_i32(&mut self, value: i32)
-        ensures secrets { secrets_of self.new ≡ secrets_of self.old }
-        ensures stands { Absorbs AVALANCHE SPONGE PROTECTED self.old self.new (Num 32 (cast_unsigned w32 value)) }
+        ensures { Absorbs self.old self.new (Num 32 (cast_unsigned w32 value)) }
     {
         self.write_number(value.cast_unsigned() as u64, 32);
     }
@@ -210,8 +201,7 @@ impl<
     /// Absorbs a signed integer of 64 bits, by its bits.
     #[inline(always)]
     pub fn write_i64(&mut self, value: i64)
-        ensures secrets { secrets_of self.new ≡ secrets_of self.old }
-        ensures stands { Absorbs AVALANCHE SPONGE PROTECTED self.old self.new (Num 64 (cast_unsigned w64 value)) }
+        ensures { Absorbs self.old self.new (Num 64 (cast_unsigned w64 value)) }
     {
         self.write_number(value.cast_unsigned(), 64);
     }
@@ -219,8 +209,7 @@ impl<
     /// Absorbs a signed integer of 64 bits, by its bits.
     #[inline(always)]
     pub fn write_isize(&mut self, value: isize)
-        ensures secrets { secrets_of self.new ≡ secrets_of self.old }
-        ensures stands { Absorbs AVALANCHE SPONGE PROTECTED self.old self.new (Num 64 (cast_unsigned w64 value)) }
+        ensures { Absorbs self.old self.new (Num 64 (cast_unsigned w64 value)) }
     {
         self.write_number(value.cast_unsigned() as u64, 64);
     }
@@ -228,8 +217,7 @@ impl<
     /// Absorbs 128 bits in one step. What waits in the sponge stays there.
     #[inline(always)]
     pub fn write_u128(&mut self, value: u128)
-        ensures secrets { secrets_of self.new ≡ secrets_of self.old }
-        ensures stands { Absorbs AVALANCHE SPONGE PROTECTED self.old self.new (Wide value) }
+        ensures { Absorbs self.old self.new (Wide value) }
     {
         self.seed = self.mixed(value);
     }
@@ -237,8 +225,7 @@ impl<
     /// Absorbs 128 bits in one step, as [`RapidHasher::write_u128`] does.
     #[inline(always)]
     pub fn write_i128(&mut self, value: i128)
-        ensures secrets { secrets_of self.new ≡ secrets_of self.old }
-        ensures stands { Absorbs AVALANCHE SPONGE PROTECTED self.old self.new (Wide (cast_unsigned w128 value)) }
+        ensures { Absorbs self.old self.new (Wide (cast_unsigned w128 value)) }
     {
         self.write_u128(value.cast_unsigned());
     }
@@ -251,23 +238,22 @@ impl<
     const COMPACT: bool,
     const PROTECTED: bool,
 > Hasher for RapidHasher<'s, AVALANCHE, SPONGE, COMPACT, PROTECTED> {
-    ghost write = { λ hasher bytes. written AVALANCHE PROTECTED hasher bytes };
+    ghost write = { written };
 
-    ghost finish = { λ hasher. answer_of AVALANCHE PROTECTED hasher };
+    ghost finish = { answer_of };
 
     #[inline(always)]
     fn write(&mut self, bytes: &[u8])
-        ensures value { self.new ≡ written AVALANCHE PROTECTED self.old bytes.now }
-        ensures secrets { secrets_of self.new ≡ secrets_of self.old }
-        ensures stands { Absorbs AVALANCHE SPONGE PROTECTED self.old self.new (Bytes bytes.now) }
+        ensures value { self.new ≡ written self.old bytes.now }
+        ensures item { Absorbs self.old self.new (Bytes bytes.now) }
     {
         self.seed = memory_hash::<AVALANCHE, COMPACT, PROTECTED>(bytes, self.seed, self.secrets);
     }
 
     #[inline(always)]
     fn finish(&self) -> u64
-        ensures value { result ≡ answer_of AVALANCHE PROTECTED self.now }
-        ensures stands { Answers AVALANCHE SPONGE PROTECTED self.now result }
+        ensures value { result ≡ answer_of self.now }
+        ensures stands { Answers self.now result }
     {
         let mut last = self.seed;
         if self.sponge.width > 0 {
@@ -288,7 +274,7 @@ impl<
     const PROTECTED: bool,
 > Default for RapidHasher<'s, AVALANCHE, SPONGE, COMPACT, PROTECTED> {
     ghost is_default = { λ hasher. (secrets_of hasher ≡ default_secrets)
-        × Stands AVALANCHE SPONGE PROTECTED hasher (cpp_seeded 2 0) [] };
+        × Stands hasher default_seed [] };
 
     #[inline(always)]
     fn default() -> Self {

@@ -12,7 +12,7 @@ pub(crate) struct Sponge {
 }
 
 impl Sponge {
-    ghost use Rattle.rapidhash.specs.Empty.{empty_sponge};
+    ghost use Rattle.rapidhash.specs.Sponge.{empty_sponge};
 
     /// No bits.
     #[inline(always)]

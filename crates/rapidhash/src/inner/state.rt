@@ -3,6 +3,7 @@
 mod global;
 mod random;
 mod seedable;
+mod seeded;
 
 pub use global::GlobalState;
 pub use random::RandomState;

@@ -5,9 +5,10 @@ ghost use Rattle.std.specs.Prelude.{◌≡◌, ◌≤◌, ◌↔◌, IsTrue};
 ghost use Rattle.rapidhash_portable.specs.declared.form.Form.{Form};
 ghost use Rattle.rapidhash_portable.specs.declared.form.Form.TheVariants.{V1};
 ghost use Rattle.rapidhash_portable.specs.Form.{micro, nano, v2, v3};
-ghost use Rattle.rapidhash.specs.Laws.{HashIsOfWords, SameWords};
+ghost use Rattle.rapidhash.specs.Laws.{HashIsOfWords, HashesAreOfWords, SameWords};
 
-/// Whether two messages are one, which every form tells by their lengths and the words that it reads.
+/// Whether two messages are one, which every form tells by their lengths and the words that it
+/// reads.
 fn same_words(x: &[u8], y: &[u8]) -> bool
     ensures words { (form : Form) → (IsTrue result ↔ SameWords form x.now y.now) }
     ensures bytes { IsTrue result ↔ (x.now ≡ y.now) }
@@ -17,9 +18,9 @@ fn same_words(x: &[u8], y: &[u8]) -> bool
     x == y
 }
 
-/// Whether two messages have one length and the words that V1 reads agree, which is whether they are
-/// one message. V1 of either is a formula over its length and these words, whatever the options, the
-/// seed and the secrets.
+/// Whether two messages have one length and the words that V1 reads agree, which is whether they
+/// are one message. V1 of either is a formula over its length and these words, whatever the
+/// options, the seed and the secrets.
 ///
 /// ```
 /// assert!(!same_words_v1::<false>(b"left", b"lift"));
@@ -27,8 +28,7 @@ fn same_words(x: &[u8], y: &[u8]) -> bool
 pub fn same_words_v1<const V1_BUG: bool>(x: &[u8], y: &[u8]) -> bool
     ensures words { IsTrue result ↔ SameWords (V1 V1_BUG) x.now y.now }
     ensures bytes { IsTrue result ↔ (x.now ≡ y.now) }
-    ensures first { HashIsOfWords (V1 V1_BUG) x.now }
-    ensures second { HashIsOfWords (V1 V1_BUG) y.now }
+    ensures hashes { HashesAreOfWords (V1 V1_BUG) x.now y.now }
 {
     same_words(x, y)
 }
@@ -42,8 +42,7 @@ pub fn same_words_v2<const MINOR: u8>(x: &[u8], y: &[u8]) -> bool
     requires { MINOR ≤ 2 }
     ensures words { IsTrue result ↔ SameWords (v2 MINOR) x.now y.now }
     ensures bytes { IsTrue result ↔ (x.now ≡ y.now) }
-    ensures first { HashIsOfWords (v2 MINOR) x.now }
-    ensures second { HashIsOfWords (v2 MINOR) y.now }
+    ensures hashes { HashesAreOfWords (v2 MINOR) x.now y.now }
 {
     same_words(x, y)
 }
@@ -56,8 +55,7 @@ pub fn same_words_v2<const MINOR: u8>(x: &[u8], y: &[u8]) -> bool
 pub fn same_words_v3(x: &[u8], y: &[u8]) -> bool
     ensures words { IsTrue result ↔ SameWords v3 x.now y.now }
     ensures bytes { IsTrue result ↔ (x.now ≡ y.now) }
-    ensures first { HashIsOfWords v3 x.now }
-    ensures second { HashIsOfWords v3 y.now }
+    ensures hashes { HashesAreOfWords v3 x.now y.now }
 {
     same_words(x, y)
 }
@@ -70,8 +68,7 @@ pub fn same_words_v3(x: &[u8], y: &[u8]) -> bool
 pub fn same_words_micro(x: &[u8], y: &[u8]) -> bool
     ensures words { IsTrue result ↔ SameWords micro x.now y.now }
     ensures bytes { IsTrue result ↔ (x.now ≡ y.now) }
-    ensures first { HashIsOfWords micro x.now }
-    ensures second { HashIsOfWords micro y.now }
+    ensures hashes { HashesAreOfWords micro x.now y.now }
 {
     same_words(x, y)
 }
@@ -84,8 +81,7 @@ pub fn same_words_micro(x: &[u8], y: &[u8]) -> bool
 pub fn same_words_nano(x: &[u8], y: &[u8]) -> bool
     ensures words { IsTrue result ↔ SameWords nano x.now y.now }
     ensures bytes { IsTrue result ↔ (x.now ≡ y.now) }
-    ensures first { HashIsOfWords nano x.now }
-    ensures second { HashIsOfWords nano y.now }
+    ensures hashes { HashesAreOfWords nano x.now y.now }
 {
     same_words(x, y)
 }

@@ -1,14 +1,21 @@
-use Rattle.std.proofs.Common.{◌≡◌, ◌-◌, ◌++◌, [], List, ℕ, false, true, length, take, drop, refl, sym, ap, ◌∙◌, append_assoc}
+use Rattle.std.proofs.Common.{◌≡◌, ◌++◌, [], List, ℕ, true, false, take, drop, refl, sym, ap, ◌∙◌, append_assoc}
 use Rattle.std.proofs.lemmas.List.{take_rest, take-append-drop}
+use Rattle.rapidhash.specs.Form.{v3}
+use Rattle.rapidhash.specs.Options.{options}
+use Rattle.rapidhash.specs.Secrets.{default_secrets, default_seed}
+use Rattle.rapidhash.specs.Seeded.{default_hash, seeded_hash}
 use Rattle.rapidhash_portable.specs.declared.secrets.RapidSecrets.{RapidSecrets}
-use Rattle.rapidhash_portable.specs.Form.{v3}
-use Rattle.rapidhash_portable.specs.Hash.{portable_hash}
-use Rattle.rapidhash_portable.specs.Multiply.{mix, multiply}
-use Rattle.rapidhash_portable.specs.Secrets.{cpp_seeded, default_secrets}
 use Rattle.rapidhash_c.proofs.rapidhash_v3_in_pieces.Goals as goal
 
+-- the default seed and secrets are one value
+is_default : {s : RapidSecrets} → s.seed ≡ default_seed → s.secrets ≡ default_secrets → s ≡ record { seed = default_seed; secrets = default_secrets }
+is_default e f i = record { seed = e i; secrets = f i }
+
 pub pieces-init : goal.pieces-init
-pieces-init c = record { kept = c.new-hasher.ensures.secrets; message = ([], c.new-hasher.ensures.empty, refl) }
+pieces-init c = record {
+  kept = c.new-hasher.ensures.secrets ∙ is_default c.default_ref.ensures.seed c.default_ref.ensures.secrets;
+  message = ([], c.new-hasher.ensures.empty, refl);
+}
 
 pub pieces-preserved : goal.pieces-preserved
 pieces-preserved c =
@@ -28,10 +35,9 @@ pieces-preserved c =
     }
 
 pub returns : goal.returns
-unfolding cpp_seeded mix multiply
 returns c =
     let message = c.pieces.invariant.message in
     let kept = c.write-2.ensures.secrets ∙ c.pieces.invariant.kept in
     c.finish.ensures (message.0 ++ c.pieces.rest.now) (c.write-2.ensures.adds message.0 message.1)
-    ∙ ap (λ (s : RapidSecrets). portable_hash v3 (record { avalanche = true; protected = false }) s.seed s.secrets (message.0 ++ c.pieces.rest.now)) kept
-    ∙ ap (λ (x : List ℕ). portable_hash v3 (record { avalanche = true; protected = false }) (cpp_seeded 2 0) default_secrets x) (sym message.2)
+    ∙ ap (λ s. seeded_hash v3 (options true false) s (message.0 ++ c.pieces.rest.now)) kept
+    ∙ ap (default_hash v3 (options true false)) (sym message.2)

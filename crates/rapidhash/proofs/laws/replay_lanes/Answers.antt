@@ -1,24 +1,24 @@
 use Rattle.std.proofs.Common.{◌≡◌, ◌+◌, ◌++◌, ◌∷◌, [], not, nat_eq, subst, sym, ap, ◌∙◌, arith, append_assoc, drop}
 use Rattle.std.proofs.lemmas.List.{append-nil, drop_all}
-use Rattle.rapidhash_portable.specs.declared.form.Options.{Options}
 use Rattle.rapidhash_portable.specs.declared.form.Form.TheVariants.{V3}
-use Rattle.rapidhash_portable.specs.declared.secrets.RapidSecrets.{RapidSecrets}
-use Rattle.rapidhash_portable.specs.Hash.{portable_hash}
+use Rattle.rapidhash_portable.specs.Options.{options}
+use Rattle.rapidhash_portable.specs.Seeded.{seeded_hash}
 use Rattle.rapidhash_portable.specs.Stream.{StreamStandsFor, secrets_of}
 use Rattle.rapidhash.specs.Replay.{finishes_from}
-use Rattle.rapidhash.proofs.Replays.{finishes_from-write, finishes_from-finish, finishes_from-reset, finishes_from-end}
+use Rattle.rapidhash.proofs.ReplayLemmas.{finishes_from-step}
 use Rattle.rapidhash.proofs.laws.replay_lanes.Goals as goal
 use Rattle.rapidhash.proofs.laws.replay_lanes.Goals.{in-Write, in-Finish+in_ok-push-in-Finish, in-Reset}
 
 pub loop-op-preserved : goal.loop-op-preserved
+unfolding finishes_from
 loop-op-preserved g c =
     let P = not (nat_eq g.row.PROTECTED 0) in
-    let options : Options = record { avalanche = not (nat_eq g.row.AVALANCHE 0); protected = P } in
-    let seed = c.args.secrets.now.seed in
-    let secrets = c.args.secrets.now.secrets in
+    let chosen = options (not (nat_eq g.row.AVALANCHE 0)) P in
+    let secrets = c.args.secrets.now in
     let ops = c.args.ops.now in
     let i = c.loop-op.op-index in
     let kept = c.loop-op.invariant.kept in
+    let items = c.loop-op.answers.items in
     let message = c.loop-op.invariant.message in
     let x = message.0 in
     elim c.match-op.branch [
@@ -30,14 +30,13 @@ loop-op-preserved g c =
               y,
               subst (λ h. StreamStandsFor P h y) (sym w.hasher-is) (w.write.ensures.adds x message.1),
               message.2
-                  ∙ ap (λ a. c.loop-op.answers.items ++ a) (finishes_from-write g.row.LANES options seed secrets x ops i _ w.in-Write.piece (omega arith) w.in-Write.is)
-                  ∙ ap (λ v. v.items ++ finishes_from g.row.LANES options seed secrets y (drop (i + 1) ops)) (sym w.answers-is),
+                  ∙ ap (λ a. items ++ a) (finishes_from-step g.row.LANES chosen secrets x ops i _ _ (omega arith) w.in-Write.is)
+                  ∙ ap (λ v. v.items ++ finishes_from g.row.LANES chosen secrets y (drop (i + 1) ops)) (sym w.answers-is),
             );
           }
       | in-Finish+in_ok-push-in-Finish w ↦
-          let items = c.loop-op.answers.items in
-          let rest = finishes_from g.row.LANES options seed secrets x (drop (i + 1) ops) in
-          let hash = w.finish.ensures x message.1 ∙ ap (λ (s : RapidSecrets). portable_hash (V3 g.row.LANES) options s.seed s.secrets x) kept in
+          let rest = finishes_from g.row.LANES chosen secrets x (drop (i + 1) ops) in
+          let hash = w.finish.ensures x message.1 ∙ ap (λ s. seeded_hash (V3 g.row.LANES) chosen s x) kept in
           let pushed : w.push.new.self.items ≡ items ++ w.finish.result ∷ [] = rw w.in_ok-push-in-Finish.was at w.push.ensures.items in
           record {
             kept = ap secrets_of w.hasher-is ∙ kept;
@@ -45,7 +44,8 @@ loop-op-preserved g c =
               x,
               subst (λ h. StreamStandsFor P h x) (sym w.hasher-is) message.1,
               message.2
-                  ∙ ap (λ a. items ++ a) (finishes_from-finish g.row.LANES options seed secrets x ops i _ (omega arith) w.in-Finish.is ∙ ap (λ h. h ∷ rest) (sym hash))
+                  ∙ ap (λ a. items ++ a) (finishes_from-step g.row.LANES chosen secrets x ops i _ _ (omega arith) w.in-Finish.is)
+                  ∙ ap (λ h. items ++ h ∷ rest) (sym hash)
                   ∙ sym (append_assoc items (w.finish.result ∷ []) rest)
                   ∙ ap (λ a. a ++ rest) (sym pushed)
                   ∙ ap (λ v. v.items ++ rest) (sym w.answers-is),
@@ -58,20 +58,18 @@ loop-op-preserved g c =
               [],
               subst (λ h. StreamStandsFor P h []) (sym w.hasher-is) w.reset.ensures.empty,
               message.2
-                  ∙ ap (λ a. c.loop-op.answers.items ++ a) (finishes_from-reset g.row.LANES options seed secrets x ops i _ (omega arith) w.in-Reset.is)
-                  ∙ ap (λ v. v.items ++ finishes_from g.row.LANES options seed secrets [] (drop (i + 1) ops)) (sym w.answers-is),
+                  ∙ ap (λ a. items ++ a) (finishes_from-step g.row.LANES chosen secrets x ops i _ _ (omega arith) w.in-Reset.is)
+                  ∙ ap (λ v. v.items ++ finishes_from g.row.LANES chosen secrets [] (drop (i + 1) ops)) (sym w.answers-is),
             );
           }
     ]
 
 pub returns : goal.returns
+unfolding finishes_from
 returns g c =
-    let options : Options = record { avalanche = not (nat_eq g.row.AVALANCHE 0); protected = not (nat_eq g.row.PROTECTED 0) } in
+    let chosen = options (not (nat_eq g.row.AVALANCHE 0)) (not (nat_eq g.row.PROTECTED 0)) in
     let message = c.loop-op.invariant.message in
-    let seed = c.args.secrets.now.seed in
-    let secrets = c.args.secrets.now.secrets in
     let none = drop_all c.loop-op.op-index c.args.ops.now (omega arith) in
     sym (message.2
-    ∙ ap (λ o. c.loop-op.answers.items ++ finishes_from g.row.LANES options seed secrets message.0 o) none
-    ∙ ap (λ a. c.loop-op.answers.items ++ a) (finishes_from-end g.row.LANES options seed secrets message.0)
+    ∙ ap (λ o. c.loop-op.answers.items ++ finishes_from g.row.LANES chosen c.args.secrets.now message.0 o) none
     ∙ append-nil _)

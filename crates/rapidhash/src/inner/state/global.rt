@@ -1,12 +1,11 @@
 //! A state of the seed that a program made once.
 
-ghost use Rattle.std.specs.Prelude.{◌≡◌, ◌↔◌, ◌==◌, ◌&&◌, [], IsTrue, nat_eq};
-ghost use Rattle.std.specs.Cmp.Lexicographic.{pointwise};
+ghost use Rattle.std.specs.Prelude.{◌≡◌, ◌↔◌, [], IsTrue};
 ghost use Rattle.std.specs.Cmp.Rules.{comparing};
 ghost use Rattle.std.proofs.Common.{rules};
-ghost use Rattle.rapidhash.specs.Hashers.{Stands, fresh, secrets_of};
 
 use crate::inner::hasher::RapidHasher;
+use crate::inner::state::seeded::Seeded;
 use rapidhash_portable::seeding::GlobalSecrets;
 use std::fmt::{Debug, Formatter, Write};
 use std::hash::BuildHasher;
@@ -26,8 +25,7 @@ pub struct GlobalState<
     const COMPACT: bool,
     const PROTECTED: bool,
 > {
-    seed: u64,
-    secrets: &'s [u64; 7],
+    seeded: Seeded<'s>,
 }
 
 impl<
@@ -38,18 +36,19 @@ impl<
     const PROTECTED: bool,
 > GlobalState<'s, AVALANCHE, SPONGE, COMPACT, PROTECTED> {
     ghost use Rattle.rapidhash.specs.States.{seed_of_global, secrets_of_global};
-    ghost use Rattle.rapidhash_portable.specs.Seeding.{seed_of};
-    ghost use Rattle.rapidhash.specs.States.{made_of};
+    ghost use Rattle.rapidhash_portable.specs.Seeding.{secrets_of, seed_of};
 
     /// The global seed, and the made secrets.
     #[inline(always)]
     pub fn new(secrets: &'s GlobalSecrets) -> Self
         ensures seed { seed_of_global result ≡ seed_of secrets.now }
-        ensures secrets { secrets_of_global result ≡ made_of secrets.now }
+        ensures secrets { secrets_of_global result ≡ secrets_of secrets.now }
     {
         GlobalState {
-            seed: secrets.get_global_seed(),
-            secrets: secrets.get(),
+            seeded: Seeded {
+                seed: secrets.get_global_seed(),
+                secrets: secrets.get(),
+            },
         }
     }
 }
@@ -61,20 +60,20 @@ impl<
     const COMPACT: bool,
     const PROTECTED: bool,
 > PartialEq for GlobalState<'s, AVALANCHE, SPONGE, COMPACT, PROTECTED> {
-    ghost use Rattle.rapidhash.specs.States.{seed_of_global, secrets_of_global};
+    ghost use Rattle.rapidhash.specs.States.{global_state_eq, seed_of_global, secrets_of_global};
 
-    ghost eq = { λ x y. x.seed == y.seed && pointwise nat_eq x.secrets.now y.secrets.now };
+    ghost eq = { global_state_eq };
 
     ghost laws = { Prim.search (comparing, rules) };
 
+    #[inline]
     fn eq(&self, other: &Self) -> bool
-        ensures eq { result ≡ (self.now.seed == other.now.seed
-            && pointwise nat_eq self.now.secrets.now other.now.secrets.now) }
+        ensures eq { result ≡ global_state_eq self.now other.now }
         ensures same { IsTrue result
             ↔ (seed_of_global self.now ≡ seed_of_global other.now)
             × (secrets_of_global self.now ≡ secrets_of_global other.now) }
     {
-        self.seed == other.seed && *self.secrets == *other.secrets
+        self.seeded == other.seeded
     }
 }
 
@@ -90,19 +89,20 @@ impl<
     const COMPACT: bool,
     const PROTECTED: bool,
 > BuildHasher for GlobalState<'s, AVALANCHE, SPONGE, COMPACT, PROTECTED> {
-    ghost use Rattle.rapidhash.specs.States.{seed_of_global, secrets_of_global};
+    ghost use Rattle.rapidhash.specs.RapidHasher.{Stands, secrets_of};
+    ghost use Rattle.rapidhash.specs.States.{built_by_global, seed_of_global, secrets_of_global};
 
     type Hasher = RapidHasher<'s, AVALANCHE, SPONGE, COMPACT, PROTECTED>;
 
-    ghost build_hasher = { λ state. fresh state.seed state.secrets };
+    ghost build_hasher = { built_by_global };
 
     #[inline(always)]
     fn build_hasher(&self) -> RapidHasher<'s, AVALANCHE, SPONGE, COMPACT, PROTECTED>
-        ensures value { result ≡ fresh self.now.seed self.now.secrets }
+        ensures value { result ≡ built_by_global self.now }
         ensures secrets { secrets_of result ≡ secrets_of_global self.now }
-        ensures stands { Stands AVALANCHE SPONGE PROTECTED result (seed_of_global self.now) [] }
+        ensures stands { Stands result (seed_of_global self.now) [] }
     {
-        RapidHasher::from_parts(self.seed, self.secrets)
+        self.seeded.hasher()
     }
 }
 

@@ -1,15 +1,14 @@
 //! A state of a seed of the caller's.
 
-ghost use Rattle.std.specs.Prelude.{◌≡◌, ◌↔◌, ◌==◌, ◌&&◌, [], IsTrue, nat_eq};
-ghost use Rattle.std.specs.Cmp.Lexicographic.{pointwise};
+ghost use Rattle.std.specs.Prelude.{◌≡◌, ◌↔◌, [], IsTrue};
 ghost use Rattle.std.specs.Cmp.Rules.{comparing};
 ghost use Rattle.std.proofs.Common.{rules};
-ghost use Rattle.rapidhash_portable.specs.Secrets.{cpp_seeded, default_secrets};
-ghost use Rattle.rapidhash.specs.Hashers.{Stands, fresh, secrets_of};
+ghost use Rattle.rapidhash_portable.specs.Secrets.{cpp_seeded, default_secrets, default_seed};
 
 use crate::inner::hasher::RapidHasher;
+use crate::inner::state::seeded::Seeded;
 use rapidhash_portable::seeding::{GlobalSecrets, SeedSource};
-use rapidhash_portable::v3::{DEFAULT_RAPID_SECRETS, RapidSecrets};
+use rapidhash_portable::v3::RapidSecrets;
 use std::fmt::{Debug, Formatter, Write};
 use std::hash::BuildHasher;
 
@@ -37,8 +36,7 @@ pub struct SeedableState<
     const COMPACT: bool,
     const PROTECTED: bool,
 > {
-    seed: u64,
-    secrets: &'s [u64; 7],
+    seeded: Seeded<'s>,
 }
 
 impl<
@@ -49,48 +47,35 @@ impl<
     const PROTECTED: bool,
 > SeedableState<'s, AVALANCHE, SPONGE, COMPACT, PROTECTED> {
     ghost use Rattle.rapidhash.specs.States.{seed_of_seedable, secrets_of_seedable};
-    ghost use Rattle.rapidhash_portable.specs.Seeding.{counter_of, random_of};
-    ghost use Rattle.rapidhash_portable.specs.Secrets.{source_answer, source_next};
-    ghost use Rattle.rapidhash.specs.States.{made_of};
+    ghost use Rattle.rapidhash_portable.specs.Seeding.{Draws, secrets_of};
 
     /// A seed made of `seed` as `RapidSecrets::seed_cpp` makes it, and the made secrets.
     #[inline(always)]
     pub fn new(seed: u64, secrets: &'s GlobalSecrets) -> Self
-        ensures seed { seed_of_seedable result ≡ cpp_seeded 2 seed }
-        ensures secrets { secrets_of_seedable result ≡ made_of secrets.now }
+        ensures seed { seed_of_seedable result ≡ cpp_seeded seed 2 }
+        ensures secrets { secrets_of_seedable result ≡ secrets_of secrets.now }
     {
-        SeedableState {
-            seed: RapidSecrets::seed_cpp(seed).seed,
-            secrets: secrets.get(),
-        }
+        SeedableState::custom(RapidSecrets::seed_cpp(seed).seed, secrets.get())
     }
 
     /// The next seed of the source, and the made secrets.
     #[inline(always)]
     pub fn random(secrets: &'s GlobalSecrets, source: &mut SeedSource) -> Self
-        ensures counter { counter_of source.new ≡ source_next (counter_of source.old) }
-        ensures random { random_of source.new ≡ random_of source.old }
-        ensures seed { seed_of_seedable result
-            ≡ source_answer (random_of source.old) (counter_of source.new) }
-        ensures secrets { secrets_of_seedable result ≡ made_of secrets.now }
+        ensures seed { Draws source.old source.new (seed_of_seedable result) }
+        ensures secrets { secrets_of_seedable result ≡ secrets_of secrets.now }
     {
-        SeedableState {
-            seed: source.next(),
-            secrets: secrets.get(),
-        }
+        SeedableState::custom(source.next(), secrets.get())
     }
 
     /// The default seed and the default secrets, the same in every run of every program. Whoever
     /// knows them can find keys that all have one hash.
     #[inline(always)]
     pub fn fixed() -> Self
-        ensures seed { seed_of_seedable result ≡ cpp_seeded 2 0 }
+        ensures seed { seed_of_seedable result ≡ default_seed }
         ensures secrets { secrets_of_seedable result ≡ default_secrets }
     {
-        SeedableState {
-            seed: RapidSecrets::seed_cpp(0).seed,
-            secrets: &DEFAULT_RAPID_SECRETS.secrets,
-        }
+        let default = RapidSecrets::default_ref();
+        SeedableState::custom(default.seed, &default.secrets)
     }
 
     /// The seed and the secrets as they are.
@@ -99,7 +84,9 @@ impl<
         ensures seed { seed_of_seedable result ≡ seed }
         ensures secrets { secrets_of_seedable result ≡ secrets.now }
     {
-        SeedableState { seed, secrets }
+        SeedableState {
+            seeded: Seeded { seed, secrets },
+        }
     }
 
     /// The same as [`SeedableState::custom`].
@@ -119,20 +106,20 @@ impl<
     const COMPACT: bool,
     const PROTECTED: bool,
 > PartialEq for SeedableState<'s, AVALANCHE, SPONGE, COMPACT, PROTECTED> {
-    ghost use Rattle.rapidhash.specs.States.{seed_of_seedable, secrets_of_seedable};
+    ghost use Rattle.rapidhash.specs.States.{seedable_state_eq, seed_of_seedable, secrets_of_seedable};
 
-    ghost eq = { λ x y. x.seed == y.seed && pointwise nat_eq x.secrets.now y.secrets.now };
+    ghost eq = { seedable_state_eq };
 
     ghost laws = { Prim.search (comparing, rules) };
 
+    #[inline]
     fn eq(&self, other: &Self) -> bool
-        ensures eq { result ≡ (self.now.seed == other.now.seed
-            && pointwise nat_eq self.now.secrets.now other.now.secrets.now) }
+        ensures eq { result ≡ seedable_state_eq self.now other.now }
         ensures same { IsTrue result
             ↔ (seed_of_seedable self.now ≡ seed_of_seedable other.now)
             × (secrets_of_seedable self.now ≡ secrets_of_seedable other.now) }
     {
-        self.seed == other.seed && *self.secrets == *other.secrets
+        self.seeded == other.seeded
     }
 }
 
@@ -148,19 +135,20 @@ impl<
     const COMPACT: bool,
     const PROTECTED: bool,
 > BuildHasher for SeedableState<'s, AVALANCHE, SPONGE, COMPACT, PROTECTED> {
-    ghost use Rattle.rapidhash.specs.States.{seed_of_seedable, secrets_of_seedable};
+    ghost use Rattle.rapidhash.specs.RapidHasher.{Stands, secrets_of};
+    ghost use Rattle.rapidhash.specs.States.{built_by_seedable, seed_of_seedable, secrets_of_seedable};
 
     type Hasher = RapidHasher<'s, AVALANCHE, SPONGE, COMPACT, PROTECTED>;
 
-    ghost build_hasher = { λ state. fresh state.seed state.secrets };
+    ghost build_hasher = { built_by_seedable };
 
     #[inline(always)]
     fn build_hasher(&self) -> RapidHasher<'s, AVALANCHE, SPONGE, COMPACT, PROTECTED>
-        ensures value { result ≡ fresh self.now.seed self.now.secrets }
+        ensures value { result ≡ built_by_seedable self.now }
         ensures secrets { secrets_of result ≡ secrets_of_seedable self.now }
-        ensures stands { Stands AVALANCHE SPONGE PROTECTED result (seed_of_seedable self.now) [] }
+        ensures stands { Stands result (seed_of_seedable self.now) [] }
     {
-        RapidHasher::from_parts(self.seed, self.secrets)
+        self.seeded.hasher()
     }
 }
 

@@ -7,7 +7,8 @@ use Rattle.rapidhash.specs.Laws.{SameWords}
 use Rattle.rapidhash.proofs.laws.words.same_words.Goals as goal
 
 -- a test of the messages is a test of their lengths and words
-words_or_bytes : (form : Form) (x y : List ℕ) → ((k : ℕ) → get_or x k 0 < 256) → ((k : ℕ) → get_or y k 0 < 256) → (same : Bool) → (IsTrue same ↔ (x ≡ y)) → (IsTrue same ↔ SameWords form x y)
+words_or_bytes : (form : Form) (x y : List ℕ) → ((k : ℕ) → get_or x k 0 < 256) → ((k : ℕ) → get_or y k 0 < 256)
+    → (same : Bool) → (IsTrue same ↔ (x ≡ y)) → (IsTrue same ↔ SameWords form x y)
 words_or_bytes form x y x_bytes y_bytes same h =
     (λ t. let e = h.0 t in (ap length e, ap (absorbed_words form) e), λ w. h.1 (same_from_words x y x_bytes y_bytes w.0 form w.1))
 

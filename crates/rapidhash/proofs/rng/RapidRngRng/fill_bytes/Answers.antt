@@ -1,6 +1,6 @@
 use Rattle.std.proofs.Common.{rules}
 use Rattle.rand_core.proofs.StepsLemmas.{meets_fill_bytes}
-use Rattle.rapidhash.proofs.Drawn.{drawn}
+use Rattle.rapidhash.proofs.GeneratorLemmas.{drawn}
 use Rattle.rapidhash.proofs.rng.RapidRngRng.fill_bytes.Goals as goal
 
 pub returns-clause-stream : goal.returns-clause-stream

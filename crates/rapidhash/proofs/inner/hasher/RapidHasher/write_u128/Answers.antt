@@ -1,6 +1,9 @@
 use Rattle.std.proofs.Common.{rules}
-use Rattle.rapidhash.proofs.Absorbing.{wide_more}
+use Rattle.rapidhash.proofs.HasherLemmas.{stands-wide}
 use Rattle.rapidhash.proofs.inner.hasher.RapidHasher.write_u128.Goals as goal
 
-pub returns-clause-stands : goal.returns-clause-stands
-returns-clause-stands g c start list h = wide_more _ _ _ _ _ _ _ _ _ _ (search rules) (search rules) h
+pub returns : goal.returns
+returns g c = record {
+  secrets = search rules;
+  stands = λ start items h. stands-wide _ _ _ _ _ _ _ _ _ _ (search rules) (search rules) h;
+}

@@ -1,0 +1,53 @@
+-- What contracts see of `RapidHasher`: whose numbers stand for a start and a list of items, and what a write and an answer are.
+use Rattle.std.specs.Prelude.{ℕ, ◌≡◌, Bool, not, nat_eq, List, [], ◌∷◌, ◌++◌}
+use Rattle.std.specs.Borrow.{Bor}
+use Rattle.rapidhash_portable.specs.declared.form.Options.{Options}
+use Rattle.rapidhash_portable.specs.Memory.{memory_hash}
+use Rattle.rapidhash_portable.specs.Options.{options}
+use Rattle.rapidhash.specs.Sponge.{Item, empty_sponge}
+use Rattle.rapidhash.specs.Hasher.{StandsFor, closed, finished}
+use Rattle.rapidhash.specs.declared.inner.hasher.RapidHasher.{RapidHasher}
+
+-- the secrets of a hasher
+abbrev pub secrets_of : {avalanche sponge compact protected : ℕ} → RapidHasher avalanche sponge compact protected → List ℕ
+secrets_of hasher = hasher.secrets.now
+
+-- whether an option is on, by the number of its const parameter
+abbrev pub is_on : ℕ → Bool
+is_on option = not (nat_eq option 0)
+
+-- the options of the mixes, and whether integers are packed
+abbrev pub options_of : {avalanche sponge compact protected : ℕ} → RapidHasher avalanche sponge compact protected → Options
+options_of {avalanche} {sponge} {compact} {protected} hasher = options (is_on avalanche) (is_on protected)
+
+abbrev pub has_sponge : {avalanche sponge compact protected : ℕ} → RapidHasher avalanche sponge compact protected → Bool
+has_sponge {avalanche} {sponge} {compact} {protected} hasher = is_on sponge
+
+-- a hasher stands for a start and a list of items, under its own secrets
+abbrev pub Stands : {avalanche sponge compact protected : ℕ} → RapidHasher avalanche sponge compact protected → ℕ → List Item → Type 0
+Stands hasher start items =
+    StandsFor (options_of hasher) (has_sponge hasher) hasher.secrets.now hasher.seed hasher.sponge.bits hasher.sponge.width start items
+
+-- one item more is absorbed: the secrets stay, and for every start and list that the old hasher stands for, the new one stands for the list with the item at its end
+pub record Absorbs {avalanche sponge compact protected : ℕ} (old new : RapidHasher avalanche sponge compact protected) (item : Item) : Type 0 where
+  pub secrets : secrets_of new ≡ secrets_of old
+  pub stands : (start : ℕ) (items : List Item) → Stands old start items → Stands new start (items ++ item ∷ [])
+
+-- for every start and list that the hasher stands for, the answer is theirs
+abbrev pub Answers : {avalanche sponge compact protected : ℕ} → RapidHasher avalanche sponge compact protected → ℕ → Type 0
+Answers hasher answer =
+    (start : ℕ) (items : List Item) → Stands hasher start items → answer ≡ finished (options_of hasher) (has_sponge hasher) hasher.secrets.now start items
+
+-- a hasher of a seed and secrets that has absorbed nothing
+abbrev pub fresh : {avalanche sponge compact protected : ℕ} → ℕ → Bor (List ℕ) → RapidHasher avalanche sponge compact protected
+fresh seed secrets = record { seed = seed; secrets = secrets; sponge = empty_sponge }
+
+-- a hasher after bytes
+abbrev pub written : {avalanche sponge compact protected : ℕ} → RapidHasher avalanche sponge compact protected → List ℕ → RapidHasher avalanche sponge compact protected
+written hasher bytes =
+    record hasher { seed = memory_hash (options_of hasher) bytes hasher.seed hasher.secrets.now }
+
+-- the answer of a hasher
+abbrev pub answer_of : {avalanche sponge compact protected : ℕ} → RapidHasher avalanche sponge compact protected → ℕ
+answer_of hasher =
+    closed (options_of hasher) hasher.secrets.now hasher.seed hasher.sponge.bits hasher.sponge.width
