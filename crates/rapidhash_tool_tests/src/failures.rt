@@ -1,8 +1,7 @@
 //! Reads, writes and requests for memory that fail, each in turn.
 
 use crate::ends::{
-    SOMETHING, SOMETHING_LINE, V1, V3, V3_LINE, failing, of_file, of_stdin, versions, wants_all,
-    whole, writer,
+    SOMETHING, SOMETHING_LINE, V1, V3, V3_LINE, failing, of_file, of_stdin, versions, whole, writer,
 };
 use linked_list_allocator::LocalHeap;
 use rapidhash_tool::{CliFault, RapidhashVersion, run_help, run_stdin};
@@ -84,7 +83,7 @@ fn reads_that_fail(rt: HostRuntime) {
 #[test]
 fn reads_of_a_file_that_fail(rt: HostRuntime) {
     for version in versions(false) {
-        let last = if wants_all(version) { 10 } else { 11 };
+        let last = if version.needs_length() { 10 } else { 11 };
         for fails_at in 1..last + 1 {
             let out = writer(Vec::new(rt.alloc()), 0);
             let reader = failing(SOMETHING, fails_at, ErrorKind::Interrupted);
@@ -151,7 +150,7 @@ fn memory_that_is_refused(rt: HostRuntime) {
         let out = writer(Vec::new(rt.alloc()), 0);
         let ended = of_stdin(rt.alloc(), version, whole(FORTY), out);
         assert_eq!(rt; ended.result, Ok(()), "at {version:?}");
-        let growths: &[u64] = if wants_all(version) {
+        let growths: &[u64] = if version.needs_length() {
             &[1, 9, 17, 33]
         } else {
             &[]
