@@ -12,7 +12,7 @@ use std::test::Fail;
 /// What the definition answers of a hasher with the default seed, after one write.
 fn defined(options: Options, bytes: &[u8]) -> u64 {
     let secrets = &DEFAULT_RAPID_SECRETS.secrets;
-    let seed = memory_hash(options, cpp_seeded(2, 0), secrets, bytes);
+    let seed = memory_hash(options, bytes, cpp_seeded(0, 2), secrets);
     if options.avalanche {
         mix(options.protected, seed, secrets[1])
     } else {

@@ -135,8 +135,8 @@ fn after_tail(protected: bool, tail: &[u8], places: &[usize], secrets: &[u64], s
 
 /// The value of the last two words and the seed.
 #[tactic(auto, unfolding(rapidhash_portable::specs::Hash::close))]
-fn close(options: Options, secret: u64, masks: (u64, u64), words: (u64, u64), seed: u64) -> u64
-    ensures { result ≡ close options secret masks words seed }
+fn close(options: Options, words: (u64, u64), seed: u64, secret: u64, masks: (u64, u64)) -> u64
+    ensures { result ≡ close options words seed secret masks }
 {
     let (a, b) = multiply(options.protected, words.0 ^ secret, words.1 ^ seed);
     if options.avalanche {
@@ -168,16 +168,16 @@ pub fn portable_hash(form: Form, options: Options, seed: u64, secrets: &[u64], b
     let words = mixed_words(form, n, t, last_words(form, bytes));
     close(
         options,
-        secret(secrets, 1),
-        masks(form, secrets, n, t),
         words,
         after_all,
+        secret(secrets, 1),
+        masks(form, secrets, n, t),
     )
 }
 
 /// The value of the in-memory core.
-pub fn memory_hash(options: Options, seed: u64, secrets: &[u64], bytes: &[u8]) -> u64
-    ensures { result ≡ memory_hash options seed secrets.now bytes.now }
+pub fn memory_hash(options: Options, bytes: &[u8], seed: u64, secrets: &[u64]) -> u64
+    ensures { result ≡ memory_hash options bytes.now seed secrets.now }
 {
     let n = bytes.len();
     let shape = memory_shape(n);
@@ -188,9 +188,9 @@ pub fn memory_hash(options: Options, seed: u64, secrets: &[u64], bytes: &[u8]) -
     let masks = (0xaaaa_aaaa_aaaa_aaaa ^ sum, secret(secrets, 1));
     close(
         options,
-        secret(secrets, 0),
-        masks,
         last_words(Form::V3(7), bytes),
         sum,
+        secret(secrets, 0),
+        masks,
     )
 }

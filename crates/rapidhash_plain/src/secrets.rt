@@ -25,8 +25,8 @@ pub(crate) fn secret(secrets: &[u64], k: usize) -> u64
 
 /// A word, with a bit set where it has none of a mask's.
 #[tactic(auto, using(crate::proofs::Cases::tests), unfolding(crate::proofs::Cases::with_bit))]
-fn with_bit(mask: u64, bit: u64, word: u64) -> u64
-    ensures { result ≡ with_bit mask bit word }
+fn with_bit(word: u64, mask: u64, bit: u64) -> u64
+    ensures { result ≡ with_bit word mask bit }
 {
     if word & mask == 0 { word | bit } else { word }
 }
@@ -36,8 +36,9 @@ fn with_bit(mask: u64, bit: u64, word: u64) -> u64
 fn repaired(word: u64) -> u64
     ensures { result ≡ repaired word }
 {
-    let upper = with_bit(0xffff_0000_0000_0000, 0x8000_0000_0000_0000, word);
-    with_bit(0xffff, 1, with_bit(0xff_ff00_0000, 0x8000_0000, upper))
+    let upper = with_bit(word, 0xffff_0000_0000_0000, 0x8000_0000_0000_0000);
+    let middle = with_bit(upper, 0xff_ff00_0000, 0x8000_0000);
+    with_bit(middle, 0xffff, 1)
 }
 
 /// A word mixed with the default secret at a place, and repaired.
@@ -70,8 +71,8 @@ pub fn seeded(number: u64) -> u64
 
 /// The seed that a number makes beside the default secrets.
 #[tactic(auto, unfolding(rapidhash_portable::specs::Secrets::cpp_seeded))]
-pub fn cpp_seeded(place: usize, number: u64) -> u64
-    ensures { result ≡ cpp_seeded place number }
+pub fn cpp_seeded(number: u64, place: usize) -> u64
+    ensures { result ≡ cpp_seeded number place }
 {
     let first = secret(&DEFAULT_SECRETS, place);
     number ^ mix(false, number ^ first, 0x8bb8_4b93_962e_acc9)
@@ -79,8 +80,8 @@ pub fn cpp_seeded(place: usize, number: u64) -> u64
 
 /// The seed made of a seed.
 #[tactic(auto, unfolding(rapidhash_portable::specs::Secrets::reseeded))]
-pub fn reseeded(place: usize, seed: u64) -> u64
-    ensures { result ≡ reseeded place seed }
+pub fn reseeded(seed: u64, place: usize) -> u64
+    ensures { result ≡ reseeded seed place }
 {
     premixed(seed, place)
 }

@@ -94,7 +94,7 @@ pub fn replay_memory(alloc: Global, line: &str) -> Result<Agreement> {
     let expected = number(expected)?;
     let bytes = bytes.as_slice();
     let seven = &secrets.seven;
-    let defined = memory_hash(options, seven.seed, &seven.secrets, bytes);
+    let defined = memory_hash(options, bytes, seven.seed, &seven.secrets);
     Ok(Agreement {
         definition: finished(options, defined) == expected,
         body: finished(options, memory_body::<false>(options, &secrets, bytes)) == expected,

@@ -57,7 +57,7 @@ fn core_agrees(secrets: &Secrets, bytes: &[u8]) -> Tally {
         let x = &bytes[..n];
         for options in OPTIONS {
             let compact = memory_body::<true>(options, secrets, x);
-            let definition = memory_hash(options, seven.seed, &seven.secrets, x);
+            let definition = memory_hash(options, x, seven.seed, &seven.secrets);
             tally.differs(Agreement {
                 definition: definition == compact,
                 body: memory_body::<false>(options, secrets, x) == compact,

@@ -73,7 +73,7 @@ fn defined(options: Options, sponge: bool, start: &RapidSecrets, items: &[Item])
     let mut end = End::START;
     for item in items {
         match item.absorbed() {
-            Absorbed::Bytes(bytes) => seed = memory_hash(options, seed, secrets, bytes),
+            Absorbed::Bytes(bytes) => seed = memory_hash(options, bytes, seed, secrets),
             Absorbed::Wide(value) => seed = after_wide(options, secrets, seed, value),
             Absorbed::Number(width, value) => {
                 if sponge {

@@ -59,14 +59,14 @@ fn defined(alloc: Global, form: &str, call: &str, number: u64) -> Result<Vec<u64
     let default = v3::DEFAULT_RAPID_SECRETS.secrets;
     let (count, first, last) = if form == "v1" { (3, 0, 2) } else { (7, 2, 6) };
     if call == "seed_cpp" {
-        return listed(alloc, cpp_seeded(first, number), &default[..count]);
+        return listed(alloc, cpp_seeded(number, first), &default[..count]);
     }
     let seed = seeded(number);
     let mut words = Vec::new(alloc);
     words.push(if call == "seed" {
         seed
     } else {
-        reseeded(last, seed)
+        reseeded(seed, last)
     })?;
     for place in 0..count {
         words.push(chained(seed, place + 1))?;

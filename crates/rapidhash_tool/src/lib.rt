@@ -12,7 +12,6 @@ mod input;
 mod output;
 mod plans;
 mod run;
-mod secrets;
 mod usage;
 mod version;
 mod words;

@@ -1,5 +1,5 @@
 use Rattle.std.proofs.Common.{sym}
-use Rattle.rapidhash_portable.proofs.Columns.{lane_of-pairs_none, lane_of-pairs_more}
+use Rattle.rapidhash_portable.proofs.LanesLemmas.{lane_of-pairs_none, lane_of-pairs_more}
 use Rattle.rapidhash_plain.proofs.hashes.fold_pairs_of.Goals as goal
 
 pub loop-row-init : goal.loop-row-init

@@ -1,6 +1,6 @@
 use Rattle.std.proofs.Common.{◌*◌, arith}
 use Rattle.rapidhash_portable.specs.Lanes.{pair_of, pairs_of}
-use Rattle.rapidhash_portable.proofs.Columns.{column-three, column-rest, lane_of-append}
+use Rattle.rapidhash_portable.proofs.LanesLemmas.{column-three, column-rest, lane_of-append}
 use Rattle.rapidhash_plain.proofs.hashes.lane.Goals as goal
 
 pub returns-then-i-lt3 : goal.returns-then-i-lt3
