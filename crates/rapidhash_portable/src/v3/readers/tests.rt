@@ -120,7 +120,7 @@ fn no_read_asks_for_more_than_the_buffer(rt: HostRuntime) -> Result<(), Fail> {
     Ok(())
 }
 
-// Micro and nano of a reader are those of its bytes, and the buffer is the longest length asked for.
+// Micro and nano of a reader are those of its bytes, and no read asks for more than the buffer.
 #[test]
 fn other_lanes_read_too(rt: HostRuntime) -> Result<(), Fail> {
     let bytes: Vec<u8> = (0..300u32).map(|i| (i % 251) as u8).collect(rt.alloc())?;
