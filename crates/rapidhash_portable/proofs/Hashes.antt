@@ -1,4 +1,4 @@
-use Rattle.std.proofs.Common.{◌≡◌, ℕ, ◌+◌, ◌-◌, ◌*◌, ◌/◌, ◌%◌, ◌^◌, ◌≤◌, ◌<◌, Bool, true, false, cond, ⊎_elim, List, [], ◌∷◌, length, get_or, drop, refl, sym, ap, ◌∙◌, arith, bit_xor, length-drop}
+use Rattle.std.proofs.Common.{◌≡◌, ℕ, ◌+◌, ◌-◌, ◌*◌, ◌/◌, ◌%◌, ◌^◌, ◌≤◌, ◌<◌, Bool, true, false, ⊎_elim, List, [], ◌∷◌, length, get_or, drop, refl, sym, ap, ◌∙◌, arith, bit_xor, length-drop}
 use Rattle.std.proofs.lemmas.Bool.{cases_lt, lt-ltb, le-ltb}
 use Rattle.std.proofs.lemmas.Bool.Decides.{nat_tests}
 use Rattle.std.proofs.lemmas.Nat.{div-mul-add}
@@ -6,7 +6,7 @@ use Rattle.rapidhash_portable.specs.Lanes.{pair_of, rows_in, no_rows, row_bytes,
 use Rattle.rapidhash_portable.specs.Tail.{after_tail, picked}
 use Rattle.rapidhash_portable.specs.declared.form.Form.{Form}
 use Rattle.rapidhash_portable.specs.declared.form.Form.TheVariants.{V1, V2, V3}
-use Rattle.rapidhash_portable.specs.Form.{alternating_bits, v2_limit, shape_of, start_seed, tail_seed, tail_places, masks}
+use Rattle.rapidhash_portable.specs.Form.{alternating_bits, least_row_v1, v2_limit, shape_of, start_seed, tail_seed, tail_places, masks}
 use Rattle.rapidhash_portable.specs.Words.{last_words, last_16, mixed_words, short_words}
 use Rattle.rapidhash_portable.specs.Memory.{after_pairs, memory_hash, memory_shape}
 use Rattle.rapidhash_portable.specs.declared.form.Options.{Options}
@@ -69,16 +69,21 @@ shape_of-v1-few bug n h =
     let none : rows_in 3 0 n ≡ 0 = omega arith in
     rw none (cond_same _ _)
 
-pub shape_of-v1-none : (bug : Bool) (least n : ℕ) → least ≡ cond bug 48 49 → n < least → shape_of (V1 bug) n ≡ no_rows 3
+-- a message of which V1 folds a row is long
+pub long-v1 : (bug : Bool) (n : ℕ) → least_row_v1 bug ≤ n → 16 < n
+long-v1 true n h = omega arith
+long-v1 false n h = omega arith
+
+pub shape_of-v1-none : (bug : Bool) (n : ℕ) → n < least_row_v1 bug → shape_of (V1 bug) n ≡ no_rows 3
 unfolding shape_of
-shape_of-v1-none true least n e h = shape_of-v1-few true n (omega arith)
-shape_of-v1-none false least n e h =
+shape_of-v1-none true n h = shape_of-v1-few true n h
+shape_of-v1-none false n h =
     ⊎_elim (λ few. shape_of-v1-few false n few) (λ many. let at : n ≡ 48 = omega arith in rw at refl) (cases_lt n 48)
 
-pub shape_of-v1-some : (bug : Bool) (least n : ℕ) → least ≡ cond bug 48 49 → least ≤ n → shape_of (V1 bug) n ≡ wide_shape 3 0 n
+pub shape_of-v1-some : (bug : Bool) (n : ℕ) → least_row_v1 bug ≤ n → shape_of (V1 bug) n ≡ wide_shape 3 0 n
 unfolding shape_of
-shape_of-v1-some true least n e h = grind (arith, nat_tests)
-shape_of-v1-some false least n e h = grind (arith, nat_tests)
+shape_of-v1-some true n h = grind (arith, nat_tests)
+shape_of-v1-some false n h = grind (arith, nat_tests)
 
 pub shape_of-v2-none : (minor n : ℕ) → n ≤ v2_limit minor → shape_of (V2 minor) n ≡ no_rows 7
 unfolding shape_of

@@ -1,5 +1,5 @@
 -- The forms of the portable hash: what each says of lengths, seeds, secrets and words, a line each.
-use Rattle.std.specs.Prelude.{ℕ, false, ◌<◌, ◌≤◌, ◌∷◌, [], not, ◌&&◌, List, slice_index, bit_xor, if◌then◌else◌, nat_lt, ◌==◌}
+use Rattle.std.specs.Prelude.{ℕ, Bool, false, ◌<◌, ◌≤◌, ◌∷◌, [], not, ◌&&◌, List, slice_index, bit_xor, if◌then◌else◌, nat_lt, ◌==◌}
 use Rattle.rapidhash_portable.specs.declared.form.Form.{Form}
 use Rattle.rapidhash_portable.specs.declared.form.Form.TheVariants.{V1, V2, V3}
 use Rattle.rapidhash_portable.specs.declared.form.Shape.{Shape}
@@ -25,6 +25,10 @@ abbrev pub IsForm : Form → Type 0
 IsForm (V1 bug) = Unit {0}
 IsForm (V2 minor) = minor ≤ 2
 IsForm (V3 lanes) = (0 < lanes) × (lanes ≤ 7)
+
+-- the shortest message of which V1 folds a row
+abbrev pub least_row_v1 : Bool → ℕ
+least_row_v1 bug = if bug then 48 else 49
 
 -- the longest message that V2 takes with no row
 abbrev pub v2_limit : ℕ → ℕ

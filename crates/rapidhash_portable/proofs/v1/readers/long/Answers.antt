@@ -1,4 +1,4 @@
-use Rattle.std.proofs.Common.{◌≡◌, ◌++◌, true, false, bit_xor, length, nat_eq, not, take, refl, arith, length-take-le}
+use Rattle.std.proofs.Common.{◌≡◌, ◌++◌, true, false, bit_xor, length, nat_eq, not, take, arith, length-take-le}
 use Rattle.rapidhash_portable.specs.declared.form.Form.TheVariants.{V1}
 use Rattle.rapidhash_portable.specs.declared.form.Options.{Options}
 use Rattle.rapidhash_portable.specs.Form.{start_seed}
@@ -20,5 +20,5 @@ returns-clause-ok g c =
     let rows = c.join_wide-joined.ensures in
     let start = bit_xor seed c.args.len in
     front_gave f (λ y. c.close_tail.result ≡ portable_hash (V1 false) options seed c.args.secrets.now.secrets y) (λ size.
-    let shape = shape_of-v1-some false 49 (length x) refl (omega arith) in
+    let shape = shape_of-v1-some false (length x) (omega arith) in
     c.close_tail.ensures false seed x (omega arith) size (cc (rows.rest f.front start f.folded, shape)) (last_16-append f.front last (omega (arith, f.some))) (cc (rows.joined f.front start f.folded, shape, size)))
