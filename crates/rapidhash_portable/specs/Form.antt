@@ -52,10 +52,14 @@ tail_seed (V1 bug) secrets t seed = if nat_lt 16 t then bit_xor seed (slice_inde
 tail_seed (V2 minor) secrets t seed = seed
 tail_seed (V3 lanes) secrets t seed = seed
 
+-- which secrets the pairs of a tail behind rows use, in V1 and V2
+abbrev pub row_tail_places : List ℕ
+row_tail_places = 2 ∷ 2 ∷ []
+
 -- which secrets the pairs of a tail use, in turn
 unfoldable pub tail_places : Form → ℕ → List ℕ
-tail_places (V1 bug) n = 2 ∷ 2 ∷ []
-tail_places (V2 minor) n = if nat_lt (v2_limit minor) n then 2 ∷ 2 ∷ [] else 0 ∷ 1 ∷ (if nat_lt minor 2 then 0 else 1) ∷ []
+tail_places (V1 bug) n = row_tail_places
+tail_places (V2 minor) n = if nat_lt (v2_limit minor) n then row_tail_places else 0 ∷ 1 ∷ (if nat_lt minor 2 then 0 else 1) ∷ []
 tail_places (V3 lanes) n = 2 ∷ 2 ∷ 1 ∷ 1 ∷ 2 ∷ 1 ∷ []
 
 -- every other bit, from the highest on
