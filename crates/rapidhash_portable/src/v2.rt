@@ -13,6 +13,7 @@ mod readers;
 
 use crate::lanes::{close, fold_tail, mixed_lanes};
 pub use crate::secrets::{DEFAULT_RAPID_SECRETS, RapidSecrets};
+use crate::util::ALTERNATING_BITS;
 use crate::words::{last_16, short_words_v2};
 pub use readers::{
     rapidhash_v2_2_file, rapidhash_v2_2_file_seeded, rapidhash_v2_file_inline, rapidhash_v2_source,
@@ -59,7 +60,7 @@ pub fn rapidhash_v2_inline<
         short_words_v2::<MINOR>(bytes),
         secrets.seed ^ len,
         second,
-        (0xaaaa_aaaa_aaaa_aaaa ^ len, second),
+        (ALTERNATING_BITS ^ len, second),
     )
 }
 
@@ -141,7 +142,7 @@ fn close_long<const AVALANCHE: bool, const PROTECTED: bool>(
         last_16(ending),
         seed,
         secrets[1],
-        (0xaaaa_aaaa_aaaa_aaaa ^ len, secrets[1]),
+        (ALTERNATING_BITS ^ len, secrets[1]),
     )
 }
 
