@@ -1,5 +1,6 @@
 pub use Rattle.rapidhash_portable.specs.Absorbed
 pub use Rattle.rapidhash_portable.specs.Bytes
+pub use Rattle.rapidhash_portable.specs.Folded
 pub use Rattle.rapidhash_portable.specs.Form
 pub use Rattle.rapidhash_portable.specs.Hash
 pub use Rattle.rapidhash_portable.specs.Lanes

@@ -22,14 +22,14 @@ fn gather(rt: &HostRuntime) -> Result<Vec<String>, CliFault> {
     Ok(words)
 }
 
-// The bytes of the file that V1 and V2 hash; the others read it to its end.
+// How many bytes of the file are hashed, or 0 where the version reads it to its end.
 fn length(version: &RapidhashVersion, file: &File) -> Result<u64, CliFault> {
-    match version {
-        RapidhashVersion::V1 { .. } | RapidhashVersion::V2 { .. } => match file.metadata() {
-            Ok(metadata) => Ok(metadata.len()),
-            Err(_) => Err(CliFault::File),
-        },
-        _ => Ok(0),
+    if !version.needs_length() {
+        return Ok(0);
+    }
+    match file.metadata() {
+        Ok(metadata) => Ok(metadata.len()),
+        Err(_) => Err(CliFault::File),
     }
 }
 

@@ -29,8 +29,8 @@ fn by_blocks(length: u32, value: u8) -> u64 {
     hasher.finish()
 }
 
-/// The first value for which bytes answer otherwise when they are written again, in compact code, or
-/// as blocks.
+/// The first value for which bytes answer otherwise when they are written again, in compact code,
+/// or as blocks.
 fn first_unstable(length: u32) -> Option<u8> {
     for value in 0..=u8::MAX {
         let answer = by_bytes::<false>(length, value);

@@ -1,8 +1,9 @@
 //! Maps and sets, with memory and without.
 
+use linked_list_allocator::LocalHeap;
 use rapidhash::inner::{GlobalSecrets, SeedSource};
 use rapidhash::{HashMapExt, HashSetExt, RapidHashMap, RapidHashSet, fast};
-use rapidhash_fakes::Rationed;
+use std::alloc::{AllocError, Global};
 use std::test::Fail;
 
 #[test]
@@ -41,78 +42,101 @@ fn test_hashset_new(rt: HostRuntime) -> Result<(), Fail> {
     Ok(())
 }
 
-/// Each request for memory is refused in turn: `with_capacity` tells it each time, until it meets no
-/// refusal.
+/// Heaps that have room for 0, 1, 2 blocks of 16 bytes and so on refuse each request in turn:
+/// `with_capacity` tells it in every heap that is smaller than what the map or the set holds, and
+/// gives back what it took.
 #[test]
-fn room_that_is_refused(rt: HostRuntime) {
+fn room_that_is_refused(rt: HostRuntime) -> Result<(), Fail> {
     let secrets = GlobalSecrets::new(1);
     let mut source = SeedSource::new(&secrets, 2);
     let state = fast::RandomState::new(&secrets, &mut source);
-    let mut maps = 0u64;
-    let mut sets = 0u64;
-    for requests in 0..9u64 {
-        let ration = Rationed::new(rt.alloc(), requests);
-        let map: Result<RapidHashMap<u32, u32, _>, _> = HashMapExt::with_capacity(
-            &ration, 10, state,
-        );
+    let mut maps = 0usize;
+    let mut sets = 0usize;
+    for blocks in 0..64usize {
+        let heap = LocalHeap::new(rt.alloc(), 16 * (blocks + 1))?;
+        let _taken = Box::new(&heap, 0u8)?;
+        let map: Result<RapidHashMap<u32, u32, _>, _> = HashMapExt::with_capacity(&heap, 10, state);
         match map {
-            Ok(map) => assert!(rt; map.is_empty() && map.capacity() >= 10),
+            Ok(map) => {
+                assert!(rt; map.is_empty() && map.capacity() >= 10);
+                assert_eq!(rt; heap.used() / 16, maps.saturating_add(1));
+            }
             Err(_) => {
-                assert_eq!(rt; maps, requests);
-                maps = requests + 1;
+                assert_eq!(rt; maps, blocks);
+                maps = blocks + 1;
             }
         }
-        let ration = Rationed::new(rt.alloc(), requests);
-        let set: Result<RapidHashSet<u32, _>, _> = HashSetExt::with_capacity(&ration, 10, state);
+        assert_eq!(rt; heap.used(), 16);
+        let set: Result<RapidHashSet<u32, _>, _> = HashSetExt::with_capacity(&heap, 10, state);
         match set {
-            Ok(set) => assert!(rt; set.is_empty() && set.capacity() >= 10),
+            Ok(set) => {
+                assert!(rt; set.is_empty() && set.capacity() >= 10);
+                assert_eq!(rt; heap.used() / 16, sets.saturating_add(1));
+            }
             Err(_) => {
-                assert_eq!(rt; sets, requests);
-                sets = requests + 1;
+                assert_eq!(rt; sets, blocks);
+                sets = blocks + 1;
             }
         }
+        assert_eq!(rt; heap.used(), 16);
     }
-    assert!(rt; 0 < maps && maps < 9);
-    assert!(rt; 0 < sets && sets < 9);
+    assert!(rt; 0 < maps && maps < 64);
+    assert!(rt; 0 < sets && sets < 64);
+    Ok(())
 }
 
 /// Where every request is refused, empty maps and sets are made and asked, and only the first key
 /// meets the refusal.
 #[test]
-fn new_asks_for_no_memory(rt: HostRuntime) {
+fn new_asks_for_no_memory(rt: HostRuntime) -> Result<(), Fail> {
     let secrets = GlobalSecrets::new(1);
     let mut source = SeedSource::new(&secrets, 2);
     let state = fast::RandomState::new(&secrets, &mut source);
-    let ration = Rationed::new(rt.alloc(), 0);
-    let mut map: RapidHashMap<u32, u32, _> = HashMapExt::new(&ration, state);
+    let heap = LocalHeap::new(rt.alloc(), 16)?;
+    let _taken = Box::new(&heap, 0u8)?;
+    assert_eq!(rt; heap.free(), 0);
+    let mut map: RapidHashMap<u32, u32, _> = HashMapExt::new(&heap, state);
     assert_eq!(rt; map.get(&4711), None);
     assert!(rt; map.insert(4711, 1).is_err());
     assert!(rt; map.is_empty());
-    let mut set: RapidHashSet<u32, _> = HashSetExt::new(&ration, state);
+    let mut set: RapidHashSet<u32, _> = HashSetExt::new(&heap, state);
     assert!(rt; !set.contains(&4711));
     assert!(rt; set.insert(4711).is_err());
     assert!(rt; set.is_empty());
+    Ok(())
 }
 
-/// Room for ten keys is enough for ten keys: none of them asks for more.
+/// Room for ten keys is enough for ten keys: the heap has no byte left once the room is made, so
+/// none of them asks for more.
 #[test]
 fn room_for_ten(rt: HostRuntime) -> Result<(), Fail> {
     let secrets = GlobalSecrets::new(1);
     let mut source = SeedSource::new(&secrets, 2);
     let state = fast::RandomState::new(&secrets, &mut source);
-    let ration = Rationed::new(rt.alloc(), 9);
-    let mut map: RapidHashMap<u32, u32, _> = HashMapExt::with_capacity(&ration, 10, state)?;
-    let mut set: RapidHashSet<u32, _> = HashSetExt::with_capacity(&ration, 10, state)?;
-    let left = ration.left();
+    let held = held_by_ten(rt.alloc(), state)?;
+    let heap = LocalHeap::new(rt.alloc(), held)?;
+    let mut map: RapidHashMap<u32, u32, _> = HashMapExt::with_capacity(&heap, 10, state)?;
+    let mut set: RapidHashSet<u32, _> = HashSetExt::with_capacity(&heap, 10, state)?;
+    assert_eq!(rt; heap.free(), 0);
     for key in 0..10u32 {
         let _ = map.insert(key, key + 1)?;
         let _ = set.insert(key)?;
     }
-    assert_eq!(rt; ration.left(), left);
     assert_eq!(rt; (map.len(), set.len()), (10, 10));
     assert_eq!(rt; map.get(&9).copied(), Some(10));
     assert_eq!(rt; map.get(&0).copied(), Some(1));
     assert!(rt; set.contains(&9) && set.contains(&0));
     assert!(rt; map.get(&10).is_none() && !set.contains(&10));
     Ok(())
+}
+
+// How many bytes of a heap a map and a set with room for ten keys hold.
+fn held_by_ten(alloc: Global, state: fast::RandomState) -> Result<usize, AllocError> {
+    let heap = LocalHeap::new(alloc, 4096)?;
+    let map: RapidHashMap<u32, u32, _> = HashMapExt::with_capacity(&heap, 10, state)?;
+    let set: RapidHashSet<u32, _> = HashSetExt::with_capacity(&heap, 10, state)?;
+    let held = heap.used();
+    drop(set);
+    drop(map);
+    Ok(held)
 }

@@ -108,7 +108,8 @@ fn integers_of_64_bits(rt: HostRuntime) {
 }
 
 /// Worked out by hand, with seed 0: an answer is the low half of the block times the high half with
-/// bit 0 turned, folded. So 2^64 - 1 times 2^64 - 2, 3 times 1, 2 times 2^64 - 2, and 2^32 - 1 times 1.
+/// bit 0 turned, folded. So 2^64 - 1 times 2^64 - 2, 3 times 1, 2 times 2^64 - 2, and 2^32 - 1
+/// times 1.
 #[test]
 fn known_answers_of_single_calls(rt: HostRuntime) {
     let mut wide = hasher::<true>();

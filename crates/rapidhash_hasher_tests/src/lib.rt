@@ -1,5 +1,6 @@
-//! The tests of the in-memory hasher: what no contract says. The numbers are worked out by hand, or
-//! are those of the Rust crate; messages of every length are compared with the definition.
+//! The tests of the in-memory hasher, its states, maps and sets, of the generator and of the laws:
+//! what no contract says. The numbers are worked out by hand, or are those of the Rust crate;
+//! messages of every length are compared with the definition.
 #![tactic(auto)]
 
 #[cfg(test)]
@@ -9,9 +10,13 @@ mod collections;
 #[cfg(test)]
 mod examples;
 #[cfg(test)]
+mod generator;
+#[cfg(test)]
 mod integers;
 #[cfg(test)]
 mod items;
+#[cfg(test)]
+mod laws;
 #[cfg(test)]
 mod sizes;
 #[cfg(test)]

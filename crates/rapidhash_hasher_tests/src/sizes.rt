@@ -2,9 +2,9 @@
 
 use rapidhash::inner::RapidHasher;
 use rapidhash::rng::RapidRng;
+use rapidhash_plain::{cpp_seeded, memory_hash, mix};
 use rapidhash_portable::form::Options;
 use rapidhash_portable::v3::DEFAULT_RAPID_SECRETS;
-use rapidhash_vectors::plain;
 use std::alloc::{AllocError, Global};
 use std::hash::Hasher;
 use std::test::Fail;
@@ -12,9 +12,9 @@ use std::test::Fail;
 /// What the definition answers of a hasher with the default seed, after one write.
 fn defined(options: Options, bytes: &[u8]) -> u64 {
     let secrets = &DEFAULT_RAPID_SECRETS.secrets;
-    let seed = plain::memory_hash(options, plain::cpp_seeded(2, 0), secrets, bytes);
+    let seed = memory_hash(options, bytes, cpp_seeded(0, 2), secrets);
     if options.avalanche {
-        plain::mix(options.protected, seed, secrets[1])
+        mix(options.protected, seed, secrets[1])
     } else {
         seed
     }

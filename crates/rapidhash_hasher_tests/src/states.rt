@@ -69,7 +69,8 @@ fn states_take_their_seeds(rt: HostRuntime) {
     );
 }
 
-/// The answers of hashers that a state builds, twice each: after five bytes, and of a text as a key.
+/// The answers of hashers that a state builds, twice each: after five bytes, and of a text as a
+/// key.
 fn of_hello<S: BuildHasher>(state: &S) -> [u64; 4] {
     let mut one = state.build_hasher();
     let mut other = state.build_hasher();

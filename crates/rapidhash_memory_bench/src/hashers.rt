@@ -2,8 +2,8 @@
 //! three times. Texts are hashed in the loop (`strN`), and by a function that stands out of line
 //! (`callN`), so that no compiler takes a part of the hash out of the loop.
 //!
-//! Each loop is compiled eight times, behind more and more code, so that it stands at eight places in
-//! memory: on some processors the place of a jump costs as much as the hash.
+//! Each loop is compiled eight times, behind more and more code, so that it stands at eight places
+//! in memory: on some processors the place of a jump costs as much as the hash.
 
 use anyhow::{Result, bail};
 use rapidhash::inner::SeedableState;

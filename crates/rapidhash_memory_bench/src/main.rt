@@ -1,6 +1,5 @@
-//! Times the generator, the hasher of maps, and maps: `rapidhash_memory_bench FORM
-//! NUMBER PLACE`, for `bench/memory`. It prints a number that all its work goes into, and the nanoseconds
-//! it took.
+//! Times the generator, the hasher of maps, and maps: `rapidhash_memory_bench FORM NUMBER PLACE`,
+//! for `bench/memory`. It prints a number that all its work goes into, and the nanoseconds it took.
 #![tactic(auto)]
 
 mod draws;
@@ -29,8 +28,8 @@ fn main(rt: HostRuntime) -> Result<()> {
     Ok(())
 }
 
-/// Does the work of a form. The number, and those in the form's name, come from the command line, so
-/// that the compiler does not know them.
+/// Does the work of a form. The number, and those in the form's name, come from the command line,
+/// so that the compiler does not know them.
 fn measured(rt: &(impl Clock + AllocGlobal), form: &str, number: u64, place: u64) -> Result<Taken> {
     if let Some(table) = form.strip_prefix("std_") {
         return tables::standard(rt, table);

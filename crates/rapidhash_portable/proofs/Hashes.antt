@@ -11,7 +11,7 @@ use Rattle.rapidhash_portable.specs.Words.{last_words, last_16, mixed_words, sho
 use Rattle.rapidhash_portable.specs.Memory.{after_pairs, core_tail_places, memory_hash, memory_shape}
 use Rattle.rapidhash_portable.specs.declared.form.Options.{Options}
 use Rattle.rapidhash_portable.specs.Hash.{close, value, portable_hash}
-use Rattle.rapidhash_portable.proofs.Columns.{after_lanes-none, cond_same}
+use Rattle.rapidhash_portable.proofs.LanesLemmas.{after_lanes-none, cond_same}
 use Rattle.rapidhash_portable.proofs.Tails.{after_tail-stop, after_tail-rest, fold_pairs-none}
 
 -- a value made piece by piece

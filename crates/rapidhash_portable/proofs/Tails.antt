@@ -2,7 +2,7 @@ use Rattle.std.proofs.Common.{◌≡◌, ℕ, ◌+◌, ◌-◌, ◌*◌, ◌/◌
 use Rattle.std.proofs.lemmas.List.{take_all, take_more, take-take, length-take-le}
 use Rattle.rapidhash_portable.specs.Lanes.{pair_of, pair_at, step}
 use Rattle.rapidhash_portable.specs.Tail.{after_tail, fold_pairs}
-use Rattle.rapidhash_portable.proofs.Columns.{pair_at-drop}
+use Rattle.rapidhash_portable.proofs.LanesLemmas.{pair_at-drop}
 
 -- one pair more
 fold_pairs-push : (protected : Bool) (cs : List ℕ) (c : ℕ) (pair : ℕ → ℕ × ℕ) (at seed : ℕ) → fold_pairs protected (cs ++ c ∷ []) pair at seed ≡ step protected c (fold_pairs protected cs pair at seed) (pair (at + length cs))

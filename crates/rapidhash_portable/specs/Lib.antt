@@ -1,5 +1,6 @@
 pub mod Absorbed
 pub mod Bytes
+pub mod Folded
 pub mod Form
 pub mod Hash
 pub mod Lanes

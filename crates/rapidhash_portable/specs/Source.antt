@@ -1,7 +1,11 @@
--- A source as its callers see it, and what a call took of a reader.
-use Rattle.std.specs.Prelude.{Bool, List, ℕ, Option}
-use Rattle.std.specs.Io.KnownBytes.{Consumes}
+-- A source as its callers see it, and why a hash over a reader stopped.
+use Rattle.std.specs.Prelude.{◌≡◌, ℕ, Bool, true, false, Result, Ok, Err, IsErr, IsErrAnd}
+use Rattle.std.specs.IoError.{error_kind}
+use Rattle.std.specs.declared.io.Error.{Error}
+use Rattle.std.specs.declared.io.ErrorKind.TheVariants.{UnexpectedEof}
 use Rattle.rapidhash_portable.specs.declared.reader.Source.{Source}
+use Rattle.rapidhash_portable.specs.declared.reader.Stop.{Stop}
+use Rattle.rapidhash_portable.specs.declared.reader.Stop.TheVariants.{Ended, Failed}
 
 -- whether the mark is on
 abbrev pub is_marked : {R : Type 0} → Source R → Bool
@@ -11,6 +15,17 @@ is_marked source = source.mark
 abbrev pub reader_of : {R : Type 0} → Source R → R
 reader_of source = source.reader
 
--- some of the bytes that were left before, from the first on, were taken
-abbrev pub ReadsOn : Option (List ℕ) → Option (List ℕ) → Type 0
-ReadsOn old new = (bytes : List ℕ) × Consumes old new bytes
+-- the source with another reader inside
+abbrev pub with_reader : {R : Type 0} → Source R → R → Source R
+with_reader source reader = record { reader = reader; mark = source.mark }
+
+-- whether a read failed
+abbrev pub is_failed : Stop → Bool
+is_failed (Failed read) = true
+is_failed Ended = false
+
+-- what becomes of a hash's answer and of the mark: a failed read turns the mark on, and an early end has its own kind
+abbrev pub Settles : Result ℕ Stop → Result ℕ Error → Bool → Bool → Type 0
+Settles (Ok hash) result old new = (result ≡ Ok hash) × (new ≡ old)
+Settles (Err (Failed read)) result old new = IsErr result × (new ≡ true)
+Settles (Err Ended) result old new = IsErrAnd result (λ e. error_kind e ≡ UnexpectedEof) × (new ≡ old)

@@ -4,9 +4,10 @@
 //! The callers are thin: a form is its row widths, its tail's table and what goes into its close.
 //! Touch the loops here with `objdump` at hand: they are what speed rests on.
 
-ghost use Rattle.std.specs.Prelude.{◌≡◌, ◌+◌, ◌*◌, ◌≤◌, ◌<◌, ◌++◌, ℕ, List, length, slice_index, drop};
+ghost use Rattle.std.specs.Prelude.{◌≡◌, ◌+◌, ◌*◌, ◌≤◌, ◌<◌, ℕ, List, length, replicate, take};
+ghost use Rattle.rapidhash_portable.specs.Folded.{AfterRows, HaveFolded, PrefixIsFolded};
 ghost use Rattle.rapidhash_portable.specs.Hash.{close};
-ghost use Rattle.rapidhash_portable.specs.Lanes.{LanesHold, pair_of, after_lanes, joined, lane_of, mixed_shape, pair_at, pairs_of, row_bytes, rows_in, step, wide_shape};
+ghost use Rattle.rapidhash_portable.specs.Lanes.{joined, mixed_shape, pair_of, wide_shape};
 ghost use Rattle.rapidhash_portable.specs.Options.{options};
 ghost use Rattle.rapidhash_portable.specs.Tail.{after_tail};
 
@@ -24,11 +25,7 @@ pub(crate) fn fold_row<const LANES: usize, const WIDTH: usize, const PROTECTED: 
     requires secrets { WIDTH ≤ length secrets.now }
     requires narrow { WIDTH ≤ LANES }
     requires small { WIDTH ≤ 7 }
-    ensures whole { length lanes.new ≡ LANES }
-    ensures folded { (i : ℕ) → i < WIDTH →
-        slice_index lanes.new i
-        ≡ step PROTECTED (slice_index secrets.now i) (slice_index lanes.old i) (pair_at row.now (16 * i)) }
-    ensures kept { (i : ℕ) → WIDTH ≤ i → slice_index lanes.new i ≡ slice_index lanes.old i }
+    ensures { HaveFolded PROTECTED secrets.now row.now WIDTH lanes.old lanes.new 1 }
 {
     for i in 0..WIDTH {
         lanes[i] = rapid_mix::<PROTECTED>(
@@ -50,21 +47,15 @@ fn fold_two_rows<const LANES: usize, const WIDTH: usize, const PROTECTED: bool>(
     requires secrets { WIDTH ≤ length secrets.now }
     requires narrow { WIDTH ≤ LANES }
     requires small { WIDTH ≤ 7 }
-    ensures whole { length lanes.new ≡ LANES }
-    ensures folded { (i : ℕ) → i < WIDTH →
-        slice_index lanes.new i
-        ≡ step PROTECTED (slice_index secrets.now i)
-        (step PROTECTED (slice_index secrets.now i) (slice_index lanes.old i) (pair_at rows.now (16 * i)))
-        (pair_at rows.now (16 * (WIDTH + i))) }
-    ensures kept { (i : ℕ) → WIDTH ≤ i → slice_index lanes.new i ≡ slice_index lanes.old i }
+    ensures { HaveFolded PROTECTED secrets.now rows.now WIDTH lanes.old lanes.new 2 }
 {
     fold_row::<LANES, WIDTH, PROTECTED>(lanes, rows, secrets);
     fold_row::<LANES, WIDTH, PROTECTED>(lanes, &rows[16 * WIDTH..], secrets);
 }
 
-/// Folds all rows of `WIDTH` pairs into the first `WIDTH` lanes, and gives what is left, which has
-/// `KEPT` bytes at the least. Without `COMPACT` it goes by turns of two rows, and then by at most
-/// one.
+/// Folds all rows of `WIDTH` pairs into the first `WIDTH` lanes, and returns the bytes behind them,
+/// of which there are `KEPT` at the least. The lanes go on with whatever prefix of a message they
+/// have folded before. Without `COMPACT` the loop takes two rows a turn, and then at most one.
 #[inline(always)]
 pub(crate) fn fold_rows<
     'x,
@@ -80,14 +71,10 @@ pub(crate) fn fold_rows<
     requires small { WIDTH ≤ 7 }
     requires keeps { KEPT ≤ length bytes.now }
     requires keeps_few { KEPT ≤ 1 }
-    ensures whole { length lanes.new ≡ LANES }
-    ensures folded { (i : ℕ) → i < WIDTH →
-        slice_index lanes.new i
-        ≡ lane_of PROTECTED (slice_index secrets.now i)
-        (pairs_of (pair_of bytes.now) 0 WIDTH (rows_in WIDTH KEPT (length bytes.now)) i)
-        (slice_index lanes.old i) }
-    ensures kept { (i : ℕ) → WIDTH ≤ i → slice_index lanes.new i ≡ slice_index lanes.old i }
-    ensures rest { result.now ≡ drop (16 * (WIDTH * rows_in WIDTH KEPT (length bytes.now))) bytes.now }
+    ensures on { (x starts : List ℕ) →
+        PrefixIsFolded PROTECTED secrets.now x WIDTH KEPT starts lanes.old bytes.now →
+        PrefixIsFolded PROTECTED secrets.now x WIDTH KEPT starts lanes.new result.now }
+    ensures all { length result.now < 16 * WIDTH + KEPT }
 {
     let mut rest = bytes;
     if !COMPACT {
@@ -103,14 +90,15 @@ pub(crate) fn fold_rows<
     rest
 }
 
-/// The XOR of all lanes.
+/// The XOR of the first `WIDTH` lanes.
 #[inline(always)]
 #[tactic(auto, unfolding(crate::specs::Lanes::joined))]
-pub(crate) fn join<const LANES: usize>(lanes: &[u64; LANES]) -> u64
-    ensures { result ≡ joined lanes.now }
+pub(crate) fn join<const LANES: usize, const WIDTH: usize>(lanes: &[u64; LANES]) -> u64
+    requires { WIDTH ≤ LANES }
+    ensures { result ≡ joined (take WIDTH lanes.now) }
 {
     let mut all = 0;
-    for i in 0..LANES {
+    for i in 0..WIDTH {
         all ^= lanes[i];
     }
     all
@@ -130,9 +118,8 @@ pub(crate) fn wide_lanes<
     requires small { LANES ≤ 7 }
     requires keeps { KEPT ≤ length bytes.now }
     requires keeps_few { KEPT ≤ 1 }
-    ensures joined { result.0
-        ≡ after_lanes PROTECTED secrets.now (pair_of bytes.now) (wide_shape LANES KEPT (length bytes.now)) seed }
-    ensures rest { result.1.now ≡ drop (row_bytes (wide_shape LANES KEPT (length bytes.now))) bytes.now }
+    ensures { let shape = wide_shape LANES KEPT (length bytes.now) in
+        AfterRows PROTECTED secrets.now bytes.now shape seed result.0 result.1.now }
 {
     let mut lanes = [seed; LANES];
     join_wide::<LANES, KEPT, COMPACT, PROTECTED>(&mut lanes, bytes, secrets)
@@ -146,15 +133,14 @@ pub(crate) fn mixed_lanes<'x, const COMPACT: bool, const PROTECTED: bool>(
     seed: u64,
     secrets: &[u64; 7],
 ) -> (u64, &'x [u8])
-    ensures joined { result.0
-        ≡ after_lanes PROTECTED secrets.now (pair_of bytes.now) (mixed_shape 7 (length bytes.now)) seed }
-    ensures rest { result.1.now ≡ drop (row_bytes (mixed_shape 7 (length bytes.now))) bytes.now }
+    ensures { let shape = mixed_shape 7 (length bytes.now) in
+        AfterRows PROTECTED secrets.now bytes.now shape seed result.0 result.1.now }
 {
     let mut lanes = [seed; 7];
     join_mixed::<COMPACT, PROTECTED>(&mut lanes, bytes, secrets)
 }
 
-/// As [`wide_lanes`], where the lanes hold a front already, and `bytes` are what follows it.
+/// As [`wide_lanes`], where the lanes have folded a prefix already, and `bytes` are what follows it.
 #[inline(always)]
 pub(crate) fn join_wide<
     'x,
@@ -168,34 +154,31 @@ pub(crate) fn join_wide<
     requires small { LANES ≤ 7 }
     requires keeps { KEPT ≤ length bytes.now }
     requires keeps_few { KEPT ≤ 1 }
-    ensures joined { (front : List ℕ) (seed : ℕ) → LanesHold PROTECTED secrets.now front LANES seed lanes.old →
-        let x = front ++ bytes.now in
-        result.0 ≡ after_lanes PROTECTED secrets.now (pair_of x) (wide_shape LANES KEPT (length x)) seed }
-    ensures rest { (front : List ℕ) (seed : ℕ) → LanesHold PROTECTED secrets.now front LANES seed lanes.old →
-        let x = front ++ bytes.now in
-        result.1.now ≡ drop (row_bytes (wide_shape LANES KEPT (length x))) x }
+    ensures { (x : List ℕ) (seed : ℕ) → let starts = replicate LANES seed in
+        PrefixIsFolded PROTECTED secrets.now x LANES KEPT starts lanes.old bytes.now →
+        let shape = wide_shape LANES KEPT (length x) in
+        AfterRows PROTECTED secrets.now x shape seed result.0 result.1.now }
 {
     let rest = fold_rows::<LANES, LANES, KEPT, COMPACT, PROTECTED>(lanes, bytes, secrets);
-    (join::<LANES>(lanes), rest)
+    (join::<LANES, LANES>(lanes), rest)
 }
 
-/// As [`mixed_lanes`], where the lanes hold a front already, and `bytes` are what follows it.
+/// As [`mixed_lanes`], where the lanes have folded a prefix already, and `bytes` are what follows
+/// it.
 #[inline(always)]
 pub(crate) fn join_mixed<'x, const COMPACT: bool, const PROTECTED: bool>(
     lanes: &mut [u64; 7],
     bytes: &'x [u8],
     secrets: &[u64; 7],
 ) -> (u64, &'x [u8])
-    ensures joined { (front : List ℕ) (seed : ℕ) → LanesHold PROTECTED secrets.now front 7 seed lanes.old →
-        let x = front ++ bytes.now in
-        result.0 ≡ after_lanes PROTECTED secrets.now (pair_of x) (mixed_shape 7 (length x)) seed }
-    ensures rest { (front : List ℕ) (seed : ℕ) → LanesHold PROTECTED secrets.now front 7 seed lanes.old →
-        let x = front ++ bytes.now in
-        result.1.now ≡ drop (row_bytes (mixed_shape 7 (length x))) x }
+    ensures { (x : List ℕ) (seed : ℕ) →
+        PrefixIsFolded PROTECTED secrets.now x 7 0 (replicate 7 seed) lanes.old bytes.now →
+        let shape = mixed_shape 7 (length x) in
+        AfterRows PROTECTED secrets.now x shape seed result.0 result.1.now }
 {
     let wide = fold_rows::<7, 7, 0, COMPACT, PROTECTED>(lanes, bytes, secrets);
     let rest = fold_rows::<7, 3, 0, COMPACT, PROTECTED>(lanes, wide, secrets);
-    (join::<7>(lanes), rest)
+    (join::<7, 7>(lanes), rest)
 }
 
 /// The seed after the pairs of a tail: pair j takes secret j of the table, and the last 1 to 16

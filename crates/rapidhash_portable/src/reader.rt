@@ -1,14 +1,15 @@
-//! A reader with a mark, which tells a reader's own fault from the other errors of a hash that reads.
+//! A reader with a mark, which tells the reader's own errors from the others of a hash that reads.
 //!
-//! [`marked_read`] makes every read of every hash of this crate, and alone turns a mark on.
+//! The mark is on only where a read failed. Privacy keeps it so: [`read_once`] alone makes a
+//! [`FailedRead`], and [`Source`] alone turns its mark on, by a read or for a `FailedRead`.
 
-ghost use Rattle.std.specs.Prelude.{◌≡◌, ◌||◌, false};
-ghost use Rattle.std.specs.Result.{is_err};
+ghost use Rattle.std.specs.Prelude.{◌≡◌, ◌||◌, false, true, is_err};
+ghost use Rattle.std.specs.Borrow.{follows, sem};
 ghost use Rattle.std.specs.Io.{ReadsAtMost};
 ghost use Rattle.std.specs.Io.KnownBytes.{ReadConsumes};
 
 use std::io;
-use std::io::Read;
+use std::io::{ErrorKind, Read};
 
 /// A reader, and a mark that is on where a read failed.
 ///
@@ -22,12 +23,13 @@ use std::io::Read;
 /// ```
 #[derive(Drop)]
 pub struct Source<R: Read> {
-    pub(crate) reader: R,
-    pub(crate) mark: bool,
+    reader: R,
+    mark: bool,
 }
 
 impl<R: Read> Source<R> {
-    ghost use Rattle.rapidhash_portable.specs.Source.{is_marked, reader_of};
+    ghost use Rattle.rapidhash_portable.specs.Source.{Settles, is_marked, reader_of, with_reader};
+    ghost use Rattle.rapidhash_portable.specs.contracts.reader.Source.{the_row};
 
     /// A source over a reader, with the mark off. It reads nothing.
     pub fn new(reader: R) -> Self
@@ -40,14 +42,27 @@ impl<R: Read> Source<R> {
         }
     }
 
-    /// One read of the reader, with the reader's own answer. A fault turns the mark on, an
-    /// interrupted read too.
+    /// One read of the reader, with the reader's own answer. An error turns the mark on, also where
+    /// the read was interrupted.
     pub fn read(&mut self, buf: &mut [u8]) -> io::Result<usize>
         ensures mark { is_marked self.new ≡ (is_marked self.old || is_err result) }
         ensures bound { ReadsAtMost result buf.new }
-        ensures bytes { ReadConsumes (R.remaining (reader_of self.old)) (R.remaining (reader_of self.new)) result buf.new }
+        ensures bytes { ReadConsumes (R.remaining (reader_of self.old))
+            (R.remaining (reader_of self.new)) result buf.new }
     {
-        marked_read(&mut self.reader, &mut self.mark, buf)
+        match read_once(&mut self.reader, buf) {
+            Ok(n) => Ok(n),
+            Err(failed) => Err(self.fail(failed)),
+        }
+    }
+
+    /// Turns the mark on for a read that failed, and returns the reader's own error.
+    fn fail(&mut self, failed: FailedRead) -> io::Error
+        ensures marked { is_marked self.new ≡ true }
+        ensures reader { reader_of self.new ≡ reader_of self.old }
+    {
+        self.mark = true;
+        failed.error
     }
 
     /// Takes the mark off.
@@ -71,22 +86,62 @@ impl<R: Read> Source<R> {
     {
         self.reader
     }
+
+    /// Lends the reader to a hash that returns a [`Stop`], which [`Source::settle`] takes.
+    pub(crate) fn reader_mut(&mut self) -> &mut R
+        ensures value { result.now ≡ reader_of self.old }
+        ensures* writes_back { sem 𝓛 (follows (the_row R.row) R.row self.entry.ghost_name
+            result.ghost_name (with_reader self.old)) }
+    {
+        &mut self.reader
+    }
+
+    /// The answer of a hash that read by itself. The mark comes on where a read failed.
+    pub(crate) fn settle(&mut self, answer: Result<u64, Stop>) -> io::Result<u64>
+        ensures reader { reader_of self.new ≡ reader_of self.old }
+        ensures answer { Settles answer result (is_marked self.old) (is_marked self.new) }
+    {
+        match answer {
+            Ok(hash) => Ok(hash),
+            Err(Stop::Failed(failed)) => Err(self.fail(failed)),
+            Err(Stop::Ended) => Err(io::Error::from(ErrorKind::UnexpectedEof)),
+        }
+    }
 }
 
-/// One read of `reader`, with the reader's own answer. A fault turns the mark on.
+/// A read that failed, with the reader's own error.
+#[derive(Debug, Drop)]
+pub(crate) struct FailedRead {
+    error: io::Error,
+}
+
+/// Why a hash of a known length returns no value.
+#[derive(Debug, Drop)]
+pub(crate) enum Stop {
+    /// A read failed.
+    Failed(FailedRead),
+    /// The reader had fewer bytes.
+    Ended,
+}
+
+impl Stop {
+    /// The reader's own error, or `ErrorKind::UnexpectedEof`.
+    pub(crate) fn into_error(self) -> io::Error {
+        match self {
+            Stop::Failed(failed) => failed.error,
+            Stop::Ended => io::Error::from(ErrorKind::UnexpectedEof),
+        }
+    }
+}
+
+/// One read of `reader`.
 #[inline(always)]
-pub(crate) fn marked_read<R: Read>(
-    reader: &mut R,
-    mark: &mut bool,
-    buf: &mut [u8],
-) -> io::Result<usize>
-    ensures mark { mark.new ≡ (mark.old || is_err result) }
+pub(crate) fn read_once<R: Read>(reader: &mut R, buf: &mut [u8]) -> Result<usize, FailedRead>
     ensures bound { ReadsAtMost result buf.new }
     ensures bytes { ReadConsumes (R.remaining reader.old) (R.remaining reader.new) result buf.new }
 {
-    let answer = reader.read(buf);
-    if answer.is_err() {
-        *mark = true;
+    match reader.read(buf) {
+        Ok(n) => Ok(n),
+        Err(error) => Err(FailedRead { error }),
     }
-    answer
 }

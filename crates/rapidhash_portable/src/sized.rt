@@ -5,16 +5,15 @@
 //! bytes in pieces of whole rows; a piece is taken only while 16 bytes more are to come, so what is
 //! left in the end holds the message's last 16 bytes, and nothing is carried from piece to piece.
 
-ghost use Rattle.std.specs.Prelude.{◌≡◌, ◌+◌, ◌*◌, ◌-◌, ◌≤◌, ◌<◌, false, IfErr, IfOk, OnOk, length};
+ghost use Rattle.std.specs.Prelude.{◌≡◌, ◌+◌, ◌*◌, ◌-◌, ◌≤◌, ◌<◌, IfErr, IfOk, OnOk, length, take};
 ghost use Rattle.std.specs.Io.KnownBytes.{Consumes};
-ghost use Rattle.std.specs.IoError.{error_kind};
 ghost use Rattle.rapidhash_portable.specs.Lanes.{rows_in};
 ghost use Rattle.rapidhash_portable.specs.Reading.{FellShort, FrontIsFolded};
+ghost use Rattle.rapidhash_portable.specs.Source.{is_failed};
 
 use crate::lanes::fold_rows;
-use crate::reader::marked_read;
-use std::io;
-use std::io::{ErrorKind, Read};
+use crate::reader::{Stop, read_once};
+use std::io::Read;
 
 /// The longest message that is read whole.
 pub(crate) const SHORT: usize = 8192;
@@ -23,58 +22,53 @@ pub(crate) const SHORT: usize = 8192;
 pub(crate) const BUFFER: usize = 65536;
 
 /// Fills `buf`, and makes no read once it is full.
-pub(crate) fn fill<R: Read>(reader: &mut R, mark: &mut bool, buf: &mut [u8]) -> io::Result<()>
-    requires clean { mark.old ≡ false }
+pub(crate) fn fill<R: Read>(reader: &mut R, buf: &mut [u8]) -> Result<(), Stop>
     ensures ok { OnOk result (Consumes (R.remaining reader.old) (R.remaining reader.new) buf.new) }
-    ensures clean { OnOk result (mark.new ≡ false) }
-    ensures short { IfErr result (λ _. FellShort (R.remaining reader.old) (R.remaining reader.new) (length buf.old) mark.new) }
-    ensures kind { IfErr result (λ e. mark.new ≡ false → error_kind e ≡ ErrorKind.UnexpectedEof) }
+    ensures short { IfErr result (λ stop.
+        FellShort (R.remaining reader.old) (R.remaining reader.new) (length buf.old) (is_failed stop)) }
 {
     let mut at = 0;
     'reads: while at < buf.len() {
-        let n = marked_read(reader, mark, &mut buf[at..])?;
-        if n == 0 {
-            return Err(io::Error::from(ErrorKind::UnexpectedEof));
+        match read_once(reader, &mut buf[at..]) {
+            Ok(0) => return Err(Stop::Ended),
+            Ok(n) => at += n,
+            Err(failed) => return Err(Stop::Failed(failed)),
         }
-        at += n;
     }
     Ok(())
 }
 
-/// Reads `len` bytes and folds them into lanes that start from `seed`, but for the last ones, which
-/// it leaves at the head of the buffer. It gives the lanes and how many these are.
+/// Reads `len` bytes and folds them into lanes that start from `seed`, but for the last 16 or more,
+/// which it leaves at the head of the buffer. It returns the lanes and how many these are.
 pub(crate) fn fold_front<R: Read, const LANES: usize, const PROTECTED: bool>(
     reader: &mut R,
-    mark: &mut bool,
     buffer: &mut [u8],
     len: u64,
     seed: u64,
     secrets: &[u64],
-) -> io::Result<([u64; LANES], usize)>
+) -> Result<([u64; LANES], usize), Stop>
     requires long { 16 ≤ len }
     requires some { 0 < LANES }
     requires few { LANES ≤ 7 }
     requires secrets { LANES ≤ length secrets.now }
     requires room { 16 < length buffer.old }
     requires whole_rows { 16 * (LANES * rows_in LANES 0 (length buffer.old - 16)) ≡ length buffer.old - 16 }
-    requires clean { mark.old ≡ false }
-    ensures ok { IfOk result (λ front.
-        FrontIsFolded PROTECTED secrets.now (R.remaining reader.old) (R.remaining reader.new)
-        len LANES seed front.0 buffer.new front.1) }
-    ensures clean { OnOk result (mark.new ≡ false) }
-    ensures short { IfErr result (λ _. FellShort (R.remaining reader.old) (R.remaining reader.new) len mark.new) }
-    ensures kind { IfErr result (λ e. mark.new ≡ false → error_kind e ≡ ErrorKind.UnexpectedEof) }
+    ensures ok { IfOk result (λ front. FrontIsFolded PROTECTED secrets.now (R.remaining reader.old)
+        (R.remaining reader.new) len LANES seed front.0 (take front.1 buffer.new)) }
+    ensures last { IfOk result (λ front. (16 ≤ front.1) × (front.1 ≤ length buffer.new)) }
+    ensures short { IfErr result (λ stop.
+        FellShort (R.remaining reader.old) (R.remaining reader.new) len (is_failed stop)) }
 {
     let room = buffer.len() - 16;
     let mut lanes = [seed; LANES];
     let mut left = len;
     'pieces: while left >= room as u64 + 16 {
         let piece = &mut buffer[..room];
-        fill(reader, mark, piece)?;
+        fill(reader, piece)?;
         fold_rows::<LANES, LANES, 0, false, PROTECTED>(&mut lanes, piece, secrets);
         left -= room as u64;
     }
     let last = left as usize;
-    fill(reader, mark, &mut buffer[..last])?;
+    fill(reader, &mut buffer[..last])?;
     Ok((lanes, last))
 }

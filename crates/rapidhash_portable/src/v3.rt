@@ -17,8 +17,9 @@ pub use crate::secrets::{DEFAULT_RAPID_SECRETS, RapidSecrets};
 use crate::util::ALTERNATING_BITS;
 use crate::words::{last_16, short_start_v3};
 pub use readers::{
-    rapidhash_v3_file, rapidhash_v3_file_inline, rapidhash_v3_file_seeded, rapidhash_v3_file_sized,
-    rapidhash_v3_source, rapidhash_v3_source_sized,
+    rapidhash_v3_file, rapidhash_v3_file_inline, rapidhash_v3_file_lanes, rapidhash_v3_file_seeded,
+    rapidhash_v3_file_sized, rapidhash_v3_source, rapidhash_v3_source_lanes,
+    rapidhash_v3_source_sized,
 };
 pub use stream::{
     RapidStreamHasherInlineMicro, RapidStreamHasherInlineNano, RapidStreamHasherInlineV3,

@@ -3,10 +3,10 @@
 use crate::rules::{message, number, secrets_of};
 use crate::tally::Agreement;
 use anyhow::{Result, bail};
+use rapidhash_plain::bodies::{Version, body, defined, memory_body};
+use rapidhash_plain::{memory_hash, mix};
 use rapidhash_portable::form::Options;
 use rapidhash_portable::v3::DEFAULT_RAPID_SECRETS;
-use rapidhash_vectors::bodies::{Version, body, defined, memory_body};
-use rapidhash_vectors::plain;
 use std::alloc::Global;
 
 /// The columns of a file of bulk hashes.
@@ -76,7 +76,7 @@ pub fn replay(alloc: Global, line: &str) -> Result<Agreement> {
 pub fn finished(options: Options, value: u64) -> u64 {
     let [_, second, ..] = DEFAULT_RAPID_SECRETS.secrets;
     if options.avalanche {
-        plain::mix(options.protected, value, second)
+        mix(options.protected, value, second)
     } else {
         value
     }
@@ -94,7 +94,7 @@ pub fn replay_memory(alloc: Global, line: &str) -> Result<Agreement> {
     let expected = number(expected)?;
     let bytes = bytes.as_slice();
     let seven = &secrets.seven;
-    let defined = plain::memory_hash(options, seven.seed, &seven.secrets, bytes);
+    let defined = memory_hash(options, bytes, seven.seed, &seven.secrets);
     Ok(Agreement {
         definition: finished(options, defined) == expected,
         body: finished(options, memory_body::<false>(options, &secrets, bytes)) == expected,

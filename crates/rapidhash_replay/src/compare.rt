@@ -6,10 +6,10 @@ ghost use Rattle.rapidhash_portable.specs.Lanes.{IsLaneCount};
 use crate::rules::{message, secrets_of};
 use crate::tally::{Agreement, Tally};
 use anyhow::{Result, bail};
+use rapidhash_plain::bodies::{Secrets, Version, body, defined, memory_body};
+use rapidhash_plain::memory_hash;
 use rapidhash_portable::form::Options;
 use rapidhash_portable::v3::RapidStreamHasherLanes;
-use rapidhash_vectors::bodies::{Secrets, Version, body, defined, memory_body};
-use rapidhash_vectors::plain;
 use std::alloc::Global;
 
 /// Every choice of options.
@@ -57,7 +57,7 @@ fn core_agrees(secrets: &Secrets, bytes: &[u8]) -> Tally {
         let x = &bytes[..n];
         for options in OPTIONS {
             let compact = memory_body::<true>(options, secrets, x);
-            let definition = plain::memory_hash(options, seven.seed, &seven.secrets, x);
+            let definition = memory_hash(options, x, seven.seed, &seven.secrets);
             tally.differs(Agreement {
                 definition: definition == compact,
                 body: memory_body::<false>(options, secrets, x) == compact,
@@ -157,7 +157,8 @@ fn pairs_agree(secrets: &Secrets, bytes: &[u8]) -> u64 {
     agreed
 }
 
-/// Pieces of 111, 112, 113 and 128 bytes in every order of two: where the first ends, and the second.
+/// Pieces of 111, 112, 113 and 128 bytes in every order of two: where the first ends, and the
+/// second.
 const PAIRS: [(usize, usize); 16] = [
     (111, 222),
     (111, 223),

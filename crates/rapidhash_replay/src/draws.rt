@@ -26,7 +26,8 @@ fn state_after(seed: u64, count: u64) -> u64 {
     seed.wrapping_add(count.wrapping_mul(STEP))
 }
 
-/// The words that the definition gives, the state that is left, and the words that are not portable.
+/// The words that the definition gives, the state that is left, and the words that are not
+/// portable.
 fn defined(alloc: Global, seed: u64, count: u64) -> Result<Vec<u64>, AllocError> {
     let mut all = Vec::new(alloc);
     for i in 0..count {

@@ -6,9 +6,9 @@ use crate::rules::{number, secrets_of};
 use crate::tally::Agreement;
 use anyhow::{Result, bail};
 use rapidhash::inner::SeedableState;
+use rapidhash_plain::{memory_hash, mix};
 use rapidhash_portable::form::Options;
 use rapidhash_portable::v3::RapidSecrets;
-use rapidhash_vectors::plain;
 use std::alloc::Global;
 use std::hash::{BuildHasher, Hasher};
 
@@ -26,7 +26,8 @@ impl End {
     /// Before the first integer.
     const START: End = End { block: 0, bit: 0 };
 
-    /// Where they end after one more of a width: in the same block if it has room, else in the next.
+    /// Where they end after one more of a width: in the same block if it has room, else in the
+    /// next.
     fn after(self, width: u32) -> End {
         let bit = self.bit.saturating_add(width);
         if bit <= 128 {
@@ -60,19 +61,19 @@ fn block(items: &[Item], place: u64) -> u128 {
 fn after_wide(options: Options, secrets: &[u64; 7], seed: u64, value: u128) -> u64 {
     let low = (value % 0x1_0000_0000_0000_0000) as u64;
     let high = (value / 0x1_0000_0000_0000_0000) as u64;
-    plain::mix(options.protected, low ^ seed, high ^ secrets[0])
+    mix(options.protected, low ^ seed, high ^ secrets[0])
 }
 
-/// The answer that the definition gives, written as a program once more: no contract says that it is
-/// the definition. With a sponge a block of integers is mixed in where the next one opens, and the
-/// last at the end; without one each integer is mixed in by itself.
+/// The answer that the definition gives, written as a program once more: no contract says that it
+/// is the definition. With a sponge a block of integers is mixed in where the next one opens, and
+/// the last at the end; without one each integer is mixed in by itself.
 fn defined(options: Options, sponge: bool, start: &RapidSecrets, items: &[Item]) -> u64 {
     let secrets = &start.secrets;
     let mut seed = start.seed;
     let mut end = End::START;
     for item in items {
         match item.absorbed() {
-            Absorbed::Bytes(bytes) => seed = plain::memory_hash(options, seed, secrets, bytes),
+            Absorbed::Bytes(bytes) => seed = memory_hash(options, bytes, seed, secrets),
             Absorbed::Wide(value) => seed = after_wide(options, secrets, seed, value),
             Absorbed::Number(width, value) => {
                 if sponge {
@@ -82,7 +83,7 @@ fn defined(options: Options, sponge: bool, start: &RapidSecrets, items: &[Item])
                     }
                     end = next;
                 } else {
-                    seed = plain::mix(options.protected, value ^ secrets[0], value ^ seed);
+                    seed = mix(options.protected, value ^ secrets[0], value ^ seed);
                 }
             }
         }

@@ -1,7 +1,7 @@
-//! Replays vector files: reads cases whose values come from the Rust crate (see data/README.md), and
-//! compares the definitions and the fast bodies with each. It prints a line of counts for each file
-//! named in its words, the cases that differ on standard error, and ends with status 1 where one
-//! does. The word `--compare` compares bodies and definitions on bytes of the generator.
+//! Replays vector files: reads cases whose values come from the Rust crate (see data/README.md),
+//! and compares the definitions and the fast bodies with each. It prints a line of counts for each
+//! file named in its words, the cases that differ on standard error, and ends with status 1 where
+//! one does. The word `--compare` compares bodies and definitions on bytes of the generator.
 #![tactic(auto)]
 
 mod bulk;

@@ -2,9 +2,9 @@
 
 use anyhow::{Context, Result, bail};
 use rapidhash::rng::RapidRng;
+use rapidhash_plain::bodies::Secrets;
 use rapidhash_portable::seeding::{GlobalSecrets, SeedSource};
 use rapidhash_portable::{v1, v3};
-use rapidhash_vectors::bodies::Secrets;
 use std::alloc::Global;
 
 /// How the bytes of a message are told by their places.

@@ -3,9 +3,9 @@
 use crate::rules::number;
 use crate::tally::Agreement;
 use anyhow::{Result, bail};
+use rapidhash_plain::{chained, cpp_seeded, reseeded, seeded};
 use rapidhash_portable::seeding::{GlobalSecrets, SeedSource};
 use rapidhash_portable::{v1, v2, v3};
-use rapidhash_vectors::plain;
 use std::alloc::{AllocError, Global};
 
 /// The columns of a file of secrets.
@@ -59,17 +59,17 @@ fn defined(alloc: Global, form: &str, call: &str, number: u64) -> Result<Vec<u64
     let default = v3::DEFAULT_RAPID_SECRETS.secrets;
     let (count, first, last) = if form == "v1" { (3, 0, 2) } else { (7, 2, 6) };
     if call == "seed_cpp" {
-        return listed(alloc, plain::cpp_seeded(first, number), &default[..count]);
+        return listed(alloc, cpp_seeded(number, first), &default[..count]);
     }
-    let seed = plain::seeded(number);
+    let seed = seeded(number);
     let mut words = Vec::new(alloc);
     words.push(if call == "seed" {
         seed
     } else {
-        plain::reseeded(last, seed)
+        reseeded(seed, last)
     })?;
     for place in 0..count {
-        words.push(plain::chained(seed, place + 1))?;
+        words.push(chained(seed, place + 1))?;
     }
     Ok(words)
 }

@@ -6,9 +6,9 @@ use crate::seeds::numbers;
 use crate::tally::Agreement;
 use anyhow::{Result, bail};
 use rapidhash::laws::{StreamOp, replay_lanes};
+use rapidhash_plain::bodies::{Secrets, Version, defined};
 use rapidhash_portable::form::Options;
 use rapidhash_portable::v3::RapidSecrets;
-use rapidhash_vectors::bodies::{Secrets, Version, defined};
 use std::alloc::{AllocError, Global};
 
 /// The columns of a file of V3's stream hasher.

@@ -1,10 +1,8 @@
 -- The hash that a version prints.
-use Rattle.std.specs.Prelude.{ℕ, ◌≤◌, Bool, true, List, length, take}
+use Rattle.std.specs.Prelude.{ℕ, ◌≤◌, true, List, length, take}
 use Rattle.rapidhash.specs.Form.{v1, v2, v3, micro, nano}
-use Rattle.rapidhash.specs.Hash.{portable_hash}
-use Rattle.rapidhash.specs.Secrets.{cpp_seeded, default_secrets, default_secrets_v1}
-use Rattle.rapidhash_portable.specs.declared.form.Form.{Form}
-use Rattle.rapidhash_portable.specs.declared.form.Options.{Options}
+use Rattle.rapidhash.specs.Options.{options}
+use Rattle.rapidhash.specs.Seeded.{default_hash}
 use Rattle.rapidhash_tool.specs.Faults.{NeedsLength}
 use Rattle.rapidhash_tool.specs.declared.version.Minor.{Minor}
 use Rattle.rapidhash_tool.specs.declared.version.Minor.TheVariants.{M0, M1, M2}
@@ -17,21 +15,13 @@ minor_number M0 = 0
 minor_number M1 = 1
 minor_number M2 = 2
 
--- the options of every version: the avalanche is on
-abbrev pub options_of : Bool → Options
-options_of protected = record { avalanche = true; protected = protected }
-
--- a form's hash with the default seed and secrets of V2 and V3
-abbrev pub default_hash : Form → Bool → List ℕ → ℕ
-default_hash form protected bytes = portable_hash form (options_of protected) (cpp_seeded 2 0) default_secrets bytes
-
--- the one definition, at the version's form and with its default seed and secrets
+-- the one definition, at the version's form, with the avalanche and the form's default seed and secrets
 abbrev pub hash_of : RapidhashVersion → List ℕ → ℕ
-hash_of (V1 protected) bytes = portable_hash v1 (options_of protected) (cpp_seeded 0 0xbdd89aa982704029) default_secrets_v1 bytes
-hash_of (V2 protected minor) bytes = default_hash (v2 (minor_number minor)) protected bytes
-hash_of (V3 protected) bytes = default_hash v3 protected bytes
-hash_of (V3Micro protected) bytes = default_hash micro protected bytes
-hash_of (V3Nano protected) bytes = default_hash nano protected bytes
+hash_of (V1 protected) bytes = default_hash v1 (options true protected) bytes
+hash_of (V2 protected minor) bytes = default_hash (v2 (minor_number minor)) (options true protected) bytes
+hash_of (V3 protected) bytes = default_hash v3 (options true protected) bytes
+hash_of (V3Micro protected) bytes = default_hash micro (options true protected) bytes
+hash_of (V3Nano protected) bytes = default_hash nano (options true protected) bytes
 
 -- the bytes of a file that a version hashes: V1 and V2 only so many as the length tells
 abbrev pub read_of : RapidhashVersion → ℕ → List ℕ → List ℕ

@@ -1,16 +1,16 @@
 //! The hash by each version.
 
 ghost use Rattle.std.specs.Prelude.{◌≡◌, true, IfErr, IfOk, IfSome};
-ghost use Rattle.rapidhash_portable.specs.Reading.{FellShort, Gave};
+ghost use Rattle.rapidhash.specs.Reading.{HashesNext};
 ghost use Rattle.rapidhash_tool.specs.Faults.{MayStopFile, MayStopStdin};
 ghost use Rattle.rapidhash_tool.specs.Hashes.{hash_of, read_of, HasLength};
 
 use crate::fault::CliFault;
 use crate::input::{hash_to_end, read_whole};
-use crate::secrets::{secrets, secrets_v1};
 use crate::version::{Minor, RapidhashVersion};
 use rapidhash::v1::{rapidhash_v1_file_inline, rapidhash_v1_inline};
 use rapidhash::v2::{rapidhash_v2_file_inline, rapidhash_v2_inline};
+use rapidhash::{v1, v2};
 use std::alloc::Allocator;
 use std::io;
 use std::io::Read;
@@ -40,9 +40,9 @@ impl RapidhashVersion {
                 let bytes = read_whole(alloc, &mut input)?;
                 return Ok(hash_v2(version, protected, bytes.as_slice()));
             }
-            RapidhashVersion::V3 { protected } => hash_to_end::<R, 7>(&mut input, protected),
-            RapidhashVersion::V3Micro { protected } => hash_to_end::<R, 5>(&mut input, protected),
-            RapidhashVersion::V3Nano { protected } => hash_to_end::<R, 3>(&mut input, protected),
+            RapidhashVersion::V3 { protected } => hash_to_end::<R, 7>(input, protected),
+            RapidhashVersion::V3Micro { protected } => hash_to_end::<R, 5>(input, protected),
+            RapidhashVersion::V3Nano { protected } => hash_to_end::<R, 3>(input, protected),
         };
         match streamed {
             Ok(hash) => Ok(hash),
@@ -73,9 +73,9 @@ impl RapidhashVersion {
                 &mut reader,
                 len,
             ),
-            RapidhashVersion::V3 { protected } => hash_to_end::<R, 7>(&mut reader, protected),
-            RapidhashVersion::V3Micro { protected } => hash_to_end::<R, 5>(&mut reader, protected),
-            RapidhashVersion::V3Nano { protected } => hash_to_end::<R, 3>(&mut reader, protected),
+            RapidhashVersion::V3 { protected } => hash_to_end::<R, 7>(reader, protected),
+            RapidhashVersion::V3Micro { protected } => hash_to_end::<R, 5>(reader, protected),
+            RapidhashVersion::V3Nano { protected } => hash_to_end::<R, 3>(reader, protected),
         };
         match hash {
             Ok(hash) => Ok(hash),
@@ -87,17 +87,18 @@ impl RapidhashVersion {
 fn hash_v1(protected: bool, bytes: &[u8]) -> u64
     ensures { result ≡ hash_of (RapidhashVersion.V1 protected) bytes.now }
 {
+    let secrets = v1::RapidSecrets::default_ref();
     if protected {
-        rapidhash_v1_inline::<true, false, true, false>(bytes, secrets_v1())
+        rapidhash_v1_inline::<true, false, true, false>(bytes, secrets)
     } else {
-        rapidhash_v1_inline::<true, false, false, false>(bytes, secrets_v1())
+        rapidhash_v1_inline::<true, false, false, false>(bytes, secrets)
     }
 }
 
 fn hash_v2(version: Minor, protected: bool, bytes: &[u8]) -> u64
     ensures { result ≡ hash_of (RapidhashVersion.V2 protected version) bytes.now }
 {
-    let secrets = secrets();
+    let secrets = v2::RapidSecrets::default_ref();
     match (version, protected) {
         (Minor::M0, false) => rapidhash_v2_inline::<0, true, false, false>(bytes, secrets),
         (Minor::M0, true) => rapidhash_v2_inline::<0, true, false, true>(bytes, secrets),
@@ -109,14 +110,14 @@ fn hash_v2(version: Minor, protected: bool, bytes: &[u8]) -> u64
 }
 
 fn hash_v1_file<R: Read>(protected: bool, reader: &mut R, len: u64) -> io::Result<u64>
-    ensures ok { IfOk result (λ hash. Gave (R.remaining reader.old) (R.remaining reader.new) len (λ bytes.
-        hash ≡ hash_of (RapidhashVersion.V1 protected) bytes)) }
-    ensures short { IfErr result (λ _. FellShort (R.remaining reader.old) (R.remaining reader.new) len true) }
+    ensures { HashesNext (R.remaining reader.old) (R.remaining reader.new) len result (λ _. true)
+        (hash_of (RapidhashVersion.V1 protected)) }
 {
+    let secrets = v1::RapidSecrets::default_ref();
     if protected {
-        rapidhash_v1_file_inline::<R, true>(reader, len, secrets_v1())
+        rapidhash_v1_file_inline::<R, true>(reader, len, secrets)
     } else {
-        rapidhash_v1_file_inline::<R, false>(reader, len, secrets_v1())
+        rapidhash_v1_file_inline::<R, false>(reader, len, secrets)
     }
 }
 
@@ -126,11 +127,10 @@ fn hash_v2_file<R: Read>(
     reader: &mut R,
     len: u64,
 ) -> io::Result<u64>
-    ensures ok { IfOk result (λ hash. Gave (R.remaining reader.old) (R.remaining reader.new) len (λ bytes.
-        hash ≡ hash_of (RapidhashVersion.V2 protected version) bytes)) }
-    ensures short { IfErr result (λ _. FellShort (R.remaining reader.old) (R.remaining reader.new) len true) }
+    ensures { HashesNext (R.remaining reader.old) (R.remaining reader.new) len result (λ _. true)
+        (hash_of (RapidhashVersion.V2 protected version)) }
 {
-    let secrets = secrets();
+    let secrets = v2::RapidSecrets::default_ref();
     match (version, protected) {
         (Minor::M0, false) => rapidhash_v2_file_inline::<R, 0, false>(reader, len, secrets),
         (Minor::M0, true) => rapidhash_v2_file_inline::<R, 0, true>(reader, len, secrets),

@@ -1,17 +1,18 @@
 //! How the bytes are read.
 
-ghost use Rattle.std.specs.Prelude.{◌≡◌, ◌⊎◌, IfErr, IfOk, IfSome, OnOk};
+ghost use Rattle.std.specs.Prelude.{◌≡◌, ◌⊎◌, true, IfErr, IfOk, OnOk};
 ghost use Rattle.std.specs.Io.KnownBytes.{Consumes, IsAtEnd};
-ghost use Rattle.rapidhash.specs.Lanes.{IsLaneCount};
 ghost use Rattle.rapidhash_portable.specs.declared.form.Form.TheVariants.{V3};
-ghost use Rattle.rapidhash_tool.specs.Hashes.{default_hash};
+ghost use Rattle.rapidhash.specs.Lanes.{IsLaneCount};
+ghost use Rattle.rapidhash.specs.Options.{options};
+ghost use Rattle.rapidhash.specs.Reading.{HashesKnown};
+ghost use Rattle.rapidhash.specs.Seeded.{default_hash};
 
 use crate::fault::CliFault;
-use crate::secrets::secrets;
-use rapidhash::v3::RapidStreamHasherLanes;
+use rapidhash::v3::{RapidSecrets, rapidhash_v3_file_lanes};
 use std::alloc::Allocator;
 use std::io;
-use std::io::{ErrorKind, Read};
+use std::io::Read;
 
 // How many bytes are asked of the reader at once: what a pipe of Linux holds.
 const PIECE: usize = 65536;
@@ -44,40 +45,19 @@ pub(crate) fn read_whole<A: Allocator, R: Read>(
     Err(CliFault::Stdin)
 }
 
-// The hash of all that is left, by V3, micro or nano. It takes no memory, and an error is the
-// reader's own, or `ErrorKind::Other` after 2^64 - 1 reads that gave bytes.
-pub(crate) fn hash_to_end<R: Read, const LANES: usize>(
-    input: &mut R,
+// The hash of all that a reader has, by V3, micro or nano. It allocates nothing.
+pub(crate) fn hash_to_end<R: Read + Drop, const LANES: usize>(
+    input: R,
     protected: bool,
 ) -> io::Result<u64>
     requires { IsLaneCount LANES }
-    ensures { IfOk result (λ hash. IfSome (R.remaining input.old) (λ bytes.
-        hash ≡ default_hash (V3 LANES) protected bytes)) }
+    ensures { HashesKnown (R.remaining input) result
+        (default_hash (V3 LANES) (options true protected)) }
 {
+    let secrets = RapidSecrets::default_ref();
     if protected {
-        hash_pieces::<R, LANES, true>(input)
+        rapidhash_v3_file_lanes::<R, LANES, PIECE, true>(input, secrets)
     } else {
-        hash_pieces::<R, LANES, false>(input)
+        rapidhash_v3_file_lanes::<R, LANES, PIECE, false>(input, secrets)
     }
-}
-
-// The loop of these hashes. It stands out of line, for the sake of its large array.
-#[inline(never)]
-fn hash_pieces<R: Read, const LANES: usize, const PROTECTED: bool>(input: &mut R) -> io::Result<u64>
-    requires { IsLaneCount LANES }
-    ensures { IfOk result (λ hash. IfSome (R.remaining input.old) (λ bytes.
-        hash ≡ default_hash (V3 LANES) PROTECTED bytes)) }
-{
-    let mut hasher: RapidStreamHasherLanes<LANES, true, PROTECTED> = RapidStreamHasherLanes::new(
-        secrets(),
-    );
-    let mut piece = [0u8; PIECE];
-    for _ in 0..u64::MAX {
-        let count = input.read(&mut piece)?;
-        if count == 0 {
-            return Ok(hasher.finish());
-        }
-        hasher.write(&piece[..count]);
-    }
-    Err(io::Error::from(ErrorKind::Other))
 }

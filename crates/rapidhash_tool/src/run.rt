@@ -61,8 +61,8 @@ pub fn run_file<R: Read + Drop, W: Write>(
     write_number(out, hash)
 }
 
-/// Prints the help. With the one fault, [`CliFault::Write`], a beginning of it was written, short of
-/// the whole. It does not flush.
+/// Prints the help. With the one fault, [`CliFault::Write`], a beginning of it was written, short
+/// of the whole. It does not flush.
 pub fn run_help<W: Write>(out: &mut W) -> Result<(), CliFault>
     ensures { MatchResult result
         (λ done. Appends (W.contents out.old) (W.contents out.new) help_text)

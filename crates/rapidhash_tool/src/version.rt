@@ -1,7 +1,8 @@
 //! The versions that the tool hashes by, and the plans that its words can make.
 
-ghost use Rattle.std.specs.Prelude.{◌≡◌, map, string_bytes};
+ghost use Rattle.std.specs.Prelude.{◌≡◌, ◌↔◌, map, string_bytes, IsTrue};
 ghost use Rattle.rapidhash_tool.specs.CommandLine.{version_of, versions, word_of};
+ghost use Rattle.rapidhash_tool.specs.Faults.{NeedsLength};
 
 use crate::words::has;
 
@@ -83,6 +84,17 @@ impl RapidhashVersion {
             }
         }
         Some(chosen.unwrap_or(RapidhashVersion::V3 { protected }))
+    }
+
+    /// Whether the version hashes no byte before it knows how many there are: V1 and V2 read
+    /// standard input to its end first, and ask a file's length.
+    pub fn needs_length(&self) -> bool
+        ensures { IsTrue result ↔ NeedsLength self.now }
+    {
+        matches!(
+            self,
+            RapidhashVersion::V1 { .. } | RapidhashVersion::V2 { .. }
+        )
     }
 
     // All versions.

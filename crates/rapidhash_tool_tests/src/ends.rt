@@ -42,14 +42,6 @@ pub fn versions(protected: bool) -> [RapidhashVersion; 7] {
     ]
 }
 
-/// Whether a version keeps standard input in memory, and asks a file's length.
-pub fn wants_all(version: RapidhashVersion) -> bool {
-    matches!(
-        version,
-        RapidhashVersion::V1 { .. } | RapidhashVersion::V2 { .. }
-    )
-}
-
 /// A reader of the bytes that never fails.
 pub fn whole(bytes: &[u8]) -> OneByteReader<'_> {
     failing(bytes, 0, ErrorKind::Other)

@@ -1,13 +1,15 @@
 //! Reads, writes and requests for memory that fail, each in turn.
 
 use crate::ends::{
-    SOMETHING, SOMETHING_LINE, V1, V3, V3_LINE, failing, of_file, of_stdin, versions, wants_all,
-    whole, writer,
+    SOMETHING, SOMETHING_LINE, V1, V3, V3_LINE, failing, of_file, of_stdin, versions, whole, writer,
 };
-use rapidhash_fakes::Rationed;
-use rapidhash_tool::{CliFault, RapidhashVersion, run_help};
+use linked_list_allocator::LocalHeap;
+use rapidhash_tool::{CliFault, RapidhashVersion, run_help, run_stdin};
 use std::io::ErrorKind;
 use std::process::Abort;
+
+// Forty bytes: a vector that takes them one by one grows four times.
+const FORTY: &[u8] = b"a line of forty bytes, not one byte more";
 
 // Each byte of the line is a write of its own, and each of them fails in turn.
 fn each_write_fails(rt: &(impl Abort + AllocGlobal), version: RapidhashVersion, line: &[u8]) {
@@ -81,7 +83,7 @@ fn reads_that_fail(rt: HostRuntime) {
 #[test]
 fn reads_of_a_file_that_fail(rt: HostRuntime) {
     for version in versions(false) {
-        let last = if wants_all(version) { 10 } else { 11 };
+        let last = if version.needs_length() { 10 } else { 11 };
         for fails_at in 1..last + 1 {
             let out = writer(Vec::new(rt.alloc()), 0);
             let reader = failing(SOMETHING, fails_at, ErrorKind::Interrupted);
@@ -96,24 +98,65 @@ fn reads_of_a_file_that_fail(rt: HostRuntime) {
     }
 }
 
-// The requests are refused from one on, and that one comes later each time, until none is refused.
+// Runs over heaps that have room for 0, 1, 2 blocks of 16 bytes and so on. With too few a run ends
+// with `Memory` and writes nothing; with more it prints the line. Either way it gives back what it
+// took. The result is the reads that the refused runs made, which tell which growth of the vector
+// was refused.
+fn refused_after(
+    rt: &(impl Abort + AllocGlobal),
+    version: RapidhashVersion,
+    line: &[u8],
+) -> Vec<u64> {
+    let mut refusals = 0usize;
+    let mut refused_after = Vec::new(rt.alloc());
+    for blocks in 0..16usize {
+        let heap = LocalHeap::new(rt.alloc(), 16 * (blocks + 1)).expect(rt, "no memory for a heap");
+        let _taken = Box::new(&heap, 0u8).expect(rt, "no room for a byte");
+        assert_eq!(rt; heap.free(), 16 * blocks);
+        let mut input = whole(FORTY);
+        let mut out = writer(Vec::new(rt.alloc()), 0);
+        let result = run_stdin(&heap, &version, &mut input, &mut out);
+        assert_eq!(rt; heap.free(), 16 * blocks, "{version:?} keeps memory");
+        if result == Ok(()) {
+            assert_eq!(rt;
+                out.held.as_slice(),
+                line,
+                "{version:?} with {blocks} blocks"
+            );
+            continue;
+        }
+        assert_eq!(rt;
+            result,
+            Err(CliFault::Memory),
+            "{version:?} with {blocks} blocks"
+        );
+        assert!(rt; out.held.is_empty());
+        assert_eq!(rt; refusals, blocks, "{version:?} prints with fewer blocks");
+        refusals = blocks + 1;
+        if refused_after.last() != Some(&input.reads) {
+            refused_after
+                .push(input.reads)
+                .expect(rt, "no memory for a number");
+        }
+    }
+    refused_after
+}
+
+// The vector that V1 and V2 read into has room for 8 bytes at first, and for twice as many at each
+// growth: each of its four requests for memory is refused once.
 #[test]
 fn memory_that_is_refused(rt: HostRuntime) {
     for version in versions(false) {
-        let mut ample = None;
-        for requests in 0..100u64 {
-            let ration = Rationed::new(rt.alloc(), requests);
-            let out = writer(Vec::new(rt.alloc()), 0);
-            let ended = of_stdin(&ration, version, whole(SOMETHING), out);
-            if ended.result == Ok(()) {
-                ample = Some(requests);
-                break;
-            }
-            assert_eq!(rt; ended.result, Err(CliFault::Memory), "at {version:?}");
-            assert!(rt; ended.written.is_empty());
-        }
-        assert!(rt; ample.is_some(), "at {version:?} no run met none");
-        assert_eq!(rt; ample == Some(0), !wants_all(version), "at {version:?}");
+        let out = writer(Vec::new(rt.alloc()), 0);
+        let ended = of_stdin(rt.alloc(), version, whole(FORTY), out);
+        assert_eq!(rt; ended.result, Ok(()), "at {version:?}");
+        let growths: &[u64] = if version.needs_length() {
+            &[1, 9, 17, 33]
+        } else {
+            &[]
+        };
+        let refused = refused_after(&rt, version, ended.written.as_slice());
+        assert_eq!(rt; refused.as_slice(), growths, "at {version:?}");
     }
 }
 

@@ -1,8 +1,7 @@
 //! The lines that are printed.
 
 use crate::ends::{
-    SOMETHING, SOMETHING_LINE, V1, V3, V3_LINE, of_file, of_stdin, versions, wants_all, whole,
-    writer,
+    SOMETHING, SOMETHING_LINE, V1, V3, V3_LINE, of_file, of_stdin, versions, whole, writer,
 };
 use rapidhash_fakes::FullWriter;
 use rapidhash_tool::{CliFault, help, run_file, run_help, run_stdin};
@@ -154,7 +153,7 @@ fn lengths_of_files(rt: HostRuntime) {
     for version in versions(false) {
         let out = writer(Vec::new(rt.alloc()), 0);
         let longer = of_file(version, whole(SOMETHING), 11, out);
-        if wants_all(version) {
+        if version.needs_length() {
             assert_eq!(rt; longer.result, Err(CliFault::File), "at {version:?}");
             assert!(rt; longer.written.is_empty());
             continue;

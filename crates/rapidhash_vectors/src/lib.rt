@@ -1,12 +1,11 @@
-//! The definitions as plain, slow programs, and the tests of every crate below.
+//! The tests of the portable hashes: of slices, of pieces and of readers.
 //!
-//! [`plain`] computes each definition as it is written, lane after lane, each over its own column;
-//! its contracts are the definitions themselves. Through it the definitions are run and compared
-//! with known values, and the fast bodies ([`bodies`]) with both.
+//! The counts of chunk steps are contracts ([`counts`]); the rest is what no contract says, with
+//! numbers worked out by hand or taken from the Rust crate.
 #![tactic(auto)]
 
-pub mod bodies;
 pub mod counts;
-pub mod plain;
 #[cfg(test)]
-mod tests;
+mod readers;
+#[cfg(test)]
+mod values;

@@ -1,16 +1,15 @@
 //! V1 of the next bytes of a reader, whose number is known.
 
-ghost use Rattle.std.specs.Prelude.{◌≡◌, ◌<◌, false, true, IfErr, IfOk, OnOk};
-ghost use Rattle.std.specs.IoError.{error_kind};
+ghost use Rattle.std.specs.Prelude.{◌<◌, false, true};
 ghost use Rattle.rapidhash_portable.specs.declared.form.Form.TheVariants.{V1};
 ghost use Rattle.rapidhash_portable.specs.Options.{options};
-ghost use Rattle.rapidhash_portable.specs.Reading.{FellShort, Gave};
+ghost use Rattle.rapidhash_portable.specs.Reading.{HashesNext, MarksFailures};
 ghost use Rattle.rapidhash_portable.specs.Seeded.{default_hash, seeded_hash_v1};
-ghost use Rattle.rapidhash_portable.specs.Source.{is_marked, reader_of};
+ghost use Rattle.rapidhash_portable.specs.Source.{is_failed, is_marked, reader_of};
 
 use super::{RapidSecrets, close_tail, rapidhash_v1_inline};
 use crate::lanes::join_wide;
-use crate::reader::Source;
+use crate::reader::{Source, Stop};
 use crate::sized::{BUFFER, SHORT, fill, fold_front};
 use std::io;
 use std::io::{ErrorKind, Read};
@@ -31,16 +30,14 @@ pub fn rapidhash_v1_source<R: Read, const PROTECTED: bool>(
     len: u64,
     secrets: &RapidSecrets,
 ) -> io::Result<u64>
-    ensures ok { IfOk result (λ h.
-        Gave (R.remaining (reader_of source.old)) (R.remaining (reader_of source.new)) len (λ x. h
-        ≡ seeded_hash_v1 false (options true PROTECTED) secrets.now x)) }
-    ensures clean { OnOk result (is_marked source.new ≡ false) }
-    ensures short { IfErr result (λ _.
-        FellShort (R.remaining (reader_of source.old)) (R.remaining (reader_of source.new)) len (is_marked source.new)) }
-    ensures kind { IfErr result (λ e. is_marked source.new ≡ false → error_kind e ≡ ErrorKind.UnexpectedEof) }
+    ensures next { HashesNext (R.remaining (reader_of source.old))
+        (R.remaining (reader_of source.new)) len result (λ _. is_marked source.new)
+        (seeded_hash_v1 false (options true PROTECTED) secrets.now) }
+    ensures mark { MarksFailures result (is_marked source.new) ErrorKind.UnexpectedEof }
 {
     source.clear();
-    next_of::<R, PROTECTED>(&mut source.reader, &mut source.mark, len, secrets)
+    let answer = next_of::<R, PROTECTED>(source.reader_mut(), len, secrets);
+    source.settle(answer)
 }
 
 /// The hash of the next `len` bytes of a reader, with the default seed and secrets. Errors are those
@@ -52,11 +49,8 @@ pub fn rapidhash_v1_source<R: Read, const PROTECTED: bool>(
 /// assert_eq!(text, b"more");
 /// ```
 pub fn rapidhash_v1_file<R: Read>(data: &mut R, len: u64) -> io::Result<u64>
-    ensures ok { IfOk result (λ h.
-        Gave (R.remaining «data».old) (R.remaining «data».new) len (λ x. h
-        ≡ default_hash (V1 false) (options true false) x)) }
-    ensures short { IfErr result (λ _.
-        FellShort (R.remaining «data».old) (R.remaining «data».new) len true) }
+    ensures { HashesNext (R.remaining «data».old) (R.remaining «data».new) len result (λ _. true)
+        (default_hash (V1 false) (options true false)) }
 {
     rapidhash_v1_file_inline::<R, false>(data, len, RapidSecrets::default_ref())
 }
@@ -68,11 +62,8 @@ pub fn rapidhash_v1_file_seeded<R: Read>(
     len: u64,
     secrets: &RapidSecrets,
 ) -> io::Result<u64>
-    ensures ok { IfOk result (λ h.
-        Gave (R.remaining «data».old) (R.remaining «data».new) len (λ x. h
-        ≡ seeded_hash_v1 false (options true false) secrets.now x)) }
-    ensures short { IfErr result (λ _.
-        FellShort (R.remaining «data».old) (R.remaining «data».new) len true) }
+    ensures { HashesNext (R.remaining «data».old) (R.remaining «data».new) len result (λ _. true)
+        (seeded_hash_v1 false (options true false) secrets.now) }
 {
     rapidhash_v1_file_inline::<R, false>(data, len, secrets)
 }
@@ -84,37 +75,30 @@ pub fn rapidhash_v1_file_inline<R: Read, const PROTECTED: bool>(
     len: u64,
     secrets: &RapidSecrets,
 ) -> io::Result<u64>
-    ensures ok { IfOk result (λ h.
-        Gave (R.remaining «data».old) (R.remaining «data».new) len (λ x. h
-        ≡ seeded_hash_v1 false (options true PROTECTED) secrets.now x)) }
-    ensures short { IfErr result (λ _.
-        FellShort (R.remaining «data».old) (R.remaining «data».new) len true) }
+    ensures { HashesNext (R.remaining «data».old) (R.remaining «data».new) len result (λ _. true)
+        (seeded_hash_v1 false (options true PROTECTED) secrets.now) }
 {
-    let mut mark = false;
-    next_of::<R, PROTECTED>(data, &mut mark, len, secrets)
+    match next_of::<R, PROTECTED>(data, len, secrets) {
+        Ok(hash) => Ok(hash),
+        Err(stop) => Err(stop.into_error()),
+    }
 }
 
 /// The body of every hash here.
 fn next_of<R: Read, const PROTECTED: bool>(
     reader: &mut R,
-    mark: &mut bool,
     len: u64,
     secrets: &RapidSecrets,
-) -> io::Result<u64>
-    requires clean { mark.old ≡ false }
-    ensures ok { IfOk result (λ h.
-        Gave (R.remaining reader.old) (R.remaining reader.new) len (λ x. h
-        ≡ seeded_hash_v1 false (options true PROTECTED) secrets.now x)) }
-    ensures clean { OnOk result (mark.new ≡ false) }
-    ensures short { IfErr result (λ _. FellShort (R.remaining reader.old) (R.remaining reader.new) len mark.new) }
-    ensures kind { IfErr result (λ e. mark.new ≡ false → error_kind e ≡ ErrorKind.UnexpectedEof) }
+) -> Result<u64, Stop>
+    ensures { HashesNext (R.remaining reader.old) (R.remaining reader.new) len result is_failed
+        (seeded_hash_v1 false (options true PROTECTED) secrets.now) }
 {
     if len > SHORT as u64 {
-        return long::<R, PROTECTED>(reader, mark, len, secrets);
+        return long::<R, PROTECTED>(reader, len, secrets);
     }
     let mut buffer = [0u8; SHORT];
     let bytes = &mut buffer[..len as usize];
-    fill(reader, mark, bytes)?;
+    fill(reader, bytes)?;
     Ok(rapidhash_v1_inline::<true, false, PROTECTED, false>(bytes, secrets))
 }
 
@@ -123,23 +107,17 @@ fn next_of<R: Read, const PROTECTED: bool>(
 #[inline(never)]
 fn long<R: Read, const PROTECTED: bool>(
     reader: &mut R,
-    mark: &mut bool,
     len: u64,
     secrets: &RapidSecrets,
-) -> io::Result<u64>
+) -> Result<u64, Stop>
     requires rows { 48 < len }
-    requires clean { mark.old ≡ false }
-    ensures ok { IfOk result (λ h.
-        Gave (R.remaining reader.old) (R.remaining reader.new) len (λ x. h
-        ≡ seeded_hash_v1 false (options true PROTECTED) secrets.now x)) }
-    ensures clean { OnOk result (mark.new ≡ false) }
-    ensures short { IfErr result (λ _. FellShort (R.remaining reader.old) (R.remaining reader.new) len mark.new) }
-    ensures kind { IfErr result (λ e. mark.new ≡ false → error_kind e ≡ ErrorKind.UnexpectedEof) }
+    ensures { HashesNext (R.remaining reader.old) (R.remaining reader.new) len result is_failed
+        (seeded_hash_v1 false (options true PROTECTED) secrets.now) }
 {
     let s = &secrets.secrets;
     let start = secrets.seed ^ len;
     let mut buffer = [0u8; BUFFER];
-    let (mut lanes, n) = fold_front::<R, 3, PROTECTED>(reader, mark, &mut buffer, len, start, s)?;
+    let (mut lanes, n) = fold_front::<R, 3, PROTECTED>(reader, &mut buffer, len, start, s)?;
     let last = &buffer[..n];
     let (joined, tail) = join_wide::<3, 0, false, PROTECTED>(&mut lanes, last, s);
     Ok(close_tail::<true, PROTECTED>(tail, last, len, joined, s))

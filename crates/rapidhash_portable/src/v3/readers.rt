@@ -1,93 +1,106 @@
-//! V3 of all that a reader has. The bytes go through a fixed buffer into the stream hasher, whose
-//! contract is all that is rested on here: no memory is taken, and any length may come.
+//! V3, micro and nano of all that a reader has. The bytes go through a fixed buffer into the stream
+//! hasher, whose contract is all that is rested on here. Nothing is allocated, and any length may
+//! come.
 //!
 //! One loop makes all the reads, in `read_all`.
 
-ghost use Rattle.std.specs.Prelude.{◌≡◌, ◌<◌, ◌≤◌, ◌-◌, ◌^◌, false, true, IfErr, IfOk, IfSome, OnErr, OnOk, length};
-ghost use Rattle.std.specs.Io.KnownBytes.{IsAtEnd};
-ghost use Rattle.std.specs.IoError.{error_kind};
+ghost use Rattle.std.specs.Prelude.{◌<◌, ◌^◌, false, true};
+ghost use Rattle.rapidhash_portable.specs.declared.form.Form.TheVariants.{V3};
 ghost use Rattle.rapidhash_portable.specs.Form.{v3};
+ghost use Rattle.rapidhash_portable.specs.Lanes.{IsLaneCount};
 ghost use Rattle.rapidhash_portable.specs.Options.{options};
+ghost use Rattle.rapidhash_portable.specs.Reading.{HashesAll, HashesKnown, MarksFailures};
 ghost use Rattle.rapidhash_portable.specs.Seeded.{default_hash, seeded_hash};
-ghost use Rattle.rapidhash_portable.specs.Source.{ReadsOn, is_marked, reader_of};
+ghost use Rattle.rapidhash_portable.specs.Source.{is_marked, reader_of};
 
 #[cfg(test)]
 mod tests;
 
-use super::stream::RapidStreamHasherInlineV3;
+use super::stream::RapidStreamHasherLanes;
 use crate::reader::Source;
 use crate::secrets::RapidSecrets;
 use std::io;
 use std::io::{ErrorKind, Read};
 
-/// The hash of all that the reader still has, up to the first read that answers 0.
+/// The hash of all that the reader still has, up to the first read that returns 0.
 ///
 /// An error is the reader's own where the source is marked after the call, and an interrupted read
-/// is one. Else it is `ErrorKind::Other`: the reader gave bytes 2^64 - 1 times, and the hash has
-/// given up. After either, what was read is gone.
+/// is one. Else it is `ErrorKind::Other`: 2^64 - 1 reads returned bytes, and the hash has given up.
+/// After either, what was read is gone.
 pub fn rapidhash_v3_source<R: Read, const PROTECTED: bool>(
     source: &mut Source<R>,
     secrets: &RapidSecrets,
 ) -> io::Result<u64>
-    ensures ok { IfOk result (λ h. IfSome (R.remaining (reader_of source.old)) (λ x.
-        h
-        ≡ seeded_hash v3 (options true PROTECTED) secrets.now x)) }
-    ensures clean { OnOk result (is_marked source.new ≡ false) }
-    ensures end { OnOk result (IsAtEnd (R.remaining (reader_of source.new))) }
-    ensures begun { OnErr result (ReadsOn (R.remaining (reader_of source.old)) (R.remaining (reader_of source.new))) }
-    ensures endless { OnErr result (is_marked source.new ≡ false →
-        IfSome (R.remaining (reader_of source.old)) (λ x. 2 ^ 64 - 1 ≤ length x)) }
-    ensures kind { IfErr result (λ e. is_marked source.new ≡ false → error_kind e ≡ ErrorKind.Other) }
+    ensures all { HashesAll (R.remaining (reader_of source.old)) (R.remaining (reader_of source.new))
+        result (λ _. is_marked source.new) (seeded_hash v3 (options true PROTECTED) secrets.now) }
+    ensures mark { MarksFailures result (is_marked source.new) ErrorKind.Other }
 {
     rapidhash_v3_source_sized::<R, 8192, PROTECTED>(source, secrets)
 }
 
-/// As [`rapidhash_v3_source`], by a buffer of `SIZE` bytes: no read asks for more.
+/// As [`rapidhash_v3_source`], by a buffer of `SIZE` bytes on the stack: no read asks for more.
+///
+/// `SIZE` is at least 1, which is a precondition.
 pub fn rapidhash_v3_source_sized<R: Read, const SIZE: usize, const PROTECTED: bool>(
     source: &mut Source<R>,
     secrets: &RapidSecrets,
 ) -> io::Result<u64>
-    requires room { 0 < SIZE }
-    ensures ok { IfOk result (λ h. IfSome (R.remaining (reader_of source.old)) (λ x.
-        h
-        ≡ seeded_hash v3 (options true PROTECTED) secrets.now x)) }
-    ensures clean { OnOk result (is_marked source.new ≡ false) }
-    ensures end { OnOk result (IsAtEnd (R.remaining (reader_of source.new))) }
-    ensures begun { OnErr result (ReadsOn (R.remaining (reader_of source.old)) (R.remaining (reader_of source.new))) }
-    ensures endless { OnErr result (is_marked source.new ≡ false →
-        IfSome (R.remaining (reader_of source.old)) (λ x. 2 ^ 64 - 1 ≤ length x)) }
-    ensures kind { IfErr result (λ e. is_marked source.new ≡ false → error_kind e ≡ ErrorKind.Other) }
+    requires { 0 < SIZE }
+    ensures all { HashesAll (R.remaining (reader_of source.old)) (R.remaining (reader_of source.new))
+        result (λ _. is_marked source.new) (seeded_hash v3 (options true PROTECTED) secrets.now) }
+    ensures mark { MarksFailures result (is_marked source.new) ErrorKind.Other }
 {
-    // No longer array can be had: the other branch is never compiled, and saves callers a condition.
+    rapidhash_v3_source_lanes::<R, 7, SIZE, PROTECTED>(source, secrets)
+}
+
+/// As [`rapidhash_v3_source_sized`], with 7, 5 or 3 lanes: V3, micro or nano.
+///
+/// `LANES` is 7, 5 or 3, and `SIZE` at least 1: both are preconditions.
+///
+/// ```
+/// let mut source = Source::new(file);
+/// let hash = rapidhash_v3_source_lanes::<File, 5, 65536, false>(
+///     &mut source,
+///     RapidSecrets::default_ref(),
+/// )?;
+/// ```
+pub fn rapidhash_v3_source_lanes<
+    R: Read,
+    const LANES: usize,
+    const SIZE: usize,
+    const PROTECTED: bool,
+>(source: &mut Source<R>, secrets: &RapidSecrets) -> io::Result<u64>
+    requires lanes { IsLaneCount LANES }
+    requires room { 0 < SIZE }
+    ensures all { HashesAll (R.remaining (reader_of source.old)) (R.remaining (reader_of source.new))
+        result (λ _. is_marked source.new)
+        (seeded_hash (V3 LANES) (options true PROTECTED) secrets.now) }
+    ensures mark { MarksFailures result (is_marked source.new) ErrorKind.Other }
+{
+    // Arrays of 2^63 bytes cannot exist, so the `else` is dead. It spares callers a precondition.
     if SIZE < 0x8000_0000_0000_0000 {
-        read_all::<R, SIZE, PROTECTED>(source, secrets)
+        read_all::<R, LANES, SIZE, PROTECTED>(source, secrets)
     } else {
-        read_all::<R, 8192, PROTECTED>(source, secrets)
+        read_all::<R, LANES, 8192, PROTECTED>(source, secrets)
     }
 }
 
 /// The loop of every hash here. It stands out of line, for the sake of its buffer.
 #[inline(never)]
-fn read_all<R: Read, const SIZE: usize, const PROTECTED: bool>(
+fn read_all<R: Read, const LANES: usize, const SIZE: usize, const PROTECTED: bool>(
     source: &mut Source<R>,
     secrets: &RapidSecrets,
 ) -> io::Result<u64>
+    requires lanes { IsLaneCount LANES }
     requires room { 0 < SIZE }
     requires few { SIZE < 2 ^ 63 }
-    ensures ok { IfOk result (λ h. IfSome (R.remaining (reader_of source.old)) (λ x.
-        h
-        ≡ seeded_hash v3 (options true PROTECTED) secrets.now x)) }
-    ensures clean { OnOk result (is_marked source.new ≡ false) }
-    ensures end { OnOk result (IsAtEnd (R.remaining (reader_of source.new))) }
-    ensures begun { OnErr result (ReadsOn (R.remaining (reader_of source.old)) (R.remaining (reader_of source.new))) }
-    ensures endless { OnErr result (is_marked source.new ≡ false →
-        IfSome (R.remaining (reader_of source.old)) (λ x. 2 ^ 64 - 1 ≤ length x)) }
-    ensures kind { IfErr result (λ e. is_marked source.new ≡ false → error_kind e ≡ ErrorKind.Other) }
+    ensures all { HashesAll (R.remaining (reader_of source.old)) (R.remaining (reader_of source.new))
+        result (λ _. is_marked source.new)
+        (seeded_hash (V3 LANES) (options true PROTECTED) secrets.now) }
+    ensures mark { MarksFailures result (is_marked source.new) ErrorKind.Other }
 {
     source.clear();
-    let mut hasher: RapidStreamHasherInlineV3<true, PROTECTED> = RapidStreamHasherInlineV3::new(
-        secrets,
-    );
+    let mut hasher = RapidStreamHasherLanes::<LANES, true, PROTECTED>::new(secrets);
     let mut buffer = [0u8; SIZE];
     'reads: for turn in 0..u64::MAX {
         let n = source.read(&mut buffer)?;
@@ -106,9 +119,7 @@ fn read_all<R: Read, const SIZE: usize, const PROTECTED: bool>(
 /// let hash = rapidhash_v3_file(file)?;
 /// ```
 pub fn rapidhash_v3_file<R: Read + Drop>(data: R) -> io::Result<u64>
-    ensures { IfOk result (λ h. IfSome (R.remaining «data») (λ x.
-        h
-        ≡ default_hash v3 (options true false) x)) }
+    ensures { HashesKnown (R.remaining «data») result (default_hash v3 (options true false)) }
 {
     rapidhash_v3_file_inline::<R, false>(data, RapidSecrets::default_ref())
 }
@@ -116,9 +127,8 @@ pub fn rapidhash_v3_file<R: Read + Drop>(data: R) -> io::Result<u64>
 /// The hash of all that a reader has, with a seed and secrets of the caller's. Errors are those of
 /// [`rapidhash_v3_source`].
 pub fn rapidhash_v3_file_seeded<R: Read + Drop>(data: R, secrets: &RapidSecrets) -> io::Result<u64>
-    ensures { IfOk result (λ h. IfSome (R.remaining «data») (λ x.
-        h
-        ≡ seeded_hash v3 (options true false) secrets.now x)) }
+    ensures { HashesKnown (R.remaining «data») result
+        (seeded_hash v3 (options true false) secrets.now) }
 {
     rapidhash_v3_file_inline::<R, false>(data, secrets)
 }
@@ -129,23 +139,40 @@ pub fn rapidhash_v3_file_inline<R: Read + Drop, const PROTECTED: bool>(
     data: R,
     secrets: &RapidSecrets,
 ) -> io::Result<u64>
-    ensures { IfOk result (λ h. IfSome (R.remaining «data») (λ x.
-        h
-        ≡ seeded_hash v3 (options true PROTECTED) secrets.now x)) }
+    ensures { HashesKnown (R.remaining «data») result
+        (seeded_hash v3 (options true PROTECTED) secrets.now) }
 {
     rapidhash_v3_file_sized::<R, 8192, PROTECTED>(data, secrets)
 }
 
-/// As [`rapidhash_v3_file_inline`], by a buffer of `SIZE` bytes: no read asks for more.
+/// As [`rapidhash_v3_file_inline`], by a buffer of `SIZE` bytes on the stack: no read asks for more.
+///
+/// `SIZE` is at least 1, which is a precondition.
 pub fn rapidhash_v3_file_sized<R: Read + Drop, const SIZE: usize, const PROTECTED: bool>(
     data: R,
     secrets: &RapidSecrets,
 ) -> io::Result<u64>
     requires { 0 < SIZE }
-    ensures { IfOk result (λ h. IfSome (R.remaining «data») (λ x.
-        h
-        ≡ seeded_hash v3 (options true PROTECTED) secrets.now x)) }
+    ensures { HashesKnown (R.remaining «data») result
+        (seeded_hash v3 (options true PROTECTED) secrets.now) }
+{
+    rapidhash_v3_file_lanes::<R, 7, SIZE, PROTECTED>(data, secrets)
+}
+
+/// As [`rapidhash_v3_file_sized`], with 7, 5 or 3 lanes: V3, micro or nano.
+///
+/// `LANES` is 7, 5 or 3, and `SIZE` at least 1: both are preconditions.
+pub fn rapidhash_v3_file_lanes<
+    R: Read + Drop,
+    const LANES: usize,
+    const SIZE: usize,
+    const PROTECTED: bool,
+>(data: R, secrets: &RapidSecrets) -> io::Result<u64>
+    requires lanes { IsLaneCount LANES }
+    requires room { 0 < SIZE }
+    ensures { HashesKnown (R.remaining «data») result
+        (seeded_hash (V3 LANES) (options true PROTECTED) secrets.now) }
 {
     let mut source = Source::new(data);
-    rapidhash_v3_source_sized::<R, SIZE, PROTECTED>(&mut source, secrets)
+    rapidhash_v3_source_lanes::<R, LANES, SIZE, PROTECTED>(&mut source, secrets)
 }

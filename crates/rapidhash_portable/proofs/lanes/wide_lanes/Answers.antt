@@ -1,9 +1,9 @@
-use Rattle.std.proofs.Common.{[], not, nat_eq}
-use Rattle.rapidhash_portable.proofs.Fronts.{LanesHold-none}
+use Rattle.std.proofs.Common.{not, nat_eq, replicate}
+use Rattle.rapidhash_portable.proofs.FoldedLemmas.{PrefixIsFolded-none}
 use Rattle.rapidhash_portable.proofs.lanes.wide_lanes.Goals as goal
 
-pub returns-clause-joined : goal.returns-clause-joined
-returns-clause-joined g c = c.join_wide.ensures.joined [] c.args.seed (LanesHold-none (not (nat_eq g.row.PROTECTED 0)) c.args.secrets.now g.row.LANES c.args.seed)
-
-pub returns-clause-rest : goal.returns-clause-rest
-returns-clause-rest g c = c.join_wide.ensures.rest [] c.args.seed (LanesHold-none (not (nat_eq g.row.PROTECTED 0)) c.args.secrets.now g.row.LANES c.args.seed)
+pub returns : goal.returns
+returns g c =
+    let x = c.args.bytes.now in
+    c.join_wide.ensures x c.args.seed
+    (PrefixIsFolded-none (not (nat_eq g.row.PROTECTED 0)) c.args.secrets.now x g.row.LANES g.row.KEPT (replicate g.row.LANES c.args.seed) c.requires.keeps)

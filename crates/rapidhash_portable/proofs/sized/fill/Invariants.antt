@@ -1,10 +1,9 @@
-use Rattle.std.proofs.Common.{◌≡◌, ◌-◌, ◌≤◌, false, length, take}
+use Rattle.std.proofs.Common.{◌≡◌, ◌-◌, ◌≤◌, length, take}
 use Rattle.std.specs.Io.KnownBytes.{Consumes}
 use Rattle.rapidhash_portable.proofs.sized.fill.Given as goal
 
 abbrev pub invariant-reads : goal.invariant-reads
 invariant-reads g l = record {
-  clean : l.mark ≡ false;
   size : length l.buf ≡ length l.fn.buf;
   within : l.at ≤ length l.buf;
   taken : Consumes (g.R.Read.remaining l.fn.reader) (g.R.Read.remaining l.reader) (take l.at l.buf);

@@ -1,38 +1,60 @@
-use Rattle.std.proofs.Common.{◌≡◌, ◌-◌, ◌*◌, not, nat_eq, length, take, refl, sym, ◌∙◌, arith, length-take-le}
-use Rattle.std.proofs.lemmas.Grind.{common_steps}
+use Rattle.std.proofs.Common.{◌≡◌, ◌-◌, ◌*◌, ◌++◌, not, nat_eq, length, take, drop, refl, sym, ◌∙◌, arith, length-take-le, le_refl}
+use Rattle.std.proofs.lemmas.List.{take-append-le, take_all}
+use Rattle.std.proofs.lemmas.Result.{err_from_is_err_and}
 use Rattle.rapidhash_portable.specs.Lanes.{rows_in}
-use Rattle.rapidhash_portable.proofs.Filled.{if_err}
-use Rattle.rapidhash_portable.proofs.Refills.{refilled_room, Refilled-none, Refilled-more, Refilled-short}
+use Rattle.rapidhash_portable.proofs.FoldedLemmas.{PrefixIsFolded-append}
+use Rattle.rapidhash_portable.proofs.ReadingLemmas.{refilled_room, FellShort-front, FrontIsFolded-last, FrontIsFolded-more, FrontIsFolded-none}
 use Rattle.rapidhash_portable.proofs.sized.fold_front.Goals as goal
 
 pub pieces-init : goal.pieces-init
 pieces-init g c = record {
-  clean = c.requires.clean;
   room = refl;
-  refilled = Refilled-none (not (nat_eq g.row.PROTECTED 0)) c.args.secrets.now _ c.args.len g.row.LANES c.args.seed c.requires.long;
+  some = c.requires.long;
+  most = le_refl _;
+  front =
+      let none : c.args.len - c.args.len ≡ 0 = omega arith in
+      rw none (FrontIsFolded-none (not (nat_eq g.row.PROTECTED 0)) c.args.secrets.now _ g.row.LANES c.args.seed);
 }
 
 pub returns-in_err-fill-clause-short : goal.returns-in_err-fill-clause-short
 returns-in_err-fill-clause-short g c =
     let k = length c.args.buffer.now - 16 in
     let cut : length (take k c.pieces.buffer) ≡ k = length-take-le k c.pieces.buffer (omega arith) in
-    if_err c.from_residual.result (Refilled-short c.pieces.invariant.refilled _ (length (take k c.pieces.buffer)) _ (omega arith) c.in_err-fill.ensures.short)
+    let p = err_from_is_err_and c.from_residual.result c.from_residual.ensures.1 in
+    rw (p.1, p.2) (FellShort-front c.pieces.invariant.front _ (length (take k c.pieces.buffer)) _ _ (omega arith) c.in_err-fill.ensures.short)
 
 pub pieces-preserved : goal.pieces-preserved
 pieces-preserved g c =
+    let inv = c.pieces.invariant in
     let piece = c.fill.new.buf in
     let k = length c.args.buffer.now - 16 in
     let cut : length (take k c.pieces.buffer) ≡ k = length-take-le k c.pieces.buffer (omega arith) in
     let size : length piece ≡ length c.args.buffer.now - 16 = omega arith in
     let rows : length piece ≡ 16 * (g.row.LANES * rows_in g.row.LANES 0 (length piece)) = rw size (sym c.requires.whole_rows) in
+    let on = c.fold_rows.ensures.on _ _ (PrefixIsFolded-append inv.front.prefix piece) in
     record {
-      clean = grind (arith, common_steps);
-      room = refilled_room piece c.pieces.buffer (length c.args.buffer.now - 16) size (omega arith) ∙ c.pieces.invariant.room;
-      refilled = Refilled-more c.pieces.invariant.refilled _ piece c.fold_rows.new.lanes (rows_in g.row.LANES 0 (length piece)) c.in_ok-fill.ensures.ok rows (omega arith) c.fold_rows.ensures.whole c.fold_rows.ensures.folded (omega arith);
+      room = refilled_room piece c.pieces.buffer (length c.args.buffer.now - 16) size (omega arith) ∙ inv.room;
+      some = omega arith;
+      most = omega arith;
+      front =
+          FrontIsFolded-more inv.front _ piece c.fold_rows.new.lanes _ (rows_in g.row.LANES 0 (length piece)) _ c.in_ok-fill.ensures.ok rows
+          (omega arith) (omega (arith, c.fold_rows.ensures.all)) on;
     }
 
 pub returns-in_err-fill-2-clause-short : goal.returns-in_err-fill-2-clause-short
 returns-in_err-fill-2-clause-short g c =
     let k = c.pieces.left in
     let cut : length (take k c.pieces.buffer) ≡ k = length-take-le k c.pieces.buffer (omega arith) in
-    if_err c.from_residual-in_err-fill-2.result (Refilled-short c.pieces.invariant.refilled _ (length (take k c.pieces.buffer)) _ (omega arith) c.in_err-fill-2.ensures.short)
+    let p = err_from_is_err_and c.from_residual-in_err-fill-2.result c.from_residual-in_err-fill-2.ensures.1 in
+    rw (p.1, p.2) (FellShort-front c.pieces.invariant.front _ (length (take k c.pieces.buffer)) _ _ (omega arith) c.in_err-fill-2.ensures.short)
+
+pub returns-clause-ok : goal.returns-clause-ok
+returns-clause-ok g c =
+    let inv = c.pieces.invariant in
+    let n = c.pieces.left in
+    let room = inv.room in
+    let buf = c.fill-2.new.buf in
+    let cut : length (take n c.pieces.buffer) ≡ n = length-take-le n c.pieces.buffer (omega arith) in
+    let size : length buf ≡ n = omega arith in
+    let whole : take n (buf ++ drop n c.pieces.buffer) ≡ buf = take-append-le n buf (drop n c.pieces.buffer) (omega arith) ∙ take_all n buf (omega arith) in
+    rw whole (FrontIsFolded-last inv.front _ buf _ (c.in_ok-fill-2.ensures.ok) (omega arith))

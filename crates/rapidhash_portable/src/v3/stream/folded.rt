@@ -4,11 +4,12 @@
 //! numbers are private here, and only a step and a clearing change them. The count takes no bytes
 //! and no time; contracts alone see it.
 
-ghost use Rattle.std.specs.Prelude.{◌≡◌, ◌+◌, ◌*◌, ◌≤◌, ◌<◌, ℕ, length, replicate, slice_index};
+ghost use Rattle.std.specs.Prelude.{◌≡◌, ◌+◌, ◌*◌, ◌≤◌, ℕ, length, replicate, take};
 ghost use Rattle.std.specs.Borrow.{ftrue};
-ghost use Rattle.rapidhash_portable.specs.Lanes.{pair_at, step};
+ghost use Rattle.rapidhash_portable.specs.Folded.{HaveFolded};
+ghost use Rattle.rapidhash_portable.specs.Lanes.{joined};
 
-use crate::lanes::fold_row;
+use crate::lanes::{fold_row, join};
 use std::marker::Model;
 
 /// How many chunks were folded.
@@ -37,54 +38,57 @@ impl Count {
     }
 }
 
-/// Lanes, and how many chunks were folded into them.
+/// Seven lanes, of which a stream of fewer uses the first, and how many chunks were folded into them.
 #[derive(Drop)]
-pub(crate) struct Folded<const LANES: usize> {
-    lanes: [u64; LANES],
+pub(crate) struct Folded {
+    lanes: [u64; 7],
     count: Count,
 }
 
-impl<const LANES: usize> Folded<LANES> {
+impl Folded {
     /// Lanes that all hold the seed.
     #[inline(always)]
     pub(crate) fn new(seed: u64) -> Self
-        ensures lanes { result.lanes ≡ replicate LANES seed }
+        ensures lanes { result.lanes ≡ replicate 7 seed }
         ensures none { result.count.steps ≡ 0 }
     {
         Folded {
-            lanes: [seed; LANES],
+            lanes: [seed; 7],
             count: Count::new(),
         }
     }
 
-    /// Folds the chunk at the head of `bytes`, one pair into each lane.
+    /// Folds the chunk at the head of `bytes`, one pair into each of the first `LANES` lanes.
     #[inline(always)]
-    pub(crate) fn step<const PROTECTED: bool>(&mut self, bytes: &[u8], secrets: &[u64; 7])
+    pub(crate) fn step<const LANES: usize, const PROTECTED: bool>(
+        &mut self,
+        bytes: &[u8],
+        secrets: &[u64; 7],
+    )
         requires enough { 16 * LANES ≤ length bytes.now }
         requires few { LANES ≤ 7 }
-        ensures folded { (i : ℕ) → i < LANES →
-            slice_index self.new.lanes i
-            ≡ step PROTECTED (slice_index secrets.now i) (slice_index self.old.lanes i) (pair_at bytes.now (16 * i)) }
+        ensures folded { HaveFolded PROTECTED secrets.now bytes.now LANES self.old.lanes self.new.lanes 1 }
         ensures one { self.new.count.steps ≡ self.old.count.steps + 1 }
     {
-        fold_row::<LANES, LANES, PROTECTED>(&mut self.lanes, bytes, secrets);
+        fold_row::<7, LANES, PROTECTED>(&mut self.lanes, bytes, secrets);
         self.count = Count::after(&self.count);
     }
 
     /// Starts again.
     #[inline(always)]
     pub(crate) fn clear(&mut self, seed: u64)
-        ensures lanes { self.new.lanes ≡ replicate LANES seed }
+        ensures lanes { self.new.lanes ≡ replicate 7 seed }
         ensures none { self.new.count.steps ≡ 0 }
     {
         *self = Folded::new(seed);
     }
 
-    /// The lanes as they stand.
+    /// The XOR of the first `LANES` lanes.
     #[inline(always)]
-    pub(crate) fn lanes(&self) -> [u64; LANES]
-        ensures { result ≡ self.now.lanes }
+    pub(crate) fn joined<const LANES: usize>(&self) -> u64
+        requires { LANES ≤ 7 }
+        ensures { result ≡ joined (take LANES self.now.lanes) }
     {
-        self.lanes
+        join::<7, LANES>(&self.lanes)
     }
 }

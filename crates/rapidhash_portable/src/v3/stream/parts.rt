@@ -15,15 +15,14 @@ ghost use Rattle.rapidhash_portable.specs.Options.{options};
 ghost use Rattle.rapidhash_portable.specs.Seeded.{seeded_hash};
 
 use super::folded::Folded;
-use crate::lanes::join;
 use crate::secrets::RapidSecrets;
 use crate::v3::{close_tail, hash};
 
 /// The data of a stream hasher.
 #[derive(Drop)]
-pub(crate) struct Parts<'a, const LANES: usize> {
+pub(crate) struct Parts<'a> {
     pub(crate) secrets: &'a RapidSecrets,
-    pub(crate) folded: Folded<LANES>,
+    pub(crate) folded: Folded,
     /// Whether a chunk was folded.
     pub(crate) any: bool,
     /// The last 16 folded bytes, and then the new ones.
@@ -43,13 +42,13 @@ fn sixteen(bytes: &[u8], from: usize) -> [u8; 16]
     out
 }
 
-impl<'a, const LANES: usize> Parts<'a, LANES> {
+impl<'a> Parts<'a> {
     ghost use Rattle.rapidhash_portable.specs.Stream.{PartsStandFor};
 
     /// The data of no bytes.
     #[inline(always)]
-    pub(crate) fn new<const PROTECTED: bool>(secrets: &'a RapidSecrets) -> Self
-        ensures empty { PartsStandFor PROTECTED result [] }
+    pub(crate) fn new<const LANES: usize, const PROTECTED: bool>(secrets: &'a RapidSecrets) -> Self
+        ensures empty { PartsStandFor PROTECTED LANES result [] }
         ensures count { result.folded.count.steps ≡ 0 }
         ensures secrets { result.secrets.now ≡ secrets.now }
         ensures len { result.len ≡ 0 }
@@ -65,10 +64,11 @@ impl<'a, const LANES: usize> Parts<'a, LANES> {
 
     /// Adds a piece.
     #[inline(always)]
-    pub(crate) fn write<const PROTECTED: bool>(&mut self, piece: &[u8])
+    pub(crate) fn write<const LANES: usize, const PROTECTED: bool>(&mut self, piece: &[u8])
         requires lanes { IsLaneCount LANES }
         requires fits { self.old.len ≤ 16 * LANES }
-        ensures adds { (x : List ℕ) → PartsStandFor PROTECTED self.old x → PartsStandFor PROTECTED self.new (x ++ piece.now) }
+        ensures adds { (x : List ℕ) → PartsStandFor PROTECTED LANES self.old x →
+            PartsStandFor PROTECTED LANES self.new (x ++ piece.now) }
         ensures secrets { self.new.secrets.now ≡ self.old.secrets.now }
         ensures fits { self.new.len ≤ 16 * LANES }
     {
@@ -78,18 +78,19 @@ impl<'a, const LANES: usize> Parts<'a, LANES> {
             self.kept[start..end].copy_from_slice(piece);
             self.len += piece.len();
         } else {
-            self.write_past::<PROTECTED>(piece);
+            self.write_past::<LANES, PROTECTED>(piece);
         }
     }
 
     /// Adds a piece that doesn't fit: fills the buffer and folds it, then folds every whole chunk
     /// with a byte behind it where it stands, and keeps the rest and the 16 bytes before it.
     #[inline(never)]
-    fn write_past<const PROTECTED: bool>(&mut self, piece: &[u8])
+    fn write_past<const LANES: usize, const PROTECTED: bool>(&mut self, piece: &[u8])
         requires lanes { IsLaneCount LANES }
         requires fits { self.old.len ≤ 16 * LANES }
         requires past { 16 * LANES - self.old.len < length piece.now }
-        ensures adds { (x : List ℕ) → PartsStandFor PROTECTED self.old x → PartsStandFor PROTECTED self.new (x ++ piece.now) }
+        ensures adds { (x : List ℕ) → PartsStandFor PROTECTED LANES self.old x →
+            PartsStandFor PROTECTED LANES self.new (x ++ piece.now) }
         ensures secrets { self.new.secrets.now ≡ self.old.secrets.now }
         ensures fits { self.new.len ≤ 16 * LANES }
     {
@@ -98,13 +99,13 @@ impl<'a, const LANES: usize> Parts<'a, LANES> {
         self.kept[start..16 + 16 * LANES].copy_from_slice(&piece[..room]);
         let kept: &[u8] = &self.kept;
         self.folded
-            .step::<PROTECTED>(&kept[16..16 + 16 * LANES], &self.secrets.secrets);
+            .step::<LANES, PROTECTED>(&kept[16..16 + 16 * LANES], &self.secrets.secrets);
         self.any = true;
         let count = (piece.len() - room - 1) / (16 * LANES);
         'chunks: for i in 0..count {
             let at = room + 16 * LANES * i;
             self.folded
-                .step::<PROTECTED>(&piece[at..at + 16 * LANES], &self.secrets.secrets);
+                .step::<LANES, PROTECTED>(&piece[at..at + 16 * LANES], &self.secrets.secrets);
         }
         let end = room + 16 * LANES * count;
         let carried = if end >= 16 {
@@ -121,10 +122,12 @@ impl<'a, const LANES: usize> Parts<'a, LANES> {
     /// The hash of the message that was written. A message without a chunk stands whole in the
     /// buffer.
     #[inline(always)]
-    pub(crate) fn finish<const AVALANCHE: bool, const PROTECTED: bool>(&self) -> u64
+    pub(crate) fn finish<const LANES: usize, const AVALANCHE: bool, const PROTECTED: bool>(
+        &self,
+    ) -> u64
         requires lanes { IsLaneCount LANES }
         requires fits { self.now.len ≤ 16 * LANES }
-        ensures { (x : List ℕ) → PartsStandFor PROTECTED self.now x →
+        ensures { (x : List ℕ) → PartsStandFor PROTECTED LANES self.now x →
             result
             ≡ seeded_hash (V3 LANES) (options AVALANCHE PROTECTED) self.now.secrets.now x }
     {
@@ -133,15 +136,15 @@ impl<'a, const LANES: usize> Parts<'a, LANES> {
         if !self.any {
             return hash::<LANES, AVALANCHE, false, PROTECTED>(new, self.secrets);
         }
-        let joined = join::<LANES>(&self.folded.lanes());
+        let joined = self.folded.joined::<LANES>();
         let ending = &kept[..16 + self.len];
         close_tail::<AVALANCHE, PROTECTED>(new, ending, joined, &self.secrets.secrets)
     }
 
     /// Starts again with no bytes.
     #[inline(always)]
-    pub(crate) fn reset<const PROTECTED: bool>(&mut self)
-        ensures empty { PartsStandFor PROTECTED self.new [] }
+    pub(crate) fn reset<const LANES: usize, const PROTECTED: bool>(&mut self)
+        ensures empty { PartsStandFor PROTECTED LANES self.new [] }
         ensures count { self.new.folded.count.steps ≡ 0 }
         ensures secrets { self.new.secrets.now ≡ self.old.secrets.now }
         ensures len { self.new.len ≡ 0 }

@@ -13,7 +13,7 @@ use crate::secrets::RapidSecrets;
 /// The data of a stream hasher, of which at most one chunk is buffered.
 #[derive(Drop)]
 pub(crate) struct State<'a, const LANES: usize> {
-    parts: Parts<'a, LANES>,
+    parts: Parts<'a>,
     ghost lanes: { IsLaneCount LANES },
     ghost fits: { parts.len ≤ 16 * LANES },
 }
@@ -24,38 +24,39 @@ impl<'a, const LANES: usize> State<'a, LANES> {
     #[inline(always)]
     pub(crate) fn new<const PROTECTED: bool>(secrets: &'a RapidSecrets) -> Self
         requires lanes { IsLaneCount LANES }
-        ensures empty { PartsStandFor PROTECTED result.parts [] }
+        ensures empty { PartsStandFor PROTECTED LANES result.parts [] }
         ensures count { result.parts.folded.count.steps ≡ 0 }
         ensures secrets { result.parts.secrets.now ≡ secrets.now }
     {
         State {
-            parts: Parts::new::<PROTECTED>(secrets),
+            parts: Parts::new::<LANES, PROTECTED>(secrets),
         }
     }
 
     #[inline(always)]
     pub(crate) fn write<const PROTECTED: bool>(&mut self, piece: &[u8])
-        ensures adds { (x : List ℕ) → PartsStandFor PROTECTED self.old.parts x → PartsStandFor PROTECTED self.new.parts (x ++ piece.now) }
+        ensures adds { (x : List ℕ) → PartsStandFor PROTECTED LANES self.old.parts x →
+            PartsStandFor PROTECTED LANES self.new.parts (x ++ piece.now) }
         ensures secrets { self.new.parts.secrets.now ≡ self.old.parts.secrets.now }
     {
-        self.parts.write::<PROTECTED>(piece);
+        self.parts.write::<LANES, PROTECTED>(piece);
     }
 
     #[inline(always)]
     pub(crate) fn finish<const AVALANCHE: bool, const PROTECTED: bool>(&self) -> u64
-        ensures { (x : List ℕ) → PartsStandFor PROTECTED self.now.parts x →
+        ensures { (x : List ℕ) → PartsStandFor PROTECTED LANES self.now.parts x →
             result
             ≡ seeded_hash (V3 LANES) (options AVALANCHE PROTECTED) self.now.parts.secrets.now x }
     {
-        self.parts.finish::<AVALANCHE, PROTECTED>()
+        self.parts.finish::<LANES, AVALANCHE, PROTECTED>()
     }
 
     #[inline(always)]
     pub(crate) fn reset<const PROTECTED: bool>(&mut self)
-        ensures empty { PartsStandFor PROTECTED self.new.parts [] }
+        ensures empty { PartsStandFor PROTECTED LANES self.new.parts [] }
         ensures count { self.new.parts.folded.count.steps ≡ 0 }
         ensures secrets { self.new.parts.secrets.now ≡ self.old.parts.secrets.now }
     {
-        self.parts.reset::<PROTECTED>();
+        self.parts.reset::<LANES, PROTECTED>();
     }
 }

@@ -13,8 +13,8 @@ const SECRETS: RapidSecrets = RapidSecrets {
 #[test]
 fn keeps_the_bytes_before_the_buffered_ones(rt: HostRuntime) -> Result<(), Fail> {
     let bytes: Vec<u8> = (0..128u32).map(|i| i as u8).collect(rt.alloc())?;
-    let mut parts: Parts<7> = Parts::new::<false>(&SECRETS);
-    parts.write::<false>(&bytes);
+    let mut parts = Parts::new::<7, false>(&SECRETS);
+    parts.write::<7, false>(&bytes);
     for i in 0..32usize {
         let kept = parts.kept[i];
         assert_eq!(rt; kept as usize, 96 + i);
@@ -26,14 +26,15 @@ fn keeps_the_bytes_before_the_buffered_ones(rt: HostRuntime) -> Result<(), Fail>
 #[test]
 fn hashes_large_pieces_in_place(rt: HostRuntime) -> Result<(), Fail> {
     let bytes: Vec<u8> = (0..338u32).map(|i| (i % 251) as u8).collect(rt.alloc())?;
-    let mut parts: Parts<7> = Parts::new::<false>(&SECRETS);
-    parts.write::<false>(&bytes);
+    let mut parts = Parts::new::<7, false>(&SECRETS);
+    parts.write::<7, false>(&bytes);
     let behind = parts.kept[18];
     assert_eq!(rt; behind, 2);
     Ok(())
 }
 
-// The count has no bytes: a reference, a word for each lane, 128 bytes, a length and a flag.
+// The count has no bytes: a reference, seven lanes whatever their number, 128 bytes, a length and a
+// flag.
 #[test]
 fn is_as_large_as_its_arrays(rt: HostRuntime) -> Result<(), Fail> {
     assert_eq!(rt;
@@ -41,8 +42,12 @@ fn is_as_large_as_its_arrays(rt: HostRuntime) -> Result<(), Fail> {
         8 + 56 + 128 + 8 + 8
     );
     assert_eq!(rt;
+        size_of::<RapidStreamHasherInlineMicro<'static, true, false>>(),
+        8 + 56 + 128 + 8 + 8
+    );
+    assert_eq!(rt;
         size_of::<RapidStreamHasherInlineNano<'static, true, false>>(),
-        8 + 24 + 128 + 8 + 8
+        8 + 56 + 128 + 8 + 8
     );
     Ok(())
 }

@@ -1,10 +1,15 @@
-use Rattle.std.proofs.Common.{◌≡◌, ◌<◌, ◌≤◌, ◌∙◌, ℕ, ap, arith, length, not, nat_eq, true}
+use Rattle.std.proofs.Common.{◌≡◌, ◌<◌, ◌≤◌, ◌∙◌, ℕ, ap, arith, length, not, nat_eq, sym, true}
+use Rattle.std.proofs.KnownBytes.{Consumes-kept, Consumes-trans}
+use Rattle.std.proofs.lemmas.Bool.{true≢false}
 use Rattle.std.proofs.lemmas.Grind.{common_steps}
-use Rattle.rapidhash_portable.specs.Form.{v3}
-use Rattle.rapidhash_portable.specs.Hash.{portable_hash}
+use Rattle.std.proofs.lemmas.List.{append-nil}
+use Rattle.std.proofs.lemmas.Result.{err_from_is_err_and}
+use Rattle.rapidhash_portable.specs.declared.form.Form.TheVariants.{V3}
+use Rattle.rapidhash_portable.specs.Options.{options}
+use Rattle.rapidhash_portable.specs.Seeded.{seeded_hash}
+use Rattle.rapidhash_portable.specs.Source.{is_marked}
 use Rattle.rapidhash_portable.specs.Stream.{StreamStandsFor}
-use Rattle.rapidhash_portable.specs.declared.form.Options.{Options}
-use Rattle.rapidhash_portable.proofs.Reading.{HaveRead-more, HaveRead-all, HaveRead-most}
+use Rattle.rapidhash_portable.proofs.ReadingLemmas.{HaveRead-more}
 use Rattle.rapidhash_portable.proofs.v3.readers.read_all.Goals as goal
 
 pub reads-preserved : goal.reads-preserved
@@ -20,17 +25,33 @@ reads-preserved g c =
       read = HaveRead-more _ _ _ (λ x. StreamStandsFor (not (nat_eq g.row.PROTECTED 0)) c.reads.hasher x) _ c.reads.turn n c.read.new.buf inv.read c.in_ok-n.ensures.bytes.0 some fits c.write.ensures.adds;
     }
 
-pub returns-then-n-eq0-clause-ok : goal.returns-then-n-eq0-clause-ok
-returns-then-n-eq0-clause-ok g c =
+pub returns-then-n-eq0-clause-all : goal.returns-then-n-eq0-clause-all
+returns-then-n-eq0-clause-all g c =
     let inv = c.reads.invariant in
-    let options : Options = record { avalanche = true; protected = not (nat_eq g.row.PROTECTED 0) } in
     let bytes = c.in_ok-n.ensures.bytes in
     let room : 0 < length c.read.new.buf = omega arith in
-    let last = rw c.if-n-eq0.true at bytes.0 in
-    HaveRead-all _ _ _ (λ x. StreamStandsFor (not (nat_eq g.row.PROTECTED 0)) c.reads.hasher x) (λ x. c.finish.result ≡ portable_hash v3 options c.args.secrets.now.seed c.args.secrets.now.secrets x) c.reads.turn inv.read last (bytes.1 c.if-n-eq0.true room)
-    (λ x stands. c.finish.ensures x stands ∙ ap (λ s. portable_hash v3 options s.seed s.secrets x) inv.secrets)
+    let last = rw (c.if-n-eq0.true) at bytes.0 in
+    record {
+      bytes = inv.read.bytes;
+      taken = rw append-nil at (Consumes-trans _ _ _ inv.read.bytes _ inv.read.taken last);
+      ok = (c.finish.ensures inv.read.bytes inv.read.stands ∙ ap (λ s. seeded_hash (V3 g.row.LANES) (options true (not (nat_eq g.row.PROTECTED 0))) s inv.read.bytes) inv.secrets, bytes.1 c.if-n-eq0.true room);
+      endless = tt;
+    }
 
-pub returns-clause-endless : goal.returns-clause-endless
-returns-clause-endless g c = λ _.
-    let turns : c.reads.turn ≡ 18446744073709551615 = omega arith in
-    rw turns at (HaveRead-most _ _ _ c.reads.turn c.reads.invariant.read)
+pub returns-in_err-n-clause-all : goal.returns-in_err-n-clause-all
+returns-in_err-n-clause-all g c =
+    let read = c.reads.invariant.read in
+    let marked : is_marked c.read.new.self ≡ true = grind (arith, common_steps) in
+    let p = err_from_is_err_and c.from_residual.result c.from_residual.ensures.1 in
+    rw (p.1) (record {
+      bytes = read.bytes;
+      taken = Consumes-kept _ _ _ read.bytes read.taken c.in_err-n.ensures.bytes;
+      ok = tt;
+      endless = λ off. absurd (true≢false (sym marked ∙ off));
+    })
+
+pub returns-clause-all : goal.returns-clause-all
+returns-clause-all g c =
+    let read = c.reads.invariant.read in
+    let some = read.some in
+    record { bytes = read.bytes; taken = read.taken; ok = tt; endless = λ _. omega arith }

@@ -1,7 +1,7 @@
 use Rattle.std.proofs.Common.{◌≡◌, false, length, not, nat_eq}
 use Rattle.rapidhash_portable.specs.Source.{is_marked, reader_of}
 use Rattle.rapidhash_portable.specs.Stream.{StreamStandsFor, secrets_of}
-use Rattle.rapidhash_portable.proofs.Reading.{HaveRead}
+use Rattle.rapidhash_portable.proofs.ReadingLemmas.{HaveRead}
 use Rattle.rapidhash_portable.proofs.v3.readers.read_all.Given as goal
 
 abbrev pub invariant-reads : goal.invariant-reads

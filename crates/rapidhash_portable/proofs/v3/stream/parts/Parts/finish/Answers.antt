@@ -1,6 +1,5 @@
-use Rattle.std.proofs.Common.{◌≡◌, ◌∙◌, ◌-◌, ◌+◌, ℕ, take, drop, ap, arith, rules}
-use Rattle.rapidhash_portable.specs.Lanes.{joined}
-use Rattle.rapidhash_portable.proofs.Finishing.{chunk-below, buffered-tail, joined-lanes, last_16-kept}
+use Rattle.std.proofs.Common.{◌≡◌, ◌-◌, ◌+◌, ℕ, take, drop, ap, ◌∙◌, arith}
+use Rattle.rapidhash_portable.proofs.StreamLemmas.{AfterRows-stands, chunk-below, last_16-kept}
 use Rattle.rapidhash_portable.proofs.v3.stream.parts.Parts.finish.Goals as goal
 
 pub returns : goal.returns
@@ -9,8 +8,7 @@ returns g c = λ x h.
     let count = c.requires.lanes in
     let least = count.least in
     let on : s.any ≡ _ = c.if-not-self.false in
-    let long = chunk-below _ s x count h on in
+    let long = chunk-below count h (omega arith) c.requires.fits on in
     let new : take (16 + s.len - 16) (drop 16 s.kept) ≡ take s.len (drop 16 s.kept) = let e : 16 + s.len - 16 ≡ s.len = omega arith in ap (λ (n : ℕ). take n (drop 16 s.kept)) e in
-    let lanes = joined-lanes _ s x count h on (search rules) in
-    c.close_tail.ensures g.row.LANES s.secrets.now.seed x (omega arith) (new ∙ buffered-tail _ s x count h on) (last_16-kept _ s x count h on)
-    (c.join-joined.ensures ∙ ap joined c.lanes.ensures ∙ lanes)
+    let rows = AfterRows-stands count h (omega arith) c.requires.fits on _ c.joined-joined.ensures in
+    c.close_tail.ensures g.row.LANES s.secrets.now.seed x (omega arith) (new ∙ rows.rest) (last_16-kept count h (omega arith) c.requires.fits on) rows.joined

@@ -1,0 +1,5 @@
+//! Each law once, on values that it tells apart and on values that it does not.
+
+mod blocks;
+mod replay;
+mod words;

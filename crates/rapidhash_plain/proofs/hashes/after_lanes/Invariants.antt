@@ -1,0 +1,6 @@
+use Rattle.std.proofs.Common.{◌≡◌}
+use Rattle.rapidhash_portable.proofs.LanesLemmas.{lanes_to}
+use Rattle.rapidhash_plain.proofs.hashes.after_lanes.Given as goal
+
+abbrev pub invariant-loop-i : goal.invariant-loop-i
+invariant-loop-i l = l.joined ≡ lanes_to l.protected l.secrets l.bytes l.shape l.seed l.i

@@ -1,0 +1,87 @@
+//! How secrets are made, as plain programs.
+
+ghost use Rattle.std.specs.Prelude.{◌≡◌, slice_index};
+ghost use Rattle.rapidhash_portable.specs.Secrets.{chained, cpp_seeded, premixed, reseeded, repaired, seeded, with_bit};
+
+use crate::hashes::mix;
+
+/// The default secrets.
+const DEFAULT_SECRETS: [u64; 7] = [
+    0x2d35_8dcc_aa6c_78a5,
+    0x8bb8_4b93_962e_acc9,
+    0x4b33_a62e_d433_d4a3,
+    0x4d5a_2da5_1de1_aa47,
+    0xa076_1d64_78bd_642f,
+    0xe703_7ed1_a0b4_28db,
+    0x90ed_1765_281c_388c,
+];
+
+/// Secret `k`, or 0 where there is none.
+pub(crate) fn secret(secrets: &[u64], k: usize) -> u64
+    ensures { result ≡ slice_index secrets.now k }
+{
+    if k < secrets.len() { secrets[k] } else { 0 }
+}
+
+/// A word, with a bit set where it has none of a mask's.
+#[tactic(auto, using(crate::proofs::Cases::tests), unfolding(crate::proofs::Cases::with_bit))]
+fn with_bit(word: u64, mask: u64, bit: u64) -> u64
+    ensures { result ≡ with_bit word mask bit }
+{
+    if word & mask == 0 { word | bit } else { word }
+}
+
+/// A word, made good.
+#[tactic(auto, unfolding(rapidhash_portable::specs::Secrets::repaired))]
+fn repaired(word: u64) -> u64
+    ensures { result ≡ repaired word }
+{
+    let upper = with_bit(word, 0xffff_0000_0000_0000, 0x8000_0000_0000_0000);
+    let middle = with_bit(upper, 0xff_ff00_0000, 0x8000_0000);
+    with_bit(middle, 0xffff, 1)
+}
+
+/// A word mixed with the default secret at a place, and repaired.
+#[tactic(auto, unfolding(rapidhash_portable::specs::Secrets::premixed))]
+fn premixed(word: u64, place: usize) -> u64
+    ensures { result ≡ premixed word place }
+{
+    let other = secret(&DEFAULT_SECRETS, place);
+    repaired(word ^ mix(false, word ^ 0x4b33_a62e_d433_d4a3, other))
+}
+
+/// A word after `count` premixes. Secret k that a number makes is its seed after k + 1 of them.
+pub fn chained(word: u64, count: usize) -> u64
+    ensures { result ≡ chained word count }
+{
+    let mut last = word;
+    for place in 0..count {
+        last = premixed(last, place);
+    }
+    last
+}
+
+/// The seed that a number makes.
+#[tactic(auto, unfolding(rapidhash_portable::specs::Secrets::seeded))]
+pub fn seeded(number: u64) -> u64
+    ensures { result ≡ seeded number }
+{
+    premixed(number, 0)
+}
+
+/// The seed that a number makes beside the default secrets.
+#[tactic(auto, unfolding(rapidhash_portable::specs::Secrets::cpp_seeded))]
+pub fn cpp_seeded(number: u64, place: usize) -> u64
+    ensures { result ≡ cpp_seeded number place }
+{
+    let first = secret(&DEFAULT_SECRETS, place);
+    number ^ mix(false, number ^ first, 0x8bb8_4b93_962e_acc9)
+}
+
+/// The seed made of a seed.
+#[tactic(auto, unfolding(rapidhash_portable::specs::Secrets::reseeded))]
+pub fn reseeded(seed: u64, place: usize) -> u64
+    ensures { result ≡ reseeded seed place }
+{
+    premixed(seed, place)
+}

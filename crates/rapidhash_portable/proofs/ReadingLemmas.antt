@@ -1,0 +1,162 @@
+-- What was taken of a reader, read by read, and what a hash returns of it.
+use borrow.Rule.Slice.PartMut.{put_mid, post_of}
+use lib.Seq.{take-add, take-append-le}
+use Rattle.std.proofs.Common.{◌≡◌, ℕ, ◌+◌, ◌-◌, ◌*◌, ◌≤◌, ◌<◌, Bool, true, false, List, [], ◌++◌, Option, Result, Ok, Err, IfErr, length, take, drop, replicate, refl, sym, ap, ◌∙◌, arith, drop_at, le_refl, length-append, length-drop, length-take-le}
+use Rattle.std.proofs.KnownBytes.{Consumes-nil, Consumes-trans, Consumes-whole}
+use Rattle.std.proofs.lemmas.Bool.{false≢true, true≢false}
+use Rattle.std.proofs.lemmas.List.{nil_from_length}
+use Rattle.std.proofs.lemmas.Slice.{take-put_mid_below}
+use Rattle.std.specs.Io.KnownBytes.{Consumes}
+use Rattle.std.specs.declared.io.Error.{Error}
+use Rattle.std.specs.declared.io.ErrorKind.TheVariants.{UnexpectedEof}
+use Rattle.rapidhash_portable.specs.declared.reader.Stop.{Stop}
+use Rattle.rapidhash_portable.specs.declared.reader.Stop.TheVariants.{Ended, Failed}
+use Rattle.rapidhash_portable.specs.Folded.{PrefixIsFolded}
+use Rattle.rapidhash_portable.specs.Reading.{FellShort, FrontIsFolded, HashesAll, HashesKnown, MarksFailures}
+use Rattle.rapidhash_portable.specs.Source.{Settles}
+use Rattle.rapidhash_portable.specs.Words.{last_16}
+use Rattle.rapidhash_portable.proofs.BytesLemmas.{word64-drop}
+use Rattle.rapidhash_portable.proofs.FoldedLemmas.{PrefixIsFolded-all, PrefixIsFolded-append, PrefixIsFolded-left, PrefixIsFolded-none}
+use Rattle.rapidhash_portable.proofs.LanesLemmas.{rows_are}
+
+-- ---- a buffer that is filled by reads at its end
+
+-- the filled front, and what a read put behind it
+pub filled_more : (at n : ℕ) (buf part : List ℕ) → at ≤ length buf → n ≤ length part →
+    take at buf ++ take n part ≡ take (at + n) (put_mid at (length buf - at) buf part)
+filled_more at n buf part within fits =
+    let m = put_mid at (length buf - at) buf part in
+    let front : take at m ≡ take at buf = take-put_mid_below _ _ _ _ _ (le_refl _) within in
+    let after = post_of at (length buf - at) buf in
+    let back : take n (drop at m) ≡ take n part =
+    ap (take n) (drop_at (take at buf) (part ++ after) at (length-take-le at buf within)) ∙ take-append-le n part after fits in
+    ap (λ l. l ++ take n part) (sym front) ∙ ap (λ l. take at m ++ l) (sym back) ∙ sym (take-add at n m)
+
+-- a buffer whose front was replaced keeps its length
+pub refilled_room : (piece buffer : List ℕ) (room : ℕ) → length piece ≡ room → room ≤ length buffer →
+    length (piece ++ post_of 0 room buffer) ≡ length buffer
+refilled_room piece buffer room size fits = simp (length-append, length-drop) (omega arith)
+
+-- what holds after every error
+pub if_err : {T E : Type 0} (r : Result T E) {P : Type 0} → P → IfErr r (λ _. P)
+if_err (Ok x) p = tt
+if_err (Err e) p = p
+
+-- ---- a front that is folded
+
+-- nothing was read yet
+pub FrontIsFolded-none : (protected : Bool) (secrets : List ℕ) (old : Option (List ℕ)) (lanes seed : ℕ) →
+    FrontIsFolded protected secrets old old 0 lanes seed (replicate lanes seed) []
+FrontIsFolded-none protected secrets old lanes seed = record {
+  bytes = [];
+  taken = Consumes-nil old;
+  count = refl;
+  prefix = PrefixIsFolded-none protected secrets [] lanes 0 (replicate lanes seed) (omega arith);
+}
+
+-- where a prefix of whole rows goes on over whole rows, nothing is left
+all_folded : {protected : Bool} {secrets x : List ℕ} {lanes : ℕ} {starts held held' rest : List ℕ} (y : List ℕ) (more : ℕ) →
+    PrefixIsFolded protected secrets x lanes 0 starts held [] → PrefixIsFolded protected secrets (x ++ y) lanes 0 starts held' rest →
+    length y ≡ 16 * (lanes * more) → length rest < 16 * lanes → rest ≡ []
+all_folded {x = x} {lanes = lanes} {rest = rest} y more f g size few =
+    let before = PrefixIsFolded-left f in
+    let after = PrefixIsFolded-left g in
+    let total = length-append x y in
+    let rows = PrefixIsFolded-all g (omega arith) in
+    let rows' = rows_are lanes 0 (f.rows + more) 0 (length (x ++ y)) (omega arith) (omega arith) (omega arith) in
+    let same : 16 * (lanes * g.rows) ≡ 16 * (lanes * (f.rows + more)) = ap (λ k. 16 * (lanes * k)) (sym rows ∙ rows') in
+    nil_from_length rest (omega arith)
+
+-- a piece of whole rows more
+pub FrontIsFolded-more : {protected : Bool} {secrets : List ℕ} {old now : Option (List ℕ)} {len lanes seed : ℕ} {held : List ℕ}
+    (f : FrontIsFolded protected secrets old now len lanes seed held []) (new : Option (List ℕ)) (piece held' rest : List ℕ) (more len' : ℕ) →
+    Consumes now new piece → length piece ≡ 16 * (lanes * more) → len' ≡ len + length piece → length rest < 16 * lanes →
+    PrefixIsFolded protected secrets (f.bytes ++ piece) lanes 0 (replicate lanes seed) held' rest →
+    FrontIsFolded protected secrets old new len' lanes seed held' []
+FrontIsFolded-more f new piece held' rest more len' took size e few g =
+    let none = all_folded piece more f.prefix g size few in
+    record {
+      bytes = f.bytes ++ piece;
+      taken = Consumes-trans _ _ _ _ _ f.taken took;
+      count = omega (arith, f.count, length-append f.bytes piece);
+      prefix = rw none at g;
+    }
+
+-- the last bytes, which are folded no more
+pub FrontIsFolded-last : {protected : Bool} {secrets : List ℕ} {old now : Option (List ℕ)} {len lanes seed : ℕ} {held : List ℕ} →
+    FrontIsFolded protected secrets old now len lanes seed held [] → (new : Option (List ℕ)) (last : List ℕ) (len' : ℕ) →
+    Consumes now new last → len' ≡ len + length last → FrontIsFolded protected secrets old new len' lanes seed held last
+FrontIsFolded-last f new last len' took e = record {
+  bytes = f.bytes ++ last;
+  taken = Consumes-trans _ _ _ _ _ f.taken took;
+  count = omega (arith, f.count, length-append f.bytes last);
+  prefix = PrefixIsFolded-append f.prefix last;
+}
+
+-- the tail ends in the last 16 bytes
+pub last_16-front : {protected : Bool} {secrets : List ℕ} {old new : Option (List ℕ)} {len lanes seed : ℕ} {held tail : List ℕ}
+    (f : FrontIsFolded protected secrets old new len lanes seed held tail) → 16 ≤ length tail → last_16 tail ≡ last_16 f.bytes
+last_16-front {lanes = lanes} {tail = tail} f some =
+    let n = 16 * (lanes * f.prefix.rows) in
+    let size = PrefixIsFolded-left f.prefix in
+    let first : n + (length tail - 16) ≡ length f.bytes - 16 = omega arith in
+    let second : n + (length tail - 8) ≡ length f.bytes - 8 = omega arith in
+    cc (f.prefix.rest_is, word64-drop f.bytes n (length tail - 16), word64-drop f.bytes n (length tail - 8), first, second)
+
+-- the reader ends behind a front
+pub FellShort-front : {protected : Bool} {secrets : List ℕ} {old now : Option (List ℕ)} {len lanes seed : ℕ} {held tail : List ℕ} →
+    FrontIsFolded protected secrets old now len lanes seed held tail → (new : Option (List ℕ)) (size len' : ℕ) (failed : Bool) →
+    len + size ≤ len' → FellShort now new size failed → FellShort old new len' failed
+FellShort-front f new size len' failed h s = record {
+  bytes = f.bytes ++ s.bytes;
+  taken = Consumes-trans _ _ _ _ _ f.taken s.taken;
+  count = omega (arith, f.count, s.count, length-append f.bytes s.bytes);
+  all = s.all;
+}
+
+-- ---- the hash of the next bytes
+
+-- what a source makes of a hash's answer
+pub MarksFailures-settles : (answer : Result ℕ Stop) (result : Result ℕ Error) (marked : Bool) →
+    Settles answer result false marked → MarksFailures result marked UnexpectedEof
+MarksFailures-settles (Ok h) result marked settled = rw (settled.0, settled.1) (record { clean = refl; kind_is = tt })
+MarksFailures-settles (Err (Failed read)) (Ok h) marked settled = absurd (false≢true settled.0)
+MarksFailures-settles (Err (Failed read)) (Err e) marked settled = rw (settled.1) (record { clean = tt; kind_is = λ off. absurd (true≢false off) })
+MarksFailures-settles (Err Ended) (Ok h) marked settled = absurd settled.0
+MarksFailures-settles (Err Ended) (Err e) marked settled = record { clean = tt; kind_is = λ _. settled.0 }
+
+-- an early end of which no more is said
+pub FellShort-weaker : {old new : Option (List ℕ)} {len : ℕ} {failed : Bool} → FellShort old new len failed → FellShort old new len true
+FellShort-weaker s = record { bytes = s.bytes; taken = s.taken; count = s.count; all = λ off. absurd (true≢false off) }
+
+-- ---- all bytes
+
+-- bytes for which `Stands` holds were taken, one or more a turn
+pub record HaveRead (old now : Option (List ℕ)) (Stands : List ℕ → Type 0) (turn : ℕ) : Type 0 where
+  pub bytes : List ℕ
+  pub taken : Consumes old now bytes
+  pub stands : Stands bytes
+  pub some : turn ≤ length bytes
+
+-- nothing yet
+pub HaveRead-none : (old : Option (List ℕ)) (Stands : List ℕ → Type 0) → Stands [] → HaveRead old old Stands 0
+HaveRead-none old Stands s = record { bytes = []; taken = Consumes-nil old; stands = s; some = omega arith }
+
+-- a read more
+pub HaveRead-more : (old now new : Option (List ℕ)) (Stands Stands' : List ℕ → Type 0) (turn n : ℕ) (buf : List ℕ) →
+    HaveRead old now Stands turn → Consumes now new (take n buf) → 0 < n → n ≤ length buf →
+    ((x : List ℕ) → Stands x → Stands' (x ++ take n buf)) → HaveRead old new Stands' (turn + 1)
+HaveRead-more old now new Stands Stands' turn n buf h taken some fits more =
+    let so_far = h.some in
+    record {
+      bytes = h.bytes ++ take n buf;
+      taken = Consumes-trans old now new h.bytes (take n buf) h.taken taken;
+      stands = more h.bytes h.stands;
+      some = omega (arith, length-append h.bytes (take n buf), length-take-le n buf fits);
+    }
+
+-- all bytes that were known were taken
+pub HashesAll-known : {E : Type 0} {old new : Option (List ℕ)} (result : Result ℕ E) {failed : E → Bool} {hash : List ℕ → ℕ} →
+    HashesAll old new result failed hash → HashesKnown old result hash
+HashesAll-known (Ok h) {hash = hash} all = Consumes-whole _ _ all.bytes (λ x. h ≡ hash x) all.taken all.ok.1 all.ok.0
+HashesAll-known (Err e) all = tt

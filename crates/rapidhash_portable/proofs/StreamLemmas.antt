@@ -1,0 +1,291 @@
+-- How the data of a stream hasher follow a message: none of it, a piece that fits, a piece that does not, and the end.
+use borrow.Rule.Slice.PartMut.{put_mid}
+use Rattle.std.proofs.Common.{◌≡◌, ℕ, zero, suc, ◌+◌, ◌-◌, ◌*◌, ◌/◌, ◌<◌, ◌≤◌, Bool, true, false, List, [], ◌++◌, length, take, drop, replicate, refl, sym, ap, ◌∙◌, arith, length-append, length-drop, zero-add}
+use Rattle.std.proofs.Math.Nat.{zero-div}
+use Rattle.std.proofs.Math.Seq.{drop-append-add, take-add, take-append-add}
+use Rattle.std.proofs.lemmas.Bool.{lt-ltb, ltb-false, ltb-true}
+use Rattle.std.proofs.lemmas.List.{drop-append-le, drop-drop, drop-take, length-take-le, take-append-drop, take-append-le}
+use Rattle.std.proofs.lemmas.Nat.{div-mul-add}
+use Rattle.std.proofs.lemmas.Slice.{take-put_mid, take-put_mid_below}
+use Rattle.rapidhash_portable.specs.declared.form.Form.TheVariants.{V3}
+use Rattle.rapidhash_portable.specs.declared.v3.stream.parts.Parts.{Parts}
+use Rattle.rapidhash_portable.specs.Folded.{AfterRows, HaveFolded, PrefixIsFolded}
+use Rattle.rapidhash_portable.specs.Form.{shape_of}
+use Rattle.rapidhash_portable.specs.Lanes.{IsLaneCount, joined}
+use Rattle.rapidhash_portable.specs.Stream.{PartsStandFor, chunk_count, folded_bytes}
+use Rattle.rapidhash_portable.specs.Words.{last_16}
+use Rattle.rapidhash_portable.proofs.BytesLemmas.{word64-drop}
+use Rattle.rapidhash_portable.proofs.FoldedLemmas.{AfterRows-wide, HaveFolded-append, HaveFolded-none, HaveFolded-take, PrefixIsFolded-all, PrefixIsFolded-left, PrefixIsFolded-more}
+
+-- ---- how many chunks there are
+
+-- they end before the last byte
+pub chunk_count-low : (lanes n : ℕ) → 0 < lanes → folded_bytes lanes n ≤ n - 1
+chunk_count-low lanes n some =
+    let c : ℕ = 16 * lanes in
+    let whole : c * ((n - 1) / c) ≤ n - 1 = omega arith in
+    omega (arith, whole)
+
+-- further bytes that end in the same chunk
+pub chunk_count-same : (lanes n m : ℕ) → 0 < lanes → n ≤ m → m ≤ folded_bytes lanes n + 16 * lanes → chunk_count lanes m ≡ chunk_count lanes n
+chunk_count-same lanes n m some more top =
+    let k : ℕ = chunk_count lanes n in
+    let low = chunk_count-low lanes n some in
+    let split : m - 1 ≡ k * (16 * lanes) + (m - 1 - k * (16 * lanes)) = omega arith in
+    ap (λ b. b / (16 * lanes)) split ∙ div-mul-add k (16 * lanes) (m - 1 - k * (16 * lanes)) (omega arith)
+
+-- some rows, where not all bytes are left
+some_rows : (lanes rows left n : ℕ) → 16 * (lanes * rows) + left ≡ n → left < n → 0 < rows
+some_rows lanes zero left n e less = absurd (omega arith)
+some_rows lanes (suc rows) left n e less = omega arith
+
+-- and those are a chunk or more
+pub mul_some : (lanes rows : ℕ) → 0 < rows → lanes ≤ lanes * rows
+mul_some lanes zero some = absurd (omega arith)
+mul_some lanes (suc rows) some = omega arith
+
+-- a chunk before the last one ends before it
+pub chunk_below : (size i count n : ℕ) → i < count → size * count ≤ n → size * i + size ≤ n
+chunk_below size i count n less low =
+    let split : count ≡ i + 1 + (count - (i + 1)) = omega arith in
+    let parts : size * count ≡ size * i + size + size * (count - (i + 1)) = ap (λ k. size * k) split ∙ omega arith in
+    omega (arith, parts)
+
+-- ---- kept bytes, as plain lists
+
+-- new bytes behind the buffered ones
+pub buffered-more : (j len : ℕ) (kept d kept' : List ℕ) → 16 + len ≤ length kept → kept' ≡ put_mid (16 + len) j kept d →
+    take (len + length d) (drop 16 kept') ≡ take len (drop 16 kept) ++ d
+buffered-more j len kept d kept' fits e =
+    let whole : take (16 + (len + length d)) kept' ≡ take (16 + len) kept ++ d =
+    rw e (take-put_mid (16 + len) j kept d (16 + (len + length d)) (omega arith) fits) in
+    let front : length (take (16 + len) kept) ≡ 16 + len = length-take-le (16 + len) kept fits in
+    let cut : drop 16 (take (16 + (len + length d)) kept') ≡ drop 16 (take (16 + len) kept) ++ d =
+    ap (λ (l : List ℕ). drop 16 l) whole ∙ drop-append-le 16 (take (16 + len) kept) d (omega arith) in
+    sym (drop-take 16 (len + length d) kept') ∙ cut ∙ ap (λ (l : List ℕ). l ++ d) (drop-take 16 len kept)
+
+-- the carried bytes stay
+pub carried-same : (j len : ℕ) (kept d kept' : List ℕ) → 16 + len ≤ length kept → kept' ≡ put_mid (16 + len) j kept d → take 16 kept' ≡ take 16 kept
+carried-same j len kept d kept' fits e = rw e (take-put_mid_below (16 + len) j kept d 16 (omega arith) fits)
+
+-- behind the message's first bytes
+pub drop-behind : (x d : List ℕ) (k n : ℕ) → k ≡ length x + n → drop k (x ++ d) ≡ drop n d
+drop-behind x d k n e = rw e (drop-append-add x d n)
+
+-- the 16 bytes before an edge, in the message's first part
+before-append : (x d : List ℕ) (edge : ℕ) → 16 ≤ edge → edge ≤ length x → take 16 (drop (edge - 16) (x ++ d)) ≡ take 16 (drop (edge - 16) x)
+before-append x d edge some low =
+    rw (drop-append-le (edge - 16) x d (omega arith)) (take-append-le 16 (drop (edge - 16) x) d (omega (arith, length-drop (edge - 16) x)))
+
+-- those before an edge in the piece
+pub before-piece : (x d : List ℕ) (edge at : ℕ) → edge ≡ length x + at → 16 ≤ at → take 16 (drop (at - 16) d) ≡ take 16 (drop (edge - 16) (x ++ d))
+before-piece x d edge at e far = ap (λ (l : List ℕ). take 16 l) (sym (drop-behind x d (edge - 16) (at - 16) (omega arith)))
+
+-- those before the end of a chunk in the buffer
+pub before-chunk : (size : ℕ) (kept y : List ℕ) (start : ℕ) → 16 ≤ size → take size (drop 16 kept) ≡ take size (drop start y) →
+    take 16 (drop size kept) ≡ take 16 (drop (start + size - 16) y)
+before-chunk size kept y start wide e =
+    let back : size - 16 + 16 ≡ size = omega arith in
+    let e' : take (size - 16 + 16) (drop 16 kept) ≡ take (size - 16 + 16) (drop start y) = rw back e in
+    let cut : take 16 (drop (size - 16) (drop 16 kept)) ≡ take 16 (drop (size - 16) (drop start y)) =
+    sym (drop-take (size - 16) 16 (drop 16 kept)) ∙ ap (λ (l : List ℕ). drop (size - 16) l) e' ∙ drop-take (size - 16) 16 (drop start y) in
+    let at : 16 + (size - 16) ≡ size = omega arith in
+    let at' : start + (size - 16) ≡ start + size - 16 = omega arith in
+    let left : drop (size - 16) (drop 16 kept) ≡ drop size kept = drop-drop (size - 16) 16 kept ∙ ap (λ (k : ℕ). drop k kept) at in
+    let right : drop (size - 16) (drop start y) ≡ drop (start + size - 16) y = drop-drop (size - 16) start y ∙ ap (λ (k : ℕ). drop k y) at' in
+    rw (← left, cut, right) refl
+
+-- a place before byte 16 is in the first chunk
+pub no_chunk : (count size at : ℕ) → 16 ≤ size → size * count ≤ at → at < 16 → count ≡ 0
+no_chunk zero size at wide low few = refl
+no_chunk (suc count) size at wide low few = absurd (omega arith)
+
+-- ---- a message
+
+-- no bytes
+pub PartsStandFor-none : (protected : Bool) (lanes : ℕ) (s : Parts) → s.folded.lanes ≡ replicate 7 s.secrets.now.seed →
+    s.folded.count.steps ≡ 0 → s.any ≡ false → s.len ≡ 0 → PartsStandFor protected lanes s []
+PartsStandFor-none protected lanes s held steps any len =
+    let none : chunk_count lanes 0 ≡ 0 = zero-div (16 * lanes) in
+    let z : 16 * (lanes * 0) ≡ 0 = omega arith in
+    record {
+      folded = rw (none, held) (HaveFolded-none protected s.secrets.now.secrets [] lanes (replicate 7 s.secrets.now.seed));
+      steps = rw none steps;
+      any = rw none any;
+      buffered = rw (len, none, z) refl;
+      carried = λ some. absurd (omega (arith, none));
+    }
+
+module _ {protected : Bool} {lanes : ℕ} {s : Parts} {x : List ℕ} (count : IsLaneCount lanes) (h : PartsStandFor protected lanes s x) (size : length s.kept ≡ 128) (fits : s.len ≤ 16 * lanes) where
+  -- the buffered bytes and the folded ones are all
+  pub length-buffered : folded_bytes lanes (length x) + s.len ≡ length x
+  length-buffered =
+      let most = count.most in
+      let least = count.least in
+      let low = chunk_count-low lanes (length x) (omega arith) in
+      let folded = length-drop (folded_bytes lanes (length x)) x in
+      let same = ap length h.buffered in
+      let kept : length (take s.len (drop 16 s.kept)) ≡ s.len = length-take-le s.len (drop 16 s.kept) (omega (arith, length-drop 16 s.kept)) in
+      omega arith
+
+  -- the buffered bytes and a piece are what follows the chunks
+  pub buffered-append : (d : List ℕ) → take s.len (drop 16 s.kept) ++ d ≡ drop (folded_bytes lanes (length x)) (x ++ d)
+  buffered-append d =
+      let least = count.least in
+      let low = chunk_count-low lanes (length x) (omega arith) in
+      ap (λ (l : List ℕ). l ++ d) h.buffered ∙ sym (drop-append-le (folded_bytes lanes (length x)) x d (omega arith))
+
+  -- a piece that fits into the buffer
+  pub PartsStandFor-fits : (d kept' : List ℕ) (j : ℕ) → s.len + length d ≤ 16 * lanes → kept' ≡ put_mid (16 + s.len) j s.kept d →
+      PartsStandFor protected lanes (record s { kept = kept'; len = s.len + length d }) (x ++ d)
+  PartsStandFor-fits d kept' j room e =
+      let least = count.least in
+      let most = count.most in
+      let whole = length-buffered in
+      let more = length-append x d in
+      let same : chunk_count lanes (length (x ++ d)) ≡ chunk_count lanes (length x) =
+      chunk_count-same lanes (length x) (length (x ++ d)) (omega arith) (omega arith) (omega arith) in
+      let low = chunk_count-low lanes (length x) (omega arith) in
+      let far = mul_some lanes (chunk_count lanes (length x)) in
+      record {
+        folded = rw same (HaveFolded-append h.folded d (omega arith));
+        steps = rw same h.steps;
+        any = rw same h.any;
+        buffered = rw same (buffered-more j s.len s.kept d kept' (omega arith) e ∙ buffered-append d);
+        carried = rw same (λ some. carried-same j s.len s.kept d kept' (omega arith) e ∙ h.carried some
+            ∙ sym (before-append x d (folded_bytes lanes (length x)) (omega (arith, far some)) (omega arith)));
+      }
+
+-- ---- a piece that does not fit
+
+-- lanes and count amid a piece, of which `rest` is still to come
+pub record Running (protected : Bool) (secrets y : List ℕ) (lanes seed : ℕ) (held : List ℕ) (steps : ℕ) (rest : List ℕ) : Type 0 where
+  pub prefix : PrefixIsFolded protected secrets y lanes 1 (replicate 7 seed) held rest
+  pub counted : steps ≡ prefix.rows
+
+-- one chunk more, which stands at the head of the rest
+pub Running-more : {protected : Bool} {secrets y : List ℕ} {lanes seed : ℕ} {held : List ℕ} {steps : ℕ} {rest : List ℕ} →
+    Running protected secrets y lanes seed held steps rest → (chunk held' rest' : List ℕ) (steps' : ℕ) →
+    HaveFolded protected secrets chunk lanes held held' 1 → steps' ≡ steps + 1 → chunk ≡ take (16 * lanes) rest → 16 * lanes < length rest →
+    rest' ≡ drop (16 * lanes) rest → Running protected secrets y lanes seed held' steps' rest'
+unfolding PrefixIsFolded-more
+Running-more {lanes = lanes} {rest = rest} r chunk held' rest' steps' folded one is room next = record {
+  prefix = PrefixIsFolded-more r.prefix held' rest' 1 (16 * lanes) (HaveFolded-take (16 * lanes) rest (rw is at folded) (omega arith) (omega arith)) (omega arith) (omega arith) next;
+  counted = one ∙ ap (λ n. n + 1) r.counted;
+}
+
+module _ {protected : Bool} {lanes : ℕ} {s : Parts} {x : List ℕ} (count : IsLaneCount lanes) (h : PartsStandFor protected lanes s x) (size : length s.kept ≡ 128) (fits : s.len ≤ 16 * lanes) (d kept' : List ℕ) (j : ℕ) (enough : 16 * lanes - s.len < length d) (e : kept' ≡ put_mid (16 + s.len) j s.kept (take (16 * lanes - s.len) d)) where
+  -- the buffer, filled with the piece's first bytes, is the next chunk
+  pub filled_chunk : take (16 * lanes) (drop 16 kept') ≡ take (16 * lanes) (take s.len (drop 16 s.kept) ++ d)
+  filled_chunk =
+      let most = count.most in
+      let room : ℕ = 16 * lanes - s.len in
+      let head : List ℕ = take room d in
+      let sized : length head ≡ room = length-take-le room d (omega arith) in
+      let old : List ℕ = take s.len (drop 16 s.kept) in
+      let old_sized : length old ≡ s.len = length-take-le s.len (drop 16 s.kept) (omega (arith, length-drop 16 s.kept)) in
+      let here : take (s.len + length head) (drop 16 kept') ≡ old ++ head = buffered-more j s.len s.kept head kept' (omega arith) e in
+      let width : s.len + length head ≡ 16 * lanes = omega arith in
+      let cut : take (length old + room) (old ++ d) ≡ old ++ head = take-append-add old d room in
+      let whole : length old + room ≡ 16 * lanes = omega arith in
+      let left : take (16 * lanes) (drop 16 kept') ≡ old ++ head = rw width at here in
+      let right : take (16 * lanes) (old ++ d) ≡ old ++ head = rw whole at cut in
+      left ∙ sym right
+
+  -- once it is folded
+  pub Running-filled : (chunk held' : List ℕ) (steps' : ℕ) → chunk ≡ take (16 * lanes) (drop 16 kept') →
+      HaveFolded protected s.secrets.now.secrets chunk lanes s.folded.lanes held' 1 → steps' ≡ s.folded.count.steps + 1 →
+      Running protected s.secrets.now.secrets (x ++ d) lanes s.secrets.now.seed held' steps' (drop (16 * lanes - s.len) d)
+  Running-filled chunk held' steps' is folded one =
+      let most = count.most in
+      let old : List ℕ = take s.len (drop 16 s.kept) in
+      let old_sized : length old ≡ s.len = length-take-le s.len (drop 16 s.kept) (omega (arith, length-drop 16 s.kept)) in
+      let least = count.least in
+      let more = length-append old d in
+      let total = length-append x d in
+      let low = chunk_count-low lanes (length x) (omega arith) in
+      let whole = length-buffered count h size fits in
+      let start : Running protected s.secrets.now.secrets (x ++ d) lanes s.secrets.now.seed s.folded.lanes s.folded.count.steps (old ++ d) = record {
+        prefix = record { rows = chunk_count lanes (length x); lanes = HaveFolded-append h.folded d (omega arith); rest_is = buffered-append count h size fits d; left = omega arith };
+        counted = h.steps;
+      } in
+      Running-more start chunk held' (drop (16 * lanes - s.len) d) steps' folded one (is ∙ filled_chunk) (omega arith)
+      (sym (drop-behind old d (16 * lanes) (16 * lanes - s.len) (omega arith)))
+
+-- what is left behind the last whole chunk is buffered
+pub PartsStandFor-rest : (protected : Bool) {lanes : ℕ} (s : Parts) (y carried tail kept' kept'' : List ℕ) (i j : ℕ) → IsLaneCount lanes →
+    (r : Running protected s.secrets.now.secrets y lanes s.secrets.now.seed s.folded.lanes s.folded.count.steps tail) → length tail ≤ 16 * lanes → length tail < length y →
+    s.any ≡ true → length s.kept ≡ 128 → length carried ≡ 16 → carried ≡ take 16 (drop (length y - length tail - 16) y) →
+    kept' ≡ put_mid 0 i s.kept carried → length kept' ≡ 128 → kept'' ≡ put_mid 16 j kept' tail →
+    PartsStandFor protected lanes (record s { kept = kept''; len = length tail }) y
+PartsStandFor-rest protected {lanes} s y carried tail kept' kept'' i j count r few less flag size sixteen before e size' e' =
+    let rows = PrefixIsFolded-all r.prefix (omega arith) in
+    let left = PrefixIsFolded-left r.prefix in
+    let some = some_rows lanes r.prefix.rows (length tail) (length y) left less in
+    let edge : length y - length tail ≡ 16 * (lanes * r.prefix.rows) = omega arith in
+    let front : take 16 kept' ≡ carried = rw e (take-put_mid 0 i s.kept carried 16 (omega arith) (omega arith)) in
+    let more : take (0 + length tail) (drop 16 kept'') ≡ take 0 (drop 16 kept') ++ tail = buffered-more j 0 kept' tail kept'' (omega arith) e' in
+    let whole : take (length tail) (drop 16 kept'') ≡ tail = rw zero-add at more in
+    record {
+      folded = rw rows r.prefix.lanes;
+      steps = rw rows r.counted;
+      any = rw rows (flag ∙ sym (lt-ltb 0 r.prefix.rows some));
+      buffered = rw rows (whole ∙ r.prefix.rest_is);
+      carried = rw rows (λ _. carried-same j 0 kept' tail kept'' (omega arith) e' ∙ front ∙ before ∙ ap (λ n. take 16 (drop (n - 16) y)) edge);
+    }
+
+-- ---- the end of a message
+
+-- with no chunk it stands whole in the buffer
+pub buffered-all : {protected : Bool} {lanes : ℕ} {s : Parts} {x : List ℕ} → PartsStandFor protected lanes s x → s.any ≡ false → take s.len (drop 16 s.kept) ≡ x
+buffered-all {lanes = lanes} {x = x} h off =
+    let few : chunk_count lanes (length x) ≤ 0 = ltb-false 0 (chunk_count lanes (length x)) (sym h.any ∙ off) in
+    let none : chunk_count lanes (length x) ≡ 0 = omega arith in
+    let z : 16 * (lanes * 0) ≡ 0 = omega arith in
+    h.buffered ∙ rw (none, z) refl
+
+module _ {protected : Bool} {lanes : ℕ} {s : Parts} {x : List ℕ} (count : IsLaneCount lanes) (h : PartsStandFor protected lanes s x) (size : length s.kept ≡ 128) (fits : s.len ≤ 16 * lanes) (on : s.any ≡ true) where
+  some_chunk : lanes ≤ lanes * chunk_count lanes (length x)
+  some_chunk = mul_some lanes (chunk_count lanes (length x)) (ltb-true 0 (chunk_count lanes (length x)) (sym h.any ∙ on))
+
+  -- with one it is longer than that
+  pub chunk-below : 16 * lanes < length x
+  chunk-below =
+      let least = count.least in
+      let low = chunk_count-low lanes (length x) (omega arith) in
+      let some = some_chunk in
+      omega arith
+
+  -- its rows are in the lanes, and its tail is what is buffered
+  pub AfterRows-stands : (all : ℕ) → all ≡ joined (take lanes s.folded.lanes) →
+      AfterRows protected s.secrets.now.secrets x (shape_of (V3 lanes) (length x)) s.secrets.now.seed all (take s.len (drop 16 s.kept))
+  unfolding shape_of
+  AfterRows-stands all is =
+      let least = count.least in
+      let most = count.most in
+      let low = chunk_count-low lanes (length x) (omega arith) in
+      let some = some_chunk in
+      let whole : PrefixIsFolded protected s.secrets.now.secrets x lanes 1 (replicate 7 s.secrets.now.seed) s.folded.lanes (take s.len (drop 16 s.kept)) =
+      record { rows = chunk_count lanes (length x); lanes = h.folded; rest_is = h.buffered; left = omega arith } in
+      let whole_length = length-buffered count h size fits in
+      let buffered : length (take s.len (drop 16 s.kept)) ≡ s.len = length-take-le s.len (drop 16 s.kept) (omega (arith, length-drop 16 s.kept)) in
+      AfterRows-wide 7 s.secrets.now.seed all whole most (omega arith) is
+
+  -- the kept bytes are its last ones
+  pub last_16-kept : last_16 (take (16 + s.len) s.kept) ≡ last_16 x
+  last_16-kept =
+      let least = count.least in
+      let some = some_chunk in
+      let low = chunk_count-low lanes (length x) (omega arith) in
+      let before = folded_bytes lanes (length x) - 16 in
+      let at : before + 16 ≡ folded_bytes lanes (length x) = omega arith in
+      let behind : drop (folded_bytes lanes (length x)) x ≡ drop 16 (drop before x) = ap (λ n. drop n x) (sym at) ∙ sym (drop-drop 16 before x) in
+      let kept-end : take (16 + s.len) s.kept ≡ drop before x =
+      take-add 16 s.len s.kept
+      ∙ ap (λ l. l ++ take s.len (drop 16 s.kept)) (h.carried (ltb-true 0 (chunk_count lanes (length x)) (sym h.any ∙ on)))
+      ∙ ap (λ l. take 16 (drop before x) ++ l) (h.buffered ∙ behind)
+      ∙ take-append-drop 16 (drop before x) in
+      let n = length-drop before x in
+      let first : before + (length (drop before x) - 16) ≡ length x - 16 = omega arith in
+      let second : before + (length (drop before x) - 8) ≡ length x - 8 = omega arith in
+      ap last_16 kept-end ∙ cc (word64-drop x before (length (drop before x) - 16), word64-drop x before (length (drop before x) - 8), first, second)

@@ -1,6 +1,0 @@
-use Rattle.std.proofs.Common.{◌≡◌, not, nat_eq}
-use Rattle.rapidhash_portable.proofs.Columns.{lanes_to}
-use Rattle.rapidhash_vectors.proofs.plain.after_lanes.Given as goal
-
-abbrev pub invariant-loop-i : goal.invariant-loop-i
-invariant-loop-i l = l.joined ≡ lanes_to l.protected l.secrets l.bytes l.shape l.seed l.i

@@ -1,0 +1,9 @@
+//! The hashes over a reader: known values, ends and faults, and that a reader's hash is that of its
+//! bytes.
+
+mod asked;
+mod bulk;
+mod ends;
+mod faults;
+mod pieces;
+mod sizes;

@@ -1,0 +1,115 @@
+//! The hash of a reader is that of its bytes.
+
+ghost use Rattle.std.specs.Prelude.{◌≤◌};
+
+use crate::readers::asked::{gave, sound, v1_of, v1_of_slice, v2_of, v2_of_slice};
+use rapidhash::rng::RapidRng;
+use rapidhash_portable::seeding::{GlobalSecrets, SeedSource};
+use rapidhash_portable::{v1, v2, v3};
+use std::alloc::{AllocError, Allocator};
+use std::test::Fail;
+
+/// Lengths on both sides of what a buffer holds.
+const LONG: [usize; 12] = [
+    8191, 8192, 8193, 8416, 8417, 65519, 65535, 65536, 65537, 131040, 131056, 140000,
+];
+
+fn random_bytes<A: Allocator>(alloc: A) -> Result<Vec<u8, A>, AllocError> {
+    let mut rng = RapidRng::new(0);
+    let mut bytes = Vec::new(alloc);
+    for _ in 0..140_000u32 {
+        bytes.push((rng.next() % 256) as u8)?;
+    }
+    Ok(bytes)
+}
+
+/// Whether V1 of the first `n` bytes is one number by a reader of one byte a read, by one that
+/// gives all it is asked for, and of the slice.
+fn v1_agrees(bytes: &[u8], n: usize) -> bool {
+    let bytes = &bytes[..n.min(bytes.len())];
+    let len = bytes.len() as u64;
+    let want = gave(v1::rapidhash_v1(bytes), 0);
+    v1_of(sound(bytes), len) == want && v1_of_slice(bytes, len) == want
+}
+
+/// The same of V2.
+fn v2_agrees<const MINOR: u8>(bytes: &[u8], n: usize) -> bool
+    requires { MINOR ≤ 2 }
+{
+    let bytes = &bytes[..n.min(bytes.len())];
+    let len = bytes.len() as u64;
+    let secrets = &v2::DEFAULT_RAPID_SECRETS;
+    let hash = v2::rapidhash_v2_inline::<MINOR, true, false, false>(bytes, secrets);
+    let want = gave(hash, 0);
+    v2_of::<MINOR>(sound(bytes), len) == want && v2_of_slice::<MINOR>(bytes, len) == want
+}
+
+fn all_agree(bytes: &[u8], n: usize) -> bool {
+    v1_agrees(bytes, n)
+        && v2_agrees::<0>(bytes, n)
+        && v2_agrees::<1>(bytes, n)
+        && v2_agrees::<2>(bytes, n)
+}
+
+#[test]
+fn a_reader_hashes_as_its_bytes(rt: HostRuntime) -> Result<(), Fail> {
+    let bytes = random_bytes(rt.alloc())?;
+    for n in 0..1025usize {
+        assert!(rt; all_agree(&bytes, n), "{n}");
+    }
+    for n in LONG {
+        assert!(rt; all_agree(&bytes, n), "{n}");
+    }
+    Ok(())
+}
+
+#[test]
+fn v1_file_forms(rt: HostRuntime) -> Result<(), Fail> {
+    let secrets = v1::RapidSecrets::seed(1);
+    for text in [&b"abc"[..], &[5; 100][..], &[6; 9000][..]] {
+        let len = text.len() as u64;
+        assert_eq!(rt;
+            v1::rapidhash_v1_file_seeded::<&[u8]>(&mut &text[..], len, &secrets)?,
+            v1::rapidhash_v1_seeded(text, &secrets)
+        );
+        assert_eq!(rt;
+            v1::rapidhash_v1_file_inline::<&[u8], true>(&mut &text[..], len, &secrets)?,
+            v1::rapidhash_v1_inline::<true, false, true, false>(text, &secrets)
+        );
+    }
+    Ok(())
+}
+
+#[test]
+fn v2_file_forms(rt: HostRuntime) -> Result<(), Fail> {
+    let secrets = v2::RapidSecrets::seed(1);
+    for text in [&b"abc"[..], &[5; 100][..], &[6; 9000][..]] {
+        let len = text.len() as u64;
+        assert_eq!(rt;
+            v2::rapidhash_v2_2_file::<&[u8]>(&mut &text[..], len)?,
+            v2::rapidhash_v2_2(text)
+        );
+        assert_eq!(rt;
+            v2::rapidhash_v2_2_file_seeded::<&[u8]>(&mut &text[..], len, &secrets)?,
+            v2::rapidhash_v2_2_seeded(text, &secrets)
+        );
+        assert_eq!(rt;
+            v2::rapidhash_v2_file_inline::<&[u8], 0, true>(&mut &text[..], len, &secrets)?,
+            v2::rapidhash_v2_inline::<0, true, false, true>(text, &secrets)
+        );
+    }
+    Ok(())
+}
+
+// The seed is the source's answer, and the next secrets have the next one.
+#[test]
+fn random_secrets(rt: HostRuntime) {
+    let global = GlobalSecrets::new(11);
+    let mut source = SeedSource::new(&global, 12);
+    let mut twin = SeedSource::new(&global, 12);
+    for _ in 0..2u32 {
+        let secrets = v3::RapidSecrets::random(&global, &mut source);
+        assert_eq!(rt; secrets.seed, twin.next());
+        assert_eq!(rt; &secrets.secrets, global.get());
+    }
+}

@@ -1,0 +1,60 @@
+//! Bytes behind the length, and readers that end before it.
+
+use crate::readers::asked::{
+    fell_short, gave, sound, v1_of, v1_of_file, v1_of_slice, v2_of, v2_of_slice,
+};
+use rapidhash_portable::v1::rapidhash_v1;
+use rapidhash_portable::v2::{DEFAULT_RAPID_SECRETS, rapidhash_v2_inline};
+
+// What is behind the length is left, and of fewer bytes all are read.
+#[test]
+fn v1_takes_its_length_and_no_more(rt: HostRuntime) {
+    for (bytes, len, want) in [
+        (
+            &b"something\nmore"[..],
+            10u64,
+            gave(15965596575264898037, 4),
+        ),
+        (&b"something\n"[..], 11, fell_short()),
+        (&b"abc"[..], 0, gave(6516417773221693515, 3)),
+        (&b"abc"[..], u64::MAX, fell_short()),
+    ] {
+        assert_eq!(rt; v1_of(sound(bytes), len), want);
+        assert_eq!(rt; v1_of_slice(bytes, len), want);
+        assert_eq!(rt; v1_of_file(bytes, len), want);
+    }
+}
+
+#[test]
+fn v2_takes_its_length_and_no_more(rt: HostRuntime) {
+    let mut bytes = [0u8; 161];
+    for i in 0..161usize {
+        bytes[i] = i as u8;
+    }
+    let first = &bytes[..bytes.len().min(160)];
+    let hash = rapidhash_v2_inline::<2, true, false, false>(first, &DEFAULT_RAPID_SECRETS);
+    assert_eq!(rt; v2_of::<2>(sound(&bytes), 160), gave(hash, 1));
+    assert_eq!(rt; v2_of_slice::<2>(&bytes, 160), gave(hash, 1));
+}
+
+// Each version over a reader of one byte less than the length, or of none for none.
+#[test]
+fn one_byte_too_few(rt: HostRuntime) {
+    let bytes = [7u8; 300];
+    for n in 1..301usize {
+        let few = &bytes[..n - 1];
+        assert_eq!(rt; v1_of(sound(few), n as u64), fell_short());
+        assert_eq!(rt; v2_of::<0>(sound(few), n as u64), fell_short());
+        assert_eq!(rt; v2_of::<1>(sound(few), n as u64), fell_short());
+        assert_eq!(rt; v2_of::<2>(sound(few), n as u64), fell_short());
+    }
+}
+
+#[test]
+fn no_byte_of_an_empty_reader(rt: HostRuntime) {
+    assert_eq!(rt; v1_of(sound(b""), 0), gave(rapidhash_v1(b""), 0));
+    let hash = rapidhash_v2_inline::<0, true, false, false>(b"", &DEFAULT_RAPID_SECRETS);
+    assert_eq!(rt; v2_of::<0>(sound(b""), 0), gave(hash, 0));
+    assert_eq!(rt; v2_of::<1>(sound(b""), 0), gave(hash, 0));
+    assert_eq!(rt; v2_of::<2>(sound(b""), 0), gave(hash, 0));
+}

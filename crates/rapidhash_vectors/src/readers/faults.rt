@@ -1,0 +1,43 @@
+//! A read that fails, each in turn, and the call after it.
+
+use crate::readers::asked::{drip, failed, gave, v1_of, v2_of};
+use rapidhash_fakes::OneByteReader;
+use rapidhash_portable::reader::Source;
+use rapidhash_portable::v1::{DEFAULT_RAPID_SECRETS, rapidhash_v1, rapidhash_v1_source};
+use rapidhash_portable::v2;
+use std::io::ErrorKind;
+use std::test::Fail;
+
+const SOMETHING: &[u8] = b"something\n";
+
+// Ten reads give a byte each, and there is no eleventh. An interrupted read keeps its own kind.
+#[test]
+fn each_read_may_fail(rt: HostRuntime) {
+    for kind in [ErrorKind::BrokenPipe, ErrorKind::Interrupted] {
+        let mut left = SOMETHING.len();
+        for fails_at in 1..11u64 {
+            let want = failed(kind, left);
+            assert_eq!(rt; v1_of(drip(SOMETHING, fails_at, kind), 10), want);
+            assert_eq!(rt; v2_of::<2>(drip(SOMETHING, fails_at, kind), 10), want);
+            left = left.saturating_sub(1);
+        }
+        let want = gave(15965596575264898037, 0);
+        assert_eq!(rt; v1_of(drip(SOMETHING, 11, kind), 10), want);
+        let want = gave(v2::rapidhash_v2_2(SOMETHING), 0);
+        assert_eq!(rt; v2_of::<2>(drip(SOMETHING, 11, kind), 10), want);
+    }
+}
+
+// The third read fails and takes no byte: two are gone, and the mark comes off at the next call.
+#[test]
+fn the_next_call_goes_on_behind_a_fault(rt: HostRuntime) -> Result<(), Fail> {
+    let secrets = &DEFAULT_RAPID_SECRETS;
+    let mut source = Source::new(drip(SOMETHING, 3, ErrorKind::BrokenPipe));
+    let first = rapidhash_v1_source::<OneByteReader, false>(&mut source, 10, secrets);
+    assert!(rt; first.is_err());
+    assert!(rt; source.failed());
+    let second = rapidhash_v1_source::<OneByteReader, false>(&mut source, 8, secrets)?;
+    assert_eq!(rt; second, rapidhash_v1(b"mething\n"));
+    assert!(rt; !source.failed());
+    Ok(())
+}
