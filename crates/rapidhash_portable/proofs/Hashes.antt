@@ -1,4 +1,4 @@
-use Rattle.std.proofs.Common.{◌≡◌, ℕ, ◌+◌, ◌-◌, ◌*◌, ◌/◌, ◌%◌, ◌^◌, ◌≤◌, ◌<◌, Bool, true, false, cond, ⊎_elim, List, [], ◌∷◌, length, get_or, drop, refl, sym, ap, ◌∙◌, arith, bit_xor, length-drop}
+use Rattle.std.proofs.Common.{◌≡◌, ℕ, ◌+◌, ◌-◌, ◌*◌, ◌/◌, ◌%◌, ◌^◌, ◌≤◌, ◌<◌, Bool, true, false, ⊎_elim, List, [], ◌∷◌, length, get_or, drop, refl, sym, ap, ◌∙◌, arith, bit_xor, length-drop, cond, nat_lt}
 use Rattle.std.proofs.lemmas.Bool.{cases_lt, lt-ltb, le-ltb}
 use Rattle.std.proofs.lemmas.Bool.Decides.{nat_tests}
 use Rattle.std.proofs.lemmas.Nat.{div-mul-add}
@@ -6,9 +6,9 @@ use Rattle.rapidhash_portable.specs.Lanes.{pair_of, rows_in, no_rows, row_bytes,
 use Rattle.rapidhash_portable.specs.Tail.{after_tail, picked}
 use Rattle.rapidhash_portable.specs.declared.form.Form.{Form}
 use Rattle.rapidhash_portable.specs.declared.form.Form.TheVariants.{V1, V2, V3}
-use Rattle.rapidhash_portable.specs.Form.{alternating_bits, v2_limit, shape_of, start_seed, tail_seed, tail_places, masks}
+use Rattle.rapidhash_portable.specs.Form.{alternating_bits, least_row_v1, row_tail_places, v2_limit, shape_of, start_seed, tail_seed, tail_places, masks}
 use Rattle.rapidhash_portable.specs.Words.{last_words, last_16, mixed_words, short_words}
-use Rattle.rapidhash_portable.specs.Memory.{after_pairs, memory_hash, memory_shape}
+use Rattle.rapidhash_portable.specs.Memory.{after_pairs, core_tail_places, memory_hash, memory_shape}
 use Rattle.rapidhash_portable.specs.declared.form.Options.{Options}
 use Rattle.rapidhash_portable.specs.Hash.{close, value, portable_hash}
 use Rattle.rapidhash_portable.proofs.LanesLemmas.{after_lanes-none, cond_same}
@@ -69,32 +69,45 @@ shape_of-v1-few bug n h =
     let none : rows_in 3 0 n ≡ 0 = omega arith in
     rw none (cond_same _ _)
 
-pub shape_of-v1-none : (bug : Bool) (least n : ℕ) → least ≡ cond bug 48 49 → n < least → shape_of (V1 bug) n ≡ no_rows 3
+-- a message of which V1 folds a row is long
+pub long-v1 : (bug : Bool) (n : ℕ) → least_row_v1 bug ≤ n → 16 < n
+long-v1 true n h = omega arith
+long-v1 false n h = omega arith
+
+pub shape_of-v1-none : (bug : Bool) (n : ℕ) → n < least_row_v1 bug → shape_of (V1 bug) n ≡ no_rows 3
 unfolding shape_of
-shape_of-v1-none true least n e h = shape_of-v1-few true n (omega arith)
-shape_of-v1-none false least n e h =
+shape_of-v1-none true n h = shape_of-v1-few true n h
+shape_of-v1-none false n h =
     ⊎_elim (λ few. shape_of-v1-few false n few) (λ many. let at : n ≡ 48 = omega arith in rw at refl) (cases_lt n 48)
 
-pub shape_of-v1-some : (bug : Bool) (least n : ℕ) → least ≡ cond bug 48 49 → least ≤ n → shape_of (V1 bug) n ≡ wide_shape 3 0 n
+pub shape_of-v1-some : (bug : Bool) (n : ℕ) → least_row_v1 bug ≤ n → shape_of (V1 bug) n ≡ wide_shape 3 0 n
 unfolding shape_of
-shape_of-v1-some true least n e h = grind (arith, nat_tests)
-shape_of-v1-some false least n e h = grind (arith, nat_tests)
+shape_of-v1-some true n h = grind (arith, nat_tests)
+shape_of-v1-some false n h = grind (arith, nat_tests)
 
 pub shape_of-v2-none : (minor n : ℕ) → n ≤ v2_limit minor → shape_of (V2 minor) n ≡ no_rows 7
 unfolding shape_of
 shape_of-v2-none minor n h = rw (le-ltb (v2_limit minor) n h) refl
 
 -- V2 above both its limits
-above_limit : (minor n : ℕ) → 64 < n → v2_limit minor < n
+pub above_limit : (minor n : ℕ) → 64 < n → v2_limit minor < n
 above_limit minor n h = grind (arith, nat_tests)
 
-pub shape_of-v2-some : (minor n : ℕ) → 64 < n → shape_of (V2 minor) n ≡ mixed_shape 7 n
-unfolding shape_of
-shape_of-v2-some minor n h = rw (lt-ltb (v2_limit minor) n (above_limit minor n h)) refl
+-- a message above V2's limit is long
+pub long-v2 : (minor n : ℕ) → v2_limit minor < n → 16 < n
+long-v2 minor n h = grind (arith, nat_tests)
 
-pub tail_places-v2-some : (minor n : ℕ) → 64 < n → tail_places (V2 minor) n ≡ 2 ∷ 2 ∷ []
+pub shape_of-v2-some : (minor n : ℕ) → v2_limit minor < n → shape_of (V2 minor) n ≡ mixed_shape 7 n
+unfolding shape_of
+shape_of-v2-some minor n h = rw (lt-ltb (v2_limit minor) n h) refl
+
+pub tail_places-v2-none : (minor n : ℕ) → n ≤ v2_limit minor → tail_places (V2 minor) n ≡ 0 ∷ 1 ∷ cond (nat_lt minor 2) 0 1 ∷ []
 unfolding tail_places
-tail_places-v2-some minor n h = rw (lt-ltb (v2_limit minor) n (above_limit minor n h)) refl
+tail_places-v2-none minor n h = rw (le-ltb (v2_limit minor) n h) refl
+
+pub tail_places-v2-some : (minor n : ℕ) → v2_limit minor < n → tail_places (V2 minor) n ≡ row_tail_places
+unfolding tail_places
+tail_places-v2-some minor n h = rw (lt-ltb (v2_limit minor) n h) refl
 
 pub shape_of-v3-none : (lanes n : ℕ) → 0 < lanes → n ≤ 16 * lanes → shape_of (V3 lanes) n ≡ no_rows lanes
 unfolding shape_of
@@ -117,10 +130,10 @@ hash-short form options lanes seed secrets x odd none short value e =
     (e ∙ ap (λ w. close options w start (get_or secrets 1 0) (masks form secrets (length x) (length x))) (sym (mixed_words-short form (length x) (length x) (last_words form x) short ∙ last_words-short form x short)))
 
 -- the seed of the memory core, made piece by piece
-pub after_pairs-is : (protected : Bool) (seed : ℕ) (secrets x rest : List ℕ) (joined all : ℕ) → rest ≡ drop (row_bytes (memory_shape (length x))) x → joined ≡ after_lanes protected secrets (pair_of x) (memory_shape (length x)) seed → all ≡ after_tail protected (picked secrets (0 ∷ 0 ∷ [])) (pair_of rest) 0 (length rest) joined → all ≡ after_pairs protected seed secrets x
+pub after_pairs-is : (protected : Bool) (seed : ℕ) (secrets x rest : List ℕ) (joined all : ℕ) → rest ≡ drop (row_bytes (memory_shape (length x))) x → joined ≡ after_lanes protected secrets (pair_of x) (memory_shape (length x)) seed → all ≡ after_tail protected (picked secrets core_tail_places) (pair_of rest) 0 (length rest) joined → all ≡ after_pairs protected seed secrets x
 unfolding after_pairs
 after_pairs-is protected seed secrets x rest joined all e f g =
-    cc (f, g, after_tail-rest protected (picked secrets (0 ∷ 0 ∷ [])) x rest (row_pairs (memory_shape (length x))) joined e)
+    cc (f, g, after_tail-rest protected (picked secrets core_tail_places) x rest (row_pairs (memory_shape (length x))) joined e)
 
 pub memory_shape-none : (n : ℕ) → n ≤ 48 → memory_shape n ≡ no_rows 3
 unfolding memory_shape
@@ -142,7 +155,7 @@ memory_rows-none protected seed secrets x h =
 pub after_pairs-short : (protected : Bool) (seed : ℕ) (secrets x : List ℕ) → length x ≤ 16 → after_pairs protected seed secrets x ≡ seed
 after_pairs-short protected seed secrets x h =
     let rows = memory_rows-none protected seed secrets x (omega arith) in
-    sym (after_pairs-is protected seed secrets x x seed seed rows.0 rows.1 (sym (after_tail-short protected (picked secrets (0 ∷ 0 ∷ [])) x seed h)))
+    sym (after_pairs-is protected seed secrets x x seed seed rows.0 rows.1 (sym (after_tail-short protected (picked secrets core_tail_places) x seed h)))
 
 -- the value of the core, from its last words and its seed
 pub memory_hash-is : (options : Options) (seed : ℕ) (secrets x : List ℕ) (words : ℕ × ℕ) (all : ℕ) → words ≡ last_words (V3 7) x → all ≡ after_pairs options.protected seed secrets x → close options words ((all + length x) % 2 ^ 64) (get_or secrets 0 0) (bit_xor alternating_bits ((all + length x) % 2 ^ 64), get_or secrets 1 0) ≡ memory_hash options x seed secrets

@@ -1,5 +1,5 @@
 -- The forms of the portable hash: what each says of lengths, seeds, secrets and words, a line each.
-use Rattle.std.specs.Prelude.{ℕ, false, ◌<◌, ◌≤◌, ◌∷◌, [], not, ◌&&◌, List, slice_index, bit_xor, if◌then◌else◌, nat_lt, ◌==◌}
+use Rattle.std.specs.Prelude.{ℕ, Bool, false, ◌<◌, ◌≤◌, ◌∷◌, [], not, ◌&&◌, List, slice_index, bit_xor, if◌then◌else◌, nat_lt, ◌==◌}
 use Rattle.rapidhash_portable.specs.declared.form.Form.{Form}
 use Rattle.rapidhash_portable.specs.declared.form.Form.TheVariants.{V1, V2, V3}
 use Rattle.rapidhash_portable.specs.declared.form.Shape.{Shape}
@@ -26,6 +26,10 @@ IsForm (V1 bug) = Unit {0}
 IsForm (V2 minor) = minor ≤ 2
 IsForm (V3 lanes) = (0 < lanes) × (lanes ≤ 7)
 
+-- the shortest message of which V1 folds a row
+abbrev pub least_row_v1 : Bool → ℕ
+least_row_v1 bug = if bug then 48 else 49
+
 -- the longest message that V2 takes with no row
 abbrev pub v2_limit : ℕ → ℕ
 v2_limit minor = if minor == 0 then 56 else 64
@@ -48,10 +52,14 @@ tail_seed (V1 bug) secrets t seed = if nat_lt 16 t then bit_xor seed (slice_inde
 tail_seed (V2 minor) secrets t seed = seed
 tail_seed (V3 lanes) secrets t seed = seed
 
+-- which secrets the pairs of a tail behind rows use, in V1 and V2
+abbrev pub row_tail_places : List ℕ
+row_tail_places = 2 ∷ 2 ∷ []
+
 -- which secrets the pairs of a tail use, in turn
 unfoldable pub tail_places : Form → ℕ → List ℕ
-tail_places (V1 bug) n = 2 ∷ 2 ∷ []
-tail_places (V2 minor) n = if nat_lt (v2_limit minor) n then 2 ∷ 2 ∷ [] else 0 ∷ 1 ∷ (if nat_lt minor 2 then 0 else 1) ∷ []
+tail_places (V1 bug) n = row_tail_places
+tail_places (V2 minor) n = if nat_lt (v2_limit minor) n then row_tail_places else 0 ∷ 1 ∷ (if nat_lt minor 2 then 0 else 1) ∷ []
 tail_places (V3 lanes) n = 2 ∷ 2 ∷ 1 ∷ 1 ∷ 2 ∷ 1 ∷ []
 
 -- every other bit, from the highest on

@@ -16,11 +16,16 @@ memory_shape n =
     if nat_lt 48 n then wide_shape 3 0 n else
     no_rows 3
 
--- the seed after all pairs: every lane starts from the seed itself, and the tail's pairs use secret 0
+-- which secrets the pairs of the core's tail use
+abbrev pub core_tail_places : List ℕ
+core_tail_places = 0 ∷ 0 ∷ []
+
+-- the seed after all pairs: every lane starts from the seed itself
 unfoldable pub after_pairs : Bool → ℕ → List ℕ → List ℕ → ℕ
 after_pairs protected seed secrets x =
     let shape = memory_shape (length x) in
-    after_tail protected (picked secrets (0 ∷ 0 ∷ [])) (pair_of x) (row_pairs shape) (length x - row_bytes shape) (after_lanes protected secrets (pair_of x) shape seed)
+    after_tail protected (picked secrets core_tail_places) (pair_of x) (row_pairs shape) (length x - row_bytes shape)
+    (after_lanes protected secrets (pair_of x) shape seed)
 
 -- the value: the length is added to the seed, and the last words are those of V3 with no tail's length
 unfoldable pub memory_hash : Options → List ℕ → ℕ → List ℕ → ℕ

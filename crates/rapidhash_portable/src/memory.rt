@@ -9,6 +9,7 @@ ghost use Rattle.rapidhash_portable.specs.Options.{options};
 ghost use Rattle.rapidhash_portable.specs.Words.{last_words};
 
 use crate::lanes::{close, fold_tail, mixed_lanes, wide_lanes};
+use crate::util::ALTERNATING_BITS;
 use crate::words::{last_16, words_to_3_v3, words_to_7_v3, words_to_16_v3};
 
 /// The value of `bytes`. `COMPACT` changes the code and no value.
@@ -52,7 +53,7 @@ fn long<const AVALANCHE: bool, const COMPACT: bool, const PROTECTED: bool>(
     if bytes.len() > 48 {
         return with_rows::<AVALANCHE, COMPACT, PROTECTED>(bytes, seed, secrets);
     }
-    close_long::<AVALANCHE, PROTECTED>(bytes, bytes, seed, secrets)
+    close_tail::<AVALANCHE, PROTECTED>(bytes, bytes, seed, secrets)
 }
 
 /// The value above 48 bytes. Up to 400 bytes have eight rows at the most, too few for turns of two.
@@ -69,7 +70,7 @@ fn with_rows<const AVALANCHE: bool, const COMPACT: bool, const PROTECTED: bool>(
         return with_wide_rows::<AVALANCHE, COMPACT, PROTECTED>(bytes, seed, secrets);
     }
     let (joined, tail) = wide_lanes::<3, 0, true, PROTECTED>(bytes, seed, secrets);
-    close_long::<AVALANCHE, PROTECTED>(bytes, tail, joined, secrets)
+    close_tail::<AVALANCHE, PROTECTED>(tail, bytes, joined, secrets)
 }
 
 /// The value above 400 bytes, by rows of seven pairs and then of three.
@@ -83,14 +84,14 @@ fn with_wide_rows<const AVALANCHE: bool, const COMPACT: bool, const PROTECTED: b
     ensures { result ≡ memory_hash (options AVALANCHE PROTECTED) bytes.now seed secrets.now }
 {
     let (joined, tail) = mixed_lanes::<COMPACT, PROTECTED>(bytes, seed, secrets);
-    close_long::<AVALANCHE, PROTECTED>(bytes, tail, joined, secrets)
+    close_tail::<AVALANCHE, PROTECTED>(tail, bytes, joined, secrets)
 }
 
 /// The value above 16 bytes, made of the joined lanes and the tail.
 #[inline(always)]
-fn close_long<const AVALANCHE: bool, const PROTECTED: bool>(
-    bytes: &[u8],
+fn close_tail<const AVALANCHE: bool, const PROTECTED: bool>(
     tail: &[u8],
+    bytes: &[u8],
     joined: u64,
     secrets: &[u64; 7],
 ) -> u64
@@ -119,10 +120,5 @@ fn close_sum<const AVALANCHE: bool, const PROTECTED: bool>(
         ≡ memory_hash (options AVALANCHE PROTECTED) bytes.now start secrets.now }
 {
     let sum = seed.wrapping_add(bytes.len() as u64);
-    close::<AVALANCHE, PROTECTED>(
-        words,
-        sum,
-        secrets[0],
-        (0xaaaa_aaaa_aaaa_aaaa ^ sum, secrets[1]),
-    )
+    close::<AVALANCHE, PROTECTED>(words, sum, secrets[0], (ALTERNATING_BITS ^ sum, secrets[1]))
 }

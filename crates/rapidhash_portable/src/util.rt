@@ -5,6 +5,10 @@ ghost use Rattle.rapidhash_portable.specs.Bytes.{word32, word64};
 ghost use Rattle.rapidhash_portable.specs.Multiply.{mix, multiply};
 ghost use Rattle.rapidhash_portable.specs.Words.{combined};
 
+/// Every other bit, from the highest on: the avalanche of V2, V3 and the in-memory core mixes it
+/// into the last product.
+pub(crate) const ALTERNATING_BITS: u64 = 0xaaaa_aaaa_aaaa_aaaa;
+
 /// The 128-bit product of `a` and `b` as its low and its high 64 bits. With `PROTECTED` each half
 /// is mixed with a factor by XOR: the low one with `a`, the high one with `b`.
 ///

@@ -1,8 +1,8 @@
 //! rapidhash V1.
 
-ghost use Rattle.std.specs.Prelude.{◌≡◌, ◌<◌, ◌≤◌, ◌∷◌, ℕ, All, Bool, List, false, true, if◌then◌else◌, length, slice_index, drop};
+ghost use Rattle.std.specs.Prelude.{◌≡◌, ◌<◌, ◌≤◌, ◌∷◌, ℕ, All, Bool, List, false, true, length, slice_index, drop};
 ghost use Rattle.rapidhash_portable.specs.declared.form.Form.TheVariants.{V1};
-ghost use Rattle.rapidhash_portable.specs.Form.{shape_of, start_seed};
+ghost use Rattle.rapidhash_portable.specs.Form.{least_row_v1, shape_of, start_seed};
 ghost use Rattle.rapidhash_portable.specs.Hash.{portable_hash};
 ghost use Rattle.rapidhash_portable.specs.Lanes.{after_lanes, pair_of, row_bytes};
 ghost use Rattle.rapidhash_portable.specs.Options.{options};
@@ -158,7 +158,8 @@ fn long<const AVALANCHE: bool, const COMPACT: bool, const PROTECTED: bool, const
     if bytes.len() >= least_row::<V1_BUG>() {
         return with_rows::<AVALANCHE, COMPACT, PROTECTED, V1_BUG>(bytes, secrets);
     }
-    above_16::<AVALANCHE, COMPACT, PROTECTED, V1_BUG>(bytes, secrets)
+    let len = bytes.len() as u64;
+    close_tail::<AVALANCHE, PROTECTED>(bytes, bytes, len, secrets.seed ^ len, &secrets.secrets)
 }
 
 /// The hash of a message that has a row.
@@ -167,29 +168,13 @@ fn with_rows<const AVALANCHE: bool, const COMPACT: bool, const PROTECTED: bool, 
     bytes: &[u8],
     secrets: &RapidSecrets,
 ) -> u64
-    requires { 16 < length bytes.now }
-    ensures { result ≡ seeded_hash_v1 V1_BUG (options AVALANCHE PROTECTED) secrets.now bytes.now }
-{
-    above_16::<AVALANCHE, COMPACT, PROTECTED, V1_BUG>(bytes, secrets)
-}
-
-/// The hash above 16 bytes, of which the compiler keeps what a caller's test leaves.
-#[inline(always)]
-fn above_16<const AVALANCHE: bool, const COMPACT: bool, const PROTECTED: bool, const V1_BUG: bool>(
-    bytes: &[u8],
-    secrets: &RapidSecrets,
-) -> u64
-    requires { 16 < length bytes.now }
+    requires { least_row_v1 V1_BUG ≤ length bytes.now }
     ensures { result ≡ seeded_hash_v1 V1_BUG (options AVALANCHE PROTECTED) secrets.now bytes.now }
 {
     let len = bytes.len() as u64;
     let s = &secrets.secrets;
-    let mut seed = secrets.seed ^ len;
-    let mut rest = bytes;
-    if bytes.len() >= least_row::<V1_BUG>() {
-        (seed, rest) = wide_lanes::<3, 0, COMPACT, PROTECTED>(bytes, seed, s);
-    }
-    close_tail::<AVALANCHE, PROTECTED>(rest, bytes, len, seed, s)
+    let (joined, tail) = wide_lanes::<3, 0, COMPACT, PROTECTED>(bytes, secrets.seed ^ len, s);
+    close_tail::<AVALANCHE, PROTECTED>(tail, bytes, len, joined, s)
 }
 
 /// The hash of `len` bytes, more than 16, made of the joined lanes, the tail, and bytes that end in
@@ -225,7 +210,7 @@ fn close_tail<const AVALANCHE: bool, const PROTECTED: bool>(
 #[inline(always)]
 #[tactic(auto, using(std::proofs::lemmas::Bool::Decides::nat_tests))]
 fn least_row<const V1_BUG: bool>() -> usize
-    ensures { result ≡ (if V1_BUG then 48 else 49) }
+    ensures { result ≡ least_row_v1 V1_BUG }
 {
     if V1_BUG { 48 } else { 49 }
 }

@@ -1,19 +1,19 @@
 //! rapidhash V2, in its three minors.
 
-ghost use Rattle.std.specs.Prelude.{◌≡◌, ◌<◌, ◌≤◌, ◌-◌, ◌∷◌, [], ℕ, true, false, if◌then◌else◌, nat_lt, length, slice_index};
+ghost use Rattle.std.specs.Prelude.{◌≡◌, ◌<◌, ◌≤◌, ℕ, List, true, false, if◌then◌else◌, nat_lt, drop, length, slice_index};
 ghost use Rattle.rapidhash_portable.specs.declared.form.Form.TheVariants.{V2};
-ghost use Rattle.rapidhash_portable.specs.Form.{masks, shape_of, start_seed, tail_places, v2_limit};
-ghost use Rattle.rapidhash_portable.specs.Hash.{close};
-ghost use Rattle.rapidhash_portable.specs.Lanes.{after_lanes, pair_of, row_bytes, row_pairs};
+ghost use Rattle.rapidhash_portable.specs.Form.{masks, shape_of, start_seed, v2_limit};
+ghost use Rattle.rapidhash_portable.specs.Hash.{close, portable_hash};
+ghost use Rattle.rapidhash_portable.specs.Lanes.{after_lanes, pair_of, row_bytes};
 ghost use Rattle.rapidhash_portable.specs.Options.{options};
 ghost use Rattle.rapidhash_portable.specs.Seeded.{default_hash, seeded_hash};
-ghost use Rattle.rapidhash_portable.specs.Tail.{after_tail, picked};
 ghost use Rattle.rapidhash_portable.specs.Words.{last_16};
 
 mod readers;
 
 use crate::lanes::{close, fold_tail, mixed_lanes};
 pub use crate::secrets::{DEFAULT_RAPID_SECRETS, RapidSecrets};
+use crate::util::ALTERNATING_BITS;
 use crate::words::{last_16, short_words_v2};
 pub use readers::{
     rapidhash_v2_2_file, rapidhash_v2_2_file_seeded, rapidhash_v2_file_inline, rapidhash_v2_source,
@@ -60,7 +60,7 @@ pub fn rapidhash_v2_inline<
         short_words_v2::<MINOR>(bytes),
         secrets.seed ^ len,
         second,
-        (0xaaaa_aaaa_aaaa_aaaa ^ len, second),
+        (ALTERNATING_BITS ^ len, second),
     )
 }
 
@@ -78,36 +78,50 @@ fn long<const MINOR: u8, const AVALANCHE: bool, const COMPACT: bool, const PROTE
     if bytes.len() > limit::<MINOR>() {
         return with_rows::<MINOR, AVALANCHE, COMPACT, PROTECTED>(bytes, secrets);
     }
-    above_16::<MINOR, AVALANCHE, COMPACT, PROTECTED>(bytes, secrets)
+    let len = bytes.len() as u64;
+    let s = &secrets.secrets;
+    let table = [s[0], s[1], s[last_place::<MINOR>()]];
+    let seed = fold_tail::<3, PROTECTED>(bytes, &table, secrets.seed ^ len);
+    close_long::<AVALANCHE, PROTECTED>(bytes, len, seed, s)
 }
 
-/// The hash of a message above the limit.
+/// The hash of a message that has a row.
 #[inline(never)]
 fn with_rows<const MINOR: u8, const AVALANCHE: bool, const COMPACT: bool, const PROTECTED: bool>(
     bytes: &[u8],
     secrets: &RapidSecrets,
 ) -> u64
-    requires long { 16 < length bytes.now }
-    requires minor { MINOR ≤ 2 }
-    ensures { result ≡ seeded_hash (V2 MINOR) (options AVALANCHE PROTECTED) secrets.now bytes.now }
-{
-    above_16::<MINOR, AVALANCHE, COMPACT, PROTECTED>(bytes, secrets)
-}
-
-/// The hash above 16 bytes, of which the compiler keeps what a caller's test leaves.
-#[inline(always)]
-fn above_16<const MINOR: u8, const AVALANCHE: bool, const COMPACT: bool, const PROTECTED: bool>(
-    bytes: &[u8],
-    secrets: &RapidSecrets,
-) -> u64
-    requires long { 16 < length bytes.now }
-    requires minor { MINOR ≤ 2 }
+    requires { v2_limit MINOR < length bytes.now }
     ensures { result ≡ seeded_hash (V2 MINOR) (options AVALANCHE PROTECTED) secrets.now bytes.now }
 {
     let len = bytes.len() as u64;
     let s = &secrets.secrets;
-    let seed = after_pairs::<MINOR, COMPACT, PROTECTED>(bytes, secrets.seed, s);
-    close_long::<AVALANCHE, PROTECTED>(bytes, len, seed, s)
+    let (joined, tail) = mixed_lanes::<COMPACT, PROTECTED>(bytes, secrets.seed ^ len, s);
+    close_tail::<AVALANCHE, PROTECTED>(tail, bytes, len, joined, s)
+}
+
+/// The hash of `len` bytes that have a row, made of the joined lanes, the tail, and bytes that end in
+/// the message's last 16.
+#[inline(always)]
+fn close_tail<const AVALANCHE: bool, const PROTECTED: bool>(
+    tail: &[u8],
+    ending: &[u8],
+    len: u64,
+    joined: u64,
+    secrets: &[u64; 7],
+) -> u64
+    requires { 16 ≤ length ending.now }
+    ensures { (minor seed : ℕ) (x : List ℕ) → v2_limit minor < length x →
+        length x ≡ len →
+        tail.now ≡ drop (row_bytes (shape_of (V2 minor) (length x))) x →
+        last_16 ending.now ≡ last_16 x →
+        joined
+        ≡ after_lanes PROTECTED secrets.now (pair_of x) (shape_of (V2 minor) (length x))
+        (start_seed (V2 minor) (length x) seed) →
+        result ≡ portable_hash (V2 minor) (options AVALANCHE PROTECTED) seed secrets.now x }
+{
+    let seed = fold_tail::<2, PROTECTED>(tail, &[secrets[2], secrets[2]], joined);
+    close_long::<AVALANCHE, PROTECTED>(ending, len, seed, secrets)
 }
 
 /// The hash of `len` bytes, more than 16, made of the seed after all pairs, and bytes that end in the
@@ -128,7 +142,7 @@ fn close_long<const AVALANCHE: bool, const PROTECTED: bool>(
         last_16(ending),
         seed,
         secrets[1],
-        (0xaaaa_aaaa_aaaa_aaaa ^ len, secrets[1]),
+        (ALTERNATING_BITS ^ len, secrets[1]),
     )
 }
 
@@ -149,38 +163,4 @@ fn last_place<const MINOR: u8>() -> usize
     ensures within { result ≤ 1 }
 {
     if MINOR < 2 { 0 } else { 1 }
-}
-
-/// The seed after all pairs of a message above 16 bytes.
-#[inline(always)]
-fn after_pairs<const MINOR: u8, const COMPACT: bool, const PROTECTED: bool>(
-    bytes: &[u8],
-    start: u64,
-    secrets: &[u64; 7],
-) -> u64
-    requires { MINOR ≤ 2 }
-    ensures { let shape = shape_of (V2 MINOR) (length bytes.now) in
-        let start_seed = start_seed (V2 MINOR) (length bytes.now) start in
-        result
-        ≡ after_tail PROTECTED (picked secrets.now (tail_places (V2 MINOR) (length bytes.now)))
-        (pair_of bytes.now) (row_pairs shape) (length bytes.now - row_bytes shape)
-        (after_lanes PROTECTED secrets.now (pair_of bytes.now) shape start_seed) }
-{
-    let seed = start ^ bytes.len() as u64;
-    if bytes.len() > limit::<MINOR>() {
-        let (seed, rest) = mixed_lanes::<COMPACT, PROTECTED>(bytes, seed, secrets);
-        after_rows::<PROTECTED>(rest, seed, secrets)
-    } else {
-        let third = secrets[last_place::<MINOR>()];
-        fold_tail::<3, PROTECTED>(bytes, &[secrets[0], secrets[1], third], seed)
-    }
-}
-
-/// The seed after the tail of a message with rows.
-#[inline(always)]
-fn after_rows<const PROTECTED: bool>(tail: &[u8], joined: u64, secrets: &[u64; 7]) -> u64
-    ensures { result
-        ≡ after_tail PROTECTED (picked secrets.now (2 ∷ 2 ∷ [])) (pair_of tail.now) 0 (length tail.now) joined }
-{
-    fold_tail::<2, PROTECTED>(tail, &[secrets[2], secrets[2]], joined)
 }

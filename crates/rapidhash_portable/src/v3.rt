@@ -14,6 +14,7 @@ mod stream;
 
 use crate::lanes::{close, fold_tail, wide_lanes};
 pub use crate::secrets::{DEFAULT_RAPID_SECRETS, RapidSecrets};
+use crate::util::ALTERNATING_BITS;
 use crate::words::{last_16, short_start_v3};
 pub use readers::{
     rapidhash_v3_file, rapidhash_v3_file_inline, rapidhash_v3_file_lanes, rapidhash_v3_file_seeded,
@@ -109,7 +110,7 @@ pub(crate) fn hash<
         words,
         seed,
         second,
-        (0xaaaa_aaaa_aaaa_aaaa, second ^ bytes.len() as u64),
+        (ALTERNATING_BITS, second ^ bytes.len() as u64),
     )
 }
 
@@ -128,19 +129,17 @@ fn long<const LANES: usize, const AVALANCHE: bool, const COMPACT: bool, const PR
     ensures { result ≡ seeded_hash (V3 LANES) (options AVALANCHE PROTECTED) secrets.now bytes.now }
 {
     if bytes.len() > 16 * LANES {
-        return after_rows::<LANES, AVALANCHE, COMPACT, PROTECTED>(bytes, secrets);
+        return with_rows::<LANES, AVALANCHE, COMPACT, PROTECTED>(bytes, secrets);
     }
     close_tail::<AVALANCHE, PROTECTED>(bytes, bytes, secrets.seed, &secrets.secrets)
 }
 
 /// The hash of a message that has a row.
 #[inline(never)]
-fn after_rows<
-    const LANES: usize,
-    const AVALANCHE: bool,
-    const COMPACT: bool,
-    const PROTECTED: bool,
->(bytes: &[u8], secrets: &RapidSecrets) -> u64
+fn with_rows<const LANES: usize, const AVALANCHE: bool, const COMPACT: bool, const PROTECTED: bool>(
+    bytes: &[u8],
+    secrets: &RapidSecrets,
+) -> u64
     requires long { 16 < length bytes.now }
     requires some { 0 < LANES }
     requires few { LANES ≤ 7 }
@@ -172,10 +171,5 @@ pub(crate) fn close_tail<const AVALANCHE: bool, const PROTECTED: bool>(
     let seed = fold_tail::<6, PROTECTED>(tail, &table, joined);
     let t = tail.len() as u64;
     let (a, b) = last_16(ending);
-    close::<AVALANCHE, PROTECTED>(
-        (a ^ t, b),
-        seed,
-        second,
-        (0xaaaa_aaaa_aaaa_aaaa, second ^ t),
-    )
+    close::<AVALANCHE, PROTECTED>((a ^ t, b), seed, second, (ALTERNATING_BITS, second ^ t))
 }

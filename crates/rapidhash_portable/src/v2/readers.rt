@@ -7,7 +7,7 @@ ghost use Rattle.rapidhash_portable.specs.Reading.{HashesNext, MarksFailures};
 ghost use Rattle.rapidhash_portable.specs.Seeded.{default_hash, seeded_hash};
 ghost use Rattle.rapidhash_portable.specs.Source.{is_failed, is_marked, reader_of};
 
-use super::{RapidSecrets, after_rows, close_long, rapidhash_v2_inline};
+use super::{RapidSecrets, close_tail, rapidhash_v2_inline};
 use crate::lanes::join_mixed;
 use crate::reader::{Source, Stop};
 use crate::sized::{BUFFER, SHORT, fill, fold_front};
@@ -123,6 +123,5 @@ fn long<R: Read, const MINOR: u8, const PROTECTED: bool>(
     let (mut lanes, n) = fold_front::<R, 7, PROTECTED>(reader, &mut buffer, len, start, s)?;
     let last = &buffer[..n];
     let (joined, tail) = join_mixed::<false, PROTECTED>(&mut lanes, last, s);
-    let seed = after_rows::<PROTECTED>(tail, joined, s);
-    Ok(close_long::<true, PROTECTED>(last, len, seed, s))
+    Ok(close_tail::<true, PROTECTED>(tail, last, len, joined, s))
 }

@@ -1,4 +1,4 @@
-use Rattle.std.proofs.Common.{false, bit_xor, length, refl, arith, length-take-le}
+use Rattle.std.proofs.Common.{false, bit_xor, length, arith, length-take-le}
 use Rattle.rapidhash_portable.specs.Form.{start_seed}
 use Rattle.rapidhash_portable.proofs.Hashes.{shape_of-v1-some}
 use Rattle.rapidhash_portable.proofs.ReadingLemmas.{last_16-front}
@@ -14,7 +14,7 @@ returns g c =
     let last = length-take-le c.in_ok-lanes.n c.fold_front.new.buffer c.in_ok-lanes.ensures.last.1 in
     let start = bit_xor seed c.args.len in
     let rows = c.join_wide-joined.ensures x start f.prefix in
-    let shape = shape_of-v1-some false 49 (length x) refl (omega arith) in
+    let shape = shape_of-v1-some false (length x) (omega arith) in
     record {
       ok = record {
         bytes = x;
