@@ -1,8 +1,7 @@
 //! The number's line, and how it is written.
 
-ghost use Rattle.std.specs.Prelude.{◌≡◌, ◌+◌, ◌≤◌, ◌++◌, decimal, drop, length, MatchResult};
-ghost use Rattle.std.specs.Io.KnownBytes.{Appends};
-ghost use Rattle.rapidhash_tool.specs.Lines.{line_of, StopsShort};
+ghost use Rattle.std.specs.Prelude.{◌≡◌, ◌+◌, ◌≤◌, ◌++◌, decimal, drop, length};
+ghost use Rattle.rapidhash_tool.specs.Lines.{line_of, WritesWhole};
 
 use crate::fault::CliFault;
 use std::io::Write;
@@ -39,10 +38,7 @@ fn fill_line(number: u64, line: &mut [u8; LINE]) -> usize
 
 // Writes all of `bytes`, or stops at a write that fails or takes no byte.
 pub(crate) fn write_whole<W: Write>(out: &mut W, bytes: &[u8]) -> Result<(), CliFault>
-    ensures { MatchResult result
-        (λ done. Appends (W.contents out.old) (W.contents out.new) bytes.now)
-        (λ fault. (fault ≡ CliFault.Write)
-        × StopsShort (W.contents out.old) (W.contents out.new) bytes.now) }
+    ensures { WritesWhole (W.contents out.old) (W.contents out.new) result bytes.now }
 {
     let mut at = 0usize;
     while at < bytes.len() {
@@ -56,10 +52,7 @@ pub(crate) fn write_whole<W: Write>(out: &mut W, bytes: &[u8]) -> Result<(), Cli
 
 // Writes the number's line. It takes no memory.
 pub(crate) fn write_number<W: Write>(out: &mut W, number: u64) -> Result<(), CliFault>
-    ensures { MatchResult result
-        (λ done. Appends (W.contents out.old) (W.contents out.new) (line_of number))
-        (λ fault. (fault ≡ CliFault.Write)
-        × StopsShort (W.contents out.old) (W.contents out.new) (line_of number)) }
+    ensures { WritesWhole (W.contents out.old) (W.contents out.new) result (line_of number) }
 {
     let mut line = [0u8; LINE];
     let start = fill_line(number, &mut line);
