@@ -32,11 +32,11 @@ abbrev pub KeepsUnlessWrite : CliFault → Option (List ℕ) → Option (List �
 KeepsUnlessWrite Write old new = Unit {0}
 KeepsUnlessWrite fault old new = Keeps old new
 
--- what a run that a fault stopped leaves written, where `line` is the line of an input
+-- what a run that ended with an error has written, where `line` is the line of an input
 pub record LeftByRun (fault : CliFault) (old new input : Option (List ℕ)) (line : List ℕ → List ℕ) : Type 0 where
   pub of_line : IfSome input (λ bytes. LeftBy fault old new (line bytes))
   pub of_nothing : KeepsUnlessWrite fault old new
 
--- a call writes the whole text, or stops at a write that fails and leaves a beginning of it
+-- a call writes the whole text, or stops at a failing write and has written a beginning of it
 abbrev pub WritesWhole : {A : Type 0} → Option (List ℕ) → Option (List ℕ) → Result A CliFault → List ℕ → Type 0
 WritesWhole old new result text = MatchResult result (λ done. Appends old new text) (λ fault. (fault ≡ Write) × StopsShort old new text)
