@@ -5,6 +5,7 @@ pub mod Digits
 pub mod FoldedLemmas
 pub mod Hashes
 pub mod LanesLemmas
+pub mod ListLemmas
 pub mod NothingLost
 pub mod ReadingLemmas
 pub mod Repairs
