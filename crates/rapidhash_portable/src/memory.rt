@@ -25,7 +25,8 @@ pub fn memory_hash<const AVALANCHE: bool, const COMPACT: bool, const PROTECTED: 
     if n > 16 {
         return long::<AVALANCHE, COMPACT, PROTECTED>(bytes, seed, secrets);
     }
-    // Each class of lengths has a close of its own: a common one would stand behind a jump from each.
+    // Each class of lengths has a close of its own: a common one would stand behind a jump from
+    // each.
     if n >= 8 {
         close_sum::<AVALANCHE, PROTECTED>(bytes, words_to_16_v3(bytes), seed, secrets)
     } else if n >= 4 {

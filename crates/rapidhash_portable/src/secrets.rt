@@ -72,9 +72,9 @@ impl RapidSecrets {
         }
     }
 
-    /// The default secrets beside a seed made of a number as the C++ library makes it. Whoever knows
-    /// the default secrets can find messages with one hash at every seed: see [`RapidSecrets::seed`]
-    /// where that matters.
+    /// The default secrets beside a seed made of a number as the C++ library makes it. Whoever
+    /// knows the default secrets can find messages with one hash at every seed: see
+    /// [`RapidSecrets::seed`] where that matters.
     pub fn seed_cpp(seed: u64) -> Self
         ensures seed { result.seed ≡ cpp_seeded seed 2 }
         ensures secrets { result.secrets ≡ default_secrets }

@@ -100,8 +100,8 @@ fn with_rows<const MINOR: u8, const AVALANCHE: bool, const COMPACT: bool, const 
     close_tail::<AVALANCHE, PROTECTED>(tail, bytes, len, joined, s)
 }
 
-/// The hash of `len` bytes that have a row, made of the joined lanes, the tail, and bytes that end in
-/// the message's last 16.
+/// The hash of `len` bytes that have a row, made of the joined lanes, the tail, and bytes that end
+/// in the message's last 16.
 #[inline(always)]
 fn close_tail<const AVALANCHE: bool, const PROTECTED: bool>(
     tail: &[u8],
@@ -124,8 +124,8 @@ fn close_tail<const AVALANCHE: bool, const PROTECTED: bool>(
     close_long::<AVALANCHE, PROTECTED>(ending, len, seed, secrets)
 }
 
-/// The hash of `len` bytes, more than 16, made of the seed after all pairs, and bytes that end in the
-/// message's last 16.
+/// The hash of `len` bytes, more than 16, made of the seed after all pairs, and bytes that end in
+/// the message's last 16.
 #[inline(always)]
 fn close_long<const AVALANCHE: bool, const PROTECTED: bool>(
     ending: &[u8],
