@@ -52,7 +52,8 @@ pub(crate) fn fold_front<R: Read, const LANES: usize, const PROTECTED: bool>(
     requires few { LANES ≤ 7 }
     requires secrets { LANES ≤ length secrets.now }
     requires room { 16 < length buffer.old }
-    requires whole_rows { 16 * (LANES * rows_in LANES 0 (length buffer.old - 16)) ≡ length buffer.old - 16 }
+    requires whole_rows { let room = length buffer.old - 16 in
+        16 * (LANES * rows_in LANES 0 room) ≡ room }
     ensures ok { IfOk result (λ front. FrontIsFolded PROTECTED secrets.now (R.remaining reader.old)
         (R.remaining reader.new) len LANES seed front.0 (take front.1 buffer.new)) }
     ensures last { IfOk result (λ front. (16 ≤ front.1) × (front.1 ≤ length buffer.new)) }

@@ -19,8 +19,8 @@ impl RapidhashVersion {
     /// The hash of all that a reader has left, with the version's default seed and secrets.
     ///
     /// V1 and V2 keep all bytes in memory, the others none. An interrupted read is
-    /// [`CliFault::Stdin`], and so is a reader that has no end: after 2^64 - 1 reads that gave bytes
-    /// the call gives up.
+    /// [`CliFault::Stdin`]. So is a reader that has no end: the call gives up after 2^64 - 1 reads
+    /// that returned bytes.
     pub fn hash_stdin<A: Allocator, R: Read + Drop>(
         &self,
         alloc: A,

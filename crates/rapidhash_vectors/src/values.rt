@@ -56,8 +56,13 @@ fn test_u32_to_u128_delta(rt: HostRuntime) {
 fn default_secrets_are_those_of_the_cpp_seed(rt: HostRuntime) {
     let first = v1::RapidSecrets::seed_cpp(0xbdd8_9aa9_8270_4029);
     assert_eq!(rt; v1::DEFAULT_RAPID_SECRETS, first);
+    assert_eq!(rt; *v1::RapidSecrets::default_ref(), first);
     assert_eq!(rt; v2::DEFAULT_RAPID_SECRETS, v2::RapidSecrets::seed_cpp(0));
     assert_eq!(rt; v3::DEFAULT_RAPID_SECRETS, v3::RapidSecrets::seed_cpp(0));
+    assert_eq!(rt;
+        *v3::RapidSecrets::default_ref(),
+        v3::RapidSecrets::seed_cpp(0)
+    );
 }
 
 /// The third default secret premixes to itself, with every other.

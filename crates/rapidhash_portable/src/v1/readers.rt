@@ -40,8 +40,8 @@ pub fn rapidhash_v1_source<R: Read, const PROTECTED: bool>(
     source.settle(answer)
 }
 
-/// The hash of the next `len` bytes of a reader, with the default seed and secrets. Errors are those
-/// of [`rapidhash_v1_source`].
+/// The hash of the next `len` bytes of a reader, with the default seed and secrets. Errors are
+/// those of [`rapidhash_v1_source`].
 ///
 /// ```
 /// let mut text = b"something\nmore".as_slice();
@@ -55,8 +55,8 @@ pub fn rapidhash_v1_file<R: Read>(data: &mut R, len: u64) -> io::Result<u64>
     rapidhash_v1_file_inline::<R, false>(data, len, RapidSecrets::default_ref())
 }
 
-/// The hash of the next `len` bytes of a reader, with a seed and secrets of the caller's. Errors are
-/// those of [`rapidhash_v1_source`].
+/// The hash of the next `len` bytes of a reader, with a seed and secrets of the caller's. Errors
+/// are those of [`rapidhash_v1_source`].
 pub fn rapidhash_v1_file_seeded<R: Read>(
     data: &mut R,
     len: u64,

@@ -14,9 +14,9 @@ use crate::sized::{BUFFER, SHORT, fill, fold_front};
 use std::io;
 use std::io::{ErrorKind, Read};
 
-/// The hash of the next `len` bytes of the reader: that of [`rapidhash_v2_inline`] with `AVALANCHE`.
-/// No byte behind them is read, and with `len` 0 none at all. `MINOR` is 0, 1 or 2; that it is at
-/// most 2 is the caller's condition.
+/// The hash of the next `len` bytes of the reader: that of [`rapidhash_v2_inline`] with
+/// `AVALANCHE`. No byte behind them is read, and with `len` 0 none at all. `MINOR` is 0, 1 or 2,
+/// which is a precondition.
 ///
 /// An error is the reader's own where the source is marked after the call, and an interrupted read
 /// is one. Else it is `ErrorKind::UnexpectedEof`: the reader had fewer bytes, and all of them are
@@ -69,7 +69,7 @@ pub fn rapidhash_v2_2_file_seeded<R: Read>(
 }
 
 /// The hash of the next `len` bytes of a reader; `PROTECTED` mixes each product with its factors.
-/// That `MINOR` is at most 2 is the caller's condition. Errors are those of [`rapidhash_v2_source`].
+/// `MINOR` is 0, 1 or 2, which is a precondition. Errors are those of [`rapidhash_v2_source`].
 pub fn rapidhash_v2_file_inline<R: Read, const MINOR: u8, const PROTECTED: bool>(
     data: &mut R,
     len: u64,

@@ -31,8 +31,9 @@ pub fn rapidhash_v3_source<R: Read, const PROTECTED: bool>(
     source: &mut Source<R>,
     secrets: &RapidSecrets,
 ) -> io::Result<u64>
-    ensures all { HashesAll (R.remaining (reader_of source.old)) (R.remaining (reader_of source.new))
-        result (λ _. is_marked source.new) (seeded_hash v3 (options true PROTECTED) secrets.now) }
+    ensures all { HashesAll
+        (R.remaining (reader_of source.old)) (R.remaining (reader_of source.new)) result
+        (λ _. is_marked source.new) (seeded_hash v3 (options true PROTECTED) secrets.now) }
     ensures mark { MarksFailures result (is_marked source.new) ErrorKind.Other }
 {
     rapidhash_v3_source_sized::<R, 8192, PROTECTED>(source, secrets)
@@ -46,8 +47,9 @@ pub fn rapidhash_v3_source_sized<R: Read, const SIZE: usize, const PROTECTED: bo
     secrets: &RapidSecrets,
 ) -> io::Result<u64>
     requires { 0 < SIZE }
-    ensures all { HashesAll (R.remaining (reader_of source.old)) (R.remaining (reader_of source.new))
-        result (λ _. is_marked source.new) (seeded_hash v3 (options true PROTECTED) secrets.now) }
+    ensures all { HashesAll
+        (R.remaining (reader_of source.old)) (R.remaining (reader_of source.new)) result
+        (λ _. is_marked source.new) (seeded_hash v3 (options true PROTECTED) secrets.now) }
     ensures mark { MarksFailures result (is_marked source.new) ErrorKind.Other }
 {
     rapidhash_v3_source_lanes::<R, 7, SIZE, PROTECTED>(source, secrets)
@@ -72,9 +74,9 @@ pub fn rapidhash_v3_source_lanes<
 >(source: &mut Source<R>, secrets: &RapidSecrets) -> io::Result<u64>
     requires lanes { IsLaneCount LANES }
     requires room { 0 < SIZE }
-    ensures all { HashesAll (R.remaining (reader_of source.old)) (R.remaining (reader_of source.new))
-        result (λ _. is_marked source.new)
-        (seeded_hash (V3 LANES) (options true PROTECTED) secrets.now) }
+    ensures all { HashesAll
+        (R.remaining (reader_of source.old)) (R.remaining (reader_of source.new)) result
+        (λ _. is_marked source.new) (seeded_hash (V3 LANES) (options true PROTECTED) secrets.now) }
     ensures mark { MarksFailures result (is_marked source.new) ErrorKind.Other }
 {
     // Arrays of 2^63 bytes cannot exist, so the `else` is dead. It spares callers a precondition.
@@ -94,9 +96,9 @@ fn read_all<R: Read, const LANES: usize, const SIZE: usize, const PROTECTED: boo
     requires lanes { IsLaneCount LANES }
     requires room { 0 < SIZE }
     requires few { SIZE < 2 ^ 63 }
-    ensures all { HashesAll (R.remaining (reader_of source.old)) (R.remaining (reader_of source.new))
-        result (λ _. is_marked source.new)
-        (seeded_hash (V3 LANES) (options true PROTECTED) secrets.now) }
+    ensures all { HashesAll
+        (R.remaining (reader_of source.old)) (R.remaining (reader_of source.new)) result
+        (λ _. is_marked source.new) (seeded_hash (V3 LANES) (options true PROTECTED) secrets.now) }
     ensures mark { MarksFailures result (is_marked source.new) ErrorKind.Other }
 {
     source.clear();
@@ -145,7 +147,8 @@ pub fn rapidhash_v3_file_inline<R: Read + Drop, const PROTECTED: bool>(
     rapidhash_v3_file_sized::<R, 8192, PROTECTED>(data, secrets)
 }
 
-/// As [`rapidhash_v3_file_inline`], by a buffer of `SIZE` bytes on the stack: no read asks for more.
+/// As [`rapidhash_v3_file_inline`], by a buffer of `SIZE` bytes on the stack: no read asks for
+/// more.
 ///
 /// `SIZE` is at least 1, which is a precondition.
 pub fn rapidhash_v3_file_sized<R: Read + Drop, const SIZE: usize, const PROTECTED: bool>(

@@ -2,7 +2,7 @@ ghost use Rattle.std.specs.Prelude.{Some};
 
 use super::*;
 use crate::secrets::DEFAULT_RAPID_SECRETS;
-use crate::v3::rapidhash_v3_inline;
+use crate::v3::{rapidhash_v3_inline, rapidhash_v3_micro_inline, rapidhash_v3_nano_inline};
 use std::test::*;
 
 const ZEROS: RapidSecrets = RapidSecrets {
@@ -117,5 +117,25 @@ fn no_read_asks_for_more_than_the_buffer(rt: HostRuntime) -> Result<(), Fail> {
         rapidhash_v3_file_sized::<&[u8], 112, false>(&bytes, &ZEROS)?,
         want
     );
+    Ok(())
+}
+
+// Micro and nano of a reader are those of its bytes, and no read asks for more than the buffer.
+#[test]
+fn other_lanes_read_too(rt: HostRuntime) -> Result<(), Fail> {
+    let bytes: Vec<u8> = (0..300u32).map(|i| (i % 251) as u8).collect(rt.alloc())?;
+    for n in [0, 16, 17, 48, 49, 80, 81, 300usize] {
+        let message = &bytes[..n.min(bytes.len())];
+        let mut source = Source::new(Drip::new(message, 0));
+        assert_eq!(rt;
+            rapidhash_v3_source_lanes::<Drip, 5, 7, true>(&mut source, &ZEROS)?,
+            rapidhash_v3_micro_inline::<true, true>(message, &ZEROS)
+        );
+        assert_eq!(rt; source.into_inner().longest, 7);
+        assert_eq!(rt;
+            rapidhash_v3_file_lanes::<&[u8], 3, 64, false>(message, &ZEROS)?,
+            rapidhash_v3_nano_inline::<true, false>(message, &ZEROS)
+        );
+    }
     Ok(())
 }

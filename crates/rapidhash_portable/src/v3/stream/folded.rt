@@ -38,7 +38,8 @@ impl Count {
     }
 }
 
-/// Seven lanes, of which a stream of fewer uses the first, and how many chunks were folded into them.
+/// Seven lanes, of which a stream of fewer uses the first, and how many chunks were folded into
+/// them.
 #[derive(Drop)]
 pub(crate) struct Folded {
     lanes: [u64; 7],
@@ -67,7 +68,8 @@ impl Folded {
     )
         requires enough { 16 * LANES ≤ length bytes.now }
         requires few { LANES ≤ 7 }
-        ensures folded { HaveFolded PROTECTED secrets.now bytes.now LANES self.old.lanes self.new.lanes 1 }
+        ensures folded { HaveFolded PROTECTED secrets.now bytes.now LANES
+            self.old.lanes self.new.lanes 1 }
         ensures one { self.new.count.steps ≡ self.old.count.steps + 1 }
     {
         fold_row::<7, LANES, PROTECTED>(&mut self.lanes, bytes, secrets);
