@@ -1,6 +1,6 @@
 use Rattle.std.proofs.Common.{not, nat_eq, ◌∙◌}
 use Rattle.rapidhash_portable.specs.declared.form.Options.{Options}
-use Rattle.rapidhash_portable.proofs.Hashes.{memory_hash-is}
+use Rattle.rapidhash_portable.proofs.MemoryLemmas.{memory_hash-is}
 use Rattle.rapidhash_portable.proofs.memory.close_sum.Goals as goal
 
 pub returns : goal.returns

@@ -1,6 +1,7 @@
 use Rattle.std.proofs.Common.{not, nat_eq, sym, ◌∙◌}
 use Rattle.rapidhash_portable.specs.declared.form.Form.TheVariants.{V3}
-use Rattle.rapidhash_portable.proofs.Hashes.{after_pairs-is, last_words-long}
+use Rattle.rapidhash_portable.proofs.MemoryLemmas.{after_pairs-is}
+use Rattle.rapidhash_portable.proofs.WordsLemmas.{last_words-long}
 use Rattle.rapidhash_portable.proofs.memory.close_tail.Goals as goal
 
 pub returns : goal.returns

@@ -1,7 +1,7 @@
 use Rattle.std.proofs.Common.{not, nat_eq, sym, ◌∙◌, arith}
 use Rattle.rapidhash_portable.specs.declared.form.Form.TheVariants.{V3}
-use Rattle.rapidhash_portable.proofs.Hashes.{after_pairs-short, last_words-short}
-use Rattle.rapidhash_portable.proofs.Shorts.{short_words-none}
+use Rattle.rapidhash_portable.proofs.MemoryLemmas.{after_pairs-short}
+use Rattle.rapidhash_portable.proofs.WordsLemmas.{last_words-short, short_words-none}
 use Rattle.rapidhash_portable.proofs.memory.memory_hash.Goals as goal
 
 pub returns-then-n-ge8 : goal.returns-then-n-ge8

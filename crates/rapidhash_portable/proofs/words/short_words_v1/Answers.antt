@@ -1,6 +1,6 @@
 use Rattle.std.proofs.Common.{arith}
 use Rattle.rapidhash_portable.specs.declared.form.Form.TheVariants.{V1}
-use Rattle.rapidhash_portable.proofs.Shorts.{short_words-none, short_words-few, short_words-four, short_words-eight}
+use Rattle.rapidhash_portable.proofs.WordsLemmas.{short_words-none, short_words-few, short_words-four, short_words-eight}
 use Rattle.rapidhash_portable.proofs.words.short_words_v1.Goals as goal
 
 pub returns-then-n-ge8 : goal.returns-then-n-ge8

@@ -1,6 +1,6 @@
 use Rattle.std.proofs.Common.{arith}
 use Rattle.rapidhash_portable.specs.declared.form.Form.TheVariants.{V3}
-use Rattle.rapidhash_portable.proofs.Shorts.{short_words-eight}
+use Rattle.rapidhash_portable.proofs.WordsLemmas.{short_words-eight}
 use Rattle.rapidhash_portable.proofs.words.words_to_16_v3.Goals as goal
 
 pub returns : goal.returns
