@@ -1,5 +1,6 @@
 pub mod AbsorbedLemmas
 pub mod BytesLemmas
+pub mod Cases
 pub mod FoldedLemmas
 pub mod FormLemmas
 pub mod HashLemmas

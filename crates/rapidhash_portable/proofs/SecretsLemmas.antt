@@ -4,8 +4,8 @@ use Rattle.std.proofs.lemmas.Bool.{cond_both, eqb-false}
 use Rattle.std.proofs.lemmas.Nat.{and_or_apart}
 use Rattle.std.proofs.lemmas.Nat.Bits.{bit_at-zero, bit_at_and, bit_at_or}
 use Rattle.std.specs.Int.{bit_at}
-use Rattle.rapidhash_portable.specs.Secrets.{IsGood, repaired, with_bit, chained, default_secrets, made_state, premixed, s0, s1, s2}
-use Rattle.rapidhash_portable.specs.Multiply.{mix}
+use Rattle.rapidhash_portable.specs.Secrets.{IsGood, repaired, with_bit, chained, cpp_seeded, default_secrets, default_seed, default_seed_v1, made_state, premixed, s0, s1, s2}
+use Rattle.rapidhash_portable.specs.Multiply.{mix, multiply}
 
 -- a number with a set bit is not 0
 nonzero : (n i : ℕ) → bit_at n i ≡ 1 → n ≢ 0
@@ -89,3 +89,13 @@ made_state-more random count =
 -- a state after the first is good
 pub IsGood-made_state : (random count : ℕ) → IsGood (made_state random (count + 1))
 IsGood-made_state random count = subst IsGood (sym (made_state-more random count)) (IsGood-repaired _)
+
+-- the default seed of V2 and V3 as a number
+pub default_number : 0x422765567d8fbfd6 ≡ default_seed
+unfolding cpp_seeded mix multiply
+default_number = refl
+
+-- and that of V1
+pub default_number_v1 : 0x763305bbe7bea536 ≡ default_seed_v1
+unfolding cpp_seeded mix multiply
+default_number_v1 = refl

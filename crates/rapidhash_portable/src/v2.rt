@@ -148,7 +148,7 @@ fn close_long<const AVALANCHE: bool, const PROTECTED: bool>(
 
 /// The longest message that is folded with no row.
 #[inline(always)]
-#[tactic(auto, using(std::proofs::lemmas::Bool::Decides::nat_tests))]
+#[tactic(auto, using(crate::proofs::Cases::tests))]
 fn limit<const MINOR: u8>() -> usize
     ensures { result ≡ v2_limit MINOR }
 {
@@ -157,7 +157,7 @@ fn limit<const MINOR: u8>() -> usize
 
 /// The place of the secret that the third pair of such a message takes.
 #[inline(always)]
-#[tactic(auto, using(std::proofs::lemmas::Bool::Decides::nat_tests))]
+#[tactic(auto, using(crate::proofs::Cases::tests))]
 fn last_place<const MINOR: u8>() -> usize
     ensures place { result ≡ (if nat_lt MINOR 2 then 0 else 1) }
     ensures within { result ≤ 1 }
