@@ -29,6 +29,7 @@ fn three_bytes(bytes: &[u8]) -> u64
 
 /// The two words of V1, of at most 16 bytes.
 #[inline(always)]
+#[tactic(auto, using(crate::proofs::Cases::tests), unfolding(crate::specs::Words::short_words))]
 pub(crate) fn short_words_v1(bytes: &[u8]) -> (u64, u64)
     requires { length bytes.now ≤ 16 }
     ensures { (bug : Bool) → result ≡ short_words (V1 bug) bytes.now }
@@ -77,6 +78,7 @@ pub(crate) fn short_words_v2<const MINOR: u8>(bytes: &[u8]) -> (u64, u64)
 
 /// The two words of V3, micro, nano and the in-memory core, of 8 to 16 bytes.
 #[inline(always)]
+#[tactic(auto, using(crate::proofs::Cases::tests), unfolding(crate::specs::Words::short_words))]
 pub(crate) fn words_to_16_v3(bytes: &[u8]) -> (u64, u64)
     requires some { 8 ≤ length bytes.now }
     requires few { length bytes.now ≤ 16 }
@@ -87,6 +89,7 @@ pub(crate) fn words_to_16_v3(bytes: &[u8]) -> (u64, u64)
 
 /// The two words of V3, micro, nano and the in-memory core, of 4 to 7 bytes.
 #[inline(always)]
+#[tactic(auto, using(crate::proofs::Cases::tests), unfolding(crate::specs::Words::short_words))]
 pub(crate) fn words_to_7_v3(bytes: &[u8]) -> (u64, u64)
     requires some { 4 ≤ length bytes.now }
     requires few { length bytes.now ≤ 7 }
