@@ -1,12 +1,12 @@
 //! The core of the in-memory hasher: one value of a byte list, a seed and secrets. It stands on the
 //! portable kernel, and is for the crate above alone: its values may change between versions.
 
-ghost use Rattle.std.specs.Prelude.{◌≡◌, ◌<◌, ℕ, length, drop};
+ghost use Rattle.std.specs.Prelude.{◌≡◌, ◌≤◌, ◌<◌, ℕ, length, drop};
 ghost use Rattle.rapidhash_portable.specs.declared.form.Form.TheVariants.{V3};
 ghost use Rattle.rapidhash_portable.specs.Lanes.{after_lanes, pair_of, row_bytes};
 ghost use Rattle.rapidhash_portable.specs.Memory.{after_pairs, memory_hash, memory_shape};
 ghost use Rattle.rapidhash_portable.specs.Options.{options};
-ghost use Rattle.rapidhash_portable.specs.Words.{last_words};
+ghost use Rattle.rapidhash_portable.specs.Words.{last_words, short_words};
 
 use crate::lanes::{close, fold_tail, mixed_lanes, wide_lanes};
 use crate::util::ALTERNATING_BITS;
@@ -25,7 +25,8 @@ pub fn memory_hash<const AVALANCHE: bool, const COMPACT: bool, const PROTECTED: 
     if n > 16 {
         return long::<AVALANCHE, COMPACT, PROTECTED>(bytes, seed, secrets);
     }
-    // Each class of lengths has a close of its own: a common one would stand behind a jump from each.
+    // Each class of lengths has a close of its own: a common one would stand behind a jump from
+    // each.
     if n >= 8 {
         close_sum::<AVALANCHE, PROTECTED>(bytes, words_to_16_v3(bytes), seed, secrets)
     } else if n >= 4 {
@@ -99,8 +100,7 @@ fn close_tail<const AVALANCHE: bool, const PROTECTED: bool>(
     ensures { (start : ℕ) → let shape = memory_shape (length bytes.now) in
         tail.now ≡ drop (row_bytes shape) bytes.now →
         joined ≡ after_lanes PROTECTED secrets.now (pair_of bytes.now) shape start →
-        result
-        ≡ memory_hash (options AVALANCHE PROTECTED) bytes.now start secrets.now }
+        result ≡ memory_hash (options AVALANCHE PROTECTED) bytes.now start secrets.now }
 {
     let seed = fold_tail::<2, PROTECTED>(tail, &[secrets[0], secrets[0]], joined);
     close_sum::<AVALANCHE, PROTECTED>(bytes, last_16(bytes), seed, secrets)
@@ -114,10 +114,11 @@ fn close_sum<const AVALANCHE: bool, const PROTECTED: bool>(
     seed: u64,
     secrets: &[u64; 7],
 ) -> u64
-    ensures { (start : ℕ) → words ≡ last_words (V3 7) bytes.now →
+    ensures pairs { (start : ℕ) → words ≡ last_words (V3 7) bytes.now →
         seed ≡ after_pairs PROTECTED start secrets.now bytes.now →
-        result
-        ≡ memory_hash (options AVALANCHE PROTECTED) bytes.now start secrets.now }
+        result ≡ memory_hash (options AVALANCHE PROTECTED) bytes.now start secrets.now }
+    ensures short { length bytes.now ≤ 16 → words ≡ short_words (V3 7) bytes.now →
+        result ≡ memory_hash (options AVALANCHE PROTECTED) bytes.now seed secrets.now }
 {
     let sum = seed.wrapping_add(bytes.len() as u64);
     close::<AVALANCHE, PROTECTED>(words, sum, secrets[0], (ALTERNATING_BITS ^ sum, secrets[1]))

@@ -32,7 +32,7 @@ impl RapidSecrets {
     /// let hash = rapidhash_v3_inline::<true, true, false>(b"hello", RapidSecrets::default_ref());
     /// ```
     #[inline(always)]
-    #[tactic(auto, unfolding(crate::specs::Secrets::cpp_seeded, crate::specs::Multiply::mix, crate::specs::Multiply::multiply))]
+    #[tactic(auto, using(crate::proofs::SecretsLemmas::default_number))]
     pub fn default_ref() -> &'static Self
         ensures seed { result.now.seed ≡ default_seed }
         ensures secrets { result.now.secrets ≡ default_secrets }
@@ -72,9 +72,9 @@ impl RapidSecrets {
         }
     }
 
-    /// The default secrets beside a seed made of a number as the C++ library makes it. Whoever knows
-    /// the default secrets can find messages with one hash at every seed: see [`RapidSecrets::seed`]
-    /// where that matters.
+    /// The default secrets beside a seed made of a number as the C++ library makes it. Whoever
+    /// knows the default secrets can find messages with one hash at every seed: see
+    /// [`RapidSecrets::seed`] where that matters.
     pub fn seed_cpp(seed: u64) -> Self
         ensures seed { result.seed ≡ cpp_seeded seed 2 }
         ensures secrets { result.secrets ≡ default_secrets }
@@ -118,7 +118,7 @@ pub(crate) const DEFAULT_SECRETS: [u64; 7] = [
 const GLOBAL_MASK: u64 = 0xbdd8_9aa9_8270_4029;
 
 /// The word, with `bit` set where it has no bit of `mask`.
-#[tactic(auto, using(std::proofs::lemmas::Bool::Decides::nat_tests), unfolding(crate::specs::Secrets::with_bit))]
+#[tactic(auto, using(crate::proofs::Cases::tests), unfolding(crate::specs::Secrets::with_bit))]
 fn with_bit(word: u64, mask: u64, bit: u64) -> u64
     ensures { result ≡ with_bit word mask bit }
 {

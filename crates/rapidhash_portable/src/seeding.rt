@@ -64,12 +64,12 @@ pub struct SeedSource {
     random: u64,
 }
 
-#[tactic(auto, unfolding(crate::specs::Secrets::source_start, crate::specs::Secrets::source_answer))]
 impl SeedSource {
     ghost use Rattle.rapidhash_portable.specs.Seeding.{Draws, counter_of, random_of, seed_of};
     ghost use Rattle.rapidhash_portable.specs.Secrets.{source_start};
 
     /// The source of a seed and a second random word.
+    #[tactic(auto, unfolding(crate::specs::Secrets::source_start))]
     pub fn new(secrets: &GlobalSecrets, random: u64) -> Self
         ensures counter { counter_of result ≡ source_start (seed_of secrets.now) random }
         ensures random { random_of result ≡ random }
@@ -80,6 +80,7 @@ impl SeedSource {
     }
 
     /// The next seed.
+    #[tactic(auto, unfolding(crate::specs::Secrets::source_answer))]
     pub fn next(&mut self) -> u64
         ensures { Draws self.old self.new result }
     {

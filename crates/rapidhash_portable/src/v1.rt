@@ -43,7 +43,7 @@ pub const DEFAULT_RAPID_SECRETS: RapidSecrets = RapidSecrets {
 impl RapidSecrets {
     /// The default seed and secrets, [`DEFAULT_RAPID_SECRETS`], by reference.
     #[inline(always)]
-    #[tactic(auto, unfolding(crate::specs::Secrets::cpp_seeded, crate::specs::Multiply::mix, crate::specs::Multiply::multiply))]
+    #[tactic(auto, using(crate::proofs::SecretsLemmas::default_number_v1))]
     pub fn default_ref() -> &'static Self
         ensures seed { result.now.seed ≡ default_seed_v1 }
         ensures secrets { result.now.secrets ≡ default_secrets_v1 }
@@ -83,9 +83,9 @@ impl RapidSecrets {
         }
     }
 
-    /// The default secrets beside a seed made of a number as the C++ library makes it. Whoever knows
-    /// the default secrets can find messages with one hash at every seed: see [`RapidSecrets::seed`]
-    /// where that matters.
+    /// The default secrets beside a seed made of a number as the C++ library makes it. Whoever
+    /// knows the default secrets can find messages with one hash at every seed: see
+    /// [`RapidSecrets::seed`] where that matters.
     pub fn seed_cpp(seed: u64) -> Self
         ensures seed { result.seed ≡ cpp_seeded seed 0 }
         ensures secrets { result.secrets ≡ default_secrets_v1 }
@@ -208,7 +208,7 @@ fn close_tail<const AVALANCHE: bool, const PROTECTED: bool>(
 
 /// The least length at which a row is folded.
 #[inline(always)]
-#[tactic(auto, using(std::proofs::lemmas::Bool::Decides::nat_tests))]
+#[tactic(auto, using(crate::proofs::Cases::tests))]
 fn least_row<const V1_BUG: bool>() -> usize
     ensures { result ≡ least_row_v1 V1_BUG }
 {

@@ -100,8 +100,8 @@ fn with_rows<const MINOR: u8, const AVALANCHE: bool, const COMPACT: bool, const 
     close_tail::<AVALANCHE, PROTECTED>(tail, bytes, len, joined, s)
 }
 
-/// The hash of `len` bytes that have a row, made of the joined lanes, the tail, and bytes that end in
-/// the message's last 16.
+/// The hash of `len` bytes that have a row, made of the joined lanes, the tail, and bytes that end
+/// in the message's last 16.
 #[inline(always)]
 fn close_tail<const AVALANCHE: bool, const PROTECTED: bool>(
     tail: &[u8],
@@ -124,8 +124,8 @@ fn close_tail<const AVALANCHE: bool, const PROTECTED: bool>(
     close_long::<AVALANCHE, PROTECTED>(ending, len, seed, secrets)
 }
 
-/// The hash of `len` bytes, more than 16, made of the seed after all pairs, and bytes that end in the
-/// message's last 16.
+/// The hash of `len` bytes, more than 16, made of the seed after all pairs, and bytes that end in
+/// the message's last 16.
 #[inline(always)]
 fn close_long<const AVALANCHE: bool, const PROTECTED: bool>(
     ending: &[u8],
@@ -148,7 +148,7 @@ fn close_long<const AVALANCHE: bool, const PROTECTED: bool>(
 
 /// The longest message that is folded with no row.
 #[inline(always)]
-#[tactic(auto, using(std::proofs::lemmas::Bool::Decides::nat_tests))]
+#[tactic(auto, using(crate::proofs::Cases::tests))]
 fn limit<const MINOR: u8>() -> usize
     ensures { result ≡ v2_limit MINOR }
 {
@@ -157,7 +157,7 @@ fn limit<const MINOR: u8>() -> usize
 
 /// The place of the secret that the third pair of such a message takes.
 #[inline(always)]
-#[tactic(auto, using(std::proofs::lemmas::Bool::Decides::nat_tests))]
+#[tactic(auto, using(crate::proofs::Cases::tests))]
 fn last_place<const MINOR: u8>() -> usize
     ensures place { result ≡ (if nat_lt MINOR 2 then 0 else 1) }
     ensures within { result ≤ 1 }

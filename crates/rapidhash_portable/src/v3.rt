@@ -163,7 +163,8 @@ pub(crate) fn close_tail<const AVALANCHE: bool, const PROTECTED: bool>(
     ensures { (lanes seed : ℕ) (x : List ℕ) → 16 < length x →
         tail.now ≡ drop (row_bytes (shape_of (V3 lanes) (length x))) x →
         last_16 ending.now ≡ last_16 x →
-        joined ≡ after_lanes PROTECTED secrets.now (pair_of x) (shape_of (V3 lanes) (length x)) seed →
+        joined
+        ≡ after_lanes PROTECTED secrets.now (pair_of x) (shape_of (V3 lanes) (length x)) seed →
         result ≡ portable_hash (V3 lanes) (options AVALANCHE PROTECTED) seed secrets.now x }
 {
     let (second, third) = (secrets[1], secrets[2]);

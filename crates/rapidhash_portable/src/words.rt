@@ -29,6 +29,7 @@ fn three_bytes(bytes: &[u8]) -> u64
 
 /// The two words of V1, of at most 16 bytes.
 #[inline(always)]
+#[tactic(auto, using(crate::proofs::Cases::tests), unfolding(crate::specs::Words::short_words))]
 pub(crate) fn short_words_v1(bytes: &[u8]) -> (u64, u64)
     requires { length bytes.now ≤ 16 }
     ensures { (bug : Bool) → result ≡ short_words (V1 bug) bytes.now }
@@ -51,7 +52,7 @@ pub(crate) fn short_words_v1(bytes: &[u8]) -> (u64, u64)
 
 /// The two words of V2, of at most 16 bytes.
 #[inline(always)]
-#[tactic(auto, using(std::proofs::lemmas::Bool::Decides::nat_tests), unfolding(crate::specs::Words::short_words))]
+#[tactic(auto, using(crate::proofs::Cases::tests), unfolding(crate::specs::Words::short_words))]
 pub(crate) fn short_words_v2<const MINOR: u8>(bytes: &[u8]) -> (u64, u64)
     requires { length bytes.now ≤ 16 }
     ensures { result ≡ short_words (V2 MINOR) bytes.now }
@@ -77,6 +78,7 @@ pub(crate) fn short_words_v2<const MINOR: u8>(bytes: &[u8]) -> (u64, u64)
 
 /// The two words of V3, micro, nano and the in-memory core, of 8 to 16 bytes.
 #[inline(always)]
+#[tactic(auto, using(crate::proofs::Cases::tests), unfolding(crate::specs::Words::short_words))]
 pub(crate) fn words_to_16_v3(bytes: &[u8]) -> (u64, u64)
     requires some { 8 ≤ length bytes.now }
     requires few { length bytes.now ≤ 16 }
@@ -87,6 +89,7 @@ pub(crate) fn words_to_16_v3(bytes: &[u8]) -> (u64, u64)
 
 /// The two words of V3, micro, nano and the in-memory core, of 4 to 7 bytes.
 #[inline(always)]
+#[tactic(auto, using(crate::proofs::Cases::tests), unfolding(crate::specs::Words::short_words))]
 pub(crate) fn words_to_7_v3(bytes: &[u8]) -> (u64, u64)
     requires some { 4 ≤ length bytes.now }
     requires few { length bytes.now ≤ 7 }
@@ -113,7 +116,7 @@ pub(crate) fn words_to_3_v3(bytes: &[u8]) -> (u64, u64)
 /// The two words of V3, micro and nano, of at most 16 bytes, and the seed they start from: up to 3
 /// bytes the length is not mixed in. Both hang on the same tests, so they are made at once.
 #[inline(always)]
-#[tactic(auto, using(std::proofs::lemmas::Bool::Decides::nat_tests), unfolding(crate::specs::Form::start_seed))]
+#[tactic(auto, using(crate::proofs::Cases::tests), unfolding(crate::specs::Form::start_seed))]
 pub(crate) fn short_start_v3(bytes: &[u8], seed: u64) -> ((u64, u64), u64)
     requires { length bytes.now ≤ 16 }
     ensures words { (lanes : ℕ) → result.0 ≡ short_words (V3 lanes) bytes.now }

@@ -1,5 +1,5 @@
 use Rattle.std.proofs.Common.{not, nat_eq}
-use Rattle.rapidhash_portable.proofs.Hashes.{memory_rows-none}
+use Rattle.rapidhash_portable.proofs.MemoryLemmas.{memory_rows-none}
 use Rattle.rapidhash_portable.proofs.memory.long.Goals as goal
 
 pub returns : goal.returns

@@ -1,5 +1,5 @@
 use Rattle.std.proofs.Common.{length}
-use Rattle.rapidhash_portable.proofs.Hashes.{memory_shape-mixed}
+use Rattle.rapidhash_portable.proofs.MemoryLemmas.{memory_shape-mixed}
 use Rattle.rapidhash_portable.proofs.memory.with_wide_rows.Goals as goal
 
 pub returns : goal.returns

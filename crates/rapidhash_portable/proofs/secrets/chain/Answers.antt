@@ -4,7 +4,7 @@ use Rattle.std.proofs.lemmas.List.Edits.{fill_by_more}
 use Rattle.std.proofs.lemmas.List.Elements.{All-from_get_or}
 use Rattle.std.proofs.lemmas.List.FromFn.{fill_by_all}
 use Rattle.rapidhash_portable.specs.Secrets.{IsGood, chained, chained_secrets}
-use Rattle.rapidhash_portable.proofs.Chains.{chained-none, chained-more, IsGood-chained}
+use Rattle.rapidhash_portable.proofs.SecretsLemmas.{chained-none, chained-more, IsGood-chained}
 use Rattle.rapidhash_portable.proofs.secrets.chain.Goals as goal
 
 pub loop-place-init : goal.loop-place-init

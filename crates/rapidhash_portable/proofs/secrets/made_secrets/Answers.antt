@@ -3,7 +3,7 @@ use Rattle.std.proofs.lemmas.List.Edits.{fill_by_more}
 use Rattle.std.proofs.lemmas.List.Elements.{All-from_get_or}
 use Rattle.std.proofs.lemmas.List.FromFn.{fill_by_all}
 use Rattle.rapidhash_portable.specs.Secrets.{IsGood, made_state, made_secrets}
-use Rattle.rapidhash_portable.proofs.Chains.{made_state-none, made_state-more, IsGood-made_state}
+use Rattle.rapidhash_portable.proofs.SecretsLemmas.{made_state-none, made_state-more, IsGood-made_state}
 use Rattle.rapidhash_portable.proofs.secrets.made_secrets.Goals as goal
 
 pub loop-place-init : goal.loop-place-init

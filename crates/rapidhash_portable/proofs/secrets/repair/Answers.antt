@@ -1,6 +1,6 @@
 use Rattle.std.proofs.Common.{◌≡◌, subst, sym}
 use Rattle.rapidhash_portable.specs.Secrets.{IsGood, repaired}
-use Rattle.rapidhash_portable.proofs.Repairs.{IsGood-repaired}
+use Rattle.rapidhash_portable.proofs.SecretsLemmas.{IsGood-repaired}
 use Rattle.rapidhash_portable.proofs.secrets.repair.Goals as goal
 
 pub returns-clause-good : goal.returns-clause-good

@@ -4,7 +4,8 @@ use Rattle.rapidhash_portable.specs.declared.form.Form.TheVariants.{V1}
 use Rattle.rapidhash_portable.specs.Form.{tail_seed, tail_places, masks}
 use Rattle.rapidhash_portable.specs.Words.{mixed_words}
 use Rattle.rapidhash_portable.specs.declared.form.Options.{Options}
-use Rattle.rapidhash_portable.proofs.Hashes.{hash-is, last_words-long}
+use Rattle.rapidhash_portable.proofs.HashLemmas.{hash-is}
+use Rattle.rapidhash_portable.proofs.WordsLemmas.{last_words-long}
 use Rattle.rapidhash_portable.proofs.v1.close_tail.Goals as goal
 use Rattle.rapidhash_portable.proofs.v1.close_tail.Goals.{then-tail-gt16, else-tail-gt16}
 

@@ -1,7 +1,7 @@
 use Rattle.std.proofs.Common.{not, nat_eq, length, bit_xor, refl, arith}
 use Rattle.rapidhash_portable.specs.declared.form.Form.TheVariants.{V1}
 use Rattle.rapidhash_portable.specs.Form.{start_seed}
-use Rattle.rapidhash_portable.proofs.Hashes.{rows-none, shape_of-v1-none}
+use Rattle.rapidhash_portable.proofs.FormLemmas.{rows-none, shape_of-v1-none}
 use Rattle.rapidhash_portable.proofs.v1.long.Goals as goal
 
 pub returns : goal.returns

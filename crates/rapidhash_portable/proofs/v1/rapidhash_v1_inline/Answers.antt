@@ -2,7 +2,8 @@ use Rattle.std.proofs.Common.{not, nat_eq, length, arith}
 use Rattle.rapidhash_portable.specs.declared.form.Form.TheVariants.{V1}
 use Rattle.rapidhash_portable.specs.Form.{start_seed, masks}
 use Rattle.rapidhash_portable.specs.declared.form.Options.{Options}
-use Rattle.rapidhash_portable.proofs.Hashes.{hash-short, shape_of-v1-few}
+use Rattle.rapidhash_portable.proofs.FormLemmas.{shape_of-v1-few}
+use Rattle.rapidhash_portable.proofs.HashLemmas.{hash-short}
 use Rattle.rapidhash_portable.proofs.v1.rapidhash_v1_inline.Goals as goal
 
 pub returns : goal.returns

@@ -1,6 +1,6 @@
 use Rattle.std.proofs.Common.{not, nat_eq, length, refl}
 use Rattle.rapidhash_portable.specs.Form.{start_seed}
-use Rattle.rapidhash_portable.proofs.Hashes.{long-v1, shape_of-v1-some}
+use Rattle.rapidhash_portable.proofs.FormLemmas.{long-v1, shape_of-v1-some}
 use Rattle.rapidhash_portable.proofs.v1.with_rows.Goals as goal
 
 pub returns : goal.returns

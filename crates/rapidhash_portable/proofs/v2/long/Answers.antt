@@ -5,7 +5,9 @@ use Rattle.rapidhash_portable.specs.Lanes.{pair_of}
 use Rattle.rapidhash_portable.specs.Options.{options}
 use Rattle.rapidhash_portable.specs.Tail.{after_tail, picked}
 use Rattle.rapidhash_portable.specs.Words.{mixed_words}
-use Rattle.rapidhash_portable.proofs.Hashes.{hash-is, last_words-long, rows-none, shape_of-v2-none, tail_places-v2-none}
+use Rattle.rapidhash_portable.proofs.FormLemmas.{rows-none, shape_of-v2-none, tail_places-v2-none}
+use Rattle.rapidhash_portable.proofs.HashLemmas.{hash-is}
+use Rattle.rapidhash_portable.proofs.WordsLemmas.{last_words-long}
 use Rattle.rapidhash_portable.proofs.v2.long.Goals as goal
 
 pub returns : goal.returns

@@ -6,8 +6,9 @@ use Rattle.rapidhash_portable.specs.Hash.{close}
 use Rattle.rapidhash_portable.specs.Lanes.{pair_of, after_lanes}
 use Rattle.rapidhash_portable.specs.Form.{shape_of}
 use Rattle.rapidhash_portable.specs.Words.{last_words}
-use Rattle.rapidhash_portable.proofs.Hashes.{hash-is, last_words-long, mixed_words-long}
-use Rattle.rapidhash_portable.proofs.Shorts.{start_seed-long}
+use Rattle.rapidhash_portable.proofs.HashLemmas.{hash-is}
+use Rattle.rapidhash_portable.proofs.WordsLemmas.{last_words-long, mixed_words-long}
+use Rattle.rapidhash_portable.proofs.FormLemmas.{start_seed-long}
 use Rattle.rapidhash_portable.proofs.v3.close_tail.Goals as goal
 
 pub returns : goal.returns

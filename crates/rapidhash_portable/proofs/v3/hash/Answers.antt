@@ -2,7 +2,8 @@ use Rattle.std.proofs.Common.{not, nat_eq, length, arith}
 use Rattle.rapidhash_portable.specs.declared.form.Form.TheVariants.{V3}
 use Rattle.rapidhash_portable.specs.Form.{masks}
 use Rattle.rapidhash_portable.specs.declared.form.Options.{Options}
-use Rattle.rapidhash_portable.proofs.Hashes.{hash-short, shape_of-v3-none}
+use Rattle.rapidhash_portable.proofs.FormLemmas.{shape_of-v3-none}
+use Rattle.rapidhash_portable.proofs.HashLemmas.{hash-short}
 use Rattle.rapidhash_portable.proofs.v3.hash.Goals as goal
 
 pub returns : goal.returns

@@ -1,7 +1,7 @@
 use Rattle.std.proofs.Common.{sym, ap, ◌∙◌, arith}
 use Rattle.std.proofs.lemmas.Bool.{cond_below}
 use Rattle.rapidhash_portable.specs.declared.form.Form.TheVariants.{V2}
-use Rattle.rapidhash_portable.proofs.Shorts.{short_words-few}
+use Rattle.rapidhash_portable.proofs.WordsLemmas.{short_words-few}
 use Rattle.rapidhash_portable.proofs.words.short_words_v2.Goals as goal
 
 pub returns-then-this-lt2 : goal.returns-then-this-lt2

@@ -1,5 +1,5 @@
 use Rattle.std.proofs.Common.{◌-◌, ◌/◌, length, get_or, arith}
-use Rattle.rapidhash_portable.proofs.Shorts.{packed_three}
+use Rattle.rapidhash_portable.proofs.WordsLemmas.{packed_three}
 use Rattle.rapidhash_portable.proofs.words.three_bytes.Goals as goal
 
 pub returns : goal.returns

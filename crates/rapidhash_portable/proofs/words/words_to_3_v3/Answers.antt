@@ -1,6 +1,6 @@
 use Rattle.std.proofs.Common.{◌-◌, length, get_or, arith}
 use Rattle.rapidhash_portable.specs.declared.form.Form.TheVariants.{V3}
-use Rattle.rapidhash_portable.proofs.Shorts.{packed, short_words-few}
+use Rattle.rapidhash_portable.proofs.WordsLemmas.{packed, short_words-few}
 use Rattle.rapidhash_portable.proofs.words.words_to_3_v3.Goals as goal
 
 pub returns : goal.returns

@@ -1,7 +1,6 @@
 use Rattle.std.proofs.Common.{◌≡◌, ℕ, ◌<◌, List, length, get_or, ap, Bool, IsTrue, ◌↔◌, rules}
 use Rattle.rapidhash_portable.specs.Absorbed.{absorbed_words}
-use Rattle.rapidhash_portable.proofs.Absorbed.{hash-absorbed}
-use Rattle.rapidhash_portable.proofs.NothingLost.{same_from_words}
+use Rattle.rapidhash_portable.proofs.AbsorbedLemmas.{hash-absorbed, same_from_words}
 use Rattle.rapidhash_portable.specs.declared.form.Form.{Form}
 use Rattle.rapidhash.specs.Laws.{SameWords}
 use Rattle.rapidhash.proofs.laws.words.same_words.Goals as goal

@@ -1,6 +1,6 @@
 use Rattle.std.proofs.Common.{false, bit_xor, length, arith, length-take-le}
 use Rattle.rapidhash_portable.specs.Form.{start_seed}
-use Rattle.rapidhash_portable.proofs.Hashes.{shape_of-v1-some}
+use Rattle.rapidhash_portable.proofs.FormLemmas.{shape_of-v1-some}
 use Rattle.rapidhash_portable.proofs.ReadingLemmas.{last_16-front}
 use Rattle.rapidhash_portable.proofs.v1.readers.long.Goals as goal
 

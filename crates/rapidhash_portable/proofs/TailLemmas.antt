@@ -1,3 +1,4 @@
+-- The pairs of a tail, folded one after another.
 use Rattle.std.proofs.Common.{◌≡◌, ℕ, ◌+◌, ◌-◌, ◌*◌, ◌/◌, ◌≤◌, ◌<◌, Bool, List, [], ◌∷◌, ◌++◌, length, get_or, take, drop, refl, sym, ap, ◌∙◌, arith, length-drop}
 use Rattle.std.proofs.lemmas.List.{take_all, take_more, take-take, length-take-le}
 use Rattle.rapidhash_portable.specs.Lanes.{pair_of, pair_at, step}
@@ -5,7 +6,8 @@ use Rattle.rapidhash_portable.specs.Tail.{after_tail, fold_pairs}
 use Rattle.rapidhash_portable.proofs.LanesLemmas.{pair_at-drop}
 
 -- one pair more
-fold_pairs-push : (protected : Bool) (cs : List ℕ) (c : ℕ) (pair : ℕ → ℕ × ℕ) (at seed : ℕ) → fold_pairs protected (cs ++ c ∷ []) pair at seed ≡ step protected c (fold_pairs protected cs pair at seed) (pair (at + length cs))
+fold_pairs-push : (protected : Bool) (cs : List ℕ) (c : ℕ) (pair : ℕ → ℕ × ℕ) (at seed : ℕ)
+    → fold_pairs protected (cs ++ c ∷ []) pair at seed ≡ step protected c (fold_pairs protected cs pair at seed) (pair (at + length cs))
 unfolding fold_pairs
 fold_pairs-push protected [] c pair at seed =
     let e : at ≡ at + 0 = omega arith in
@@ -15,26 +17,31 @@ fold_pairs-push protected (d ∷ cs) c pair at seed =
     fold_pairs-push protected cs c pair (at + 1) (step protected d seed (pair at))
     ∙ ap (λ k. step protected c (fold_pairs protected cs pair (at + 1) (step protected d seed (pair at))) (pair k)) e
 
-pub fold_pairs-more : (protected : Bool) (table : List ℕ) (pair : ℕ → ℕ × ℕ) (j seed : ℕ) → j < length table → fold_pairs protected (take (j + 1) table) pair 0 seed ≡ step protected (get_or table j 0) (fold_pairs protected (take j table) pair 0 seed) (pair j)
+-- the pairs up to place `j`, and the one there
+pub fold_pairs-more : (protected : Bool) (table : List ℕ) (pair : ℕ → ℕ × ℕ) (j seed : ℕ) → j < length table
+    → fold_pairs protected (take (j + 1) table) pair 0 seed ≡ step protected (get_or table j 0) (fold_pairs protected (take j table) pair 0 seed) (pair j)
 fold_pairs-more protected table pair j seed h =
     let e : 0 + length (take j table) ≡ j = omega (arith, length-take-le j table (omega arith)) in
     ap (λ cs. fold_pairs protected cs pair 0 seed) (take_more table j 0 h)
     ∙ fold_pairs-push protected (take j table) (get_or table j 0) pair 0 seed
     ∙ ap (λ k. step protected (get_or table j 0) (fold_pairs protected (take j table) pair 0 seed) (pair k)) e
 
+-- no pair leaves the seed
 pub fold_pairs-none : (protected : Bool) (table : List ℕ) (pair : ℕ → ℕ × ℕ) (seed : ℕ) → fold_pairs protected (take 0 table) pair 0 seed ≡ seed
 unfolding fold_pairs
 fold_pairs-none protected table pair seed = refl
 
 -- a tail that ends in the table
-pub after_tail-stop : (protected : Bool) (table : List ℕ) (pair : ℕ → ℕ × ℕ) (t seed j : ℕ) → 16 * j ≤ t - 1 → t ≤ 16 * j + 16 → after_tail protected table pair 0 t seed ≡ fold_pairs protected (take j table) pair 0 seed
+pub after_tail-stop : (protected : Bool) (table : List ℕ) (pair : ℕ → ℕ × ℕ) (t seed j : ℕ) → 16 * j ≤ t - 1 → t ≤ 16 * j + 16
+    → after_tail protected table pair 0 t seed ≡ fold_pairs protected (take j table) pair 0 seed
 unfolding after_tail
 after_tail-stop protected table pair t seed j low high =
     let e : (t - 1) / 16 ≡ j = omega arith in
     ap (λ k. fold_pairs protected (take k table) pair 0 seed) e
 
 -- a tail that takes the whole table
-pub after_tail-all : (protected : Bool) (table : List ℕ) (pair : ℕ → ℕ × ℕ) (t seed : ℕ) → 16 * length table ≤ t - 1 → after_tail protected table pair 0 t seed ≡ fold_pairs protected (take (length table) table) pair 0 seed
+pub after_tail-all : (protected : Bool) (table : List ℕ) (pair : ℕ → ℕ × ℕ) (t seed : ℕ) → 16 * length table ≤ t - 1
+    → after_tail protected table pair 0 t seed ≡ fold_pairs protected (take (length table) table) pair 0 seed
 unfolding after_tail
 after_tail-all protected table pair t seed low =
     ap (λ cs. fold_pairs protected cs pair 0 seed) (take_all ((t - 1) / 16) table (omega arith) ∙ sym (take_all (length table) table (omega arith)))
@@ -45,7 +52,8 @@ unfolding after_tail fold_pairs
 after_tail-none protected pair t seed = ap (λ cs. fold_pairs protected cs pair 0 seed) (take_all ((t - 1) / 16) [] (omega arith))
 
 -- a secret more, for a pair that the tail has
-pub after_tail-more : (protected : Bool) (table : List ℕ) (pair : ℕ → ℕ × ℕ) (t seed j : ℕ) → j < length table → 16 * j + 16 < t → after_tail protected (take (j + 1) table) pair 0 t seed ≡ step protected (get_or table j 0) (after_tail protected (take j table) pair 0 t seed) (pair j)
+pub after_tail-more : (protected : Bool) (table : List ℕ) (pair : ℕ → ℕ × ℕ) (t seed j : ℕ) → j < length table → 16 * j + 16 < t
+    → after_tail protected (take (j + 1) table) pair 0 t seed ≡ step protected (get_or table j 0) (after_tail protected (take j table) pair 0 t seed) (pair j)
 unfolding after_tail
 after_tail-more protected table pair t seed j h long =
     let k = (t - 1) / 16 in
@@ -56,19 +64,22 @@ after_tail-more protected table pair t seed j h long =
     ∙ ap (λ cs. step protected (get_or table j 0) (fold_pairs protected cs pair 0 seed) (pair j)) (sym (take_all k (take j table) few))
 
 -- a secret more, for a pair that it has not
-pub after_tail-same : (protected : Bool) (table : List ℕ) (pair : ℕ → ℕ × ℕ) (t seed j : ℕ) → t ≤ 16 * j + 16 → after_tail protected (take (j + 1) table) pair 0 t seed ≡ after_tail protected (take j table) pair 0 t seed
+pub after_tail-same : (protected : Bool) (table : List ℕ) (pair : ℕ → ℕ × ℕ) (t seed j : ℕ) → t ≤ 16 * j + 16
+    → after_tail protected (take (j + 1) table) pair 0 t seed ≡ after_tail protected (take j table) pair 0 t seed
 unfolding after_tail
 after_tail-same protected table pair t seed j short =
     let k = (t - 1) / 16 in
     ap (λ cs. fold_pairs protected cs pair 0 seed) (take-take k (j + 1) table (omega arith) ∙ sym (take-take k j table (omega arith)))
 
 -- all secrets
-pub after_tail-whole : (protected : Bool) (table : List ℕ) (pair : ℕ → ℕ × ℕ) (t seed n : ℕ) → n ≡ length table → after_tail protected (take n table) pair 0 t seed ≡ after_tail protected table pair 0 t seed
+pub after_tail-whole : (protected : Bool) (table : List ℕ) (pair : ℕ → ℕ × ℕ) (t seed n : ℕ) → n ≡ length table
+    → after_tail protected (take n table) pair 0 t seed ≡ after_tail protected table pair 0 t seed
 after_tail-whole protected table pair t seed n e =
     ap (λ cs. after_tail protected cs pair 0 t seed) (take_all n table (omega arith))
 
 -- the pairs of what is left of a message are the message's own
-fold_pairs-drop : (protected : Bool) (cs x : List ℕ) (first at seed : ℕ) → fold_pairs protected cs (pair_of (drop (16 * first) x)) at seed ≡ fold_pairs protected cs (pair_of x) (first + at) seed
+fold_pairs-drop : (protected : Bool) (cs x : List ℕ) (first at seed : ℕ)
+    → fold_pairs protected cs (pair_of (drop (16 * first) x)) at seed ≡ fold_pairs protected cs (pair_of x) (first + at) seed
 unfolding fold_pairs
 fold_pairs-drop protected [] x first at seed = refl
 fold_pairs-drop protected (c ∷ cs) x first at seed =
@@ -79,15 +90,24 @@ fold_pairs-drop protected (c ∷ cs) x first at seed =
     ∙ ap (λ p. fold_pairs protected cs (pair_of x) (first + (at + 1)) (step protected c seed p)) pair
     ∙ ap (λ k. fold_pairs protected cs (pair_of x) k (step protected c seed (pair_of x (first + at)))) next
 
-pub after_tail-drop : (protected : Bool) (table x : List ℕ) (first t seed : ℕ) → after_tail protected table (pair_of (drop (16 * first) x)) 0 t seed ≡ after_tail protected table (pair_of x) first t seed
+-- the tail of what is left of a message is folded from the message's own pairs
+pub after_tail-drop : (protected : Bool) (table x : List ℕ) (first t seed : ℕ)
+    → after_tail protected table (pair_of (drop (16 * first) x)) 0 t seed ≡ after_tail protected table (pair_of x) first t seed
 unfolding after_tail
 after_tail-drop protected table x first t seed =
     let e : first + 0 ≡ first = omega arith in
     fold_pairs-drop protected (take ((t - 1) / 16) table) x first 0 seed ∙ ap (λ k. fold_pairs protected (take ((t - 1) / 16) table) (pair_of x) k seed) e
 
 -- a tail as what is left of a message
-pub after_tail-rest : (protected : Bool) (table x rest : List ℕ) (first seed : ℕ) → rest ≡ drop (16 * first) x → after_tail protected table (pair_of rest) 0 (length rest) seed ≡ after_tail protected table (pair_of x) first (length x - 16 * first) seed
+pub after_tail-rest : (protected : Bool) (table x rest : List ℕ) (first seed : ℕ) → rest ≡ drop (16 * first) x
+    → after_tail protected table (pair_of rest) 0 (length rest) seed ≡ after_tail protected table (pair_of x) first (length x - 16 * first) seed
 after_tail-rest protected table x rest first seed e =
     ap (λ r. after_tail protected table (pair_of r) 0 (length r) seed) e
     ∙ after_tail-drop protected table x first (length (drop (16 * first) x)) seed
     ∙ ap (λ t. after_tail protected table (pair_of x) first t seed) (length-drop (16 * first) x)
+
+-- a tail of at most 16 bytes has no pair
+pub after_tail-short : (protected : Bool) (table tail : List ℕ) (seed : ℕ) → length tail ≤ 16
+    → after_tail protected table (pair_of tail) 0 (length tail) seed ≡ seed
+after_tail-short protected table tail seed h =
+    after_tail-stop protected table (pair_of tail) (length tail) seed 0 (omega arith) h ∙ fold_pairs-none protected table (pair_of tail) seed

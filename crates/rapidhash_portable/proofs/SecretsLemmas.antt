@@ -1,18 +1,20 @@
--- Each repair sets a bit in its own part of a word, and leaves the other parts alone.
-use Rattle.std.proofs.Common.{◌≡◌, ◌≢◌, ℕ, nat_eq, bit_and, bit_or, min, max, refl, ap, sym, ◌∙◌, arith}
+-- Secrets made one of the other, each with a set bit in its three parts, and the default seeds as numbers.
+use Rattle.std.proofs.Common.{◌≡◌, ◌≢◌, ℕ, nat_eq, bit_and, bit_or, min, max, refl, ap, sym, ◌∙◌, arith, suc, ◌+◌, false, bit_xor, get_or, subst}
 use Rattle.std.proofs.lemmas.Bool.{cond_both, eqb-false}
 use Rattle.std.proofs.lemmas.Nat.{and_or_apart}
 use Rattle.std.proofs.lemmas.Nat.Bits.{bit_at-zero, bit_at_and, bit_at_or}
 use Rattle.std.specs.Int.{bit_at}
-use Rattle.rapidhash_portable.specs.Secrets.{IsGood, repaired, with_bit}
+use Rattle.rapidhash_portable.specs.Secrets.{IsGood, repaired, with_bit, chained, cpp_seeded, default_secrets, default_seed, default_seed_v1, made_state, premixed, s0, s1, s2}
+use Rattle.rapidhash_portable.specs.Multiply.{mix, multiply}
 
 -- a number with a set bit is not 0
 nonzero : (n i : ℕ) → bit_at n i ≡ 1 → n ≢ 0
 nonzero n i set e =
-    let z = bit_at-zero i in
+    let z : bit_at 0 i ≡ 0 = bit_at-zero i in
     let one : 1 ≡ 0 = sym set ∙ ap (λ m. bit_at m i) e ∙ z in
     absurd (omega arith)
 
+-- a bit is at most 1
 capped : (a : ℕ) → min (max a 1) 1 ≡ 1
 capped a = omega arith
 
@@ -53,3 +55,47 @@ IsGood-repaired word =
 -- a good word is not 0
 pub IsGood-nonzero : (word : ℕ) → IsGood word → word ≢ 0
 IsGood-nonzero word good e = good.lower (ap (λ w. bit_and w 0xffff) e)
+
+-- no premix leaves the word
+pub chained-none : (word : ℕ) → chained word 0 ≡ word
+unfolding chained
+chained-none word = refl
+
+-- one premix more
+pub chained-more : (word count : ℕ) → chained word (count + 1) ≡ premixed (chained word count) count
+unfolding chained
+chained-more word count =
+    let one : count + 1 ≡ suc count = omega arith in
+    ap (chained word) one
+
+-- a word after a premix is good
+pub IsGood-chained : (word count : ℕ) → IsGood (chained word (count + 1))
+unfolding premixed
+IsGood-chained word count = subst IsGood (sym (chained-more word count)) (IsGood-repaired _)
+
+-- the first state of a random word's secrets
+pub made_state-none : (random : ℕ) → made_state random 0 ≡ mix false (bit_xor random s2) s1
+unfolding made_state
+made_state-none random = refl
+
+-- one state more
+pub made_state-more : (random count : ℕ)
+    → made_state random (count + 1) ≡ repaired (mix false (bit_xor (made_state random count) s0) (bit_xor random (get_or default_secrets count 0)))
+unfolding made_state
+made_state-more random count =
+    let one : count + 1 ≡ suc count = omega arith in
+    ap (made_state random) one
+
+-- a state after the first is good
+pub IsGood-made_state : (random count : ℕ) → IsGood (made_state random (count + 1))
+IsGood-made_state random count = subst IsGood (sym (made_state-more random count)) (IsGood-repaired _)
+
+-- the default seed of V2 and V3 as a number
+pub default_number : 0x422765567d8fbfd6 ≡ default_seed
+unfolding cpp_seeded mix multiply
+default_number = refl
+
+-- and that of V1
+pub default_number_v1 : 0x763305bbe7bea536 ≡ default_seed_v1
+unfolding cpp_seeded mix multiply
+default_number_v1 = refl

@@ -1,5 +1,5 @@
--- The hash looks at nothing but a message's length and its absorbed words.
-use Rattle.std.proofs.Common.{◌≡◌, ℕ, zero, suc, ◌+◌, ◌-◌, ◌*◌, ◌/◌, ◌≤◌, ◌<◌, Bool, List, [], ◌∷◌, ◌++◌, map, length, get_or, slice_index, take, refl, sym, ap, ◌∙◌, arith, length-append, ⊎_elim, zero-add}
+-- The absorbed words of a message: the hash looks at nothing else but its length, and nothing of the message is lost in them.
+use Rattle.std.proofs.Common.{◌≡◌, ℕ, zero, suc, ◌+◌, ◌-◌, ◌*◌, ◌/◌, ◌≤◌, ◌<◌, Bool, List, [], ◌∷◌, ◌++◌, map, length, get_or, slice_index, take, refl, sym, ap, ◌∙◌, arith, length-append, ⊎_elim, zero-add, subst}
 use Rattle.std.proofs.Math.Seq.{get_or-append_seam}
 use Rattle.std.specs.List.{range_with_len}
 use Rattle.std.proofs.lemmas.Bool.{cases_lt, lt-ltb, le-ltb}
@@ -14,12 +14,17 @@ use Rattle.rapidhash_portable.specs.Form.{shape_of, start_seed, tail_seed, tail_
 use Rattle.rapidhash_portable.specs.Hash.{value, portable_hash}
 use Rattle.rapidhash_portable.specs.Words.{last_words}
 use Rattle.rapidhash_portable.specs.Absorbed.{pairs_in, absorbed_words, value_of_words}
+use Rattle.std.proofs.lemmas.Grind.{same_number_lists}
+use Rattle.rapidhash_portable.proofs.WordsLemmas.{SameBytes, last_words-long, last_words-short, same_last, same_short}
+use Rattle.rapidhash_portable.proofs.BytesLemmas.{same_in_pair}
 
 -- two ways to take pairs agree on the first `n`
 abbrev pub Agree : ℕ → (ℕ → ℕ × ℕ) → (ℕ → ℕ × ℕ) → Type 0
 Agree n pair pair' = (k : ℕ) → k < n → pair k ≡ pair' k
 
-pairs_of-same : (pair pair' : ℕ → ℕ × ℕ) (first width rows place n : ℕ) → Agree n pair pair' → place < width → first + width * rows ≤ n → pairs_of pair first width rows place ≡ pairs_of pair' first width rows place
+-- so do the pairs at one place of each row
+pairs_of-same : (pair pair' : ℕ → ℕ × ℕ) (first width rows place n : ℕ) → Agree n pair pair' → place < width → first + width * rows ≤ n
+    → pairs_of pair first width rows place ≡ pairs_of pair' first width rows place
 unfolding pairs_of
 pairs_of-same pair pair' first width zero place n same p h = refl
 pairs_of-same pair pair' first width (suc rows) place n same p h =
@@ -35,7 +40,9 @@ pairs_of-same pair pair' first width (suc rows) place n same p h =
     ∙ sym (map-range_with_len_more g 0 rows rows (omega arith))
     ∙ ap (λ n. map g (range_with_len 0 n)) (sym one)
 
-column-same : (pair pair' : ℕ → ℕ × ℕ) (shape : Shape) (lane n : ℕ) → Agree n pair pair' → lane < shape.lanes → row_pairs shape ≤ n → column pair shape lane ≡ column pair' shape lane
+-- so does a lane's column
+column-same : (pair pair' : ℕ → ℕ × ℕ) (shape : Shape) (lane n : ℕ) → Agree n pair pair' → lane < shape.lanes → row_pairs shape ≤ n
+    → column pair shape lane ≡ column pair' shape lane
 unfolding column
 column-same pair pair' shape lane n same l h =
     let wide = pairs_of-same pair pair' 0 shape.lanes shape.rows lane n same l (omega arith) in
@@ -44,7 +51,9 @@ column-same pair pair' shape lane n same l h =
     (λ many. rw (le-ltb lane 3 many) (cc wide))
     (cases_lt lane 3)
 
-after_lanes-same : (protected : Bool) (secrets : List ℕ) (pair pair' : ℕ → ℕ × ℕ) (shape : Shape) (seed n : ℕ) → Agree n pair pair' → row_pairs shape ≤ n → after_lanes protected secrets pair shape seed ≡ after_lanes protected secrets pair' shape seed
+-- so do the joined lanes
+after_lanes-same : (protected : Bool) (secrets : List ℕ) (pair pair' : ℕ → ℕ × ℕ) (shape : Shape) (seed n : ℕ) → Agree n pair pair'
+    → row_pairs shape ≤ n → after_lanes protected secrets pair shape seed ≡ after_lanes protected secrets pair' shape seed
 unfolding after_lanes
 after_lanes-same protected secrets pair pair' shape seed n same h =
     let f = λ (lane : ℕ). lane_of protected (slice_index secrets lane) (column pair shape lane) seed in
@@ -52,7 +61,9 @@ after_lanes-same protected secrets pair pair' shape seed n same h =
     ap joined (fill_by_all g (map f (range_with_len 0 shape.lanes)) shape.lanes 0 (length-map-range_with_len f 0 shape.lanes)
     (λ i l. get_or-map-range_with_len f 0 shape.lanes i i 0 l (zero-add i) ∙ ap (λ c. lane_of protected (slice_index secrets i) c seed) (column-same pair pair' shape i n same l h)))
 
-fold_pairs-same : (protected : Bool) (cs : List ℕ) (pair pair' : ℕ → ℕ × ℕ) (at seed n : ℕ) → Agree n pair pair' → at + length cs ≤ n → fold_pairs protected cs pair at seed ≡ fold_pairs protected cs pair' at seed
+-- so do the folded pairs of a tail
+fold_pairs-same : (protected : Bool) (cs : List ℕ) (pair pair' : ℕ → ℕ × ℕ) (at seed n : ℕ) → Agree n pair pair' → at + length cs ≤ n
+    → fold_pairs protected cs pair at seed ≡ fold_pairs protected cs pair' at seed
 unfolding fold_pairs
 fold_pairs-same protected [] pair pair' at seed n same h = refl
 fold_pairs-same protected (c ∷ cs) pair pair' at seed n same h =
@@ -60,14 +71,17 @@ fold_pairs-same protected (c ∷ cs) pair pair' at seed n same h =
     ap (λ p. fold_pairs protected cs pair (at + 1) (step protected c seed p)) (same at (omega arith))
     ∙ fold_pairs-same protected cs pair pair' (at + 1) (step protected c seed (pair' at)) n same (omega arith)
 
-after_tail-same : (protected : Bool) (table : List ℕ) (pair pair' : ℕ → ℕ × ℕ) (first t seed n : ℕ) → Agree n pair pair' → first + (t - 1) / 16 ≤ n → after_tail protected table pair first t seed ≡ after_tail protected table pair' first t seed
+-- so does the seed after a tail
+after_tail-same : (protected : Bool) (table : List ℕ) (pair pair' : ℕ → ℕ × ℕ) (first t seed n : ℕ) → Agree n pair pair'
+    → first + (t - 1) / 16 ≤ n → after_tail protected table pair first t seed ≡ after_tail protected table pair' first t seed
 unfolding after_tail
 after_tail-same protected table pair pair' first t seed n same h =
     let size = length-take ((t - 1) / 16) table in
     fold_pairs-same protected (take ((t - 1) / 16) table) pair pair' first seed n same (omega (arith, size))
 
 -- the value looks at no pairs but those that are folded
-value-same : (form : Form) (options : Options) (seed : ℕ) (secrets : List ℕ) (n : ℕ) (pair pair' : ℕ → ℕ × ℕ) (words : ℕ × ℕ) → Agree (pairs_in form n) pair pair' → value form options seed secrets n pair words ≡ value form options seed secrets n pair' words
+value-same : (form : Form) (options : Options) (seed : ℕ) (secrets : List ℕ) (n : ℕ) (pair pair' : ℕ → ℕ × ℕ) (words : ℕ × ℕ)
+    → Agree (pairs_in form n) pair pair' → value form options seed secrets n pair words ≡ value form options seed secrets n pair' words
 unfolding value
 value-same form options seed secrets n pair pair' words same =
     let shape = shape_of form n in
@@ -85,6 +99,7 @@ absorbed-pair form x k h =
     let size : length front ≡ m = length-map-range_with_len (pair_of x) 0 m in
     get_or_append_left front (last_words form x ∷ []) (0, 0) k (omega (arith, size)) ∙ get_or-map-range_with_len (pair_of x) 0 m k k (0, 0) h (zero-add k)
 
+-- the last of a list that was added to
 last_of : (xs : List (ℕ × ℕ)) (y d : ℕ × ℕ) → get_or (xs ++ y ∷ []) (length (xs ++ y ∷ []) - 1) d ≡ y
 last_of xs y d =
     let e : length (xs ++ y ∷ []) - 1 ≡ length xs = omega (arith, length-append xs (y ∷ [])) in
@@ -96,8 +111,40 @@ unfolding absorbed_words
 absorbed-last form x = last_of (map (pair_of x) (range_with_len 0 (pairs_in form (length x)))) (last_words form x) (0, 0)
 
 -- a message's hash is the value of its length and its absorbed words
-pub hash-absorbed : (form : Form) (options : Options) (seed : ℕ) (secrets x : List ℕ) → portable_hash form options seed secrets x ≡ value_of_words form options seed secrets (length x) (absorbed_words form x)
+pub hash-absorbed : (form : Form) (options : Options) (seed : ℕ) (secrets x : List ℕ)
+    → portable_hash form options seed secrets x ≡ value_of_words form options seed secrets (length x) (absorbed_words form x)
 hash-absorbed form options seed secrets x =
     let words = absorbed_words form x in
     value-same form options seed secrets (length x) (pair_of x) (λ k. get_or words k (0, 0)) (last_words form x) (λ k h. sym (absorbed-pair form x k h))
     ∙ ap (value form options seed secrets (length x) (λ k. get_or words k (0, 0))) (sym (absorbed-last form x))
+
+-- a byte in no pair that is folded is one of the last 16
+behind_pairs : (n rows i : ℕ) → rows + (n - 16 * rows - 1) / 16 ≤ i / 16 → i < n → n - 16 ≤ i
+behind_pairs n rows i h l = omega arith
+
+-- two messages of bytes, of one length
+module _ (x y : List ℕ) (x_bytes : (k : ℕ) → get_or x k 0 < 256) (y_bytes : (k : ℕ) → get_or y k 0 < 256) (size : length x ≡ length y) where
+  -- equal absorbed words end in equal last words
+  last-same : (form : Form) → absorbed_words form x ≡ absorbed_words form y → last_words form x ≡ last_words form y
+  last-same form words = sym (absorbed-last form x) ∙ ap (λ ws. get_or ws (length ws - 1) (0, 0)) words ∙ absorbed-last form y
+
+  -- above 16 bytes
+  same_long : (form : Form) → 16 < length x → absorbed_words form x ≡ absorbed_words form y → SameBytes x y
+  same_long form long words i h =
+      let long' : 16 < length y = omega arith in
+      let last = sym (last_words-long form x long) ∙ last-same form words ∙ last_words-long form y long' in
+      ⊎_elim
+      (λ l.
+      let l' = subst (λ n. i / 16 < pairs_in form n) size l in
+      let pair = sym (absorbed-pair form x (i / 16) l) ∙ ap (λ ws. get_or ws (i / 16) (0, 0)) words ∙ absorbed-pair form y (i / 16) l' in
+      same_in_pair x y x_bytes y_bytes (16 * (i / 16)) (16 * (i / 16)) pair refl i (omega arith) (omega arith))
+      (λ l. same_last x y x_bytes y_bytes size last i (behind_pairs (length x) (row_pairs (shape_of form (length x))) i l h) h long)
+      (cases_lt (i / 16) (pairs_in form (length x)))
+
+  -- the length and the absorbed words tell the message
+  pub same_from_words : (form : Form) → absorbed_words form x ≡ absorbed_words form y → x ≡ y
+  same_from_words form words =
+      same_number_lists x y size (λ i h. ⊎_elim
+      (λ long. same_long form long words i h)
+      (λ short. same_short x y x_bytes y_bytes size form short (sym (last_words-short form x short) ∙ last-same form words ∙ last_words-short form y (omega arith)) i h)
+      (cases_lt 16 (length x)))

@@ -1,0 +1,100 @@
+-- How each form cuts a message, by its length, and what its tail and its lanes start from.
+use Rattle.std.proofs.Common.{◌≡◌, ℕ, ◌+◌, ◌-◌, ◌*◌, ◌/◌, ◌%◌, ◌≤◌, ◌<◌, Bool, true, false, ⊎_elim, List, [], ◌∷◌, drop, refl, sym, ap, ◌∙◌, arith, cond, nat_lt}
+use Rattle.std.proofs.lemmas.Bool.{cases_lt, lt-ltb, le-ltb}
+use Rattle.std.proofs.lemmas.Bool.Decides.{nat_tests}
+use Rattle.std.proofs.lemmas.Nat.{div-mul-add}
+use Rattle.rapidhash_portable.specs.Lanes.{pair_of, rows_in, no_rows, row_bytes, wide_shape, mixed_shape, after_lanes}
+use Rattle.rapidhash_portable.specs.declared.form.Form.{Form}
+use Rattle.rapidhash_portable.specs.declared.form.Form.TheVariants.{V1, V2, V3}
+use Rattle.rapidhash_portable.specs.Form.{least_row_v1, row_tail_places, v2_limit, shape_of, start_seed, tail_seed, tail_places}
+use Rattle.rapidhash_portable.proofs.LanesLemmas.{after_lanes-none, cond_same}
+
+-- a message of which V1 folds a row is long
+pub long-v1 : (bug : Bool) (n : ℕ) → least_row_v1 bug ≤ n → 16 < n
+long-v1 true n h = omega arith
+long-v1 false n h = omega arith
+
+-- V1 below 48 bytes has no row
+pub shape_of-v1-few : (bug : Bool) (n : ℕ) → n < 48 → shape_of (V1 bug) n ≡ no_rows 3
+unfolding shape_of
+shape_of-v1-few bug n h =
+    let none : rows_in 3 0 n ≡ 0 = omega arith in
+    rw none (cond_same _ _)
+
+-- V1 below its shortest message with a row has none
+pub shape_of-v1-none : (bug : Bool) (n : ℕ) → n < least_row_v1 bug → shape_of (V1 bug) n ≡ no_rows 3
+unfolding shape_of
+shape_of-v1-none true n h = shape_of-v1-few true n h
+shape_of-v1-none false n h =
+    ⊎_elim (λ few. shape_of-v1-few false n few) (λ many. let at : n ≡ 48 = omega arith in rw at refl) (cases_lt n 48)
+
+-- V1 from there on has rows of three
+pub shape_of-v1-some : (bug : Bool) (n : ℕ) → least_row_v1 bug ≤ n → shape_of (V1 bug) n ≡ wide_shape 3 0 n
+unfolding shape_of
+shape_of-v1-some true n h = grind (arith, nat_tests)
+shape_of-v1-some false n h = grind (arith, nat_tests)
+
+-- V2 above both its limits
+pub above_limit : (minor n : ℕ) → 64 < n → v2_limit minor < n
+above_limit minor n h = grind (arith, nat_tests)
+
+-- a message above V2's limit is long
+pub long-v2 : (minor n : ℕ) → v2_limit minor < n → 16 < n
+long-v2 minor n h = grind (arith, nat_tests)
+
+-- V2 up to its limit has no row
+pub shape_of-v2-none : (minor n : ℕ) → n ≤ v2_limit minor → shape_of (V2 minor) n ≡ no_rows 7
+unfolding shape_of
+shape_of-v2-none minor n h = rw (le-ltb (v2_limit minor) n h) refl
+
+-- V2 above its limit has rows of seven and of three
+pub shape_of-v2-some : (minor n : ℕ) → v2_limit minor < n → shape_of (V2 minor) n ≡ mixed_shape 7 n
+unfolding shape_of
+shape_of-v2-some minor n h = rw (lt-ltb (v2_limit minor) n h) refl
+
+-- V2 up to 16 bytes has no row
+pub shape_of-v2-few : (minor n : ℕ) → n ≤ 16 → shape_of (V2 minor) n ≡ no_rows 7
+shape_of-v2-few minor n h = shape_of-v2-none minor n (grind (arith, nat_tests))
+
+-- the places of a tail of V2 with no row
+pub tail_places-v2-none : (minor n : ℕ) → n ≤ v2_limit minor → tail_places (V2 minor) n ≡ 0 ∷ 1 ∷ cond (nat_lt minor 2) 0 1 ∷ []
+unfolding tail_places
+tail_places-v2-none minor n h = rw (le-ltb (v2_limit minor) n h) refl
+
+-- and behind rows
+pub tail_places-v2-some : (minor n : ℕ) → v2_limit minor < n → tail_places (V2 minor) n ≡ row_tail_places
+unfolding tail_places
+tail_places-v2-some minor n h = rw (lt-ltb (v2_limit minor) n h) refl
+
+-- V3 has no row where every lane would need a byte more
+pub shape_of-v3-none : (lanes n : ℕ) → 0 < lanes → n ≤ 16 * lanes → shape_of (V3 lanes) n ≡ no_rows lanes
+unfolding shape_of
+shape_of-v3-none lanes n h k =
+    let e : n - 1 ≡ 0 * (16 * lanes) + (n - 1) = omega arith in
+    let zero = ap (λ b. b / (16 * lanes)) e ∙ div-mul-add 0 (16 * lanes) (n - 1) (omega arith) in
+    rw zero refl
+
+-- V3 starts from the seed itself above 16 bytes
+pub start_seed-long : (lanes n seed : ℕ) → 16 < n → start_seed (V3 lanes) n seed ≡ seed
+unfolding start_seed
+start_seed-long lanes n seed h = grind (arith, nat_tests)
+
+-- a tail of at most 16 bytes starts from the seed itself
+pub tail_seed-short : (form : Form) (secrets : List ℕ) (t seed : ℕ) → t ≤ 16 → tail_seed form secrets t seed ≡ seed
+unfolding tail_seed
+tail_seed-short (V1 bug) secrets t seed h = rw (le-ltb 16 t h) refl
+tail_seed-short (V2 minor) secrets t seed h = refl
+tail_seed-short (V3 lanes) secrets t seed h = refl
+
+-- with no row all of a message is its tail
+pub rest-none : (lanes : ℕ) (x : List ℕ) → x ≡ drop (row_bytes (no_rows lanes)) x
+rest-none lanes x =
+    let z : 16 * (lanes * 0 + 3 * 0) ≡ 0 = omega arith in
+    rw z refl
+
+-- so the tail is the message, and the joined lanes are the seed
+pub rows-none : (form : Form) (lanes n : ℕ) (protected : Bool) (secrets x : List ℕ) (seed : ℕ) → lanes % 2 ≡ 1
+    → shape_of form n ≡ no_rows lanes
+    → (x ≡ drop (row_bytes (shape_of form n)) x) × (seed ≡ after_lanes protected secrets (pair_of x) (shape_of form n) seed)
+rows-none form lanes n protected secrets x seed odd none =
+    (rest-none lanes x ∙ ap (λ shape. drop (row_bytes shape) x) (sym none), after_lanes-none protected secrets x lanes seed odd ∙ ap (λ shape. after_lanes protected secrets (pair_of x) shape seed) (sym none))

@@ -1,0 +1,59 @@
+-- The value of the in-memory core, put together from its rows, its tail and its close.
+use Rattle.std.proofs.Common.{◌≡◌, ℕ, ◌+◌, ◌%◌, ◌^◌, ◌≤◌, ◌<◌, Bool, List, length, get_or, drop, refl, sym, ap, ◌∙◌, arith, bit_xor}
+use Rattle.std.proofs.lemmas.Bool.{lt-ltb, le-ltb}
+use Rattle.rapidhash_portable.specs.Lanes.{pair_of, no_rows, row_bytes, row_pairs, wide_shape, mixed_shape, after_lanes}
+use Rattle.rapidhash_portable.specs.Tail.{after_tail, picked}
+use Rattle.rapidhash_portable.specs.declared.form.Form.TheVariants.{V3}
+use Rattle.rapidhash_portable.specs.Form.{alternating_bits}
+use Rattle.rapidhash_portable.specs.Words.{last_words}
+use Rattle.rapidhash_portable.specs.Memory.{after_pairs, core_tail_places, memory_hash, memory_shape}
+use Rattle.rapidhash_portable.specs.declared.form.Options.{Options}
+use Rattle.rapidhash_portable.specs.Hash.{close}
+use Rattle.rapidhash_portable.proofs.LanesLemmas.{after_lanes-none}
+use Rattle.rapidhash_portable.proofs.FormLemmas.{rest-none}
+use Rattle.rapidhash_portable.proofs.TailLemmas.{after_tail-rest, after_tail-short}
+
+-- the core up to 48 bytes has no row
+pub memory_shape-none : (n : ℕ) → n ≤ 48 → memory_shape n ≡ no_rows 3
+unfolding memory_shape
+memory_shape-none n h = rw (le-ltb 400 n (omega arith), le-ltb 48 n h) refl
+
+-- the core up to 400 bytes has rows of three
+pub memory_shape-wide : (n : ℕ) → 48 < n → n ≤ 400 → memory_shape n ≡ wide_shape 3 0 n
+unfolding memory_shape
+memory_shape-wide n h k = rw (le-ltb 400 n k, lt-ltb 48 n h) refl
+
+-- the core above 400 bytes has rows of seven and of three
+pub memory_shape-mixed : (n : ℕ) → 400 < n → memory_shape n ≡ mixed_shape 7 n
+unfolding memory_shape
+memory_shape-mixed n h = rw (lt-ltb 400 n h) refl
+
+-- the seed of the memory core, made piece by piece
+pub after_pairs-is : (protected : Bool) (seed : ℕ) (secrets x rest : List ℕ) (joined all : ℕ)
+    → rest ≡ drop (row_bytes (memory_shape (length x))) x
+    → joined ≡ after_lanes protected secrets (pair_of x) (memory_shape (length x)) seed
+    → all ≡ after_tail protected (picked secrets core_tail_places) (pair_of rest) 0 (length rest) joined
+    → all ≡ after_pairs protected seed secrets x
+unfolding after_pairs
+after_pairs-is protected seed secrets x rest joined all e f g =
+    cc (f, g, after_tail-rest protected (picked secrets core_tail_places) x rest (row_pairs (memory_shape (length x))) joined e)
+
+-- up to 48 bytes the tail is the message, and the joined lanes are the seed
+pub memory_rows-none : (protected : Bool) (seed : ℕ) (secrets x : List ℕ) → length x ≤ 48
+    → (x ≡ drop (row_bytes (memory_shape (length x))) x) × (seed ≡ after_lanes protected secrets (pair_of x) (memory_shape (length x)) seed)
+memory_rows-none protected seed secrets x h =
+    let none = memory_shape-none (length x) h in
+    (rest-none 3 x ∙ ap (λ shape. drop (row_bytes shape) x) (sym none), after_lanes-none protected secrets x 3 seed (omega arith) ∙ ap (λ shape. after_lanes protected secrets (pair_of x) shape seed) (sym none))
+
+-- up to 16 bytes no pair is folded
+pub after_pairs-short : (protected : Bool) (seed : ℕ) (secrets x : List ℕ) → length x ≤ 16 → after_pairs protected seed secrets x ≡ seed
+after_pairs-short protected seed secrets x h =
+    let rows = memory_rows-none protected seed secrets x (omega arith) in
+    sym (after_pairs-is protected seed secrets x x seed seed rows.0 rows.1 (sym (after_tail-short protected (picked secrets core_tail_places) x seed h)))
+
+-- the value of the core, from its last words and its seed
+pub memory_hash-is : (options : Options) (seed : ℕ) (secrets x : List ℕ) (words : ℕ × ℕ) (all : ℕ) → words ≡ last_words (V3 7) x
+    → all ≡ after_pairs options.protected seed secrets x
+    → close options words ((all + length x) % 2 ^ 64) (get_or secrets 0 0) (bit_xor alternating_bits ((all + length x) % 2 ^ 64), get_or secrets 1 0) ≡ memory_hash options x seed secrets
+unfolding memory_hash
+memory_hash-is options seed secrets x words all e f = cc
