@@ -4,8 +4,8 @@ use Rattle.std.proofs.lemmas.Bool.{cases_lt}
 use Rattle.std.proofs.lemmas.List.{drop-append-le, drop-drop, get_or-replicate, get_or-take, length-replicate, length-take-le, take-append-drop}
 use Rattle.rapidhash_portable.specs.declared.form.Shape.{Shape}
 use Rattle.rapidhash_portable.specs.Folded.{AfterRows, HaveFolded, PrefixIsFolded}
-use Rattle.rapidhash_portable.specs.Lanes.{joined, lane_of, mixed_shape, pair_at, pair_of, pairs_of, rows_in, step, wide_shape}
-use Rattle.rapidhash_portable.proofs.LanesLemmas.{column-rest, column-three, column-wide, joined-lanes, lane_of-append, lane_of-pairs_more, lane_of-pairs_none, pairs_of-append, pairs_of-drop, pairs_of-split, rows_are}
+use Rattle.rapidhash_portable.specs.Lanes.{joined, lane_of, mixed_shape, no_rows, pair_at, pair_of, pairs_of, rows_in, step, wide_shape}
+use Rattle.rapidhash_portable.proofs.LanesLemmas.{after_lanes-none, column-rest, column-three, column-wide, joined-lanes, lane_of-append, lane_of-pairs_more, lane_of-pairs_none, pairs_of-append, pairs_of-drop, pairs_of-split, rows_are}
 
 -- ---- lanes
 
@@ -133,6 +133,13 @@ lane_from_seed : {protected : Bool} {secrets x : List ℕ} {width : ℕ} {held :
     get_or held i 0 ≡ lane_of protected (get_or secrets i 0) (pairs_of (pair_of x) 0 width rows i) seed
 lane_from_seed {protected} {secrets} {x} {width} {held} {rows} n seed f fits i l =
     f.folded i l ∙ ap (lane_of protected (get_or secrets i 0) (pairs_of (pair_of x) 0 width rows i)) (get_or-replicate n i seed 0 (omega arith))
+
+-- no row: the tail is the message, and the joined lanes are the seed
+pub AfterRows-none : (protected : Bool) (secrets x : List ℕ) (lanes seed : ℕ) → lanes % 2 ≡ 1 → AfterRows protected secrets x (no_rows lanes) seed seed x
+AfterRows-none protected secrets x lanes seed odd = record {
+  joined = after_lanes-none protected secrets x lanes seed odd;
+  rest = let z : 16 * (lanes * 0 + 3 * 0) ≡ 0 = omega arith in rw z refl;
+}
 
 -- rows of as many pairs as there are lanes
 pub AfterRows-wide : {protected : Bool} {secrets x : List ℕ} {lanes least : ℕ} {held rest : List ℕ} (n seed all : ℕ) →

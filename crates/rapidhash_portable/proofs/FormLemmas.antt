@@ -1,13 +1,15 @@
 -- How each form cuts a message, by its length, and what its tail and its lanes start from.
-use Rattle.std.proofs.Common.{◌≡◌, ℕ, ◌+◌, ◌-◌, ◌*◌, ◌/◌, ◌%◌, ◌≤◌, ◌<◌, Bool, true, false, ⊎_elim, List, [], ◌∷◌, drop, refl, sym, ap, ◌∙◌, arith, cond, nat_lt}
+use Rattle.std.proofs.Common.{◌≡◌, ℕ, ◌+◌, ◌-◌, ◌*◌, ◌/◌, ◌%◌, ◌≤◌, ◌<◌, Bool, true, false, ⊎_elim, List, drop, refl, ap, ◌∙◌, arith}
 use Rattle.std.proofs.lemmas.Bool.{cases_lt, lt-ltb, le-ltb}
 use Rattle.std.proofs.lemmas.Bool.Decides.{nat_tests}
 use Rattle.std.proofs.lemmas.Nat.{div-mul-add}
-use Rattle.rapidhash_portable.specs.Lanes.{pair_of, rows_in, no_rows, row_bytes, wide_shape, mixed_shape, after_lanes}
+use Rattle.rapidhash_portable.specs.Folded.{AfterRows}
+use Rattle.rapidhash_portable.specs.Lanes.{rows_in, no_rows, row_bytes, wide_shape, mixed_shape}
 use Rattle.rapidhash_portable.specs.declared.form.Form.{Form}
 use Rattle.rapidhash_portable.specs.declared.form.Form.TheVariants.{V1, V2, V3}
 use Rattle.rapidhash_portable.specs.Form.{least_row_v1, v2_limit, v2_row_places, v2_rowless_places, shape_of, start_seed, tail_seed, tail_places}
-use Rattle.rapidhash_portable.proofs.LanesLemmas.{after_lanes-none, cond_same}
+use Rattle.rapidhash_portable.proofs.FoldedLemmas.{AfterRows-none}
+use Rattle.rapidhash_portable.proofs.LanesLemmas.{cond_same}
 
 -- a message of which V1 folds a row is long
 pub long-v1 : (bug : Bool) (n : ℕ) → least_row_v1 bug ≤ n → 16 < n
@@ -95,6 +97,5 @@ rest-none lanes x =
 -- so the tail is the message, and the joined lanes are the seed
 pub rows-none : (form : Form) (lanes n : ℕ) (protected : Bool) (secrets x : List ℕ) (seed : ℕ) → lanes % 2 ≡ 1
     → shape_of form n ≡ no_rows lanes
-    → (x ≡ drop (row_bytes (shape_of form n)) x) × (seed ≡ after_lanes protected secrets (pair_of x) (shape_of form n) seed)
-rows-none form lanes n protected secrets x seed odd none =
-    (rest-none lanes x ∙ ap (λ shape. drop (row_bytes shape) x) (sym none), after_lanes-none protected secrets x lanes seed odd ∙ ap (λ shape. after_lanes protected secrets (pair_of x) shape seed) (sym none))
+    → AfterRows protected secrets x (shape_of form n) seed seed x
+rows-none form lanes n protected secrets x seed odd none = rw none (AfterRows-none protected secrets x lanes seed odd)

@@ -1,7 +1,8 @@
 -- The value of the in-memory core, put together from its rows, its tail and its close.
-use Rattle.std.proofs.Common.{◌≡◌, ℕ, ◌+◌, ◌%◌, ◌^◌, ◌≤◌, ◌<◌, Bool, List, length, get_or, drop, refl, sym, ap, ◌∙◌, arith, bit_xor}
+use Rattle.std.proofs.Common.{◌≡◌, ℕ, ◌+◌, ◌%◌, ◌^◌, ◌≤◌, ◌<◌, Bool, List, length, get_or, refl, sym, arith, bit_xor}
 use Rattle.std.proofs.lemmas.Bool.{lt-ltb, le-ltb}
-use Rattle.rapidhash_portable.specs.Lanes.{pair_of, no_rows, row_bytes, row_pairs, wide_shape, mixed_shape, after_lanes}
+use Rattle.rapidhash_portable.specs.Folded.{AfterRows}
+use Rattle.rapidhash_portable.specs.Lanes.{pair_of, no_rows, row_pairs, wide_shape, mixed_shape}
 use Rattle.rapidhash_portable.specs.Tail.{after_tail, picked}
 use Rattle.rapidhash_portable.specs.declared.form.Form.TheVariants.{V3}
 use Rattle.rapidhash_portable.specs.Form.{alternating_bits}
@@ -9,8 +10,7 @@ use Rattle.rapidhash_portable.specs.Words.{last_words}
 use Rattle.rapidhash_portable.specs.Memory.{after_pairs, core_tail_places, memory_hash, memory_shape}
 use Rattle.rapidhash_portable.specs.declared.form.Options.{Options}
 use Rattle.rapidhash_portable.specs.Hash.{close}
-use Rattle.rapidhash_portable.proofs.LanesLemmas.{after_lanes-none}
-use Rattle.rapidhash_portable.proofs.FormLemmas.{rest-none}
+use Rattle.rapidhash_portable.proofs.FoldedLemmas.{AfterRows-none}
 use Rattle.rapidhash_portable.proofs.TailLemmas.{after_tail-rest, after_tail-short}
 
 -- the core up to 48 bytes has no row
@@ -30,26 +30,23 @@ memory_shape-mixed n h = rw (lt-ltb 400 n h) refl
 
 -- the seed of the memory core, made piece by piece
 pub after_pairs-is : (protected : Bool) (seed : ℕ) (secrets x rest : List ℕ) (joined all : ℕ)
-    → rest ≡ drop (row_bytes (memory_shape (length x))) x
-    → joined ≡ after_lanes protected secrets (pair_of x) (memory_shape (length x)) seed
+    → AfterRows protected secrets x (memory_shape (length x)) seed joined rest
     → all ≡ after_tail protected (picked secrets core_tail_places) (pair_of rest) 0 (length rest) joined
     → all ≡ after_pairs protected seed secrets x
 unfolding after_pairs
-after_pairs-is protected seed secrets x rest joined all e f g =
-    cc (f, g, after_tail-rest protected (picked secrets core_tail_places) x rest (row_pairs (memory_shape (length x))) joined e)
+after_pairs-is protected seed secrets x rest joined all rows g =
+    cc (rows.joined, g, after_tail-rest protected (picked secrets core_tail_places) x rest (row_pairs (memory_shape (length x))) joined rows.rest)
 
 -- up to 48 bytes the tail is the message, and the joined lanes are the seed
 pub memory_rows-none : (protected : Bool) (seed : ℕ) (secrets x : List ℕ) → length x ≤ 48
-    → (x ≡ drop (row_bytes (memory_shape (length x))) x) × (seed ≡ after_lanes protected secrets (pair_of x) (memory_shape (length x)) seed)
-memory_rows-none protected seed secrets x h =
-    let none = memory_shape-none (length x) h in
-    (rest-none 3 x ∙ ap (λ shape. drop (row_bytes shape) x) (sym none), after_lanes-none protected secrets x 3 seed (omega arith) ∙ ap (λ shape. after_lanes protected secrets (pair_of x) shape seed) (sym none))
+    → AfterRows protected secrets x (memory_shape (length x)) seed seed x
+memory_rows-none protected seed secrets x h = rw (memory_shape-none (length x) h) (AfterRows-none protected secrets x 3 seed (omega arith))
 
 -- up to 16 bytes no pair is folded
 pub after_pairs-short : (protected : Bool) (seed : ℕ) (secrets x : List ℕ) → length x ≤ 16 → after_pairs protected seed secrets x ≡ seed
 after_pairs-short protected seed secrets x h =
     let rows = memory_rows-none protected seed secrets x (omega arith) in
-    sym (after_pairs-is protected seed secrets x x seed seed rows.0 rows.1 (sym (after_tail-short protected (picked secrets core_tail_places) x seed h)))
+    sym (after_pairs-is protected seed secrets x x seed seed rows (sym (after_tail-short protected (picked secrets core_tail_places) x seed h)))
 
 -- the value of the core, from its last words and its seed
 pub memory_hash-is : (options : Options) (seed : ℕ) (secrets x : List ℕ) (words : ℕ × ℕ) (all : ℕ) → words ≡ last_words (V3 7) x

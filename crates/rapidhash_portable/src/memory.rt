@@ -3,7 +3,7 @@
 
 ghost use Rattle.std.specs.Prelude.{◌≡◌, ◌≤◌, ◌<◌, ℕ, length, drop};
 ghost use Rattle.rapidhash_portable.specs.declared.form.Form.TheVariants.{V3};
-ghost use Rattle.rapidhash_portable.specs.Lanes.{after_lanes, pair_of, row_bytes};
+ghost use Rattle.rapidhash_portable.specs.Folded.{AfterRows};
 ghost use Rattle.rapidhash_portable.specs.Memory.{after_pairs, memory_hash, memory_shape};
 ghost use Rattle.rapidhash_portable.specs.Options.{options};
 ghost use Rattle.rapidhash_portable.specs.Words.{last_words, short_words};
@@ -98,8 +98,7 @@ fn close_tail<const AVALANCHE: bool, const PROTECTED: bool>(
 ) -> u64
     requires { 16 < length bytes.now }
     ensures { (start : ℕ) → let shape = memory_shape (length bytes.now) in
-        tail.now ≡ drop (row_bytes shape) bytes.now →
-        joined ≡ after_lanes PROTECTED secrets.now (pair_of bytes.now) shape start →
+        AfterRows PROTECTED secrets.now bytes.now shape start joined tail.now →
         result ≡ memory_hash (options AVALANCHE PROTECTED) bytes.now start secrets.now }
 {
     let seed = fold_tail::<2, PROTECTED>(tail, &[secrets[0], secrets[0]], joined);

@@ -2,9 +2,9 @@
 
 ghost use Rattle.std.specs.Prelude.{◌≡◌, ◌<◌, ◌≤◌, ◌∷◌, ℕ, All, Bool, List, false, true, length, slice_index, drop};
 ghost use Rattle.rapidhash_portable.specs.declared.form.Form.TheVariants.{V1};
+ghost use Rattle.rapidhash_portable.specs.Folded.{AfterRows};
 ghost use Rattle.rapidhash_portable.specs.Form.{least_row_v1, shape_of, start_seed};
 ghost use Rattle.rapidhash_portable.specs.Hash.{portable_hash};
-ghost use Rattle.rapidhash_portable.specs.Lanes.{after_lanes, pair_of, row_bytes};
 ghost use Rattle.rapidhash_portable.specs.Options.{options};
 ghost use Rattle.rapidhash_portable.specs.Secrets.{IsGood, cpp_seeded, default_secrets_v1, default_seed_v1, reseeded, seeded, seeded_secrets};
 ghost use Rattle.rapidhash_portable.specs.Seeded.{default_hash, seeded_hash_v1};
@@ -190,11 +190,9 @@ fn close_tail<const AVALANCHE: bool, const PROTECTED: bool>(
     requires { 16 ≤ length ending.now }
     ensures { (bug : Bool) (seed : ℕ) (x : List ℕ) → 16 < length x →
         length x ≡ len →
-        tail.now ≡ drop (row_bytes (shape_of (V1 bug) (length x))) x →
         last_16 ending.now ≡ last_16 x →
-        joined
-        ≡ after_lanes PROTECTED secrets.now (pair_of x) (shape_of (V1 bug) (length x))
-        (start_seed (V1 bug) (length x) seed) →
+        AfterRows PROTECTED secrets.now x (shape_of (V1 bug) (length x))
+        (start_seed (V1 bug) (length x) seed) joined tail.now →
         result ≡ portable_hash (V1 bug) (options AVALANCHE PROTECTED) seed secrets.now x }
 {
     let s = secrets;

@@ -2,9 +2,9 @@
 
 ghost use Rattle.std.specs.Prelude.{◌≡◌, ◌<◌, ◌≤◌, ℕ, List, true, false, if◌then◌else◌, nat_lt, drop, length, slice_index};
 ghost use Rattle.rapidhash_portable.specs.declared.form.Form.TheVariants.{V2};
+ghost use Rattle.rapidhash_portable.specs.Folded.{AfterRows};
 ghost use Rattle.rapidhash_portable.specs.Form.{masks, shape_of, start_seed, v2_limit};
 ghost use Rattle.rapidhash_portable.specs.Hash.{close, portable_hash};
-ghost use Rattle.rapidhash_portable.specs.Lanes.{after_lanes, pair_of, row_bytes};
 ghost use Rattle.rapidhash_portable.specs.Options.{options};
 ghost use Rattle.rapidhash_portable.specs.Seeded.{default_hash, seeded_hash};
 ghost use Rattle.rapidhash_portable.specs.Words.{last_16};
@@ -113,11 +113,9 @@ fn close_tail<const AVALANCHE: bool, const PROTECTED: bool>(
     requires { 16 ≤ length ending.now }
     ensures { (minor seed : ℕ) (x : List ℕ) → v2_limit minor < length x →
         length x ≡ len →
-        tail.now ≡ drop (row_bytes (shape_of (V2 minor) (length x))) x →
         last_16 ending.now ≡ last_16 x →
-        joined
-        ≡ after_lanes PROTECTED secrets.now (pair_of x) (shape_of (V2 minor) (length x))
-        (start_seed (V2 minor) (length x) seed) →
+        AfterRows PROTECTED secrets.now x (shape_of (V2 minor) (length x))
+        (start_seed (V2 minor) (length x) seed) joined tail.now →
         result ≡ portable_hash (V2 minor) (options AVALANCHE PROTECTED) seed secrets.now x }
 {
     let seed = fold_tail::<2, PROTECTED>(tail, &[secrets[2], secrets[2]], joined);

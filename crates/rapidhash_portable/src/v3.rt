@@ -2,9 +2,9 @@
 
 ghost use Rattle.std.specs.Prelude.{◌≡◌, ◌<◌, ◌≤◌, ◌%◌, ℕ, List, true, false, length, drop};
 ghost use Rattle.rapidhash_portable.specs.declared.form.Form.TheVariants.{V3};
+ghost use Rattle.rapidhash_portable.specs.Folded.{AfterRows};
 ghost use Rattle.rapidhash_portable.specs.Form.{v3, micro, nano, shape_of};
 ghost use Rattle.rapidhash_portable.specs.Hash.{portable_hash};
-ghost use Rattle.rapidhash_portable.specs.Lanes.{after_lanes, pair_of, row_bytes};
 ghost use Rattle.rapidhash_portable.specs.Options.{options};
 ghost use Rattle.rapidhash_portable.specs.Seeded.{default_hash, seeded_hash};
 ghost use Rattle.rapidhash_portable.specs.Words.{last_16};
@@ -161,10 +161,8 @@ pub(crate) fn close_tail<const AVALANCHE: bool, const PROTECTED: bool>(
 ) -> u64
     requires { 16 ≤ length ending.now }
     ensures { (lanes seed : ℕ) (x : List ℕ) → 16 < length x →
-        tail.now ≡ drop (row_bytes (shape_of (V3 lanes) (length x))) x →
         last_16 ending.now ≡ last_16 x →
-        joined
-        ≡ after_lanes PROTECTED secrets.now (pair_of x) (shape_of (V3 lanes) (length x)) seed →
+        AfterRows PROTECTED secrets.now x (shape_of (V3 lanes) (length x)) seed joined tail.now →
         result ≡ portable_hash (V3 lanes) (options AVALANCHE PROTECTED) seed secrets.now x }
 {
     let (second, third) = (secrets[1], secrets[2]);

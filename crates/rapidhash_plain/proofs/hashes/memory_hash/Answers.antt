@@ -12,8 +12,7 @@ returns c =
     let shape = c.memory_shape-shape.ensures.shape in
     let rest = take (length x - bytes) (drop bytes x) in
     let all = after_pairs-is protected c.args.seed c.args.secrets.now x rest c.after_lanes-after_rows.result c.after_tail-after_all.result
-    (take_rest x bytes ∙ ap (λ s. drop (row_bytes s) x) shape)
-    (cc (c.after_lanes-after_rows.ensures, shape))
+    (record { joined = cc (c.after_lanes-after_rows.ensures, shape); rest = take_rest x bytes ∙ ap (λ s. drop (row_bytes s) x) shape })
     c.after_tail-after_all.ensures in
     let value = memory_hash-is c.args.options c.args.seed c.args.secrets.now x c.last_words.result c.after_tail-after_all.result c.last_words.ensures all in
     cc (c.close.ensures, value, c.secret.ensures)

@@ -5,5 +5,4 @@ use Rattle.rapidhash_portable.proofs.memory.with_rows.Goals as goal
 pub returns : goal.returns
 returns g c =
     let shape = memory_shape-wide (length c.args.bytes.now) c.requires c.if-bytes-gt400.false in
-    let rows = c.wide_lanes-joined.ensures in
-    c.close_tail.ensures c.args.seed (cc (rows.rest, shape)) (cc (rows.joined, shape))
+    c.close_tail.ensures c.args.seed (rw shape c.wide_lanes-joined.ensures)

@@ -5,5 +5,4 @@ use Rattle.rapidhash_portable.proofs.memory.with_wide_rows.Goals as goal
 pub returns : goal.returns
 returns g c =
     let shape = memory_shape-mixed (length c.args.bytes.now) c.requires in
-    let rows = c.mixed_lanes-joined.ensures in
-    c.close_tail.ensures c.args.seed (cc (rows.rest, shape)) (cc (rows.joined, shape))
+    c.close_tail.ensures c.args.seed (rw shape c.mixed_lanes-joined.ensures)

@@ -11,7 +11,7 @@ use Rattle.rapidhash_portable.proofs.v1.close_tail.Goals.{then-tail-gt16, else-t
 
 pub returns : goal.returns
 unfolding mixed_words tail_seed tail_places masks
-returns g c = λ bug seed x long size rest last joined.
+returns g c = λ bug seed x long size last rows.
     let s = c.args.secrets.now in
     let form = V1 bug in
     let options : Options = record { avalanche = not (nat_eq g.row.AVALANCHE 0); protected = not (nat_eq g.row.PROTECTED 0) } in
@@ -21,5 +21,5 @@ returns g c = λ bug seed x long size rest last joined.
       | then-tail-gt16 w ↦ w.seed-is ∙ cond_below 16 (length tail) (bit_xor c.args.joined (get_or s 1 0)) c.args.joined (omega arith)
       | else-tail-gt16 w ↦ cond_above 16 (length tail) (bit_xor c.args.joined (get_or s 1 0)) c.args.joined c.if-tail-gt16.seed (omega arith) w.seed-is
     ] in
-    hash-is form options seed s x tail c.args.joined c.fold_tail-seed.result c.close.result rest joined (cc (c.fold_tail-seed.ensures, first))
+    hash-is form options seed s x tail c.args.joined c.fold_tail-seed.result c.close.result rows (cc (c.fold_tail-seed.ensures, first))
     (cc (c.close.ensures, c.last_16.ensures, last, last_words-long form x long, size))

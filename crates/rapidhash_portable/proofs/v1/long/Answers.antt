@@ -12,4 +12,4 @@ returns g c =
     let B = not (nat_eq g.row.V1_BUG 0) in
     let shape = shape_of-v1-none B (length x) (omega arith) in
     let none = rows-none (V1 B) 3 (length x) (not (nat_eq g.row.PROTECTED 0)) s.secrets x (bit_xor s.seed (length x)) (omega arith) shape in
-    c.close_tail.ensures B s.seed x c.requires refl none.0 refl none.1
+    c.close_tail.ensures B s.seed x c.requires refl refl none

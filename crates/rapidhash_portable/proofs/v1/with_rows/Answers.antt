@@ -9,5 +9,4 @@ returns g c =
     let x = c.args.bytes.now in
     let B = not (nat_eq g.row.V1_BUG 0) in
     let shape = shape_of-v1-some B (length x) c.requires in
-    let rows = c.wide_lanes-joined.ensures in
-    c.close_tail.ensures B c.args.secrets.now.seed x (long-v1 B (length x) c.requires) refl (cc (rows.rest, shape)) refl (cc (rows.joined, shape))
+    c.close_tail.ensures B c.args.secrets.now.seed x (long-v1 B (length x) c.requires) refl refl (rw shape c.wide_lanes-joined.ensures)

@@ -12,13 +12,13 @@ use Rattle.rapidhash_portable.proofs.v2.close_tail.Goals as goal
 
 pub returns : goal.returns
 unfolding tail_seed mixed_words
-returns g c = λ minor seed x above size rest last joined.
+returns g c = λ minor seed x above size last rows.
     let form = V2 minor in
     let tail = c.args.tail.now in
     let chosen = options (not (nat_eq g.row.AVALANCHE 0)) (not (nat_eq g.row.PROTECTED 0)) in
     let words = last_words-long form x (long-v2 minor (length x) above) in
     let places = tail_places-v2-some minor (length x) above in
     let folded = ap (λ p. after_tail chosen.protected (picked c.args.secrets.now p) (pair_of tail) 0 (length tail) c.args.joined) (sym places) in
-    hash-is form chosen seed c.args.secrets.now x tail c.args.joined c.fold_tail-seed.result c.close_long.result rest joined
+    hash-is form chosen seed c.args.secrets.now x tail c.args.joined c.fold_tail-seed.result c.close_long.result rows
     (c.fold_tail-seed.ensures ∙ folded)
     (cc (c.close_long.ensures minor (length tail), last, words, size))

@@ -8,5 +8,4 @@ unfolding start_seed
 returns g c =
     let x = c.args.bytes.now in
     let shape = shape_of-v2-some g.row.MINOR (length x) c.requires in
-    let rows = c.mixed_lanes-joined.ensures in
-    c.close_tail.ensures g.row.MINOR c.args.secrets.now.seed x c.requires refl (cc (rows.rest, shape)) refl (cc (rows.joined, shape))
+    c.close_tail.ensures g.row.MINOR c.args.secrets.now.seed x c.requires refl refl (rw shape c.mixed_lanes-joined.ensures)

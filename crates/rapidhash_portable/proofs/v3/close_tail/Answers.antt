@@ -3,8 +3,6 @@ use Rattle.rapidhash_portable.specs.declared.form.Form.TheVariants.{V3}
 use Rattle.rapidhash_portable.specs.declared.form.Options.{Options}
 use Rattle.rapidhash_portable.specs.Form.{tail_seed, tail_places, masks}
 use Rattle.rapidhash_portable.specs.Hash.{close}
-use Rattle.rapidhash_portable.specs.Lanes.{pair_of, after_lanes}
-use Rattle.rapidhash_portable.specs.Form.{shape_of}
 use Rattle.rapidhash_portable.specs.Words.{last_words}
 use Rattle.rapidhash_portable.proofs.HashLemmas.{hash-is}
 use Rattle.rapidhash_portable.proofs.WordsLemmas.{last_words-long, mixed_words-long}
@@ -13,13 +11,12 @@ use Rattle.rapidhash_portable.proofs.v3.close_tail.Goals as goal
 
 pub returns : goal.returns
 unfolding tail_seed tail_places masks
-returns g c = λ lanes seed x long rest last joined.
+returns g c = λ lanes seed x long last rows.
     let s = c.args.secrets.now in
     let form = V3 lanes in
     let options : Options = record { avalanche = not (nat_eq g.row.AVALANCHE 0); protected = not (nat_eq g.row.PROTECTED 0) } in
     let start = start_seed-long lanes (length x) seed long in
     let t = length c.args.tail.now in
     let words = ap (λ w. (bit_xor w.0 t, w.1)) (c.last_16-a.ensures ∙ last ∙ sym (last_words-long form x long)) ∙ sym (mixed_words-long lanes (length x) t (last_words form x) long) in
-    hash-is form options seed s x c.args.tail.now c.args.joined c.fold_tail-seed.result c.close.result rest
-    (joined ∙ ap (after_lanes options.protected s (pair_of x) (shape_of form (length x))) (sym start)) c.fold_tail-seed.ensures
+    hash-is form options seed s x c.args.tail.now c.args.joined c.fold_tail-seed.result c.close.result (rw start rows) c.fold_tail-seed.ensures
     (c.close.ensures ∙ ap (λ w. close options w c.fold_tail-seed.result (get_or s 1 0) (masks form s (length x) t)) words)

@@ -9,4 +9,4 @@ returns g c =
     let seed = c.args.secrets.now.seed in
     let shape = shape_of-v3-none g.row.LANES (length x) (omega arith) (omega arith) in
     let none = rows-none (V3 g.row.LANES) g.row.LANES (length x) (not (nat_eq g.row.PROTECTED 0)) c.args.secrets.now.secrets x seed c.requires.odd shape in
-    c.close_tail.ensures g.row.LANES seed x c.requires.long none.0 refl none.1
+    c.close_tail.ensures g.row.LANES seed x c.requires.long refl none

@@ -5,5 +5,4 @@ use Rattle.rapidhash_portable.proofs.v3.with_rows.Goals as goal
 pub returns : goal.returns
 unfolding shape_of
 returns g c =
-    let rows = c.wide_lanes-joined.ensures in
-    c.close_tail.ensures g.row.LANES c.args.secrets.now.seed c.args.bytes.now c.requires.long rows.rest refl rows.joined
+    c.close_tail.ensures g.row.LANES c.args.secrets.now.seed c.args.bytes.now c.requires.long refl c.wide_lanes-joined.ensures

@@ -20,7 +20,7 @@ returns g c =
         bytes = x;
         taken = f.taken;
         count = size;
-        value = c.close_tail.ensures g.row.MINOR seed x above size (cc (rows.rest, shape)) (last_16-front f (omega (arith, last, c.in_ok-lanes.ensures.last.0))) (cc (rows.joined, shape, size));
+        value = c.close_tail.ensures g.row.MINOR seed x above size (last_16-front f (omega (arith, last, c.in_ok-lanes.ensures.last.0))) (record { joined = cc (rows.joined, shape, size); rest = cc (rows.rest, shape) });
       };
       short = tt;
     }

@@ -11,4 +11,4 @@ returns g c = λ x h.
     let long = chunk-below count h (omega arith) c.requires.fits on in
     let new : take (16 + s.len - 16) (drop 16 s.kept) ≡ take s.len (drop 16 s.kept) = let e : 16 + s.len - 16 ≡ s.len = omega arith in ap (λ (n : ℕ). take n (drop 16 s.kept)) e in
     let rows = AfterRows-stands count h (omega arith) c.requires.fits on _ c.joined-joined.ensures in
-    c.close_tail.ensures g.row.LANES s.secrets.now.seed x (omega arith) (new ∙ rows.rest) (last_16-kept count h (omega arith) c.requires.fits on) rows.joined
+    c.close_tail.ensures g.row.LANES s.secrets.now.seed x (omega arith) (last_16-kept count h (omega arith) c.requires.fits on) (record { joined = rows.joined; rest = new ∙ rows.rest })
