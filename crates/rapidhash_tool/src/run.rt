@@ -27,7 +27,8 @@ pub fn run_stdin<A: Allocator, R: Read + Drop, W: Write>(
     ensures line { OnOk result (IfSome (R.remaining input) (λ bytes.
         Appends (W.contents out.old) (W.contents out.new) (input_line version.now bytes))) }
     ensures left { IfErr result (λ fault. LeftByRun fault
-        (W.contents out.old) (W.contents out.new) (R.remaining input) (input_line version.now)) }
+        (W.contents out.old) (W.contents out.new)
+        (R.remaining input) (input_line version.now)) }
     ensures fault { IfErr result (λ fault. MayStopStdinRun version.now fault) }
 {
     let hash = version.hash_stdin(alloc, input)?;
@@ -49,7 +50,8 @@ pub fn run_file<R: Read + Drop, W: Write>(
     ensures line { OnOk result (IfSome (R.remaining reader) (λ bytes.
         Appends (W.contents out.old) (W.contents out.new) (file_line version.now len bytes))) }
     ensures left { IfErr result (λ fault. LeftByRun fault
-        (W.contents out.old) (W.contents out.new) (R.remaining reader) (file_line version.now len)) }
+        (W.contents out.old) (W.contents out.new)
+        (R.remaining reader) (file_line version.now len)) }
     ensures fault { IfErr result (λ fault. MayStopFileRun version.now len fault) }
 {
     let hash = version.hash_file(reader, len)?;
