@@ -42,9 +42,9 @@ fn test_hashset_new(rt: HostRuntime) -> Result<(), Fail> {
     Ok(())
 }
 
-/// Heaps that have room for 0, 1, 2 blocks of 16 bytes and so on refuse each request in turn:
-/// `with_capacity` tells it in every heap that is smaller than what the map or the set holds, and
-/// gives back what it took.
+/// In heaps with room for 0, 1, 2 blocks of 16 bytes and so on each allocation fails in turn:
+/// `with_capacity` returns the error in every heap that is smaller than what the map or the set
+/// holds, and frees what it allocated.
 #[test]
 fn room_that_is_refused(rt: HostRuntime) -> Result<(), Fail> {
     let secrets = GlobalSecrets::new(1);
@@ -54,6 +54,7 @@ fn room_that_is_refused(rt: HostRuntime) -> Result<(), Fail> {
     let mut sets = 0usize;
     for blocks in 0..64usize {
         let heap = LocalHeap::new(rt.alloc(), 16 * (blocks + 1))?;
+        // A heap has one block at least, so a byte takes one.
         let _taken = Box::new(&heap, 0u8)?;
         let map: Result<RapidHashMap<u32, u32, _>, _> = HashMapExt::with_capacity(&heap, 10, state);
         match map {
@@ -85,8 +86,8 @@ fn room_that_is_refused(rt: HostRuntime) -> Result<(), Fail> {
     Ok(())
 }
 
-/// Where every request is refused, empty maps and sets are made and asked, and only the first key
-/// meets the refusal.
+/// Where every allocation fails, empty maps and sets are made and read, and only the first insert
+/// returns the error.
 #[test]
 fn new_asks_for_no_memory(rt: HostRuntime) -> Result<(), Fail> {
     let secrets = GlobalSecrets::new(1);
@@ -106,8 +107,8 @@ fn new_asks_for_no_memory(rt: HostRuntime) -> Result<(), Fail> {
     Ok(())
 }
 
-/// Room for ten keys is enough for ten keys: the heap has no byte left once the room is made, so
-/// none of them asks for more.
+/// Room for ten keys is enough for ten keys: the heap has no byte left once the map and the set are
+/// made, so an insert that allocated would fail.
 #[test]
 fn room_for_ten(rt: HostRuntime) -> Result<(), Fail> {
     let secrets = GlobalSecrets::new(1);

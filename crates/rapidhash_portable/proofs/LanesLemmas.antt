@@ -1,5 +1,5 @@
 -- Pairs, columns and lanes: of a part of a message, with more rows, joined.
-use Rattle.std.proofs.Common.{◌≡◌, ℕ, zero, suc, ◌+◌, ◌-◌, ◌*◌, ◌/◌, ◌%◌, ◌≤◌, ◌<◌, Bool, true, false, cond, ltb, List, [], ◌∷◌, ◌++◌, map, fold, length, get_or, slice_index, drop, replicate, bit_xor, refl, sym, ap, ◌∙◌, arith, add_assoc, append_assoc}
+use Rattle.std.proofs.Common.{◌≡◌, ℕ, zero, suc, ◌+◌, ◌-◌, ◌*◌, ◌/◌, ◌%◌, ◌≤◌, ◌<◌, Bool, true, false, cond, ltb, List, [], ◌∷◌, ◌++◌, map, fold, length, get_or, drop, replicate, bit_xor, refl, sym, ap, ◌∙◌, arith, add_assoc, append_assoc}
 use Rattle.std.specs.List.{range_with_len}
 use Rattle.std.specs.Int.Bits.{xor_self}
 use Rattle.std.proofs.lemmas.Bool.{lt-ltb, le-ltb}
@@ -171,30 +171,3 @@ after_lanes-none protected secrets x lanes seed odd =
     (λ i l. get_or-replicate lanes i seed 0 l
     ∙ sym (lane_of-pairs_none protected (get_or secrets i 0) x 0 lanes i seed)
     ∙ ap (λ c. lane_of protected (get_or secrets i 0) c seed) (sym (column-wide x lanes 0 i)))
-
--- ---- the joined lanes, one after another
-
--- the first `lanes` lanes joined
-pub lanes_to : (protected : Bool) (secrets x : List ℕ) (shape : Shape) (seed lanes : ℕ) → ℕ
-lanes_to protected secrets x shape seed lanes =
-    joined (map (λ lane. lane_of protected (slice_index secrets lane) (column (pair_of x) shape lane) seed) (range_with_len 0 lanes))
-
--- none of them
-pub lanes_to-none : (protected : Bool) (secrets x : List ℕ) (shape : Shape) (seed : ℕ) → lanes_to protected secrets x shape seed 0 ≡ 0
-unfolding lanes_to joined
-lanes_to-none protected secrets x shape seed = refl
-
--- one more
-pub lanes_to-more : (protected : Bool) (secrets x : List ℕ) (shape : Shape) (seed i : ℕ) →
-    lanes_to protected secrets x shape seed (i + 1)
-    ≡ bit_xor (lanes_to protected secrets x shape seed i) (lane_of protected (slice_index secrets i) (column (pair_of x) shape i) seed)
-unfolding lanes_to joined
-lanes_to-more protected secrets x shape seed i =
-    let lane = λ (i : ℕ). lane_of protected (slice_index secrets i) (column (pair_of x) shape i) seed in
-    ap (fold bit_xor 0) (map-range_with_len_more lane 0 i i (omega arith)) ∙ fold_push bit_xor 0 (map lane (range_with_len 0 i)) (lane i)
-
--- all of them
-pub lanes_to-all : (protected : Bool) (secrets x : List ℕ) (shape : Shape) (seed : ℕ) →
-    lanes_to protected secrets x shape seed shape.lanes ≡ after_lanes protected secrets (pair_of x) shape seed
-unfolding lanes_to after_lanes
-lanes_to-all protected secrets x shape seed = refl

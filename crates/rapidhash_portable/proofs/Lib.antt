@@ -5,6 +5,7 @@ pub mod FoldedLemmas
 pub mod FormLemmas
 pub mod HashLemmas
 pub mod LanesLemmas
+pub mod ListLemmas
 pub mod MemoryLemmas
 pub mod ReadingLemmas
 pub mod SecretsLemmas

@@ -1,11 +1,8 @@
 -- What was taken of a reader, read by read, and what a hash returns of it.
-use borrow.Rule.Slice.PartMut.{put_mid, post_of}
-use lib.Seq.{take-add, take-append-le}
-use Rattle.std.proofs.Common.{◌≡◌, ℕ, ◌+◌, ◌-◌, ◌*◌, ◌≤◌, ◌<◌, Bool, true, false, List, [], ◌++◌, Option, Result, Ok, Err, IfErr, length, take, drop, replicate, refl, sym, ap, ◌∙◌, arith, drop_at, le_refl, length-append, length-drop, length-take-le}
+use Rattle.std.proofs.Common.{◌≡◌, ℕ, ◌+◌, ◌-◌, ◌*◌, ◌≤◌, ◌<◌, Bool, true, false, List, [], ◌++◌, Option, Result, Ok, Err, IfErr, length, take, replicate, refl, sym, ap, ◌∙◌, arith, length-append, length-take-le}
 use Rattle.std.proofs.KnownBytes.{Consumes-nil, Consumes-trans, Consumes-whole}
 use Rattle.std.proofs.lemmas.Bool.{false≢true, true≢false}
 use Rattle.std.proofs.lemmas.List.{nil_from_length}
-use Rattle.std.proofs.lemmas.Slice.{take-put_mid_below}
 use Rattle.std.specs.Io.KnownBytes.{Consumes}
 use Rattle.std.specs.declared.io.Error.{Error}
 use Rattle.std.specs.declared.io.ErrorKind.TheVariants.{UnexpectedEof}
@@ -18,24 +15,6 @@ use Rattle.rapidhash_portable.specs.Words.{last_16}
 use Rattle.rapidhash_portable.proofs.BytesLemmas.{word64-drop}
 use Rattle.rapidhash_portable.proofs.FoldedLemmas.{PrefixIsFolded-all, PrefixIsFolded-append, PrefixIsFolded-left, PrefixIsFolded-none}
 use Rattle.rapidhash_portable.proofs.LanesLemmas.{rows_are}
-
--- ---- a buffer that is filled by reads at its end
-
--- the filled front, and what a read put behind it
-pub filled_more : (at n : ℕ) (buf part : List ℕ) → at ≤ length buf → n ≤ length part →
-    take at buf ++ take n part ≡ take (at + n) (put_mid at (length buf - at) buf part)
-filled_more at n buf part within fits =
-    let m = put_mid at (length buf - at) buf part in
-    let front : take at m ≡ take at buf = take-put_mid_below _ _ _ _ _ (le_refl _) within in
-    let after = post_of at (length buf - at) buf in
-    let back : take n (drop at m) ≡ take n part =
-    ap (take n) (drop_at (take at buf) (part ++ after) at (length-take-le at buf within)) ∙ take-append-le n part after fits in
-    ap (λ l. l ++ take n part) (sym front) ∙ ap (λ l. take at m ++ l) (sym back) ∙ sym (take-add at n m)
-
--- a buffer whose front was replaced keeps its length
-pub refilled_room : (piece buffer : List ℕ) (room : ℕ) → length piece ≡ room → room ≤ length buffer →
-    length (piece ++ post_of 0 room buffer) ≡ length buffer
-refilled_room piece buffer room size fits = simp (length-append, length-drop) (omega arith)
 
 -- what holds after every error
 pub if_err : {T E : Type 0} (r : Result T E) {P : Type 0} → P → IfErr r (λ _. P)

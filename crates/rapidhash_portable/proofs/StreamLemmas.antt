@@ -2,11 +2,11 @@
 use borrow.Rule.Slice.PartMut.{put_mid}
 use Rattle.std.proofs.Common.{◌≡◌, ℕ, zero, suc, ◌+◌, ◌-◌, ◌*◌, ◌/◌, ◌<◌, ◌≤◌, Bool, true, false, List, [], ◌++◌, length, take, drop, replicate, refl, sym, ap, ◌∙◌, arith, length-append, length-drop, zero-add}
 use Rattle.std.proofs.Math.Nat.{zero-div}
-use Rattle.std.proofs.Math.Seq.{drop-append-add, take-add, take-append-add}
+use Rattle.std.proofs.Math.Seq.{take-add, take-append-add}
 use Rattle.std.proofs.lemmas.Bool.{lt-ltb, ltb-false, ltb-true}
-use Rattle.std.proofs.lemmas.List.{drop-append-le, drop-drop, drop-take, length-take-le, take-append-drop, take-append-le}
+use Rattle.std.proofs.lemmas.List.{drop-append-le, drop-drop, length-take-le, take-append-drop}
 use Rattle.std.proofs.lemmas.Nat.{div-mul-add}
-use Rattle.std.proofs.lemmas.Slice.{take-put_mid, take-put_mid_below}
+use Rattle.std.proofs.lemmas.Slice.{take-put_mid}
 use Rattle.rapidhash_portable.specs.declared.form.Form.TheVariants.{V3}
 use Rattle.rapidhash_portable.specs.declared.v3.stream.parts.Parts.{Parts}
 use Rattle.rapidhash_portable.specs.Folded.{AfterRows, HaveFolded, PrefixIsFolded}
@@ -16,6 +16,7 @@ use Rattle.rapidhash_portable.specs.Stream.{PartsStandFor, chunk_count, folded_b
 use Rattle.rapidhash_portable.specs.Words.{last_16}
 use Rattle.rapidhash_portable.proofs.BytesLemmas.{word64-drop}
 use Rattle.rapidhash_portable.proofs.FoldedLemmas.{AfterRows-wide, HaveFolded-append, HaveFolded-none, HaveFolded-take, PrefixIsFolded-all, PrefixIsFolded-left, PrefixIsFolded-more}
+use Rattle.rapidhash_portable.proofs.ListLemmas.{before-append, buffered-more, carried-same, drop-behind}
 
 -- ---- how many chunks there are
 
@@ -51,50 +52,6 @@ chunk_below size i count n less low =
     let parts : size * count ≡ size * i + size + size * (count - (i + 1)) = ap (λ k. size * k) split ∙ omega arith in
     omega (arith, parts)
 
--- ---- kept bytes, as plain lists
-
--- new bytes behind the buffered ones
-pub buffered-more : (j len : ℕ) (kept d kept' : List ℕ) → 16 + len ≤ length kept → kept' ≡ put_mid (16 + len) j kept d →
-    take (len + length d) (drop 16 kept') ≡ take len (drop 16 kept) ++ d
-buffered-more j len kept d kept' fits e =
-    let whole : take (16 + (len + length d)) kept' ≡ take (16 + len) kept ++ d =
-    rw e (take-put_mid (16 + len) j kept d (16 + (len + length d)) (omega arith) fits) in
-    let front : length (take (16 + len) kept) ≡ 16 + len = length-take-le (16 + len) kept fits in
-    let cut : drop 16 (take (16 + (len + length d)) kept') ≡ drop 16 (take (16 + len) kept) ++ d =
-    ap (λ (l : List ℕ). drop 16 l) whole ∙ drop-append-le 16 (take (16 + len) kept) d (omega arith) in
-    sym (drop-take 16 (len + length d) kept') ∙ cut ∙ ap (λ (l : List ℕ). l ++ d) (drop-take 16 len kept)
-
--- the carried bytes stay
-pub carried-same : (j len : ℕ) (kept d kept' : List ℕ) → 16 + len ≤ length kept → kept' ≡ put_mid (16 + len) j kept d → take 16 kept' ≡ take 16 kept
-carried-same j len kept d kept' fits e = rw e (take-put_mid_below (16 + len) j kept d 16 (omega arith) fits)
-
--- behind the message's first bytes
-pub drop-behind : (x d : List ℕ) (k n : ℕ) → k ≡ length x + n → drop k (x ++ d) ≡ drop n d
-drop-behind x d k n e = rw e (drop-append-add x d n)
-
--- the 16 bytes before an edge, in the message's first part
-before-append : (x d : List ℕ) (edge : ℕ) → 16 ≤ edge → edge ≤ length x → take 16 (drop (edge - 16) (x ++ d)) ≡ take 16 (drop (edge - 16) x)
-before-append x d edge some low =
-    rw (drop-append-le (edge - 16) x d (omega arith)) (take-append-le 16 (drop (edge - 16) x) d (omega (arith, length-drop (edge - 16) x)))
-
--- those before an edge in the piece
-pub before-piece : (x d : List ℕ) (edge at : ℕ) → edge ≡ length x + at → 16 ≤ at → take 16 (drop (at - 16) d) ≡ take 16 (drop (edge - 16) (x ++ d))
-before-piece x d edge at e far = ap (λ (l : List ℕ). take 16 l) (sym (drop-behind x d (edge - 16) (at - 16) (omega arith)))
-
--- those before the end of a chunk in the buffer
-pub before-chunk : (size : ℕ) (kept y : List ℕ) (start : ℕ) → 16 ≤ size → take size (drop 16 kept) ≡ take size (drop start y) →
-    take 16 (drop size kept) ≡ take 16 (drop (start + size - 16) y)
-before-chunk size kept y start wide e =
-    let back : size - 16 + 16 ≡ size = omega arith in
-    let e' : take (size - 16 + 16) (drop 16 kept) ≡ take (size - 16 + 16) (drop start y) = rw back e in
-    let cut : take 16 (drop (size - 16) (drop 16 kept)) ≡ take 16 (drop (size - 16) (drop start y)) =
-    sym (drop-take (size - 16) 16 (drop 16 kept)) ∙ ap (λ (l : List ℕ). drop (size - 16) l) e' ∙ drop-take (size - 16) 16 (drop start y) in
-    let at : 16 + (size - 16) ≡ size = omega arith in
-    let at' : start + (size - 16) ≡ start + size - 16 = omega arith in
-    let left : drop (size - 16) (drop 16 kept) ≡ drop size kept = drop-drop (size - 16) 16 kept ∙ ap (λ (k : ℕ). drop k kept) at in
-    let right : drop (size - 16) (drop start y) ≡ drop (start + size - 16) y = drop-drop (size - 16) start y ∙ ap (λ (k : ℕ). drop k y) at' in
-    rw (← left, cut, right) refl
-
 -- a place before byte 16 is in the first chunk
 pub no_chunk : (count size at : ℕ) → 16 ≤ size → size * count ≤ at → at < 16 → count ≡ 0
 no_chunk zero size at wide low few = refl
@@ -116,47 +73,7 @@ PartsStandFor-none protected lanes s held steps any len =
       carried = λ some. absurd (omega (arith, none));
     }
 
-module _ {protected : Bool} {lanes : ℕ} {s : Parts} {x : List ℕ} (count : IsLaneCount lanes) (h : PartsStandFor protected lanes s x) (size : length s.kept ≡ 128) (fits : s.len ≤ 16 * lanes) where
-  -- the buffered bytes and the folded ones are all
-  pub length-buffered : folded_bytes lanes (length x) + s.len ≡ length x
-  length-buffered =
-      let most = count.most in
-      let least = count.least in
-      let low = chunk_count-low lanes (length x) (omega arith) in
-      let folded = length-drop (folded_bytes lanes (length x)) x in
-      let same = ap length h.buffered in
-      let kept : length (take s.len (drop 16 s.kept)) ≡ s.len = length-take-le s.len (drop 16 s.kept) (omega (arith, length-drop 16 s.kept)) in
-      omega arith
-
-  -- the buffered bytes and a piece are what follows the chunks
-  pub buffered-append : (d : List ℕ) → take s.len (drop 16 s.kept) ++ d ≡ drop (folded_bytes lanes (length x)) (x ++ d)
-  buffered-append d =
-      let least = count.least in
-      let low = chunk_count-low lanes (length x) (omega arith) in
-      ap (λ (l : List ℕ). l ++ d) h.buffered ∙ sym (drop-append-le (folded_bytes lanes (length x)) x d (omega arith))
-
-  -- a piece that fits into the buffer
-  pub PartsStandFor-fits : (d kept' : List ℕ) (j : ℕ) → s.len + length d ≤ 16 * lanes → kept' ≡ put_mid (16 + s.len) j s.kept d →
-      PartsStandFor protected lanes (record s { kept = kept'; len = s.len + length d }) (x ++ d)
-  PartsStandFor-fits d kept' j room e =
-      let least = count.least in
-      let most = count.most in
-      let whole = length-buffered in
-      let more = length-append x d in
-      let same : chunk_count lanes (length (x ++ d)) ≡ chunk_count lanes (length x) =
-      chunk_count-same lanes (length x) (length (x ++ d)) (omega arith) (omega arith) (omega arith) in
-      let low = chunk_count-low lanes (length x) (omega arith) in
-      let far = mul_some lanes (chunk_count lanes (length x)) in
-      record {
-        folded = rw same (HaveFolded-append h.folded d (omega arith));
-        steps = rw same h.steps;
-        any = rw same h.any;
-        buffered = rw same (buffered-more j s.len s.kept d kept' (omega arith) e ∙ buffered-append d);
-        carried = rw same (λ some. carried-same j s.len s.kept d kept' (omega arith) e ∙ h.carried some
-            ∙ sym (before-append x d (folded_bytes lanes (length x)) (omega (arith, far some)) (omega arith)));
-      }
-
--- ---- a piece that does not fit
+-- ---- amid a piece
 
 -- lanes and count amid a piece, of which `rest` is still to come
 pub record Running (protected : Bool) (secrets y : List ℕ) (lanes seed : ℕ) (held : List ℕ) (steps : ℕ) (rest : List ℕ) : Type 0 where
@@ -173,44 +90,6 @@ Running-more {lanes = lanes} {rest = rest} r chunk held' rest' steps' folded one
   prefix = PrefixIsFolded-more r.prefix held' rest' 1 (16 * lanes) (HaveFolded-take (16 * lanes) rest (rw is at folded) (omega arith) (omega arith)) (omega arith) (omega arith) next;
   counted = one ∙ ap (λ n. n + 1) r.counted;
 }
-
-module _ {protected : Bool} {lanes : ℕ} {s : Parts} {x : List ℕ} (count : IsLaneCount lanes) (h : PartsStandFor protected lanes s x) (size : length s.kept ≡ 128) (fits : s.len ≤ 16 * lanes) (d kept' : List ℕ) (j : ℕ) (enough : 16 * lanes - s.len < length d) (e : kept' ≡ put_mid (16 + s.len) j s.kept (take (16 * lanes - s.len) d)) where
-  -- the buffer, filled with the piece's first bytes, is the next chunk
-  pub filled_chunk : take (16 * lanes) (drop 16 kept') ≡ take (16 * lanes) (take s.len (drop 16 s.kept) ++ d)
-  filled_chunk =
-      let most = count.most in
-      let room : ℕ = 16 * lanes - s.len in
-      let head : List ℕ = take room d in
-      let sized : length head ≡ room = length-take-le room d (omega arith) in
-      let old : List ℕ = take s.len (drop 16 s.kept) in
-      let old_sized : length old ≡ s.len = length-take-le s.len (drop 16 s.kept) (omega (arith, length-drop 16 s.kept)) in
-      let here : take (s.len + length head) (drop 16 kept') ≡ old ++ head = buffered-more j s.len s.kept head kept' (omega arith) e in
-      let width : s.len + length head ≡ 16 * lanes = omega arith in
-      let cut : take (length old + room) (old ++ d) ≡ old ++ head = take-append-add old d room in
-      let whole : length old + room ≡ 16 * lanes = omega arith in
-      let left : take (16 * lanes) (drop 16 kept') ≡ old ++ head = rw width at here in
-      let right : take (16 * lanes) (old ++ d) ≡ old ++ head = rw whole at cut in
-      left ∙ sym right
-
-  -- once it is folded
-  pub Running-filled : (chunk held' : List ℕ) (steps' : ℕ) → chunk ≡ take (16 * lanes) (drop 16 kept') →
-      HaveFolded protected s.secrets.now.secrets chunk lanes s.folded.lanes held' 1 → steps' ≡ s.folded.count.steps + 1 →
-      Running protected s.secrets.now.secrets (x ++ d) lanes s.secrets.now.seed held' steps' (drop (16 * lanes - s.len) d)
-  Running-filled chunk held' steps' is folded one =
-      let most = count.most in
-      let old : List ℕ = take s.len (drop 16 s.kept) in
-      let old_sized : length old ≡ s.len = length-take-le s.len (drop 16 s.kept) (omega (arith, length-drop 16 s.kept)) in
-      let least = count.least in
-      let more = length-append old d in
-      let total = length-append x d in
-      let low = chunk_count-low lanes (length x) (omega arith) in
-      let whole = length-buffered count h size fits in
-      let start : Running protected s.secrets.now.secrets (x ++ d) lanes s.secrets.now.seed s.folded.lanes s.folded.count.steps (old ++ d) = record {
-        prefix = record { rows = chunk_count lanes (length x); lanes = HaveFolded-append h.folded d (omega arith); rest_is = buffered-append count h size fits d; left = omega arith };
-        counted = h.steps;
-      } in
-      Running-more start chunk held' (drop (16 * lanes - s.len) d) steps' folded one (is ∙ filled_chunk) (omega arith)
-      (sym (drop-behind old d (16 * lanes) (16 * lanes - s.len) (omega arith)))
 
 -- what is left behind the last whole chunk is buffered
 pub PartsStandFor-rest : (protected : Bool) {lanes : ℕ} (s : Parts) (y carried tail kept' kept'' : List ℕ) (i j : ℕ) → IsLaneCount lanes →
@@ -234,7 +113,7 @@ PartsStandFor-rest protected {lanes} s y carried tail kept' kept'' i j count r f
       carried = rw rows (λ _. carried-same j 0 kept' tail kept'' (omega arith) e' ∙ front ∙ before ∙ ap (λ n. take 16 (drop (n - 16) y)) edge);
     }
 
--- ---- the end of a message
+-- ---- the data of a message
 
 -- with no chunk it stands whole in the buffer
 pub buffered-all : {protected : Bool} {lanes : ℕ} {s : Parts} {x : List ℕ} → PartsStandFor protected lanes s x → s.any ≡ false → take s.len (drop 16 s.kept) ≡ x
@@ -244,45 +123,107 @@ buffered-all {lanes = lanes} {x = x} h off =
     let z : 16 * (lanes * 0) ≡ 0 = omega arith in
     h.buffered ∙ rw (none, z) refl
 
-module _ {protected : Bool} {lanes : ℕ} {s : Parts} {x : List ℕ} (count : IsLaneCount lanes) (h : PartsStandFor protected lanes s x) (size : length s.kept ≡ 128) (fits : s.len ≤ 16 * lanes) (on : s.any ≡ true) where
-  some_chunk : lanes ≤ lanes * chunk_count lanes (length x)
-  some_chunk = mul_some lanes (chunk_count lanes (length x)) (ltb-true 0 (chunk_count lanes (length x)) (sym h.any ∙ on))
+module _ {protected : Bool} {lanes : ℕ} {s : Parts} {x : List ℕ}
+    (count : IsLaneCount lanes) (h : PartsStandFor protected lanes s x) (size : length s.kept ≡ 128) (fits : s.len ≤ 16 * lanes) where
+  low : folded_bytes lanes (length x) ≤ length x - 1
+  low = let least = count.least in chunk_count-low lanes (length x) (omega arith)
 
-  -- with one it is longer than that
-  pub chunk-below : 16 * lanes < length x
-  chunk-below =
-      let least = count.least in
-      let low = chunk_count-low lanes (length x) (omega arith) in
-      let some = some_chunk in
-      omega arith
+  length-kept : length (take s.len (drop 16 s.kept)) ≡ s.len
+  length-kept = let most = count.most in length-take-le s.len (drop 16 s.kept) (omega (arith, length-drop 16 s.kept))
 
-  -- its rows are in the lanes, and its tail is what is buffered
-  pub AfterRows-stands : (all : ℕ) → all ≡ joined (take lanes s.folded.lanes) →
-      AfterRows protected s.secrets.now.secrets x (shape_of (V3 lanes) (length x)) s.secrets.now.seed all (take s.len (drop 16 s.kept))
-  unfolding shape_of
-  AfterRows-stands all is =
+  -- the buffered bytes and the folded ones are all
+  pub length-buffered : folded_bytes lanes (length x) + s.len ≡ length x
+  length-buffered = omega (arith, low, length-drop (folded_bytes lanes (length x)) x, ap length h.buffered, length-kept)
+
+  -- the buffered bytes and a piece are what follows the chunks
+  pub buffered-append : (d : List ℕ) → take s.len (drop 16 s.kept) ++ d ≡ drop (folded_bytes lanes (length x)) (x ++ d)
+  buffered-append d = ap (λ (l : List ℕ). l ++ d) h.buffered ∙ sym (drop-append-le (folded_bytes lanes (length x)) x d (omega (arith, low)))
+
+  -- a piece that fits into the buffer
+  pub PartsStandFor-fits : (d kept' : List ℕ) (j : ℕ) → s.len + length d ≤ 16 * lanes → kept' ≡ put_mid (16 + s.len) j s.kept d →
+      PartsStandFor protected lanes (record s { kept = kept'; len = s.len + length d }) (x ++ d)
+  PartsStandFor-fits d kept' j room e =
       let least = count.least in
       let most = count.most in
-      let low = chunk_count-low lanes (length x) (omega arith) in
-      let some = some_chunk in
-      let whole : PrefixIsFolded protected s.secrets.now.secrets x lanes 1 (replicate 7 s.secrets.now.seed) s.folded.lanes (take s.len (drop 16 s.kept)) =
-      record { rows = chunk_count lanes (length x); lanes = h.folded; rest_is = h.buffered; left = omega arith } in
-      let whole_length = length-buffered count h size fits in
-      let buffered : length (take s.len (drop 16 s.kept)) ≡ s.len = length-take-le s.len (drop 16 s.kept) (omega (arith, length-drop 16 s.kept)) in
-      AfterRows-wide 7 s.secrets.now.seed all whole most (omega arith) is
+      let whole = length-buffered in
+      let edge = low in
+      let same : chunk_count lanes (length (x ++ d)) ≡ chunk_count lanes (length x) =
+      chunk_count-same lanes (length x) (length (x ++ d)) (omega arith) (omega (arith, length-append x d)) (omega (arith, length-append x d)) in
+      let far = mul_some lanes (chunk_count lanes (length x)) in
+      record {
+        folded = rw same (HaveFolded-append h.folded d (omega arith));
+        steps = rw same h.steps;
+        any = rw same h.any;
+        buffered = rw same (buffered-more j s.len s.kept d kept' (omega arith) e ∙ buffered-append d);
+        carried = rw same (λ some. carried-same j s.len s.kept d kept' (omega arith) e ∙ h.carried some
+            ∙ sym (before-append x d (folded_bytes lanes (length x)) (omega (arith, far some)) (omega arith)));
+      }
+
+  -- a piece that does not fit: the buffer, filled with the piece's first bytes, is the next chunk
+  pub filled_chunk : (d kept' : List ℕ) (j : ℕ) → 16 * lanes - s.len < length d → kept' ≡ put_mid (16 + s.len) j s.kept (take (16 * lanes - s.len) d) →
+      take (16 * lanes) (drop 16 kept') ≡ take (16 * lanes) (take s.len (drop 16 s.kept) ++ d)
+  filled_chunk d kept' j enough e =
+      let most = count.most in
+      let room : ℕ = 16 * lanes - s.len in
+      let head : List ℕ = take room d in
+      let old : List ℕ = take s.len (drop 16 s.kept) in
+      let sized : length head ≡ room = length-take-le room d (omega arith) in
+      let here : take (s.len + length head) (drop 16 kept') ≡ old ++ head = buffered-more j s.len s.kept head kept' (omega arith) e in
+      let width : s.len + length head ≡ 16 * lanes = omega arith in
+      let whole : length old + room ≡ 16 * lanes = omega (arith, length-kept) in
+      let left : take (16 * lanes) (drop 16 kept') ≡ old ++ head = rw width at here in
+      let right : take (16 * lanes) (old ++ d) ≡ old ++ head = rw whole at (take-append-add old d room) in
+      left ∙ sym right
+
+  -- once that chunk is folded
+  pub Running-filled : (d kept' chunk held' : List ℕ) (j steps' : ℕ) → 16 * lanes - s.len < length d →
+      kept' ≡ put_mid (16 + s.len) j s.kept (take (16 * lanes - s.len) d) → chunk ≡ take (16 * lanes) (drop 16 kept') →
+      HaveFolded protected s.secrets.now.secrets chunk lanes s.folded.lanes held' 1 → steps' ≡ s.folded.count.steps + 1 →
+      Running protected s.secrets.now.secrets (x ++ d) lanes s.secrets.now.seed held' steps' (drop (16 * lanes - s.len) d)
+  Running-filled d kept' chunk held' j steps' enough e is folded one =
+      let old : List ℕ = take s.len (drop 16 s.kept) in
+      let sized : length old ≡ s.len = length-kept in
+      let edge = low in
+      let more = length-append old d in
+      let total = length-append x d in
+      let whole = length-buffered in
+      let start : Running protected s.secrets.now.secrets (x ++ d) lanes s.secrets.now.seed s.folded.lanes s.folded.count.steps (old ++ d) = record {
+        prefix = record { rows = chunk_count lanes (length x); lanes = HaveFolded-append h.folded d (omega arith); rest_is = buffered-append d; left = omega arith };
+        counted = h.steps;
+      } in
+      Running-more start chunk held' (drop (16 * lanes - s.len) d) steps' folded one (is ∙ filled_chunk d kept' j enough e) (omega arith)
+      (sym (drop-behind old d (16 * lanes) (16 * lanes - s.len) (omega arith)))
+
+  -- with a chunk the message is longer than that
+  pub chunk-below : s.any ≡ true → 16 * lanes < length x
+  chunk-below on =
+      let least = count.least in
+      let some = mul_some lanes (chunk_count lanes (length x)) (ltb-true 0 (chunk_count lanes (length x)) (sym h.any ∙ on)) in
+      omega (arith, low)
+
+  -- its rows are in the lanes, and its tail is what is buffered
+  pub AfterRows-stands : s.any ≡ true → (all : ℕ) → all ≡ joined (take lanes s.folded.lanes) →
+      AfterRows protected s.secrets.now.secrets x (shape_of (V3 lanes) (length x)) s.secrets.now.seed all (take s.len (drop 16 s.kept))
+  unfolding shape_of
+  AfterRows-stands on all is =
+      let long = chunk-below on in
+      let prefix : PrefixIsFolded protected s.secrets.now.secrets x lanes 1 (replicate 7 s.secrets.now.seed) s.folded.lanes (take s.len (drop 16 s.kept)) =
+      record { rows = chunk_count lanes (length x); lanes = h.folded; rest_is = h.buffered; left = omega (arith, low) } in
+      AfterRows-wide 7 s.secrets.now.seed all prefix count.most (omega (arith, length-kept)) is
 
   -- the kept bytes are its last ones
-  pub last_16-kept : last_16 (take (16 + s.len) s.kept) ≡ last_16 x
-  last_16-kept =
+  pub last_16-kept : s.any ≡ true → last_16 (take (16 + s.len) s.kept) ≡ last_16 x
+  last_16-kept on =
       let least = count.least in
-      let some = some_chunk in
-      let low = chunk_count-low lanes (length x) (omega arith) in
+      let chunk = ltb-true 0 (chunk_count lanes (length x)) (sym h.any ∙ on) in
+      let some = mul_some lanes (chunk_count lanes (length x)) chunk in
+      let edge = low in
       let before = folded_bytes lanes (length x) - 16 in
       let at : before + 16 ≡ folded_bytes lanes (length x) = omega arith in
       let behind : drop (folded_bytes lanes (length x)) x ≡ drop 16 (drop before x) = ap (λ n. drop n x) (sym at) ∙ sym (drop-drop 16 before x) in
       let kept-end : take (16 + s.len) s.kept ≡ drop before x =
       take-add 16 s.len s.kept
-      ∙ ap (λ l. l ++ take s.len (drop 16 s.kept)) (h.carried (ltb-true 0 (chunk_count lanes (length x)) (sym h.any ∙ on)))
+      ∙ ap (λ l. l ++ take s.len (drop 16 s.kept)) (h.carried chunk)
       ∙ ap (λ l. take 16 (drop before x) ++ l) (h.buffered ∙ behind)
       ∙ take-append-drop 16 (drop before x) in
       let n = length-drop before x in

@@ -1,32 +1,14 @@
 //! The number's line, and how it is written.
 
-ghost use Rattle.std.specs.Prelude.{◌≡◌, ◌+◌, ◌≤◌, ◌++◌, decimal, drop, length, MatchResult};
-ghost use Rattle.std.specs.Io.KnownBytes.{Appends};
-ghost use Rattle.rapidhash_tool.specs.Lines.{line_of, StopsShort};
+ghost use Rattle.std.specs.Prelude.{◌≡◌, ◌≤◌, drop};
+ghost use Rattle.rapidhash_tool.specs.Lines.{line_of, WritesWhole};
 
 use crate::fault::CliFault;
+use itoa::write_digits;
 use std::io::Write;
 
 // The digits of 2^64 - 1, and a newline.
 const LINE: usize = 21;
-
-// Writes the digits so that they end at `end`, and returns where they start.
-fn write_digits(number: u64, line: &mut [u8], end: usize) -> usize
-    requires room { length (decimal number) ≤ end }
-    requires inside { end ≤ length line.old }
-    ensures start { result + length (decimal number) ≡ end }
-    ensures written { drop result line.new ≡ decimal number ++ drop end line.old }
-{
-    let mut left = number;
-    let mut at = end;
-    while left >= 10 {
-        at -= 1;
-        line[at] = b'0' + (left % 10) as u8;
-        left /= 10;
-    }
-    line[at - 1] = b'0' + left as u8;
-    at - 1
-}
 
 // Writes the number's line to the end of `line`, and returns where it starts.
 fn fill_line(number: u64, line: &mut [u8; LINE]) -> usize
@@ -39,10 +21,7 @@ fn fill_line(number: u64, line: &mut [u8; LINE]) -> usize
 
 // Writes all of `bytes`, or stops at a write that fails or takes no byte.
 pub(crate) fn write_whole<W: Write>(out: &mut W, bytes: &[u8]) -> Result<(), CliFault>
-    ensures { MatchResult result
-        (λ done. Appends (W.contents out.old) (W.contents out.new) bytes.now)
-        (λ fault. (fault ≡ CliFault.Write)
-        × StopsShort (W.contents out.old) (W.contents out.new) bytes.now) }
+    ensures { WritesWhole (W.contents out.old) (W.contents out.new) result bytes.now }
 {
     let mut at = 0usize;
     while at < bytes.len() {
@@ -56,10 +35,7 @@ pub(crate) fn write_whole<W: Write>(out: &mut W, bytes: &[u8]) -> Result<(), Cli
 
 // Writes the number's line. It takes no memory.
 pub(crate) fn write_number<W: Write>(out: &mut W, number: u64) -> Result<(), CliFault>
-    ensures { MatchResult result
-        (λ done. Appends (W.contents out.old) (W.contents out.new) (line_of number))
-        (λ fault. (fault ≡ CliFault.Write)
-        × StopsShort (W.contents out.old) (W.contents out.new) (line_of number)) }
+    ensures { WritesWhole (W.contents out.old) (W.contents out.new) result (line_of number) }
 {
     let mut line = [0u8; LINE];
     let start = fill_line(number, &mut line);

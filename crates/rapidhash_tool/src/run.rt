@@ -1,11 +1,10 @@
 //! Hash and print.
 
-ghost use Rattle.std.specs.Prelude.{◌≡◌, IfErr, IfSome, MatchResult, OnOk};
+ghost use Rattle.std.specs.Prelude.{IfErr, IfSome, OnOk};
 ghost use Rattle.std.specs.Io.KnownBytes.{Appends};
 ghost use Rattle.rapidhash_tool.specs.Faults.{MayStopFileRun, MayStopStdinRun};
-ghost use Rattle.rapidhash_tool.specs.Hashes.{hash_of, read_of};
 ghost use Rattle.rapidhash_tool.specs.Help.{help_text};
-ghost use Rattle.rapidhash_tool.specs.Lines.{KeepsUnlessWrite, LeftBy, StopsShort, line_of};
+ghost use Rattle.rapidhash_tool.specs.Lines.{file_line, input_line, LeftByRun, WritesWhole};
 
 use crate::fault::CliFault;
 use crate::output::{write_number, write_whole};
@@ -26,11 +25,9 @@ pub fn run_stdin<A: Allocator, R: Read + Drop, W: Write>(
     out: &mut W,
 ) -> Result<(), CliFault>
     ensures line { OnOk result (IfSome (R.remaining input) (λ bytes.
-        Appends (W.contents out.old) (W.contents out.new) (line_of (hash_of version.now bytes)))) }
-    ensures short { IfErr result (λ fault. IfSome (R.remaining input) (λ bytes.
-        LeftBy fault (W.contents out.old) (W.contents out.new) (line_of (hash_of version.now bytes)))) }
-    ensures nothing { IfErr result (λ fault.
-        KeepsUnlessWrite fault (W.contents out.old) (W.contents out.new)) }
+        Appends (W.contents out.old) (W.contents out.new) (input_line version.now bytes))) }
+    ensures left { IfErr result (λ fault. LeftByRun fault
+        (W.contents out.old) (W.contents out.new) (R.remaining input) (input_line version.now)) }
     ensures fault { IfErr result (λ fault. MayStopStdinRun version.now fault) }
 {
     let hash = version.hash_stdin(alloc, input)?;
@@ -50,11 +47,9 @@ pub fn run_file<R: Read + Drop, W: Write>(
     out: &mut W,
 ) -> Result<(), CliFault>
     ensures line { OnOk result (IfSome (R.remaining reader) (λ bytes.
-        Appends (W.contents out.old) (W.contents out.new) (line_of (hash_of version.now (read_of version.now len bytes))))) }
-    ensures short { IfErr result (λ fault. IfSome (R.remaining reader) (λ bytes.
-        LeftBy fault (W.contents out.old) (W.contents out.new) (line_of (hash_of version.now (read_of version.now len bytes))))) }
-    ensures nothing { IfErr result (λ fault.
-        KeepsUnlessWrite fault (W.contents out.old) (W.contents out.new)) }
+        Appends (W.contents out.old) (W.contents out.new) (file_line version.now len bytes))) }
+    ensures left { IfErr result (λ fault. LeftByRun fault
+        (W.contents out.old) (W.contents out.new) (R.remaining reader) (file_line version.now len)) }
     ensures fault { IfErr result (λ fault. MayStopFileRun version.now len fault) }
 {
     let hash = version.hash_file(reader, len)?;
@@ -64,10 +59,7 @@ pub fn run_file<R: Read + Drop, W: Write>(
 /// Prints the help. With the one fault, [`CliFault::Write`], a beginning of it was written, short
 /// of the whole. It does not flush.
 pub fn run_help<W: Write>(out: &mut W) -> Result<(), CliFault>
-    ensures { MatchResult result
-        (λ done. Appends (W.contents out.old) (W.contents out.new) help_text)
-        (λ fault. (fault ≡ CliFault.Write)
-        × StopsShort (W.contents out.old) (W.contents out.new) help_text) }
+    ensures { WritesWhole (W.contents out.old) (W.contents out.new) result help_text }
 {
     write_whole(out, help().as_bytes())
 }

@@ -1,7 +1,10 @@
-//! Reads, writes and requests for memory that fail, each in turn.
+//! Reads, writes and allocations that fail, each in turn.
+
+ghost use Rattle.std.specs.Prelude.{◌<◌};
 
 use crate::ends::{
-    SOMETHING, SOMETHING_LINE, V1, V3, V3_LINE, failing, of_file, of_stdin, versions, whole, writer,
+    Ended, SOMETHING, SOMETHING_LINE, V1, V3, V3_LINE, failing, of_file, of_stdin, versions, whole,
+    writer,
 };
 use linked_list_allocator::LocalHeap;
 use rapidhash_tool::{CliFault, RapidhashVersion, run_help, run_stdin};
@@ -98,52 +101,56 @@ fn reads_of_a_file_that_fail(rt: HostRuntime) {
     }
 }
 
-// Runs over heaps that have room for 0, 1, 2 blocks of 16 bytes and so on. With too few a run ends
-// with `Memory` and writes nothing; with more it prints the line. Either way it gives back what it
-// took. The result is the reads that the refused runs made, which tell which growth of the vector
-// was refused.
-fn refused_after(
+// A run over a heap with room for so many blocks of 16 bytes, and how many reads it made. It frees
+// what it allocated.
+fn in_a_heap(
+    rt: &(impl Abort + AllocGlobal),
+    version: RapidhashVersion,
+    blocks: usize,
+) -> (Ended, u64)
+    requires { blocks < 16 }
+{
+    let heap = LocalHeap::new(rt.alloc(), 16 * (blocks + 1)).expect(rt, "no memory for a heap");
+    // A heap has one block at least, so a byte takes one.
+    let _taken = Box::new(&heap, 0u8).expect(rt, "no room for a byte");
+    assert_eq!(rt; heap.free(), 16 * blocks);
+    let mut input = whole(FORTY);
+    let mut out = writer(Vec::new(rt.alloc()), 0);
+    let result = run_stdin(&heap, &version, &mut input, &mut out);
+    assert_eq!(rt; heap.free(), 16 * blocks, "{version:?} keeps memory");
+    let written = out.held;
+    (Ended { result, written }, input.reads)
+}
+
+// How many reads the runs made that returned `Memory`, in heaps with more and more room. They write
+// nothing, and all other runs, in the larger heaps, print the line.
+fn reads_at_failures(
     rt: &(impl Abort + AllocGlobal),
     version: RapidhashVersion,
     line: &[u8],
 ) -> Vec<u64> {
-    let mut refusals = 0usize;
-    let mut refused_after = Vec::new(rt.alloc());
+    let mut too_small = 0usize;
+    let mut all_reads = Vec::new(rt.alloc());
     for blocks in 0..16usize {
-        let heap = LocalHeap::new(rt.alloc(), 16 * (blocks + 1)).expect(rt, "no memory for a heap");
-        let _taken = Box::new(&heap, 0u8).expect(rt, "no room for a byte");
-        assert_eq!(rt; heap.free(), 16 * blocks);
-        let mut input = whole(FORTY);
-        let mut out = writer(Vec::new(rt.alloc()), 0);
-        let result = run_stdin(&heap, &version, &mut input, &mut out);
-        assert_eq!(rt; heap.free(), 16 * blocks, "{version:?} keeps memory");
-        if result == Ok(()) {
-            assert_eq!(rt;
-                out.held.as_slice(),
-                line,
-                "{version:?} with {blocks} blocks"
-            );
+        let (ended, reads) = in_a_heap(rt, version, blocks);
+        let written = ended.written.as_slice();
+        if ended.result == Ok(()) {
+            assert_eq!(rt; written, line, "{version:?} with {blocks} blocks");
             continue;
         }
-        assert_eq!(rt;
-            result,
-            Err(CliFault::Memory),
-            "{version:?} with {blocks} blocks"
-        );
-        assert!(rt; out.held.is_empty());
-        assert_eq!(rt; refusals, blocks, "{version:?} prints with fewer blocks");
-        refusals = blocks + 1;
-        if refused_after.last() != Some(&input.reads) {
-            refused_after
-                .push(input.reads)
-                .expect(rt, "no memory for a number");
+        assert_eq!(rt; ended.result, Err(CliFault::Memory), "at {version:?}");
+        assert!(rt; written.is_empty());
+        assert_eq!(rt; too_small, blocks, "{version:?} prints with fewer blocks");
+        too_small = blocks + 1;
+        if all_reads.last() != Some(&reads) {
+            all_reads.push(reads).expect(rt, "no memory for a number");
         }
     }
-    refused_after
+    all_reads
 }
 
 // The vector that V1 and V2 read into has room for 8 bytes at first, and for twice as many at each
-// growth: each of its four requests for memory is refused once.
+// growth: each of its four allocations fails once.
 #[test]
 fn memory_that_is_refused(rt: HostRuntime) {
     for version in versions(false) {
@@ -155,8 +162,8 @@ fn memory_that_is_refused(rt: HostRuntime) {
         } else {
             &[]
         };
-        let refused = refused_after(&rt, version, ended.written.as_slice());
-        assert_eq!(rt; refused.as_slice(), growths, "at {version:?}");
+        let reads = reads_at_failures(&rt, version, ended.written.as_slice());
+        assert_eq!(rt; reads.as_slice(), growths, "at {version:?}");
     }
 }
 

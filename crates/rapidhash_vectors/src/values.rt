@@ -5,15 +5,19 @@ use rapidhash_portable::seeding::{GlobalSecrets, SeedSource};
 use rapidhash_portable::util::{rapid_mix, rapid_mum, read_u32, read_u32_combined, read_u64};
 use rapidhash_portable::{v1, v2, v3};
 
-/// The first, the third, the fourth and the fifth default secret.
+/// The first default secret.
 const S0: u64 = 0x2d35_8dcc_aa6c_78a5;
 
+/// The second.
 const S1: u64 = 0x8bb8_4b93_962e_acc9;
 
+/// The third.
 const S2: u64 = 0x4b33_a62e_d433_d4a3;
 
+/// The fourth.
 const S3: u64 = 0x4d5a_2da5_1de1_aa47;
 
+/// The fifth.
 const S4: u64 = 0xa076_1d64_78bd_642f;
 
 #[test]

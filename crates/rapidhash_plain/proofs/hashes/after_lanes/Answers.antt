@@ -1,5 +1,5 @@
 use Rattle.std.proofs.Common.{sym, ap, ◌∙◌, arith}
-use Rattle.rapidhash_portable.proofs.LanesLemmas.{lanes_to, lanes_to-none, lanes_to-more, lanes_to-all}
+use Rattle.rapidhash_plain.proofs.LanesLemmas.{lanes_to, lanes_to-none, lanes_to-more, lanes_to-all}
 use Rattle.rapidhash_plain.proofs.hashes.after_lanes.Goals as goal
 
 pub loop-i-init : goal.loop-i-init

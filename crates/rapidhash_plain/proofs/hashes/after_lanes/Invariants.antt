@@ -1,5 +1,5 @@
 use Rattle.std.proofs.Common.{◌≡◌}
-use Rattle.rapidhash_portable.proofs.LanesLemmas.{lanes_to}
+use Rattle.rapidhash_plain.proofs.LanesLemmas.{lanes_to}
 use Rattle.rapidhash_plain.proofs.hashes.after_lanes.Given as goal
 
 abbrev pub invariant-loop-i : goal.invariant-loop-i

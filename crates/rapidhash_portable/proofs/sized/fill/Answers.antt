@@ -2,7 +2,7 @@ use Rattle.std.proofs.Common.{subst, arith}
 use Rattle.std.proofs.lemmas.Grind.{common_steps}
 use Rattle.std.specs.Io.KnownBytes.{Consumes}
 use Rattle.std.proofs.KnownBytes.{Consumes-trans}
-use Rattle.rapidhash_portable.proofs.ReadingLemmas.{filled_more}
+use Rattle.rapidhash_portable.proofs.ListLemmas.{filled_more}
 use Rattle.rapidhash_portable.proofs.sized.fill.Goals as goal
 
 pub reads-preserved : goal.reads-preserved

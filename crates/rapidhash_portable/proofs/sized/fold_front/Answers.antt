@@ -3,7 +3,8 @@ use Rattle.std.proofs.lemmas.List.{take-append-le, take_all}
 use Rattle.std.proofs.lemmas.Result.{err_from_is_err_and}
 use Rattle.rapidhash_portable.specs.Lanes.{rows_in}
 use Rattle.rapidhash_portable.proofs.FoldedLemmas.{PrefixIsFolded-append}
-use Rattle.rapidhash_portable.proofs.ReadingLemmas.{refilled_room, FellShort-front, FrontIsFolded-last, FrontIsFolded-more, FrontIsFolded-none}
+use Rattle.rapidhash_portable.proofs.ListLemmas.{refilled_room}
+use Rattle.rapidhash_portable.proofs.ReadingLemmas.{FellShort-front, FrontIsFolded-last, FrontIsFolded-more, FrontIsFolded-none}
 use Rattle.rapidhash_portable.proofs.sized.fold_front.Goals as goal
 
 pub pieces-init : goal.pieces-init

@@ -5,10 +5,7 @@ use Rattle.std.specs.Fmt.{decimal}
 use Rattle.rapidhash_tool.proofs.output.fill_line.Goals as goal
 
 pub write_digits-requires : goal.write_digits-requires
-write_digits-requires c = record {
-  room = length-decimal-le 20 c.args.number (omega arith) (omega arith) c.ranges.number.fits;
-  inside = simp length-set (omega arith);
-}
+write_digits-requires c = (length-decimal-le 20 c.args.number (omega arith) (omega arith) c.ranges.number.fits, simp length-set (omega arith))
 
 pub returns-clause-written : goal.returns-clause-written
 returns-clause-written c =

@@ -3,7 +3,8 @@ use borrow.Rule.Slice.PartMut.{put_mid}
 use Rattle.std.proofs.lemmas.List.{drop-drop, take_rest}
 use Rattle.std.proofs.lemmas.Slice.{overwrites}
 use Rattle.rapidhash_portable.specs.Stream.{folded_bytes}
-use Rattle.rapidhash_portable.proofs.StreamLemmas.{PartsStandFor-rest, Running-filled, Running-more, before-chunk, before-piece, buffered-append, chunk_below, filled_chunk, length-buffered, no_chunk}
+use Rattle.rapidhash_portable.proofs.ListLemmas.{before-chunk, before-piece}
+use Rattle.rapidhash_portable.proofs.StreamLemmas.{PartsStandFor-rest, Running-filled, Running-more, buffered-append, chunk_below, filled_chunk, length-buffered, no_chunk}
 use Rattle.rapidhash_portable.proofs.v3.stream.parts.Parts.write_past.Goals as goal
 use Rattle.rapidhash_portable.proofs.v3.stream.parts.Parts.write_past.Goals.{then-end-ge16, else-end-ge16}
 
@@ -23,7 +24,7 @@ chunks-init g c =
       kept = refl;
       any = refl;
       size = search (rules, overwrites);
-      running = λ x h. rw at (Running-filled c.requires.lanes h (omega arith) c.requires.fits d kept j c.requires.past after _ _ _ is c.step.ensures.folded c.step.ensures.one);
+      running = λ x h. rw at (Running-filled c.requires.lanes h (omega arith) c.requires.fits d kept _ _ j _ c.requires.past after is c.step.ensures.folded c.step.ensures.one);
     }
 
 pub chunks-preserved : goal.chunks-preserved
