@@ -6,7 +6,7 @@ use Rattle.std.proofs.lemmas.Nat.{div-mul-add}
 use Rattle.rapidhash_portable.specs.Lanes.{pair_of, rows_in, no_rows, row_bytes, wide_shape, mixed_shape, after_lanes}
 use Rattle.rapidhash_portable.specs.declared.form.Form.{Form}
 use Rattle.rapidhash_portable.specs.declared.form.Form.TheVariants.{V1, V2, V3}
-use Rattle.rapidhash_portable.specs.Form.{least_row_v1, row_tail_places, v2_limit, shape_of, start_seed, tail_seed, tail_places}
+use Rattle.rapidhash_portable.specs.Form.{least_row_v1, v2_limit, v2_row_places, v2_rowless_places, shape_of, start_seed, tail_seed, tail_places}
 use Rattle.rapidhash_portable.proofs.LanesLemmas.{after_lanes-none, cond_same}
 
 -- a message of which V1 folds a row is long
@@ -57,12 +57,12 @@ pub shape_of-v2-few : (minor n : ℕ) → n ≤ 16 → shape_of (V2 minor) n ≡
 shape_of-v2-few minor n h = shape_of-v2-none minor n (grind (arith, nat_tests))
 
 -- the places of a tail of V2 with no row
-pub tail_places-v2-none : (minor n : ℕ) → n ≤ v2_limit minor → tail_places (V2 minor) n ≡ 0 ∷ 1 ∷ cond (nat_lt minor 2) 0 1 ∷ []
+pub tail_places-v2-none : (minor n : ℕ) → n ≤ v2_limit minor → tail_places (V2 minor) n ≡ v2_rowless_places minor
 unfolding tail_places
 tail_places-v2-none minor n h = rw (le-ltb (v2_limit minor) n h) refl
 
 -- and behind rows
-pub tail_places-v2-some : (minor n : ℕ) → v2_limit minor < n → tail_places (V2 minor) n ≡ row_tail_places
+pub tail_places-v2-some : (minor n : ℕ) → v2_limit minor < n → tail_places (V2 minor) n ≡ v2_row_places
 unfolding tail_places
 tail_places-v2-some minor n h = rw (lt-ltb (v2_limit minor) n h) refl
 

@@ -52,14 +52,17 @@ tail_seed (V1 bug) secrets t seed = if nat_lt 16 t then bit_xor seed (slice_inde
 tail_seed (V2 minor) secrets t seed = seed
 tail_seed (V3 lanes) secrets t seed = seed
 
--- which secrets the pairs of a tail behind rows use, in V1 and V2
-abbrev pub row_tail_places : List ℕ
-row_tail_places = 2 ∷ 2 ∷ []
+-- which secrets the pairs of a tail of V2 use: behind rows, and where there are none
+abbrev pub v2_row_places : List ℕ
+v2_row_places = 2 ∷ 2 ∷ []
+
+abbrev pub v2_rowless_places : ℕ → List ℕ
+v2_rowless_places minor = 0 ∷ 1 ∷ (if nat_lt minor 2 then 0 else 1) ∷ []
 
 -- which secrets the pairs of a tail use, in turn
 unfoldable pub tail_places : Form → ℕ → List ℕ
-tail_places (V1 bug) n = row_tail_places
-tail_places (V2 minor) n = if nat_lt (v2_limit minor) n then row_tail_places else 0 ∷ 1 ∷ (if nat_lt minor 2 then 0 else 1) ∷ []
+tail_places (V1 bug) n = 2 ∷ 2 ∷ []
+tail_places (V2 minor) n = if nat_lt (v2_limit minor) n then v2_row_places else v2_rowless_places minor
 tail_places (V3 lanes) n = 2 ∷ 2 ∷ 1 ∷ 1 ∷ 2 ∷ 1 ∷ []
 
 -- every other bit, from the highest on

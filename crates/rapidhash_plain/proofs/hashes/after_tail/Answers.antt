@@ -2,7 +2,7 @@ use Rattle.std.proofs.Common.{◌≡◌, ◌<◌, length, take, slice_index, sym
 use Rattle.std.proofs.lemmas.List.{get_or-map, length-map}
 use Rattle.rapidhash_portable.specs.Lanes.{pair_of}
 use Rattle.rapidhash_portable.specs.Tail.{fold_pairs, picked}
-use Rattle.rapidhash_portable.proofs.Tails.{fold_pairs-more, fold_pairs-none, after_tail-stop, after_tail-all}
+use Rattle.rapidhash_portable.proofs.TailLemmas.{fold_pairs-more, fold_pairs-none, after_tail-stop, after_tail-all}
 use Rattle.rapidhash_plain.proofs.hashes.after_tail.Goals as goal
 
 pub loop-j-init : goal.loop-j-init

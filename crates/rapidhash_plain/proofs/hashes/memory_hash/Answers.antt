@@ -1,7 +1,7 @@
 use Rattle.std.proofs.Common.{◌-◌, length, take, drop, ap, ◌∙◌}
 use Rattle.std.proofs.lemmas.List.{take_rest}
 use Rattle.rapidhash_portable.specs.Lanes.{row_bytes}
-use Rattle.rapidhash_portable.proofs.Hashes.{after_pairs-is, memory_hash-is}
+use Rattle.rapidhash_portable.proofs.MemoryLemmas.{after_pairs-is, memory_hash-is}
 use Rattle.rapidhash_plain.proofs.hashes.memory_hash.Goals as goal
 
 pub returns : goal.returns

@@ -1,7 +1,7 @@
 use Rattle.std.proofs.Common.{◌-◌, length, take, drop, ap, ◌∙◌}
 use Rattle.std.proofs.lemmas.List.{take_rest}
 use Rattle.rapidhash_portable.specs.Lanes.{row_bytes}
-use Rattle.rapidhash_portable.proofs.Hashes.{hash-is}
+use Rattle.rapidhash_portable.proofs.HashLemmas.{hash-is}
 use Rattle.rapidhash_plain.proofs.hashes.portable_hash.Goals as goal
 
 pub returns : goal.returns

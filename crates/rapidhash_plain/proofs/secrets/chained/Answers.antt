@@ -1,5 +1,5 @@
 use Rattle.std.proofs.Common.{sym}
-use Rattle.rapidhash_portable.proofs.Chains.{chained-none, chained-more}
+use Rattle.rapidhash_portable.proofs.SecretsLemmas.{chained-none, chained-more}
 use Rattle.rapidhash_plain.proofs.secrets.chained.Goals as goal
 
 pub loop-place-init : goal.loop-place-init
