@@ -1,10 +1,10 @@
 -- The absorbed words of a message: the hash looks at nothing else but its length, and nothing of the message is lost in them.
-use Rattle.std.proofs.Common.{◌≡◌, ℕ, zero, suc, ◌+◌, ◌-◌, ◌*◌, ◌/◌, ◌≤◌, ◌<◌, Bool, List, [], ◌∷◌, ◌++◌, map, length, get_or, slice_index, take, refl, sym, ap, ◌∙◌, arith, length-append, ⊎_elim, zero-add, subst}
+use Rattle.std.proofs.Common.{◌≡◌, ℕ, ◌+◌, ◌-◌, ◌*◌, ◌/◌, ◌≤◌, ◌<◌, Bool, List, [], ◌∷◌, ◌++◌, map, length, get_or, slice_index, take, refl, sym, ap, ◌∙◌, arith, length-append, ⊎_elim, zero-add, subst}
 use Rattle.std.proofs.Math.Seq.{get_or-append_seam}
 use Rattle.std.specs.List.{range_with_len}
 use Rattle.std.proofs.lemmas.Bool.{cases_lt, lt-ltb, le-ltb}
 use Rattle.std.proofs.lemmas.List.{length-take, get_or_append_left}
-use Rattle.std.proofs.lemmas.List.FromFn.{map-range_with_len_more, fill_by_all, length-map-range_with_len, get_or-map-range_with_len}
+use Rattle.std.proofs.lemmas.List.FromFn.{fill_by_all, length-map-range_with_len, get_or-map-range_with_len}
 use Rattle.rapidhash_portable.specs.declared.form.Shape.{Shape}
 use Rattle.rapidhash_portable.specs.declared.form.Form.{Form}
 use Rattle.rapidhash_portable.specs.declared.form.Options.{Options}
@@ -15,6 +15,7 @@ use Rattle.rapidhash_portable.specs.Hash.{value, portable_hash}
 use Rattle.rapidhash_portable.specs.Words.{last_words}
 use Rattle.rapidhash_portable.specs.Absorbed.{pairs_in, absorbed_words, value_of_words}
 use Rattle.std.proofs.lemmas.Grind.{same_number_lists}
+use Rattle.std.proofs.lemmas.Nat.{mul-add-lt}
 use Rattle.rapidhash_portable.proofs.WordsLemmas.{SameBytes, last_words-long, last_words-short, same_last, same_short}
 use Rattle.rapidhash_portable.proofs.BytesLemmas.{same_in_pair}
 
@@ -22,23 +23,19 @@ use Rattle.rapidhash_portable.proofs.BytesLemmas.{same_in_pair}
 abbrev pub Agree : ℕ → (ℕ → ℕ × ℕ) → (ℕ → ℕ × ℕ) → Type 0
 Agree n pair pair' = (k : ℕ) → k < n → pair k ≡ pair' k
 
--- so do the pairs at one place of each row
+-- functions that agree below `n` make one list
+map-same : {X : Type 0} (f g : ℕ → X) (n : ℕ) (d : X) → ((i : ℕ) → i < n → f i ≡ g i) → map f (range_with_len 0 n) ≡ map g (range_with_len 0 n)
+map-same f g n d same =
+    fill_by_all g (map f (range_with_len 0 n)) n d (length-map-range_with_len f 0 n)
+    (λ i l. get_or-map-range_with_len f 0 n i i d l (zero-add i) ∙ same i l)
+
+-- so the pairs at one place of each row are the same
 pairs_of-same : (pair pair' : ℕ → ℕ × ℕ) (first width rows place n : ℕ) → Agree n pair pair' → place < width → first + width * rows ≤ n
     → pairs_of pair first width rows place ≡ pairs_of pair' first width rows place
 unfolding pairs_of
-pairs_of-same pair pair' first width zero place n same p h = refl
-pairs_of-same pair pair' first width (suc rows) place n same p h =
-    let one : suc rows ≡ rows + 1 = omega arith in
-    let f = λ (row : ℕ). pair (first + (width * row + place)) in
-    let g = λ (row : ℕ). pair' (first + (width * row + place)) in
-    let last : f rows ≡ g rows = same (first + (width * rows + place)) (omega arith) in
-    let front : map f (range_with_len 0 rows) ≡ map g (range_with_len 0 rows) = pairs_of-same pair pair' first width rows place n same p (omega arith) in
-    ap (λ n. map f (range_with_len 0 n)) one
-    ∙ map-range_with_len_more f 0 rows rows (omega arith)
-    ∙ ap (λ ps. ps ++ f rows ∷ []) front
-    ∙ ap (λ v. map g (range_with_len 0 rows) ++ v ∷ []) last
-    ∙ sym (map-range_with_len_more g 0 rows rows (omega arith))
-    ∙ ap (λ n. map g (range_with_len 0 n)) (sym one)
+pairs_of-same pair pair' first width rows place n same p h =
+    map-same (λ row. pair (first + (width * row + place))) (λ row. pair' (first + (width * row + place))) rows (0, 0)
+    (λ row l. same (first + (width * row + place)) (omega (arith, h, mul-add-lt row width place rows l p)))
 
 -- so does a lane's column
 column-same : (pair pair' : ℕ → ℕ × ℕ) (shape : Shape) (lane n : ℕ) → Agree n pair pair' → lane < shape.lanes → row_pairs shape ≤ n
@@ -56,10 +53,8 @@ after_lanes-same : (protected : Bool) (secrets : List ℕ) (pair pair' : ℕ →
     → row_pairs shape ≤ n → after_lanes protected secrets pair shape seed ≡ after_lanes protected secrets pair' shape seed
 unfolding after_lanes
 after_lanes-same protected secrets pair pair' shape seed n same h =
-    let f = λ (lane : ℕ). lane_of protected (slice_index secrets lane) (column pair shape lane) seed in
-    let g = λ (lane : ℕ). lane_of protected (slice_index secrets lane) (column pair' shape lane) seed in
-    ap joined (fill_by_all g (map f (range_with_len 0 shape.lanes)) shape.lanes 0 (length-map-range_with_len f 0 shape.lanes)
-    (λ i l. get_or-map-range_with_len f 0 shape.lanes i i 0 l (zero-add i) ∙ ap (λ c. lane_of protected (slice_index secrets i) c seed) (column-same pair pair' shape i n same l h)))
+    ap joined (map-same (λ lane. lane_of protected (slice_index secrets lane) (column pair shape lane) seed) _ shape.lanes 0
+    (λ lane l. ap (λ c. lane_of protected (slice_index secrets lane) c seed) (column-same pair pair' shape lane n same l h)))
 
 -- so do the folded pairs of a tail
 fold_pairs-same : (protected : Bool) (cs : List ℕ) (pair pair' : ℕ → ℕ × ℕ) (at seed n : ℕ) → Agree n pair pair' → at + length cs ≤ n

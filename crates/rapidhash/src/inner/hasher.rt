@@ -1,11 +1,12 @@
 //! The hasher.
 
 ghost use Rattle.std.specs.Prelude.{◌≡◌, ◌<◌, ◌^◌, []};
-ghost use Rattle.std.specs.Int.{cast_unsigned, w8, w16, w32, w64, w128};
 ghost use Rattle.rapidhash_portable.specs.Secrets.{cpp_seeded, default_secrets, default_seed};
 ghost use Rattle.rapidhash.specs.Sponge.{Bytes, IsWidth, Num, Wide};
 ghost use Rattle.rapidhash.specs.Hasher.{step};
 ghost use Rattle.rapidhash.specs.RapidHasher.{Absorbs, Answers, Stands, answer_of, fresh, options_of, secrets_of, written};
+
+mod integers;
 
 use crate::inner::sponge::Sponge;
 use rapidhash_portable::memory::memory_hash;
@@ -117,117 +118,6 @@ impl<
         } else {
             self.seed = rapid_mix::<PROTECTED>(value ^ self.secrets[0], value ^ self.seed);
         }
-    }
-}
-
-impl<
-    's,
-    const AVALANCHE: bool,
-    const SPONGE: bool,
-    const COMPACT: bool,
-    const PROTECTED: bool,
-> RapidHasher<'s, AVALANCHE, SPONGE, COMPACT, PROTECTED> {
-    /// Absorbs an integer of 8 bits. Two integers of one width that share a block count as the
-    /// joined one: `write_u8(2)` and `write_u8(1)` as `write_u16(258)`.
-    ///
-    /// ```
-    /// let mut hasher = fast::RapidHasher::default();
-    /// hasher.write_u8(2);
-    /// let hash = hasher.finish();
-    /// ```
-    #[inline(always)]
-    pub fn write_u8(&mut self, value: u8)
-        ensures { Absorbs self.old self.new (Num 8 value) }
-    {
-        self.write_number(value as u64, 8);
-    }
-
-    /// Absorbs an integer of 16 bits.
-    #[inline(always)]
-    pub fn write_u16(&mut self, value: u16)
-        ensures { Absorbs self.old self.new (Num 16 value) }
-    {
-        self.write_number(value as u64, 16);
-    }
-
-    /// Absorbs an integer of 32 bits.
-    #[inline(always)]
-    pub fn write_u32(&mut self, value: u32)
-        ensures { Absorbs self.old self.new (Num 32 value) }
-    {
-        self.write_number(value as u64, 32);
-    }
-
-    /// Absorbs an integer of 64 bits.
-    #[inline(always)]
-    pub fn write_u64(&mut self, value: u64)
-        ensures { Absorbs self.old self.new (Num 64 value) }
-    {
-        self.write_number(value, 64);
-    }
-
-    /// Absorbs an integer of 64 bits, as [`RapidHasher::write_u64`].
-    #[inline(always)]
-    pub fn write_usize(&mut self, value: usize)
-        ensures { Absorbs self.old self.new (Num 64 value) }
-    {
-        self.write_number(value as u64, 64);
-    }
-
-    /// Absorbs a signed integer of 8 bits, by its bits.
-    #[inline(always)]
-    pub fn write_i8(&mut self, value: i8)
-        ensures { Absorbs self.old self.new (Num 8 (cast_unsigned w8 value)) }
-    {
-        self.write_number(value.cast_unsigned() as u64, 8);
-    }
-
-    /// Absorbs a signed integer of 16 bits, by its bits.
-    #[inline(always)]
-    pub fn write_i16(&mut self, value: i16)
-        ensures { Absorbs self.old self.new (Num 16 (cast_unsigned w16 value)) }
-    {
-        self.write_number(value.cast_unsigned() as u64, 16);
-    }
-
-    /// Absorbs a signed integer of 32 bits, by its bits.
-    #[inline(always)]
-    pub fn write_i32(&mut self, value: i32)
-        ensures { Absorbs self.old self.new (Num 32 (cast_unsigned w32 value)) }
-    {
-        self.write_number(value.cast_unsigned() as u64, 32);
-    }
-
-    /// Absorbs a signed integer of 64 bits, by its bits.
-    #[inline(always)]
-    pub fn write_i64(&mut self, value: i64)
-        ensures { Absorbs self.old self.new (Num 64 (cast_unsigned w64 value)) }
-    {
-        self.write_number(value.cast_unsigned(), 64);
-    }
-
-    /// Absorbs a signed integer of 64 bits, by its bits.
-    #[inline(always)]
-    pub fn write_isize(&mut self, value: isize)
-        ensures { Absorbs self.old self.new (Num 64 (cast_unsigned w64 value)) }
-    {
-        self.write_number(value.cast_unsigned() as u64, 64);
-    }
-
-    /// Absorbs 128 bits in one step. What waits in the sponge stays there.
-    #[inline(always)]
-    pub fn write_u128(&mut self, value: u128)
-        ensures { Absorbs self.old self.new (Wide value) }
-    {
-        self.seed = self.mixed(value);
-    }
-
-    /// Absorbs 128 bits in one step, as [`RapidHasher::write_u128`] does.
-    #[inline(always)]
-    pub fn write_i128(&mut self, value: i128)
-        ensures { Absorbs self.old self.new (Wide (cast_unsigned w128 value)) }
-    {
-        self.write_u128(value.cast_unsigned());
     }
 }
 
