@@ -158,8 +158,7 @@ fn long<const AVALANCHE: bool, const COMPACT: bool, const PROTECTED: bool, const
     if bytes.len() >= least_row::<V1_BUG>() {
         return with_rows::<AVALANCHE, COMPACT, PROTECTED, V1_BUG>(bytes, secrets);
     }
-    let len = bytes.len() as u64;
-    close_tail::<AVALANCHE, PROTECTED>(bytes, bytes, len, secrets.seed ^ len, &secrets.secrets)
+    above_16::<AVALANCHE, COMPACT, PROTECTED, V1_BUG>(bytes, secrets)
 }
 
 /// The hash of a message that has a row.
@@ -171,10 +170,28 @@ fn with_rows<const AVALANCHE: bool, const COMPACT: bool, const PROTECTED: bool, 
     requires { least_row_v1 V1_BUG ≤ length bytes.now }
     ensures { result ≡ seeded_hash_v1 V1_BUG (options AVALANCHE PROTECTED) secrets.now bytes.now }
 {
+    above_16::<AVALANCHE, COMPACT, PROTECTED, V1_BUG>(bytes, secrets)
+}
+
+/// The hash above 16 bytes: the body of [`long`] and of [`with_rows`], which have both decided its
+/// test. After inlining the other branch is gone. With a body of its own for each, `long` took a
+/// register move more.
+#[inline(always)]
+fn above_16<const AVALANCHE: bool, const COMPACT: bool, const PROTECTED: bool, const V1_BUG: bool>(
+    bytes: &[u8],
+    secrets: &RapidSecrets,
+) -> u64
+    requires { 16 < length bytes.now }
+    ensures { result ≡ seeded_hash_v1 V1_BUG (options AVALANCHE PROTECTED) secrets.now bytes.now }
+{
     let len = bytes.len() as u64;
     let s = &secrets.secrets;
-    let (joined, tail) = wide_lanes::<3, 0, COMPACT, PROTECTED>(bytes, secrets.seed ^ len, s);
-    close_tail::<AVALANCHE, PROTECTED>(tail, bytes, len, joined, s)
+    let mut seed = secrets.seed ^ len;
+    let mut tail = bytes;
+    if bytes.len() >= least_row::<V1_BUG>() {
+        (seed, tail) = wide_lanes::<3, 0, COMPACT, PROTECTED>(bytes, seed, s);
+    }
+    close_tail::<AVALANCHE, PROTECTED>(tail, bytes, len, seed, s)
 }
 
 /// The hash of `len` bytes, more than 16, made of the joined lanes, the tail, and bytes that end in
