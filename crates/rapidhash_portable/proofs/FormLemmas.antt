@@ -11,11 +11,6 @@ use Rattle.rapidhash_portable.specs.Form.{least_row_v1, v2_limit, v2_row_places,
 use Rattle.rapidhash_portable.proofs.FoldedLemmas.{AfterRows-none}
 use Rattle.rapidhash_portable.proofs.LanesLemmas.{cond_same}
 
--- a message of which V1 folds a row is long
-pub long-v1 : (bug : Bool) (n : ℕ) → least_row_v1 bug ≤ n → 16 < n
-long-v1 true n h = omega arith
-long-v1 false n h = omega arith
-
 -- V1 below 48 bytes has no row
 pub shape_of-v1-few : (bug : Bool) (n : ℕ) → n < 48 → shape_of (V1 bug) n ≡ no_rows 3
 unfolding shape_of

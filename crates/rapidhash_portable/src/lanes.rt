@@ -140,7 +140,8 @@ pub(crate) fn mixed_lanes<'x, const COMPACT: bool, const PROTECTED: bool>(
     join_mixed::<COMPACT, PROTECTED>(&mut lanes, bytes, secrets)
 }
 
-/// As [`wide_lanes`], where the lanes have folded a prefix already, and `bytes` are what follows it.
+/// As [`wide_lanes`], where the lanes have folded a prefix already, and `bytes` are what follows
+/// it.
 #[inline(always)]
 pub(crate) fn join_wide<
     'x,
@@ -193,7 +194,7 @@ pub(crate) fn fold_tail<const COUNT: usize, const PROTECTED: bool>(
     ensures { result ≡ after_tail PROTECTED table.now (pair_of tail.now) 0 (length tail.now) start }
 {
     let mut seed = start;
-    // Where pair j ends. It is counted beside j: of a sum in the test, the compiler makes a longer one.
+    // Where pair j ends. It is counted beside j: a sum in the test compiles to a longer one.
     let mut end = 16;
     for j in 0..COUNT {
         if tail.len() > end {

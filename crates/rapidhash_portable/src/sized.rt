@@ -18,14 +18,15 @@ use std::io::Read;
 /// The longest message that is read whole.
 pub(crate) const SHORT: usize = 8192;
 
-/// The buffer of a longer one: 65520 bytes, which are whole rows of three pairs and of seven, and 16.
+/// The buffer of a longer one: 65520 bytes, which are whole rows of three pairs and of seven, and
+/// 16 more.
 pub(crate) const BUFFER: usize = 65536;
 
 /// Fills `buf`, and makes no read once it is full.
 pub(crate) fn fill<R: Read>(reader: &mut R, buf: &mut [u8]) -> Result<(), Stop>
     ensures ok { OnOk result (Consumes (R.remaining reader.old) (R.remaining reader.new) buf.new) }
-    ensures short { IfErr result (λ stop.
-        FellShort (R.remaining reader.old) (R.remaining reader.new) (length buf.old) (is_failed stop)) }
+    ensures short { IfErr result (λ stop. FellShort (R.remaining reader.old)
+        (R.remaining reader.new) (length buf.old) (is_failed stop)) }
 {
     let mut at = 0;
     'reads: while at < buf.len() {

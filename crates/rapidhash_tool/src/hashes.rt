@@ -1,16 +1,21 @@
 //! The hash by each version.
 
 ghost use Rattle.std.specs.Prelude.{◌≡◌, true, IfErr, IfOk, IfSome};
-ghost use Rattle.rapidhash.specs.Reading.{HashesNext};
+ghost use Rattle.rapidhash_portable.specs.declared.form.Form.TheVariants.{V3};
+ghost use Rattle.rapidhash.specs.Lanes.{IsLaneCount};
+ghost use Rattle.rapidhash.specs.Options.{options};
+ghost use Rattle.rapidhash.specs.Reading.{HashesKnown, HashesNext};
+ghost use Rattle.rapidhash.specs.Seeded.{default_hash};
 ghost use Rattle.rapidhash_tool.specs.Faults.{MayStopFile, MayStopStdin};
 ghost use Rattle.rapidhash_tool.specs.Hashes.{hash_of, read_of, HasLength};
 
 use crate::fault::CliFault;
-use crate::input::{hash_to_end, read_whole};
+use crate::input::{PIECE, read_whole};
 use crate::version::{Minor, RapidhashVersion};
 use rapidhash::v1::{rapidhash_v1_file_inline, rapidhash_v1_inline};
 use rapidhash::v2::{rapidhash_v2_file_inline, rapidhash_v2_inline};
-use rapidhash::{v1, v2};
+use rapidhash::v3::rapidhash_v3_file_lanes;
+use rapidhash::{v1, v2, v3};
 use std::alloc::Allocator;
 use std::io;
 use std::io::Read;
@@ -40,9 +45,9 @@ impl RapidhashVersion {
                 let bytes = read_whole(alloc, &mut input)?;
                 return Ok(hash_v2(version, protected, bytes.as_slice()));
             }
-            RapidhashVersion::V3 { protected } => hash_to_end::<R, 7>(input, protected),
-            RapidhashVersion::V3Micro { protected } => hash_to_end::<R, 5>(input, protected),
-            RapidhashVersion::V3Nano { protected } => hash_to_end::<R, 3>(input, protected),
+            RapidhashVersion::V3 { protected } => hash_v3::<R, 7>(protected, input),
+            RapidhashVersion::V3Micro { protected } => hash_v3::<R, 5>(protected, input),
+            RapidhashVersion::V3Nano { protected } => hash_v3::<R, 3>(protected, input),
         };
         match streamed {
             Ok(hash) => Ok(hash),
@@ -73,9 +78,9 @@ impl RapidhashVersion {
                 &mut reader,
                 len,
             ),
-            RapidhashVersion::V3 { protected } => hash_to_end::<R, 7>(reader, protected),
-            RapidhashVersion::V3Micro { protected } => hash_to_end::<R, 5>(reader, protected),
-            RapidhashVersion::V3Nano { protected } => hash_to_end::<R, 3>(reader, protected),
+            RapidhashVersion::V3 { protected } => hash_v3::<R, 7>(protected, reader),
+            RapidhashVersion::V3Micro { protected } => hash_v3::<R, 5>(protected, reader),
+            RapidhashVersion::V3Nano { protected } => hash_v3::<R, 3>(protected, reader),
         };
         match hash {
             Ok(hash) => Ok(hash),
@@ -138,5 +143,19 @@ fn hash_v2_file<R: Read>(
         (Minor::M1, true) => rapidhash_v2_file_inline::<R, 1, true>(reader, len, secrets),
         (Minor::M2, false) => rapidhash_v2_file_inline::<R, 2, false>(reader, len, secrets),
         (Minor::M2, true) => rapidhash_v2_file_inline::<R, 2, true>(reader, len, secrets),
+    }
+}
+
+// V3, micro or nano of all that a reader has. It allocates nothing.
+fn hash_v3<R: Read + Drop, const LANES: usize>(protected: bool, reader: R) -> io::Result<u64>
+    requires { IsLaneCount LANES }
+    ensures { HashesKnown (R.remaining reader) result
+        (default_hash (V3 LANES) (options true protected)) }
+{
+    let secrets = v3::RapidSecrets::default_ref();
+    if protected {
+        rapidhash_v3_file_lanes::<R, LANES, PIECE, true>(reader, secrets)
+    } else {
+        rapidhash_v3_file_lanes::<R, LANES, PIECE, false>(reader, secrets)
     }
 }
