@@ -17,17 +17,12 @@ use Rattle.rapidhash_portable.specs.Absorbed.{pairs_in, absorbed_words, value_of
 use Rattle.std.proofs.lemmas.Grind.{same_number_lists}
 use Rattle.std.proofs.lemmas.Nat.{mul-add-lt}
 use Rattle.rapidhash_portable.proofs.WordsLemmas.{SameBytes, last_words-long, last_words-short, same_last, same_short}
+use Rattle.rapidhash_portable.proofs.LanesLemmas.{map-same}
 use Rattle.rapidhash_portable.proofs.BytesLemmas.{same_in_pair}
 
 -- two ways to take pairs agree on the first `n`
 abbrev pub Agree : ℕ → (ℕ → ℕ × ℕ) → (ℕ → ℕ × ℕ) → Type 0
 Agree n pair pair' = (k : ℕ) → k < n → pair k ≡ pair' k
-
--- functions that agree below `n` make one list
-map-same : {X : Type 0} (f g : ℕ → X) (n : ℕ) (d : X) → ((i : ℕ) → i < n → f i ≡ g i) → map f (range_with_len 0 n) ≡ map g (range_with_len 0 n)
-map-same f g n d same =
-    fill_by_all g (map f (range_with_len 0 n)) n d (length-map-range_with_len f 0 n)
-    (λ i l. get_or-map-range_with_len f 0 n i i d l (zero-add i) ∙ same i l)
 
 -- so the pairs at one place of each row are the same
 pairs_of-same : (pair pair' : ℕ → ℕ × ℕ) (first width rows place n : ℕ) → Agree n pair pair' → place < width → first + width * rows ≤ n

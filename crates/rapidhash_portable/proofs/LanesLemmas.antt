@@ -1,12 +1,12 @@
 -- Pairs, columns and lanes: of a part of a message, with more rows, joined.
-use Rattle.std.proofs.Common.{◌≡◌, ℕ, zero, suc, ◌+◌, ◌-◌, ◌*◌, ◌/◌, ◌%◌, ◌≤◌, ◌<◌, Bool, true, false, cond, ltb, List, [], ◌∷◌, ◌++◌, map, fold, length, get_or, drop, replicate, bit_xor, refl, sym, ap, ◌∙◌, arith, add_assoc, append_assoc}
+use Rattle.std.proofs.Common.{◌≡◌, ℕ, zero, suc, ◌+◌, ◌-◌, ◌*◌, ◌/◌, ◌%◌, ◌≤◌, ◌<◌, Bool, true, false, cond, ltb, List, [], ◌∷◌, ◌++◌, map, fold, length, get_or, drop, replicate, bit_xor, refl, sym, ap, ◌∙◌, arith, add_assoc, append_assoc, zero-add}
 use Rattle.std.specs.List.{range_with_len}
 use Rattle.std.specs.Int.Bits.{xor_self}
 use Rattle.std.proofs.lemmas.Bool.{lt-ltb, le-ltb}
 use Rattle.std.proofs.lemmas.List.{append-nil, get_or-replicate, length-replicate}
-use Rattle.std.proofs.lemmas.List.FromFn.{map-range_with_len_more, fill_by_all}
+use Rattle.std.proofs.lemmas.List.FromFn.{map-range_with_len_more, fill_by_all, length-map-range_with_len, get_or-map-range_with_len}
 use Rattle.std.proofs.lemmas.List.Sums.{fold_push, fold-append}
-use Rattle.std.proofs.lemmas.Nat.{div-mul-add}
+use Rattle.std.proofs.lemmas.Nat.{div-mul-add, mul-add-lt}
 use Rattle.rapidhash_portable.specs.declared.form.Shape.{Shape}
 use Rattle.rapidhash_portable.specs.Lanes.{pair_of, pair_at, step, pairs_of, column, lane_of, joined, after_lanes, rows_in, no_rows}
 use Rattle.rapidhash_portable.proofs.BytesLemmas.{word64-drop, word64-append}
@@ -21,36 +21,27 @@ pair_at-drop x n at = simp (word64-drop, add_assoc)
 pub pair_at-append : (x y : List ℕ) (at : ℕ) → at + 16 ≤ length x → pair_at (x ++ y) at ≡ pair_at x at
 pair_at-append x y at h = cc (word64-append x y at (omega arith), word64-append x y (at + 8) (omega arith))
 
-map_same : {X Y : Type 0} (f g : X → Y) → ((x : X) → f x ≡ g x) → (xs : List X) → map f xs ≡ map g xs
-map_same f g same [] = refl
-map_same f g same (x ∷ xs) = ap (λ y. y ∷ map f xs) (same x) ∙ ap (λ ys. g x ∷ ys) (map_same f g same xs)
+-- functions that agree below `n` make one list
+pub map-same : {X : Type 0} (f g : ℕ → X) (n : ℕ) (d : X) → ((i : ℕ) → i < n → f i ≡ g i) → map f (range_with_len 0 n) ≡ map g (range_with_len 0 n)
+map-same f g n d same =
+    fill_by_all g (map f (range_with_len 0 n)) n d (length-map-range_with_len f 0 n)
+    (λ i l. get_or-map-range_with_len f 0 n i i d l (zero-add i) ∙ same i l)
 
 -- the rows of what is left of a message are the message's own
 pub pairs_of-drop : (x : List ℕ) (first width rows place : ℕ) →
     pairs_of (pair_of (drop (16 * first) x)) 0 width rows place ≡ pairs_of (pair_of x) first width rows place
 unfolding pairs_of
 pairs_of-drop x first width rows place =
-    map_same _ _ (λ row.
+    map-same _ _ rows (0, 0) (λ row _.
     let e : 16 * first + 16 * (0 + (width * row + place)) ≡ 16 * (first + (width * row + place)) = omega arith in
-    pair_at-drop x (16 * first) (16 * (0 + (width * row + place))) ∙ ap (pair_at x) e) (range_with_len 0 rows)
+    pair_at-drop x (16 * first) (16 * (0 + (width * row + place))) ∙ ap (pair_at x) e)
 
 -- the rows of the first part of a message are the whole message's first rows
 pub pairs_of-append : (x y : List ℕ) (width rows place : ℕ) → place < width → 16 * (width * rows) ≤ length x →
     pairs_of (pair_of (x ++ y)) 0 width rows place ≡ pairs_of (pair_of x) 0 width rows place
 unfolding pairs_of
-pairs_of-append x y width zero place p h = refl
-pairs_of-append x y width (suc rows) place p h =
-    let one : suc rows ≡ rows + 1 = omega arith in
-    let f = λ (row : ℕ). pair_at (x ++ y) (16 * (0 + (width * row + place))) in
-    let g = λ (row : ℕ). pair_at x (16 * (0 + (width * row + place))) in
-    let last : f rows ≡ g rows = pair_at-append x y (16 * (0 + (width * rows + place))) (omega arith) in
-    let front : map f (range_with_len 0 rows) ≡ map g (range_with_len 0 rows) = pairs_of-append x y width rows place p (omega arith) in
-    ap (λ n. map f (range_with_len 0 n)) one
-    ∙ map-range_with_len_more f 0 rows rows (omega arith)
-    ∙ ap (λ ps. ps ++ f rows ∷ []) front
-    ∙ ap (λ v. map g (range_with_len 0 rows) ++ v ∷ []) last
-    ∙ sym (map-range_with_len_more g 0 rows rows (omega arith))
-    ∙ ap (λ n. map g (range_with_len 0 n)) (sym one)
+pairs_of-append x y width rows place p h =
+    map-same _ _ rows (0, 0) (λ row l. pair_at-append x y (16 * (0 + (width * row + place))) (omega (arith, h, mul-add-lt row width place rows l p)))
 
 -- the rows of a message are its first rows and then the others
 pub pairs_of-split : (x : List ℕ) (width rows more place : ℕ) →

@@ -1,9 +1,12 @@
 -- Secrets made one of the other, each with a set bit in its three parts, and the default seeds as numbers.
-use Rattle.std.proofs.Common.{◌≡◌, ◌≢◌, ℕ, nat_eq, bit_and, bit_or, min, max, refl, ap, sym, ◌∙◌, arith, suc, ◌+◌, false, bit_xor, get_or, subst}
+use Rattle.std.proofs.Common.{◌≡◌, ◌≢◌, ℕ, nat_eq, bit_and, bit_or, min, max, refl, ap, sym, ◌∙◌, arith, suc, ◌+◌, ◌≤◌, ◌<◌, false, bit_xor, List, length, get_or, set, subst, length-set}
 use Rattle.std.proofs.lemmas.Bool.{cond_both, eqb-false}
+use Rattle.std.proofs.lemmas.List.Edits.{fill_by_more}
+use Rattle.std.proofs.lemmas.List.Elements.{All-from_get_or}
 use Rattle.std.proofs.lemmas.Nat.{and_or_apart}
 use Rattle.std.proofs.lemmas.Nat.Bits.{bit_at-zero, bit_at_and, bit_at_or}
 use Rattle.std.specs.Int.{bit_at}
+use Rattle.std.specs.List.{All}
 use Rattle.rapidhash_portable.specs.Secrets.{IsGood, repaired, with_bit, chained, cpp_seeded, default_secrets, default_seed, default_seed_v1, made_state, premixed, s0, s1, s2}
 use Rattle.rapidhash_portable.specs.Multiply.{mix, multiply}
 
@@ -52,10 +55,6 @@ IsGood-repaired word =
       lower = with_bit-sets middle 0xffff 1 0 refl refl;
     }
 
--- a good word is not 0
-pub IsGood-nonzero : (word : ℕ) → IsGood word → word ≢ 0
-IsGood-nonzero word good e = good.lower (ap (λ w. bit_and w 0xffff) e)
-
 -- no premix leaves the word
 pub chained-none : (word : ℕ) → chained word 0 ≡ word
 unfolding chained
@@ -89,6 +88,28 @@ made_state-more random count =
 -- a state after the first is good
 pub IsGood-made_state : (random count : ℕ) → IsGood (made_state random (count + 1))
 IsGood-made_state random count = subst IsGood (sym (made_state-more random count)) (IsGood-repaired _)
+
+-- the first `count` of `size` secrets are those of a rule
+pub record AreFilled (rule : ℕ → ℕ) (secrets : List ℕ) (size count : ℕ) : Type 0 where
+  pub whole : length secrets ≡ size
+  pub made : (k : ℕ) → k < count → get_or secrets k 0 ≡ rule k
+
+-- one secret more
+pub AreFilled-more : {rule : ℕ → ℕ} {secrets : List ℕ} {size count : ℕ} → AreFilled rule secrets size count → (secret : ℕ) →
+    secret ≡ rule count → count < size → AreFilled rule (set secrets count secret) size (count + 1)
+AreFilled-more {rule} {secrets} {size} {count} f secret is less =
+    let whole = f.whole in
+    record {
+      whole = length-set secrets count secret ∙ whole;
+      made = λ k l. ap (λ v. get_or (set secrets count v) k 0) is ∙ fill_by_more rule secrets count 0 (omega arith) f.made k l;
+    }
+
+-- all of them, which are good where the rule's are
+pub AreFilled-good : {rule : ℕ → ℕ} {secrets : List ℕ} {size count : ℕ} → AreFilled rule secrets size count → size ≤ count →
+    ((k : ℕ) → IsGood (rule k)) → All IsGood secrets
+AreFilled-good {rule} {secrets} f enough good =
+    let whole = f.whole in
+    All-from_get_or IsGood secrets 0 (λ k l. subst IsGood (sym (f.made k (omega arith))) (good k))
 
 -- the default seed of V2 and V3 as a number
 pub default_number : 0x422765567d8fbfd6 ≡ default_seed

@@ -21,8 +21,8 @@ returns g c =
     let shape = shape_of-v2-none g.row.MINOR (length x) (omega arith) in
     let none = rows-none form 7 (length x) chosen.protected s.secrets x start (omega arith) shape in
     let after = λ (table : List ℕ). after_tail chosen.protected table (pair_of x) 0 (length x) start in
-    let third = ap (λ k. after (picked s.secrets (0 ∷ 1 ∷ k ∷ []))) c.last_place.ensures.place in
+    let folded = rw (c.last_place.ensures.place) at c.fold_tail-seed.ensures in
     let places = ap (λ p. after (picked s.secrets p)) (tail_places-v2-none g.row.MINOR (length x) (omega arith)) in
     hash-is form chosen s.seed s.secrets x x start c.fold_tail-seed.result c.close_long.result none
-    (c.fold_tail-seed.ensures ∙ third ∙ sym places)
+    (folded ∙ sym places)
     (cc (c.close_long.ensures g.row.MINOR (length x), last_words-long form x c.requires.long))
