@@ -163,13 +163,13 @@ stands-wide options true s seed v w start xs n seed' i d h =
     stands-snoc options s seed v w start xs (Wide n) seed' v w i d (h.bits_are ∙ width-on xs) (omega (arith, h.number_is, pending-on xs)) h
 stands-wide options false s seed v w start xs n seed' i d h = rw d (stands-step options s seed v w start xs (Wide n) i h)
 
--- the answer from what stands for a start and a list
+-- the answer from what represents a start and a list
 pub stands-finish : (options : Options) (sponge : Bool) (s : List ℕ) (seed v w start : ℕ) (xs : List Item)
     → StandsFor options sponge s seed v w start xs → closed options s seed v w ≡ finished options sponge s start xs
 unfolding finished
 stands-finish options sponge s seed v w start xs h i = closed options s (h.seed_is i) (h.number_is i) (h.bits_are i)
 
--- a new hasher stands for its start and no item
+-- a new hasher represents its start and no item
 pub stands-new : (options : Options) (sponge : Bool) (s : List ℕ) (start : ℕ) → start < 2 ^ 64 → StandsFor options sponge s start 0 0 start []
 unfolding seed_after steps pending width block end_of
 stands-new options true s start h = record { start_fits = h; items_fit = All-nil IsItem; seed_is = refl; number_is = refl; bits_are = refl }

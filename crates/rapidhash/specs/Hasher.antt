@@ -52,7 +52,7 @@ closed options secrets seed pending width =
 unfoldable pub finished : Options → Bool → List ℕ → ℕ → List Item → ℕ
 finished options sponge secrets start items = closed options secrets (seed_after options sponge secrets start items) (pending sponge items) (width sponge items)
 
--- a seed, a pending number and its width stand for a start and a list of items
+-- a seed, a pending number and its width represent a start and a list of items
 pub record StandsFor (options : Options) (sponge : Bool) (secrets : List ℕ) (seed number bits start : ℕ) (items : List Item) : Type 0 where
   pub start_fits : start < 2 ^ 64
   pub items_fit : All IsItem items

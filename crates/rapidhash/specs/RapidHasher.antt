@@ -1,4 +1,4 @@
--- What contracts see of `RapidHasher`: whose numbers stand for a start and a list of items, and what a write and an answer are.
+-- What contracts see of `RapidHasher`: whose numbers represent a start and a list of items, and what a write and an answer are.
 use Rattle.std.specs.Prelude.{ℕ, ◌≡◌, Bool, not, nat_eq, List, [], ◌∷◌, ◌++◌}
 use Rattle.std.specs.Borrow.{Bor}
 use Rattle.rapidhash_portable.specs.declared.form.Options.{Options}
@@ -23,17 +23,17 @@ options_of {avalanche} {sponge} {compact} {protected} hasher = options (is_on av
 abbrev pub has_sponge : {avalanche sponge compact protected : ℕ} → RapidHasher avalanche sponge compact protected → Bool
 has_sponge {avalanche} {sponge} {compact} {protected} hasher = is_on sponge
 
--- a hasher stands for a start and a list of items, under its own secrets
+-- a hasher represents a start and a list of items, under its own secrets
 abbrev pub Stands : {avalanche sponge compact protected : ℕ} → RapidHasher avalanche sponge compact protected → ℕ → List Item → Type 0
 Stands hasher start items =
     StandsFor (options_of hasher) (has_sponge hasher) hasher.secrets.now hasher.seed hasher.sponge.bits hasher.sponge.width start items
 
--- one item more is absorbed: the secrets stay, and for every start and list that the old hasher stands for, the new one stands for the list with the item at its end
+-- one item more is absorbed: the secrets stay, and for every start and list that the old hasher represents, the new one represents the list with the item at its end
 pub record Absorbs {avalanche sponge compact protected : ℕ} (old new : RapidHasher avalanche sponge compact protected) (item : Item) : Type 0 where
   pub secrets : secrets_of new ≡ secrets_of old
   pub stands : (start : ℕ) (items : List Item) → Stands old start items → Stands new start (items ++ item ∷ [])
 
--- for every start and list that the hasher stands for, the answer is theirs
+-- for every start and list that the hasher represents, the answer is theirs
 abbrev pub Answers : {avalanche sponge compact protected : ℕ} → RapidHasher avalanche sponge compact protected → ℕ → Type 0
 Answers hasher answer =
     (start : ℕ) (items : List Item) → Stands hasher start items → answer ≡ finished (options_of hasher) (has_sponge hasher) hasher.secrets.now start items

@@ -1,4 +1,4 @@
--- The two words that a message ends in, by its length, and that they tell its bytes.
+-- The two words that a message ends in, by its length, and that its bytes follow from them.
 use Rattle.std.proofs.Common.{◌≡◌, ℕ, ◌+◌, ◌-◌, ◌*◌, ◌/◌, ◌%◌, ◌^◌, ◌≤◌, ◌<◌, ⊎_elim, List, length, get_or, refl, sym, ap, ◌∙◌, arith, bit_xor, bit_or}
 use Rattle.std.proofs.lemmas.Bool.{cases_lt, lt-ltb, le-ltb}
 use Rattle.std.proofs.lemmas.Bool.Decides.{nat_tests}
