@@ -1,4 +1,4 @@
--- Little-endian words: of a part of a message, and that a word tells its bytes.
+-- Little-endian words: of a part of a message, and that the bytes follow from a word.
 use Rattle.std.proofs.Common.{◌≡◌, ℕ, ◌+◌, ◌≤◌, ◌<◌, List, ◌++◌, length, get_or, drop, arith, add_assoc, get_or-drop, zero, suc, ◌-◌, ◌*◌, ◌^◌, [], ◌∷◌, sum_by, sym, ap, ◌∙◌, ⊎_elim}
 use Rattle.std.proofs.lemmas.List.{get_or_append_left}
 use Rattle.rapidhash_portable.specs.Bytes.{word64, little_endian, word32}
