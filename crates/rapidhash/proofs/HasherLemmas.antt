@@ -3,7 +3,7 @@ use Rattle.std.proofs.Common.{Fits, w8, get_or, ◌≡◌, ℕ, ◌+◌, ◌*◌
 use Rattle.std.proofs.lemmas.List.{append-nil, get_or_default}
 use Rattle.std.proofs.lemmas.List.Elements.{All-append, All-cons, All-nil}
 use Rattle.std.proofs.lemmas.List.Sums.{fold-append}
-use Rattle.std.proofs.lemmas.Bool.Decides.{nat_tests}
+use Rattle.std.proofs.lemmas.Bool.{le-leb, lt-leb}
 use Rattle.rapidhash_portable.specs.declared.form.Options.{Options}
 use Rattle.rapidhash_portable.specs.Memory.{memory_hash}
 use Rattle.rapidhash.specs.Hasher.{StandsFor, closed, finished, pending, seed_after, step, steps, steps_from, steps_of, width}
@@ -109,14 +109,6 @@ stands-step options s seed v w start xs y i h = record {
   bits_are = h.bits_are;
 }
 
--- a test that holds
-fits_test : (m n : ℕ) → m ≤ n → nat_le m n ≡ true
-fits_test m n h = grind (arith, nat_tests)
-
--- and one that doesn't
-opens_test : (m n : ℕ) → n < m → nat_le m n ≡ false
-opens_test m n h = grind (arith, nat_tests)
-
 -- an integer that the last block has room for
 pub stands-behind : (options : Options) (sponge : Bool) (s : List ℕ) (seed v w start : ℕ) (xs : List Item) (k n v' w' : ℕ) → sponge ≡ true
     → IsItem (Num k n) → w + k ≤ 128 → v' ≡ v + n * 2 ^ w → w' ≡ w + k
@@ -125,7 +117,7 @@ stands-behind options false s seed v w start xs k n v' w' t i room e f h = absur
 stands-behind options true s seed v w start xs k n v' w' t i room e f h =
     let we : w ≡ (end_of xs).1 = h.bits_are ∙ width-on xs in
     let ve : v ≡ block xs (end_of xs).0 = h.number_is ∙ pending-on xs in
-    let fits : nat_le ((end_of xs).1 + k) 128 ≡ true = fits_test _ _ (rw (← we) room) in
+    let fits : nat_le ((end_of xs).1 + k) 128 ≡ true = le-leb _ _ (rw (← we) room) in
     stands-snoc options s seed v w start xs (Num k n) seed v' w' i (rw fits refl) (f ∙ rw (fits, we) refl) (e ∙ rw (fits, own_block, we, ve) refl) h
 
 -- an integer that opens a block, where the last one becomes a step
@@ -136,7 +128,7 @@ stands-opening options false s seed v w start xs k n seed' v' w' t i full d e f 
 stands-opening options true s seed v w start xs k n seed' v' w' t i full d e f h =
     let we : w ≡ (end_of xs).1 = h.bits_are ∙ width-on xs in
     let ve : v ≡ block xs (end_of xs).0 = h.number_is ∙ pending-on xs in
-    let opens : nat_le ((end_of xs).1 + k) 128 ≡ false = opens_test _ _ (rw (← we) full) in
+    let opens : nat_le ((end_of xs).1 + k) 128 ≡ false = lt-leb _ _ (rw (← we) full) in
     let none : block xs ((end_of xs).0 + 1) ≡ 0 = block-behind xs _ (omega arith) in
     stands-snoc options s seed v w start xs (Num k n) seed' v' w' i (d ∙ rw (opens, ve) refl) (f ∙ rw opens (omega arith)) (e ∙ rw (opens, own_block, none) (omega arith)) h
 

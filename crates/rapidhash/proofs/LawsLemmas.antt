@@ -1,38 +1,30 @@
 -- Lists of integers of equal widths: those that are packed into the same blocks are one list.
-use Rattle.std.proofs.Common.{◌≡◌, ℕ, zero, suc, ◌+◌, ◌^◌, ◌<◌, List, [], ◌∷◌, length, map, take, get_or, refl, ap, ◌∙◌, arith}
-use Rattle.std.proofs.lemmas.List.{take_more_same}
+use Rattle.std.proofs.Common.{◌≡◌, ℕ, cond, nat_eq, zero, suc, ◌+◌, ◌^◌, ◌<◌, List, [], ◌∷◌, length, map, take, get_or, refl, sym, ap, ◌∙◌, arith}
+use Rattle.std.proofs.Math.ListN.{get_or-map}
+use Rattle.std.proofs.lemmas.List.{length-map, take_more_same}
 use Rattle.rapidhash.specs.Sponge.{Item, end_after, block_from, block}
 use Rattle.rapidhash.proofs.SpongeLemmas.{first_number-same}
 use Rattle.rapidhash.specs.declared.laws.blocks.Num.{Num}
 use Rattle.rapidhash.specs.declared.laws.blocks.Num.TheVariants.{N8, N16, N32, N64}
 use Rattle.rapidhash.specs.Laws.{width_of, value_of, item_of, SameBlocks}
 
--- numbers of one width and value are one
-num-same : (a b : Num) → width_of a ≡ width_of b → value_of a ≡ value_of b → a ≡ b
-num-same (N8 u) (N8 v) h e = ap N8 e
-num-same (N16 u) (N16 v) h e = ap N16 e
-num-same (N32 u) (N32 v) h e = ap N32 e
-num-same (N64 u) (N64 v) h e = ap N64 e
-num-same (N8 u) (N16 v) h e = absurd (omega arith)
-num-same (N8 u) (N32 v) h e = absurd (omega arith)
-num-same (N8 u) (N64 v) h e = absurd (omega arith)
-num-same (N16 u) (N8 v) h e = absurd (omega arith)
-num-same (N16 u) (N32 v) h e = absurd (omega arith)
-num-same (N16 u) (N64 v) h e = absurd (omega arith)
-num-same (N32 u) (N8 v) h e = absurd (omega arith)
-num-same (N32 u) (N16 v) h e = absurd (omega arith)
-num-same (N32 u) (N64 v) h e = absurd (omega arith)
-num-same (N64 u) (N8 v) h e = absurd (omega arith)
-num-same (N64 u) (N16 v) h e = absurd (omega arith)
-num-same (N64 u) (N32 v) h e = absurd (omega arith)
+-- the number of a width and a value
+num_of : ℕ → ℕ → Num
+num_of width value =
+    cond (nat_eq width 8) (N8 value) (cond (nat_eq width 16) (N16 value) (cond (nat_eq width 32) (N32 value) (N64 value)))
+
+-- a number is that of its own width and value, so that these two tell it
+num_of-is : (a : Num) → num_of (width_of a) (value_of a) ≡ a
+unfolding num_of
+num_of-is (N8 v) = refl
+num_of-is (N16 v) = refl
+num_of-is (N32 v) = refl
+num_of-is (N64 v) = refl
 
 -- the widths at one place agree
 width_at : (x y : List Num) (i : ℕ) (d : Num) → map width_of x ≡ map width_of y → width_of (get_or x i d) ≡ width_of (get_or y i d)
-width_at [] [] i d h = refl
-width_at [] (b ∷ y) i d h = absurd (cc)
-width_at (a ∷ x) [] i d h = absurd (cc)
-width_at (a ∷ x) (b ∷ y) zero d h = cc
-width_at (a ∷ x) (b ∷ y) (suc i) d h = width_at x y i d (cc)
+width_at x y i d h =
+    sym (get_or-map width_of x i d) ∙ ap (λ widths. get_or widths i (width_of d)) h ∙ get_or-map width_of y i d
 
 -- without an equal first item a block still agrees
 rest-same : (m : ℕ) (c : ℕ × ℕ) (a b : Num) (xs ys : List Item) → a ≡ b
@@ -79,10 +71,7 @@ same_at x y i d a h = same_at_from (0, 0) x y i d a h
 
 -- lists of equal widths are equally long
 pub same_length : (x y : List Num) → map width_of x ≡ map width_of y → length x ≡ length y
-same_length [] [] h = refl
-same_length [] (b ∷ y) h = absurd (cc)
-same_length (a ∷ x) [] h = absurd (cc)
-same_length (a ∷ x) (b ∷ y) h = let r : length x ≡ length y = same_length x y (cc) in omega (arith, r)
+same_length x y h = sym (length-map x width_of) ∙ ap length h ∙ length-map y width_of
 
 -- two lists that agree before a place, and in their numbers there, agree behind it
 pub same_front : (x y : List Num) (i : ℕ) (d : Num) → AgreeBefore x y i d → value_of (get_or x i d) ≡ value_of (get_or y i d)
@@ -90,5 +79,7 @@ pub same_front : (x y : List Num) (i : ℕ) (d : Num) → AgreeBefore x y i d �
 same_front x y i d a e =
     let n = same_length x y a.widths in
     let l = a.inside in
-    let s : get_or x i d ≡ get_or y i d = num-same _ _ (width_at x y i d a.widths) e in
+    let s : get_or x i d ≡ get_or y i d =
+    let widths = width_at x y i d a.widths in
+    cc (num_of-is (get_or x i d), num_of-is (get_or y i d), widths, e) in
     take_more_same x y i d l (omega (arith, n, l)) a.before s

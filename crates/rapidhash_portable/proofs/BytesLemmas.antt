@@ -31,25 +31,16 @@ word64-append x y at h =
     )
 
 -- a range of one number more
-range_more : (a n : ℕ) → range_with_len a (n + 1) ≡ range_with_len a n ++ (a + n) ∷ []
-range_more a zero = let e : a + 0 ≡ a = omega arith in ap (λ k. k ∷ []) (sym e)
-range_more a (suc n) =
-    let e : suc n + 1 ≡ suc (n + 1) = omega arith in
-    let f : a + 1 + n ≡ a + suc n = omega arith in
-    ap (range_with_len a) e ∙ ap (λ ks. a ∷ ks) (range_more (a + 1) n) ∙ ap (λ k. a ∷ (range_with_len (a + 1) n ++ k ∷ [])) f
+range_more : (a n last : ℕ) → a + n ≡ last → range_with_len a (suc n) ≡ range_with_len a n ++ last ∷ []
+range_more a zero last e = let first : a ≡ last = omega arith in ap (λ k. k ∷ []) first
+range_more a (suc n) last e = ap (λ ks. a ∷ ks) (range_more (a + 1) n last (omega arith))
 
 -- one byte more
 little_endian-more : (x : List ℕ) (at count : ℕ) → little_endian (suc count) x at ≡ get_or x (at + count) 0 * 256 ^ count + little_endian count x at
 little_endian-more x at count =
     let digit = λ (j : ℕ). get_or x (at + j) 0 * 256 ^ j in
-    let e : suc count ≡ count + 1 = omega arith in
-    let last : sum_by digit ((0 + count) ∷ []) ≡ digit count =
-    let z : 0 + count ≡ count = omega arith in
-    let w : 0 + digit count ≡ digit count = omega arith in
-    ap (λ k. 0 + digit k) z ∙ w in
-    let h = ap (λ n. sum_by digit (range_with_len 0 n)) e ∙ ap (sum_by digit) (range_more 0 count) ∙ sum_by-append digit (range_with_len 0 count) ((0 + count) ∷ []) ∙ ap (λ v. sum_by digit (range_with_len 0 count) + v) last in
-    let turn : sum_by digit (range_with_len 0 count) + digit count ≡ digit count + sum_by digit (range_with_len 0 count) = omega arith in
-    h ∙ turn
+    let last = ap (sum_by digit) (range_more 0 count count (omega arith)) in
+    omega (arith, last, sum_by-append digit (range_with_len 0 count) (count ∷ []))
 
 -- a number of bytes is below a power of 256
 module _ (x : List ℕ) (bytes : (k : ℕ) → get_or x k 0 < 256) where

@@ -1,10 +1,10 @@
 -- How each form cuts a message, by its length, and what its tail and its lanes start from.
-use Rattle.std.proofs.Common.{◌≡◌, ℕ, ◌+◌, ◌-◌, ◌*◌, ◌/◌, ◌%◌, ◌≤◌, ◌<◌, Bool, true, false, ⊎_elim, List, drop, refl, ap, ◌∙◌, arith}
+use Rattle.std.proofs.Common.{◌≡◌, ℕ, ◌+◌, ◌-◌, ◌*◌, ◌/◌, ◌%◌, ◌≤◌, ◌<◌, Bool, true, false, ⊎_elim, List, refl, ap, ◌∙◌, arith}
 use Rattle.std.proofs.lemmas.Bool.{cases_lt, lt-ltb, le-ltb}
 use Rattle.std.proofs.lemmas.Bool.Decides.{nat_tests}
 use Rattle.std.proofs.lemmas.Nat.{div-mul-add}
 use Rattle.rapidhash_portable.specs.Folded.{AfterRows}
-use Rattle.rapidhash_portable.specs.Lanes.{rows_in, no_rows, row_bytes, wide_shape, mixed_shape}
+use Rattle.rapidhash_portable.specs.Lanes.{rows_in, no_rows, wide_shape, mixed_shape}
 use Rattle.rapidhash_portable.specs.declared.form.Form.{Form}
 use Rattle.rapidhash_portable.specs.declared.form.Form.TheVariants.{V1, V2, V3}
 use Rattle.rapidhash_portable.specs.Form.{least_row_v1, v2_limit, v2_row_places, v2_rowless_places, shape_of, start_seed, tail_seed, tail_places}
@@ -83,13 +83,7 @@ tail_seed-short (V1 bug) secrets t seed h = rw (le-ltb 16 t h) refl
 tail_seed-short (V2 minor) secrets t seed h = refl
 tail_seed-short (V3 lanes) secrets t seed h = refl
 
--- with no row all of a message is its tail
-pub rest-none : (lanes : ℕ) (x : List ℕ) → x ≡ drop (row_bytes (no_rows lanes)) x
-rest-none lanes x =
-    let z : 16 * (lanes * 0 + 3 * 0) ≡ 0 = omega arith in
-    rw z refl
-
--- so the tail is the message, and the joined lanes are the seed
+-- with no row the tail is the message, and the joined lanes are the seed
 pub rows-none : (form : Form) (lanes n : ℕ) (protected : Bool) (secrets x : List ℕ) (seed : ℕ) → lanes % 2 ≡ 1
     → shape_of form n ≡ no_rows lanes
     → AfterRows protected secrets x (shape_of form n) seed seed x

@@ -1,5 +1,5 @@
 -- What was taken of a reader, read by read, and what a hash returns of it.
-use Rattle.std.proofs.Common.{◌≡◌, ℕ, ◌+◌, ◌-◌, ◌*◌, ◌≤◌, ◌<◌, Bool, true, false, List, [], ◌++◌, Option, Result, Ok, Err, IfErr, length, take, replicate, refl, sym, ap, ◌∙◌, arith, length-append, length-take-le}
+use Rattle.std.proofs.Common.{◌≡◌, ℕ, ◌+◌, ◌-◌, ◌*◌, ◌≤◌, ◌<◌, Bool, false, List, [], ◌++◌, Option, Result, Ok, Err, length, take, replicate, refl, sym, ap, ◌∙◌, arith, length-append, length-take-le}
 use Rattle.std.proofs.KnownBytes.{Consumes-nil, Consumes-trans, Consumes-whole}
 use Rattle.std.proofs.lemmas.Bool.{false≢true, true≢false}
 use Rattle.std.proofs.lemmas.List.{nil_from_length}
@@ -15,11 +15,6 @@ use Rattle.rapidhash_portable.specs.Words.{last_16}
 use Rattle.rapidhash_portable.proofs.BytesLemmas.{word64-drop}
 use Rattle.rapidhash_portable.proofs.FoldedLemmas.{PrefixIsFolded-all, PrefixIsFolded-append, PrefixIsFolded-left, PrefixIsFolded-none}
 use Rattle.rapidhash_portable.proofs.LanesLemmas.{rows_are}
-
--- what holds after every error
-pub if_err : {T E : Type 0} (r : Result T E) {P : Type 0} → P → IfErr r (λ _. P)
-if_err (Ok x) p = tt
-if_err (Err e) p = p
 
 -- ---- a front that is folded
 
@@ -104,10 +99,6 @@ MarksFailures-settles (Err (Failed read)) (Err e) marked settled = rw (settled.1
 MarksFailures-settles (Err Ended) (Ok h) marked settled = absurd settled.0
 MarksFailures-settles (Err Ended) (Err e) marked settled = record { clean = tt; kind_is = λ _. settled.0 }
 
--- an early end of which no more is said
-pub FellShort-weaker : {old new : Option (List ℕ)} {len : ℕ} {failed : Bool} → FellShort old new len failed → FellShort old new len true
-FellShort-weaker s = record { bytes = s.bytes; taken = s.taken; count = s.count; all = λ off. absurd (true≢false off) }
-
 -- ---- all bytes
 
 -- bytes for which `Stands` holds were taken, one or more a turn
@@ -116,10 +107,6 @@ pub record HaveRead (old now : Option (List ℕ)) (Stands : List ℕ → Type 0)
   pub taken : Consumes old now bytes
   pub stands : Stands bytes
   pub some : turn ≤ length bytes
-
--- nothing yet
-pub HaveRead-none : (old : Option (List ℕ)) (Stands : List ℕ → Type 0) → Stands [] → HaveRead old old Stands 0
-HaveRead-none old Stands s = record { bytes = []; taken = Consumes-nil old; stands = s; some = omega arith }
 
 -- a read more
 pub HaveRead-more : (old now new : Option (List ℕ)) (Stands Stands' : List ℕ → Type 0) (turn n : ℕ) (buf : List ℕ) →

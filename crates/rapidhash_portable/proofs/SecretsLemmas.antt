@@ -7,7 +7,7 @@ use Rattle.std.proofs.lemmas.Nat.{and_or_apart}
 use Rattle.std.proofs.lemmas.Nat.Bits.{bit_at-zero, bit_at_and, bit_at_or}
 use Rattle.std.specs.Int.{bit_at}
 use Rattle.std.specs.List.{All}
-use Rattle.rapidhash_portable.specs.Secrets.{IsGood, repaired, with_bit, chained, cpp_seeded, default_secrets, default_seed, default_seed_v1, made_state, premixed, s0, s1, s2}
+use Rattle.rapidhash_portable.specs.Secrets.{IsGood, repaired, with_bit, chained, cpp_seeded, default_secrets, default_seed, default_seed_v1, made_state, premixed, s0}
 use Rattle.rapidhash_portable.specs.Multiply.{mix, multiply}
 
 -- a number with a set bit is not 0
@@ -17,17 +17,14 @@ nonzero n i set e =
     let one : 1 ≡ 0 = sym set ∙ ap (λ m. bit_at m i) e ∙ z in
     absurd (omega arith)
 
--- a bit is at most 1
-capped : (a : ℕ) → min (max a 1) 1 ≡ 1
-capped a = omega arith
-
 -- the repaired part has a bit
 with_bit-sets : (word mask bit i : ℕ) → bit_at bit i ≡ 1 → bit_at mask i ≡ 1 → bit_and (with_bit word mask bit) mask ≢ 0
 unfolding with_bit
 with_bit-sets word mask bit i in_bit in_mask =
+    let capped : min (max (bit_at word i) 1) 1 ≡ 1 = omega arith in
     let set : bit_at (bit_and (bit_or word bit) mask) i ≡ 1 =
     bit_at_and (bit_or word bit) mask i ∙ ap (λ m. min (bit_at (bit_or word bit) i) m) in_mask
-    ∙ ap (λ m. min m 1) (bit_at_or word bit i ∙ ap (max (bit_at word i)) in_bit) ∙ capped (bit_at word i) in
+    ∙ ap (λ m. min m 1) (bit_at_or word bit i ∙ ap (max (bit_at word i)) in_bit) ∙ capped in
     cond_both (nat_eq (bit_and word mask) 0) (bit_or word bit) word (λ v. bit_and v mask ≢ 0)
     (λ _. nonzero (bit_and (bit_or word bit) mask) i set)
     (λ none. eqb-false (bit_and word mask) 0 none)
@@ -55,11 +52,6 @@ IsGood-repaired word =
       lower = with_bit-sets middle 0xffff 1 0 refl refl;
     }
 
--- no premix leaves the word
-pub chained-none : (word : ℕ) → chained word 0 ≡ word
-unfolding chained
-chained-none word = refl
-
 -- one premix more
 pub chained-more : (word count : ℕ) → chained word (count + 1) ≡ premixed (chained word count) count
 unfolding chained
@@ -71,11 +63,6 @@ chained-more word count =
 pub IsGood-chained : (word count : ℕ) → IsGood (chained word (count + 1))
 unfolding premixed
 IsGood-chained word count = subst IsGood (sym (chained-more word count)) (IsGood-repaired _)
-
--- the first state of a random word's secrets
-pub made_state-none : (random : ℕ) → made_state random 0 ≡ mix false (bit_xor random s2) s1
-unfolding made_state
-made_state-none random = refl
 
 -- one state more
 pub made_state-more : (random count : ℕ)

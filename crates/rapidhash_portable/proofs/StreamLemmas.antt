@@ -3,7 +3,7 @@ use borrow.Rule.Slice.PartMut.{put_mid}
 use Rattle.std.proofs.Common.{◌≡◌, ℕ, zero, suc, ◌+◌, ◌-◌, ◌*◌, ◌/◌, ◌<◌, ◌≤◌, Bool, true, false, List, [], ◌++◌, length, take, drop, replicate, refl, sym, ap, ◌∙◌, arith, length-append, length-drop, zero-add}
 use Rattle.std.proofs.Math.Nat.{zero-div}
 use Rattle.std.proofs.Math.Seq.{take-add, take-append-add}
-use Rattle.std.proofs.lemmas.Bool.{lt-ltb, ltb-false, ltb-true}
+use Rattle.std.proofs.lemmas.Bool.{lt-ltb, ltb-true}
 use Rattle.std.proofs.lemmas.List.{drop-append-le, drop-drop, length-take-le, take-append-drop}
 use Rattle.std.proofs.lemmas.Nat.{div-mul-add}
 use Rattle.std.proofs.lemmas.Slice.{take-put_mid}
@@ -114,14 +114,6 @@ PartsStandFor-rest protected {lanes} s y carried tail kept' kept'' i j count r f
     }
 
 -- ---- the data of a message
-
--- with no chunk it stands whole in the buffer
-pub buffered-all : {protected : Bool} {lanes : ℕ} {s : Parts} {x : List ℕ} → PartsStandFor protected lanes s x → s.any ≡ false → take s.len (drop 16 s.kept) ≡ x
-buffered-all {lanes = lanes} {x = x} h off =
-    let few : chunk_count lanes (length x) ≤ 0 = ltb-false 0 (chunk_count lanes (length x)) (sym h.any ∙ off) in
-    let none : chunk_count lanes (length x) ≡ 0 = omega arith in
-    let z : 16 * (lanes * 0) ≡ 0 = omega arith in
-    h.buffered ∙ rw (none, z) refl
 
 module _ {protected : Bool} {lanes : ℕ} {s : Parts} {x : List ℕ}
     (count : IsLaneCount lanes) (h : PartsStandFor protected lanes s x) (size : length s.kept ≡ 128) (fits : s.len ≤ 16 * lanes) where

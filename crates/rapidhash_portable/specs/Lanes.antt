@@ -1,5 +1,5 @@
 -- Shapes, lanes and columns: each lane folds its own pairs, taken out of the whole message.
-use Rattle.std.specs.Prelude.{◌≡◌, ◌≤◌, ◌<◌, ℕ, ◌+◌, ◌-◌, ◌*◌, ◌/◌, ◌%◌, Bool, List, [], ◌++◌, map, fold, length, slice_index, bit_xor, nat_lt, if◌then◌else◌}
+use Rattle.std.specs.Prelude.{◌≡◌, ◌≤◌, ℕ, ◌+◌, ◌-◌, ◌*◌, ◌/◌, ◌%◌, Bool, List, [], ◌++◌, map, fold, slice_index, bit_xor, nat_lt, if◌then◌else◌}
 use Rattle.std.specs.List.{range_with_len}
 use Rattle.rapidhash_portable.specs.declared.form.Shape.{Shape}
 use Rattle.rapidhash_portable.specs.Bytes.{word64}
@@ -62,13 +62,6 @@ joined lanes = fold bit_xor 0 lanes
 unfoldable pub after_lanes : Bool → List ℕ → (ℕ → ℕ × ℕ) → Shape → ℕ → ℕ
 after_lanes protected secrets pair shape seed =
     joined (map (λ lane. lane_of protected (slice_index secrets lane) (column pair shape lane) seed) (range_with_len 0 shape.lanes))
-
--- the lanes hold the front of a message, which is a whole number of rows: each went on from the seed over its own pairs
-pub record LanesHold (protected : Bool) (secrets front : List ℕ) (lanes seed : ℕ) (held : List ℕ) : Type 0 where
-  pub rows : ℕ
-  pub size : length front ≡ 16 * (lanes * rows)
-  pub whole : length held ≡ lanes
-  pub folded : (i : ℕ) → i < lanes → slice_index held i ≡ lane_of protected (slice_index secrets i) (pairs_of (pair_of front) 0 lanes rows i) seed
 
 -- the numbers of lanes that a message in pieces may have: 3, 5 or 7
 pub record IsLaneCount (lanes : ℕ) : Type 0 where

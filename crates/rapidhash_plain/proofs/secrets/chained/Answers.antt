@@ -1,9 +1,11 @@
-use Rattle.std.proofs.Common.{sym}
-use Rattle.rapidhash_portable.proofs.SecretsLemmas.{chained-none, chained-more}
+use Rattle.std.proofs.Common.{refl}
+use Rattle.rapidhash_portable.specs.Secrets.{chained}
+use Rattle.rapidhash_portable.proofs.SecretsLemmas.{chained-more}
 use Rattle.rapidhash_plain.proofs.secrets.chained.Goals as goal
 
 pub loop-place-init : goal.loop-place-init
-loop-place-init c = sym (chained-none c.args.word)
+unfolding chained
+loop-place-init c = refl
 
 pub loop-place-preserved : goal.loop-place-preserved
 loop-place-preserved c = cc (c.premixed-last.ensures, c.loop-place.invariant, chained-more c.args.word c.loop-place.place)

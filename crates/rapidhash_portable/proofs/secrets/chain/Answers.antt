@@ -1,13 +1,14 @@
-use Rattle.std.proofs.Common.{◌≡◌, ◌+◌, sym, arith}
+use Rattle.std.proofs.Common.{◌≡◌, ◌+◌, refl, arith}
 use Rattle.std.proofs.lemmas.List.{length-replicate}
 use Rattle.std.proofs.lemmas.List.FromFn.{fill_by_all}
 use Rattle.rapidhash_portable.specs.Secrets.{chained, chained_secrets}
-use Rattle.rapidhash_portable.proofs.SecretsLemmas.{AreFilled-good, AreFilled-more, IsGood-chained, chained-more, chained-none}
+use Rattle.rapidhash_portable.proofs.SecretsLemmas.{AreFilled-good, AreFilled-more, IsGood-chained, chained-more}
 use Rattle.rapidhash_portable.proofs.secrets.chain.Goals as goal
 
 pub loop-place-init : goal.loop-place-init
+unfolding chained
 loop-place-init g c = record {
-  last_is = sym (chained-none c.args.seed);
+  last_is = refl;
   filled = record { whole = length-replicate g.row.COUNT 0; made = λ k l. absurd (omega arith) };
 }
 

@@ -1,12 +1,13 @@
-use Rattle.std.proofs.Common.{◌≡◌, ◌+◌, refl, sym, ◌∙◌, arith}
+use Rattle.std.proofs.Common.{◌≡◌, ◌+◌, refl, arith}
 use Rattle.std.proofs.lemmas.List.FromFn.{fill_by_all}
 use Rattle.rapidhash_portable.specs.Secrets.{made_secrets, made_state}
-use Rattle.rapidhash_portable.proofs.SecretsLemmas.{AreFilled-good, AreFilled-more, IsGood-made_state, made_state-more, made_state-none}
+use Rattle.rapidhash_portable.proofs.SecretsLemmas.{AreFilled-good, AreFilled-more, IsGood-made_state, made_state-more}
 use Rattle.rapidhash_portable.proofs.secrets.made_secrets.Goals as goal
 
 pub loop-place-init : goal.loop-place-init
+unfolding made_state
 loop-place-init c = record {
-  state_is = c.rapid_mix-state.ensures ∙ sym (made_state-none c.args.random);
+  state_is = c.rapid_mix-state.ensures;
   filled = record { whole = refl; made = λ k l. absurd (omega arith) };
 }
 

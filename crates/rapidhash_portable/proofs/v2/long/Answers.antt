@@ -1,4 +1,4 @@
-use Rattle.std.proofs.Common.{ℕ, List, [], ◌∷◌, not, nat_eq, length, bit_xor, sym, ap, ◌∙◌, arith}
+use Rattle.std.proofs.Common.{ℕ, List, not, nat_eq, length, bit_xor, sym, ap, ◌∙◌, arith}
 use Rattle.rapidhash_portable.specs.declared.form.Form.TheVariants.{V2}
 use Rattle.rapidhash_portable.specs.Form.{start_seed, tail_seed}
 use Rattle.rapidhash_portable.specs.Lanes.{pair_of}
