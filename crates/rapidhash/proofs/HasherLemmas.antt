@@ -65,7 +65,7 @@ unfolding pending
 pending-on xs = refl
 
 -- and its width ends where the block ends
-width-on : (xs : List Item) → width true xs ≡ (end_of xs).1
+pub width-on : (xs : List Item) → width true xs ≡ (end_of xs).1
 unfolding width
 width-on xs = refl
 

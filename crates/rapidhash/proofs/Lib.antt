@@ -1,5 +1,7 @@
+pub mod AgreementLemmas
 pub mod GeneratorLemmas
 pub mod HasherLemmas
 pub mod LawsLemmas
 pub mod ReplayLemmas
 pub mod SpongeLemmas
+pub mod WritesLemmas

@@ -1,12 +1,14 @@
 -- What the laws say of messages and of lists of integers.
-use Rattle.std.specs.Prelude.{ℕ, ◌≡◌, ◌<◌, ◌^◌, List, length, map, slice_index}
+use Rattle.std.specs.Prelude.{ℕ, ◌≡◌, ◌+◌, ◌*◌, ◌≤◌, ◌<◌, ◌^◌, List, [], ◌∷◌, ◌++◌, length, map, slice_index}
 use Rattle.rapidhash_portable.specs.declared.form.Form.{Form}
 use Rattle.rapidhash_portable.specs.declared.form.Options.{Options}
 use Rattle.rapidhash_portable.specs.Absorbed.{absorbed_words, value_of_words}
 use Rattle.rapidhash_portable.specs.Hash.{portable_hash}
 use Rattle.rapidhash.specs.declared.laws.blocks.Num.{Num}
 use Rattle.rapidhash.specs.declared.laws.blocks.Num.TheVariants.{N8, N16, N32, N64}
-use Rattle.rapidhash.specs.Sponge.{Item, Num as Integer, block}
+use Rattle.rapidhash.specs.declared.inner.hasher.RapidHasher.{RapidHasher}
+use Rattle.rapidhash.specs.RapidHasher.{Stands, secrets_of}
+use Rattle.rapidhash.specs.Sponge.{Item, Num as Integer, block, end_of}
 
 -- two messages have one length and one list of absorbed words
 abbrev pub SameWords : Form → List ℕ → List ℕ → Type 0
@@ -22,6 +24,12 @@ HashIsOfWords form x =
 pub record HashesAreOfWords (form : Form) (x y : List ℕ) : Type 0 where
   pub first : HashIsOfWords form x
   pub second : HashIsOfWords form y
+
+-- two forms have one hash of a message, whatever the options, the seed and the secrets
+abbrev pub SameHash : Form → Form → List ℕ → Type 0
+SameHash first second x =
+    (options : Options) (seed : ℕ) (secrets : List ℕ)
+    → portable_hash first options seed secrets x ≡ portable_hash second options seed secrets x
 
 -- the width of an integer in bits
 abbrev pub width_of : Num → ℕ
@@ -44,3 +52,23 @@ item_of number = Integer (width_of number) (value_of number)
 -- two lists of integers are packed into the same blocks
 abbrev pub SameBlocks : List Num → List Num → Type 0
 SameBlocks x y = (place : ℕ) → block (map item_of x) place ≡ block (map item_of y) place
+
+-- the last block of a hasher that absorbed some items has room for so many bits
+abbrev pub HasRoom : List Item → ℕ → Type 0
+HasRoom items width = (end_of items).1 + width ≤ 128
+
+-- two integers of one width are absorbed; where the last block has room for both, that is to absorb the one integer that joins them
+pub record JoinsWrites {avalanche sponge compact protected : ℕ} (old new : RapidHasher avalanche sponge compact protected) (width low high : ℕ) : Type 0 where
+  pub secrets : secrets_of new ≡ secrets_of old
+  pub apart : (start : ℕ) (items : List Item) → Stands old start items
+      → Stands new start (items ++ Integer width low ∷ Integer width high ∷ [])
+  pub joined : (start : ℕ) (items : List Item) → Stands old start items → HasRoom items (2 * width)
+      → Stands new start (items ++ Integer (2 * width) (low + high * 2 ^ width) ∷ [])
+
+-- an item and then an integer are absorbed; where the last block has room for the integer, that is to absorb the integer first
+pub record TurnsWrites {avalanche sponge compact protected : ℕ} (old new : RapidHasher avalanche sponge compact protected) (item : Item) (number : Num) : Type 0 where
+  pub secrets : secrets_of new ≡ secrets_of old
+  pub in_order : (start : ℕ) (items : List Item) → Stands old start items
+      → Stands new start (items ++ item ∷ item_of number ∷ [])
+  pub turned : (start : ℕ) (items : List Item) → Stands old start items → HasRoom items (width_of number)
+      → Stands new start (items ++ item_of number ∷ item ∷ [])

@@ -11,12 +11,18 @@ ghost use Rattle.rapidhash_portable.specs.Options.{options};
 ghost use Rattle.rapidhash.specs.Replay.{finishes};
 
 mod blocks;
+mod forms;
+mod lane;
 mod words;
+mod writes;
 
 pub use blocks::{Num, same_blocks};
+pub use forms::{micro_is_v3, nano_is_v3, v1_is_v1_with_its_fault, v2_0_is_v2_1, v2_1_is_v2_2};
+pub use lane::lane_after_its_secret;
 use rapidhash_portable::v3::{RapidSecrets, RapidStreamHasherLanes};
 use std::alloc::{AllocError, Allocator};
 pub use words::{same_words_micro, same_words_nano, same_words_v1, same_words_v2, same_words_v3};
+pub use writes::{join_u8, join_u16, join_u32, turn_bytes, turn_u128};
 
 /// A step of a run over a stream hasher.
 #[derive(Clone, Copy)]

@@ -35,6 +35,10 @@ shape_of-v1-some false n h = grind (arith, nat_tests)
 pub above_limit : (minor n : ℕ) → 64 < n → v2_limit minor < n
 above_limit minor n h = grind (arith, nat_tests)
 
+-- V2 up to both its limits
+pub below_limit : (minor n : ℕ) → n ≤ 56 → n ≤ v2_limit minor
+below_limit minor n h = grind (arith, nat_tests)
+
 -- a message above V2's limit is long
 pub long-v2 : (minor n : ℕ) → v2_limit minor < n → 16 < n
 long-v2 minor n h = grind (arith, nat_tests)
