@@ -1,8 +1,7 @@
-/* Hashes from C. Prints a line for each version, and ends with status 1 where a value is not the
- * known one. */
+/* Hashes from C: every call of the library. Prints a line for each value, and ends with status 1
+ * where a value is not the known one. The known values are those of the Rust crate rapidhash 4.5.1. */
 #include <inttypes.h>
 #include <stdio.h>
-#include <string.h>
 
 #include "rapidhash.h"
 
@@ -17,27 +16,65 @@ static void compare(const char *name, uint64_t value, uint64_t known)
     }
 }
 
+/* The bytes 0 to 119: at 60 bytes the three V2 differ, at 120 bytes V3, micro and nano do. */
+static uint8_t bytes[120];
+
+static void default_secrets(void)
+{
+    compare("v1", rapidhash_v1(bytes, 60), UINT64_C(13504714392771582078));
+    compare("v2.0", rapidhash_v2_0(bytes, 60), UINT64_C(13186137053657766175));
+    compare("v2.1", rapidhash_v2_1(bytes, 60), UINT64_C(13012060828128651499));
+    compare("v2.2", rapidhash_v2_2(bytes, 60), UINT64_C(6181707366222537282));
+    compare("v3", rapidhash_v3(bytes, 120), UINT64_C(7088138960297660729));
+    compare("micro", rapidhash_v3_micro(bytes, 120), UINT64_C(3055975138125564292));
+    compare("nano", rapidhash_v3_nano(bytes, 120), UINT64_C(3778853990780631382));
+    compare("v3 in pieces", rapidhash_v3_in_pieces(bytes, 120, 7), UINT64_C(7088138960297660729));
+    compare("v3 of nothing", rapidhash_v3(NULL, 0), UINT64_C(232177599295442350));
+}
+
+/* A seed and secrets that all differ, so that each has to arrive in its own place. */
+static void own_secrets(void)
+{
+    const struct rapidhash_v1_secrets of_v1 = {1, {2, 3, 5}};
+    const struct rapidhash_secrets of_others = {1, {2, 3, 5, 7, 11, 13, 17}};
+
+    compare("v1 seeded", rapidhash_v1_seeded(bytes, 60, &of_v1), UINT64_C(13848206912060221315));
+    compare("v2.0 seeded", rapidhash_v2_0_seeded(bytes, 60, &of_others), UINT64_C(7480442917932512801));
+    compare("v2.1 seeded", rapidhash_v2_1_seeded(bytes, 60, &of_others), UINT64_C(15302905912564408163));
+    compare("v2.2 seeded", rapidhash_v2_2_seeded(bytes, 60, &of_others), UINT64_C(11896991483551387597));
+    compare("v3 seeded", rapidhash_v3_seeded(bytes, 120, &of_others), UINT64_C(13105958653737073913));
+    compare("micro seeded", rapidhash_v3_micro_seeded(bytes, 120, &of_others), UINT64_C(5648300410578423183));
+    compare("nano seeded", rapidhash_v3_nano_seeded(bytes, 120, &of_others), UINT64_C(4961128163384780230));
+}
+
+static void made_secrets(void)
+{
+    static const uint64_t known[8] = {
+        UINT64_C(0x6d95b902ea9b0223), UINT64_C(0x4e6220ca4fb6cfce), UINT64_C(0x192d182c120632f7),
+        UINT64_C(0xf457c94ec4a04866), UINT64_C(0x4197ccbf5bf8f9d7), UINT64_C(0xfe96dfa00f02022d),
+        UINT64_C(0x7c8eb6ba6268e054), UINT64_C(0x6333af257102a99e)};
+    struct rapidhash_v1_secrets of_v1;
+    struct rapidhash_secrets of_others;
+    int i;
+
+    rapidhash_v1_make_secrets(0x12345678, &of_v1);
+    compare("seed of v1", of_v1.seed, known[0]);
+    for (i = 0; i < 3; i++)
+        compare("secret of v1", of_v1.secrets[i], known[i + 1]);
+    rapidhash_make_secrets(0x12345678, &of_others);
+    compare("seed", of_others.seed, known[0]);
+    for (i = 0; i < 7; i++)
+        compare("secret", of_others.secrets[i], known[i + 1]);
+}
+
 int main(void)
 {
-    const uint8_t line[] = "something\n";
-    const size_t len = sizeof line - 1;
-    struct rapidhash_secrets secrets;
+    int i;
 
-    compare("v1", rapidhash_v1(line, len), UINT64_C(15965596575264898037));
-    compare("v2.0 of nothing", rapidhash_v2_0(line, 0), UINT64_C(232177599295442350));
-    compare("v2.1 of nothing", rapidhash_v2_1(line, 0), UINT64_C(232177599295442350));
-    compare("v2.2 of nothing", rapidhash_v2_2(line, 0), UINT64_C(232177599295442350));
-    compare("v3 of nothing", rapidhash_v3(line, 0), UINT64_C(232177599295442350));
-    compare("micro of nothing", rapidhash_v3_micro(line, 0), UINT64_C(232177599295442350));
-    compare("nano of nothing", rapidhash_v3_nano(line, 0), UINT64_C(232177599295442350));
-
-    /* Seed 0 and secrets 0: one zero byte and two of them differ by the length alone. */
-    memset(&secrets, 0, sizeof secrets);
-    const uint8_t zeros[2] = {0, 0};
-    compare("v3 of one zero", rapidhash_v3_seeded(zeros, 1, &secrets), UINT64_C(12297829382473034410));
-    compare("v3 of two zeros", rapidhash_v3_seeded(zeros, 2, &secrets), UINT64_C(6148914691236517205));
-
-    rapidhash_make_secrets(UINT64_C(0x4b33a62ed433d4a3), &secrets);
-    compare("a secret", secrets.secrets[6], UINT64_C(0x4b33a62ed433d4a3));
+    for (i = 0; i < 120; i++)
+        bytes[i] = (uint8_t)i;
+    default_secrets();
+    own_secrets();
+    made_secrets();
     return differing;
 }

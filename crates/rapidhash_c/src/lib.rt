@@ -2,10 +2,10 @@
 //! calls the library's function and states its clause again.
 #![tactic(auto)]
 
-ghost use Rattle.std.specs.Prelude.{◌≡◌, ◌<◌, true, false};
+ghost use Rattle.std.specs.Prelude.{◌≡◌, ◌<◌, ◌∷◌, All, true, false};
 ghost use Rattle.rapidhash.specs.Form.{v1, v2, v3, micro, nano};
 ghost use Rattle.rapidhash.specs.Options.{options};
-ghost use Rattle.rapidhash.specs.Secrets.{seeded, seeded_secrets};
+ghost use Rattle.rapidhash.specs.Secrets.{IsGood, seeded, seeded_secrets};
 ghost use Rattle.rapidhash.specs.Seeded.{default_hash, seeded_hash, seeded_hash_v1};
 
 use rapidhash::{v1, v2, v3};
@@ -127,6 +127,7 @@ pub extern "C" fn rapidhash_v3_nano_seeded(bytes: &[u8], secrets: &v3::RapidSecr
 pub extern "C" fn rapidhash_v1_make_secrets(number: u64, secrets: &mut v1::RapidSecrets)
     ensures seed { secrets.new.seed ≡ seeded number }
     ensures secrets { secrets.new.secrets ≡ seeded_secrets 3 number }
+    ensures good { All IsGood (secrets.new.seed ∷ secrets.new.secrets) }
 {
     *secrets = v1::RapidSecrets::seed(number);
 }
@@ -136,6 +137,7 @@ pub extern "C" fn rapidhash_v1_make_secrets(number: u64, secrets: &mut v1::Rapid
 pub extern "C" fn rapidhash_make_secrets(number: u64, secrets: &mut v3::RapidSecrets)
     ensures seed { secrets.new.seed ≡ seeded number }
     ensures secrets { secrets.new.secrets ≡ seeded_secrets 7 number }
+    ensures good { All IsGood (secrets.new.seed ∷ secrets.new.secrets) }
 {
     *secrets = v3::RapidSecrets::seed(number);
 }
