@@ -9,6 +9,10 @@ use std::hash::Hash;
 
 /// The map of std over [`RandomState`].
 ///
+/// A key's bytes reach the hasher as std hands them over: a text by one write and a byte behind it,
+/// an integer as its bytes, but `[u8]` and `Vec<u8>` by one write a byte, which is slow for long
+/// keys.
+///
 /// How often each word stands in a text. The two random words are the program's own, drawn once:
 ///
 /// ```

@@ -1,5 +1,6 @@
-//! The hasher and the states for maps: integers are packed, and the answer is not mixed once more.
-//! Its low bits are good enough for a map; where every bit of the answer counts, take `quality`.
+//! The hasher and the states of [`crate::RapidHashMap`], without the avalanche: integers are packed
+//! (`SPONGE`), and neither a write of bytes nor the answer is mixed once more. How well the bits of
+//! an answer spread is neither proved nor measured here; `quality` mixes once more.
 //!
 //! ```
 //! let mut hasher = fast::RapidHasher::default();
@@ -19,7 +20,7 @@ use crate::inner;
 /// The hasher.
 pub type RapidHasher<'s> = inner::RapidHasher<'s, false, true, false, false>;
 
-/// Makes hashers of a seed that differs from map to map.
+/// Makes hashers of the next seed of a [`crate::inner::SeedSource`].
 pub type RandomState<'s> = inner::RandomState<'s, false, true, false, false>;
 
 /// Makes hashers of a seed of the caller's.

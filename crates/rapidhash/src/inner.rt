@@ -7,12 +7,14 @@
 //!
 //! Its four options are const parameters, the same for the hasher and for the states:
 //!
-//! - `AVALANCHE` mixes the answer once more, for tables that look at its low bits alone.
+//! - `AVALANCHE` mixes each write of bytes and the answer once more.
 //! - `SPONGE` collects integers and mixes 128 bits at once, in place of one multiply an integer.
 //! - `COMPACT` goes row by row in place of two rows a turn: less code, the same values.
 //! - `PROTECTED` mixes each product with its factors.
 //!
-//! The values may change between versions, other than those of the portable hashes.
+//! The values are those of the definition in `specs/Hasher.antt`. The Rust crate says that its own
+//! in-memory values may change between its versions: for hashes that both are to share over time,
+//! take the portable ones.
 
 mod hasher;
 mod sponge;

@@ -1,5 +1,5 @@
-//! The hasher and the states with an avalanche: as `fast`, and each answer is mixed once more, for
-//! tables and filters that look at few bits of it.
+//! The hasher and the states with the avalanche: as `fast`, and each write of bytes and each answer
+//! is mixed once more.
 //!
 //! ```
 //! let mut hasher = quality::RapidHasher::default();
@@ -8,7 +8,7 @@
 //! ```
 //!
 //! A number that a program keeps makes the same state in each of its runs, so a user stays in one
-//! shard while the version of this library stays:
+//! shard:
 //!
 //! ```
 //! let secrets = RapidSecrets::seed(kept);
@@ -21,7 +21,7 @@ use crate::inner;
 /// The hasher.
 pub type RapidHasher<'s> = inner::RapidHasher<'s, true, true, false, false>;
 
-/// Makes hashers of a seed that differs from map to map.
+/// Makes hashers of the next seed of a [`crate::inner::SeedSource`].
 pub type RandomState<'s> = inner::RandomState<'s, true, true, false, false>;
 
 /// Makes hashers of a seed of the caller's.

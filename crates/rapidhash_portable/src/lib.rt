@@ -6,8 +6,7 @@
 //! - [`seeding`] makes secrets and seeds of random words.
 //! - [`util`] holds the reads and the multiply that all of it stands on.
 //! - [`form`] holds the types that the definition speaks of.
-//! - [`memory`] is the core of the in-memory hasher, for the crate above alone: its values may
-//!   change between versions, the portable ones never do.
+//! - [`memory`] is the core of the in-memory hasher of the crate `rapidhash`.
 //!
 //! The row kernel (`lanes`), the words that a message ends in (`words`), the reads of a known
 //! length (`sized`) and the arithmetic of secrets (`secrets`) are private.

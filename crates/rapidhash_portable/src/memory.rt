@@ -1,5 +1,6 @@
-//! The core of the in-memory hasher: one value of a byte list, a seed and secrets. It stands on the
-//! portable kernel, and is for the crate above alone: its values may change between versions.
+//! The core of the in-memory hasher: one value of a byte list, a seed and secrets, over the same
+//! lanes and tails as the portable hashes. It is public because the crate `rapidhash` needs it, and
+//! no visibility reaches exactly one crate up; `rapidhash` does not re-export it.
 
 ghost use Rattle.std.specs.Prelude.{◌≡◌, ◌≤◌, ◌<◌, ℕ, length, drop};
 ghost use Rattle.rapidhash_portable.specs.declared.form.Form.TheVariants.{V3};
@@ -12,7 +13,9 @@ use crate::lanes::{close, fold_tail, mixed_lanes, wide_lanes};
 use crate::util::ALTERNATING_BITS;
 use crate::words::{last_16, words_to_3_v3, words_to_7_v3, words_to_16_v3};
 
-/// The value of `bytes`. `COMPACT` changes the code and no value.
+/// The value of `bytes` with a seed and secrets as they are. `AVALANCHE` mixes the last product
+/// once more, `PROTECTED` mixes each product with its factors, and `COMPACT` changes the code and no
+/// value.
 #[inline(always)]
 pub fn memory_hash<const AVALANCHE: bool, const COMPACT: bool, const PROTECTED: bool>(
     bytes: &[u8],

@@ -52,7 +52,8 @@ impl GlobalSecrets {
     }
 }
 
-/// A source of seeds that differ from call to call: a counter, mixed with a second random word.
+/// A source of seeds: a counter, mixed with a second random word. Each call gives the next seed;
+/// that two seeds differ is not promised, and there are words for which they do not.
 ///
 /// ```
 /// let mut source = SeedSource::new(&secrets, second_random_word);

@@ -20,7 +20,7 @@ pub use readers::{
 };
 
 /// A seed and the three secrets of V1. Make one once and keep it: making it costs four multiplies
-/// or more, and using it none.
+/// or more, and using it none. It is laid out as C lays it out, since the C library takes it.
 #[repr(C)]
 #[derive(Debug, Clone, Copy, PartialEq, Eq, Hash)]
 pub struct RapidSecrets {

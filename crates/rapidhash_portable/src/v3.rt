@@ -67,7 +67,7 @@ pub fn rapidhash_v3_inline<const AVALANCHE: bool, const COMPACT: bool, const PRO
 }
 
 /// The hash of `bytes` with five lanes: less code than V3 for messages of up to some hundred bytes.
-/// Up to 80 bytes it is V3's.
+/// Up to 80 bytes it is V3's. The options are those of [`rapidhash_v3_inline`].
 #[inline(always)]
 pub fn rapidhash_v3_micro_inline<const AVALANCHE: bool, const PROTECTED: bool>(
     bytes: &[u8],
@@ -78,7 +78,8 @@ pub fn rapidhash_v3_micro_inline<const AVALANCHE: bool, const PROTECTED: bool>(
     hash::<5, AVALANCHE, false, PROTECTED>(bytes, secrets)
 }
 
-/// The hash of `bytes` with three lanes: the least code. Up to 48 bytes it is V3's.
+/// The hash of `bytes` with three lanes: the least code. Up to 48 bytes it is V3's. The options are
+/// those of [`rapidhash_v3_inline`].
 #[inline(always)]
 pub fn rapidhash_v3_nano_inline<const AVALANCHE: bool, const PROTECTED: bool>(
     bytes: &[u8],

@@ -46,11 +46,11 @@ impl<
     const COMPACT: bool,
     const PROTECTED: bool,
 > RapidHasher<'s, AVALANCHE, SPONGE, COMPACT, PROTECTED> {
-    /// The seed of `default_const` and of `Default`.
+    /// The number that `default_const` and `Default` hand to `new`, for programs that name it.
     pub const DEFAULT_SEED: u64 = 0;
 
-    /// A hasher of the default secrets, and of a seed made of `seed` as `RapidSecrets::seed_cpp`
-    /// makes it.
+    /// A hasher of the default secrets, and of a seed made of `seed` as
+    /// `v3::RapidSecrets::seed_cpp` makes it.
     ///
     /// ```
     /// let mut hasher = fast::RapidHasher::new(0x1234_5678);

@@ -31,9 +31,9 @@ impl Num {
     }
 }
 
-/// Whether two lists of integers are packed into the same blocks, as the hasher of maps packs what
-/// it is given; which is whether they are one list. Precondition: the lists are equally long, and
-/// their widths agree place by place.
+/// Whether two lists of integers are packed into the same blocks, as a hasher with `SPONGE` packs
+/// what its own integer writes hand it; which is whether they are one list. Precondition: the lists
+/// are equally long, and their widths agree place by place.
 ///
 /// ```
 /// assert!(!same_blocks(&[Num::N8(1), Num::N16(2)], &[Num::N8(1), Num::N16(3)]));

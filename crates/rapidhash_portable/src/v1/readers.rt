@@ -21,6 +21,8 @@ use std::io::{ErrorKind, Read};
 /// is one. Else it is `ErrorKind::UnexpectedEof`: the reader had fewer bytes, and all of them are
 /// gone.
 ///
+/// It holds 8 KiB on the stack, and above 8192 bytes 64 KiB more.
+///
 /// ```
 /// let mut source = Source::new(socket);
 /// let hash = rapidhash_v1_source::<TcpStream, false>(&mut source, 4096, &DEFAULT_RAPID_SECRETS)?;
@@ -40,8 +42,8 @@ pub fn rapidhash_v1_source<R: Read, const PROTECTED: bool>(
     source.settle(answer)
 }
 
-/// The hash of the next `len` bytes of a reader, with the default seed and secrets. Errors are
-/// those of [`rapidhash_v1_source`].
+/// The hash of the next `len` bytes of a reader, with the default seed and secrets. An error is the
+/// reader's own, or `ErrorKind::UnexpectedEof` where it had fewer bytes.
 ///
 /// ```
 /// let mut text = b"something\nmore".as_slice();
@@ -56,7 +58,7 @@ pub fn rapidhash_v1_file<R: Read>(data: &mut R, len: u64) -> io::Result<u64>
 }
 
 /// The hash of the next `len` bytes of a reader, with a seed and secrets of the caller's. Errors
-/// are those of [`rapidhash_v1_source`].
+/// are those of [`rapidhash_v1_file`].
 pub fn rapidhash_v1_file_seeded<R: Read>(
     data: &mut R,
     len: u64,
@@ -69,7 +71,7 @@ pub fn rapidhash_v1_file_seeded<R: Read>(
 }
 
 /// The hash of the next `len` bytes of a reader; `PROTECTED` mixes each product with its factors.
-/// Errors are those of [`rapidhash_v1_source`].
+/// Errors are those of [`rapidhash_v1_file`].
 pub fn rapidhash_v1_file_inline<R: Read, const PROTECTED: bool>(
     data: &mut R,
     len: u64,

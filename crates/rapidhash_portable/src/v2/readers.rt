@@ -22,6 +22,8 @@ use std::io::{ErrorKind, Read};
 /// is one. Else it is `ErrorKind::UnexpectedEof`: the reader had fewer bytes, and all of them are
 /// gone.
 ///
+/// It holds 8 KiB on the stack, and above 8192 bytes 64 KiB more.
+///
 /// ```
 /// let mut source = Source::new(file);
 /// let hash = rapidhash_v2_source::<File, 2, false>(&mut source, 4096, &DEFAULT_RAPID_SECRETS)?;
@@ -42,8 +44,8 @@ pub fn rapidhash_v2_source<R: Read, const MINOR: u8, const PROTECTED: bool>(
     source.settle(answer)
 }
 
-/// The hash of the next `len` bytes of a reader by V2.2, with the default seed and secrets. Errors
-/// are those of [`rapidhash_v2_source`].
+/// The hash of the next `len` bytes of a reader by V2.2, with the default seed and secrets. An error
+/// is the reader's own, or `ErrorKind::UnexpectedEof` where it had fewer bytes.
 ///
 /// ```
 /// let hash = rapidhash_v2_2_file(&mut file, 4096)?;
@@ -56,7 +58,7 @@ pub fn rapidhash_v2_2_file<R: Read>(data: &mut R, len: u64) -> io::Result<u64>
 }
 
 /// The hash of the next `len` bytes of a reader by V2.2, with a seed and secrets of the caller's.
-/// Errors are those of [`rapidhash_v2_source`].
+/// Errors are those of [`rapidhash_v2_2_file`].
 pub fn rapidhash_v2_2_file_seeded<R: Read>(
     data: &mut R,
     len: u64,
@@ -69,7 +71,7 @@ pub fn rapidhash_v2_2_file_seeded<R: Read>(
 }
 
 /// The hash of the next `len` bytes of a reader; `PROTECTED` mixes each product with its factors.
-/// `MINOR` is 0, 1 or 2, which is a precondition. Errors are those of [`rapidhash_v2_source`].
+/// `MINOR` is 0, 1 or 2, which is a precondition. Errors are those of [`rapidhash_v2_2_file`].
 pub fn rapidhash_v2_file_inline<R: Read, const MINOR: u8, const PROTECTED: bool>(
     data: &mut R,
     len: u64,

@@ -22,7 +22,8 @@ use crate::secrets::RapidSecrets;
 use std::io;
 use std::io::{ErrorKind, Read};
 
-/// The hash of all that the reader still has, up to the first read that returns 0.
+/// The hash of all that the reader still has, up to the first read that returns 0. It reads by 8192
+/// bytes, on the stack.
 ///
 /// An error is the reader's own where the source is marked after the call, and an interrupted read
 /// is one. Else it is `ErrorKind::Other`: 2^64 - 1 reads returned bytes, and the hash has given up.
@@ -114,8 +115,8 @@ fn read_all<R: Read, const LANES: usize, const SIZE: usize, const PROTECTED: boo
     Err(io::Error::from(ErrorKind::Other))
 }
 
-/// The hash of all that a reader has, with the default seed and secrets. Errors are those of
-/// [`rapidhash_v3_source`].
+/// The hash of all that a reader has, with the default seed and secrets. An error is the reader's
+/// own, or `ErrorKind::Other` after 2^64 - 1 reads that returned bytes.
 ///
 /// ```
 /// let hash = rapidhash_v3_file(file)?;
@@ -127,7 +128,7 @@ pub fn rapidhash_v3_file<R: Read + Drop>(data: R) -> io::Result<u64>
 }
 
 /// The hash of all that a reader has, with a seed and secrets of the caller's. Errors are those of
-/// [`rapidhash_v3_source`].
+/// [`rapidhash_v3_file`].
 pub fn rapidhash_v3_file_seeded<R: Read + Drop>(data: R, secrets: &RapidSecrets) -> io::Result<u64>
     ensures { HashesKnown (R.remaining «data») result
         (seeded_hash v3 (options true false) secrets.now) }
@@ -136,7 +137,7 @@ pub fn rapidhash_v3_file_seeded<R: Read + Drop>(data: R, secrets: &RapidSecrets)
 }
 
 /// The hash of all that a reader has; `PROTECTED` mixes each product with its factors. Errors are
-/// those of [`rapidhash_v3_source`].
+/// those of [`rapidhash_v3_file`].
 pub fn rapidhash_v3_file_inline<R: Read + Drop, const PROTECTED: bool>(
     data: R,
     secrets: &RapidSecrets,

@@ -1,4 +1,4 @@
-//! A state of a seed that differs from map to map.
+//! A state of the next seed of a source.
 
 ghost use Rattle.std.specs.Prelude.{◌≡◌, ◌↔◌, [], IsTrue};
 ghost use Rattle.std.specs.Cmp.Rules.{comparing};
@@ -10,8 +10,8 @@ use rapidhash_portable::seeding::{GlobalSecrets, SeedSource};
 use std::fmt::{Debug, Formatter, Write};
 use std::hash::BuildHasher;
 
-/// Makes hashers of a seed that differs from map to map, and of the secrets that a program made
-/// once.
+/// Makes hashers of the next seed of a [`crate::inner::SeedSource`], and of the secrets that a
+/// program made once. That two seeds of a source differ is not promised.
 ///
 /// ```
 /// let secrets = GlobalSecrets::new(random_word);

@@ -49,7 +49,7 @@ impl<
     ghost use Rattle.rapidhash.specs.States.{seed_of_seedable, secrets_of_seedable};
     ghost use Rattle.rapidhash_portable.specs.Seeding.{Draws, secrets_of};
 
-    /// A seed made of `seed` as `RapidSecrets::seed_cpp` makes it, and the made secrets.
+    /// A seed made of `seed` as `v3::RapidSecrets::seed_cpp` makes it, and the made secrets.
     #[inline(always)]
     pub fn new(seed: u64, secrets: &'s GlobalSecrets) -> Self
         ensures seed { seed_of_seedable result ≡ cpp_seeded seed 2 }
