@@ -8,8 +8,8 @@ use std::fs::File;
 use std::io::{ErrorKind, Write};
 use std::process::ExitCode;
 
-// All words, the program's name first. A word that is not UTF-8 could only name a file, and such a
-// file cannot be opened.
+// All words, the program's name first. Where one is not UTF-8, std hands out none: that is told as
+// a file that cannot be opened, which is what such a word nearly always names.
 fn gather(rt: &HostRuntime) -> Result<Vec<String>, CliFault> {
     let words = match env::args(rt) {
         Ok(words) => words,
