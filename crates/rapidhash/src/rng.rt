@@ -46,8 +46,8 @@ pub fn rapidrng_fast(state: &mut u64) -> u64
     rapid_mix::<false>(next, next ^ MASK)
 }
 
-/// Steps the state alike, and returns another word of the new one: the form that other machines may
-/// compute otherwise.
+/// Steps the state alike, and returns another word of the new one. It has the crate's name: there
+/// other machines may compute another word, here all compute the same.
 ///
 /// ```
 /// let mut state = 42;

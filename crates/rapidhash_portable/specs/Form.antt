@@ -20,7 +20,7 @@ micro = V3 5
 abbrev pub nano : Form
 nano = V3 3
 
--- the forms that there are
+-- the forms that plain programs run: V3 with any number of lanes up to seven, of which 7, 5 and 3 are in use
 abbrev pub IsForm : Form → Type 0
 IsForm (V1 bug) = Unit {0}
 IsForm (V2 minor) = minor ≤ 2
