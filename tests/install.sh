@@ -49,8 +49,13 @@ completes() {
 
 # Every option that the help names stands in each completion and in the manual.
 names_every_option() {
-  local file=$1 option
-  for option in $("$prefix/bin/rapidhash" --help | grep -o '^  --[a-z0-9.-]*'); do
+  local file=$1 option options
+  options=$("$prefix/bin/rapidhash" --help | grep -o '^  --[a-z0-9.-]*')
+  [ "$(wc -w <<<"$options")" -eq 8 ] || {
+    echo "the help does not name seven versions and --protected, but: $options"
+    return 1
+  }
+  for option in $options; do
     sed 's/\\//g' "$file" | grep -q -- "${option#--}" || {
       echo "$option is not in $file"
       return 1
