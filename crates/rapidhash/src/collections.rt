@@ -54,7 +54,7 @@ pub trait HashMapExt<A>: Sized {
     fn new(alloc: A, state: Self::State) -> Self
         ensures { is_empty result };
 
-    /// An empty map with room for `capacity` entries. The one refusal is want of memory, and then
+    /// An empty map with room for `capacity` entries. It fails only where memory is refused, and then
     /// nothing was made.
     fn with_capacity(alloc: A, capacity: usize, state: Self::State) -> Result<Self, AllocError>
         ensures { IfOk result is_empty };
@@ -72,7 +72,7 @@ pub trait HashSetExt<A>: Sized {
     fn new(alloc: A, state: Self::State) -> Self
         ensures { is_empty result };
 
-    /// An empty set with room for `capacity` keys. The one refusal is want of memory, and then
+    /// An empty set with room for `capacity` keys. It fails only where memory is refused, and then
     /// nothing was made.
     fn with_capacity(alloc: A, capacity: usize, state: Self::State) -> Result<Self, AllocError>
         ensures { IfOk result is_empty };

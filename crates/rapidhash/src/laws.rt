@@ -2,7 +2,10 @@
 //!
 //! - [`same_words_v3`] and its like: nothing of a message is lost before it is mixed, and the hash
 //!   looks at nothing else.
+//! - [`micro_is_v3`] and its like: two forms have one hash of a message of some lengths.
+//! - [`lane_after_its_secret`]: what `PROTECTED` keeps.
 //! - [`same_blocks`]: integers of equal widths are packed one to one.
+//! - [`join_u8`], [`turn_bytes`] and their like: writes that may be joined, or may change places.
 //! - [`replay`]: a stream hasher answers the hash of what was written since the last reset.
 
 ghost use Rattle.std.specs.Prelude.{◌≡◌, IfOk};
@@ -35,8 +38,8 @@ pub enum StreamOp<'d> {
     Reset,
 }
 
-/// What V3's stream hasher answers to each `Finish` of a run, in order. The one refusal is want of
-/// memory for the answers, and then nothing is left behind.
+/// What V3's stream hasher answers to each `Finish` of a run, in order. It fails only where memory
+/// for the answers is refused, and then it has given back what it had.
 ///
 /// ```
 /// let ops = [StreamOp::Write(b"hello"), StreamOp::Finish];
