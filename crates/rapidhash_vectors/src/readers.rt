@@ -5,5 +5,7 @@ mod asked;
 mod bulk;
 mod ends;
 mod faults;
-mod pieces;
+mod known_length;
+mod outcome;
 mod sizes;
+mod to_the_end;

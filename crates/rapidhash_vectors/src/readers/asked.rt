@@ -2,7 +2,8 @@
 
 ghost use Rattle.std.specs.Prelude.{◌≤◌};
 
-use rapidhash_fakes::OneByteReader;
+use crate::readers::outcome::Outcome;
+use rapidhash_fakes::CountingReader;
 use rapidhash_portable::reader::Source;
 use rapidhash_portable::{v1, v2};
 use std::io;
@@ -44,17 +45,12 @@ pub(crate) fn failed(kind: ErrorKind, left: usize) -> Asked {
 }
 
 /// A reader of one byte a read, which fails at one of them.
-pub(crate) fn drip(bytes: &[u8], fails_at: u64, kind: ErrorKind) -> OneByteReader<'_> {
-    OneByteReader {
-        left: bytes,
-        reads: 0,
-        fails_at,
-        kind,
-    }
+pub(crate) fn drip(bytes: &[u8], fails_at: u64, kind: ErrorKind) -> CountingReader<'_> {
+    CountingReader::failing(bytes, 1, fails_at, kind)
 }
 
 /// A reader of one byte a read, which never fails.
-pub(crate) fn sound(bytes: &[u8]) -> OneByteReader<'_> {
+pub(crate) fn sound(bytes: &[u8]) -> CountingReader<'_> {
     drip(bytes, 0, ErrorKind::Other)
 }
 
@@ -67,9 +63,9 @@ fn told(answer: io::Result<u64>, marked: bool, left: usize) -> Asked {
 }
 
 /// V1 of `len` bytes of a reader.
-pub(crate) fn v1_of(reader: OneByteReader<'_>, len: u64) -> Asked {
+pub(crate) fn v1_of(reader: CountingReader<'_>, len: u64) -> Asked {
     let mut source = Source::new(reader);
-    let answer = v1::rapidhash_v1_source::<OneByteReader, false>(
+    let answer = v1::rapidhash_v1_source::<CountingReader, false>(
         &mut source,
         len,
         &v1::DEFAULT_RAPID_SECRETS,
@@ -90,19 +86,29 @@ pub(crate) fn v1_of_slice(bytes: &[u8], len: u64) -> Asked {
     told(answer, marked, source.into_inner().len())
 }
 
-/// The same by a file form, which tells of no mark.
-pub(crate) fn v1_of_file(bytes: &[u8], len: u64) -> Asked {
-    let mut rest = bytes;
-    let answer = v1::rapidhash_v1_file::<&[u8]>(&mut rest, len);
-    told(answer, false, rest.len())
+/// V1 of `len` bytes by each file form with default secrets, over readers of one byte a read that
+/// fail at one of them.
+pub(crate) fn v1_of_files(bytes: &[u8], len: u64, fails_at: u64) -> [Outcome; 3] {
+    let secrets = &v1::DEFAULT_RAPID_SECRETS;
+    let mut first = drip(bytes, fails_at, ErrorKind::BrokenPipe);
+    let named = v1::rapidhash_v1_file::<CountingReader>(&mut first, len);
+    let mut second = drip(bytes, fails_at, ErrorKind::BrokenPipe);
+    let seeded = v1::rapidhash_v1_file_seeded::<CountingReader>(&mut second, len, secrets);
+    let mut third = drip(bytes, fails_at, ErrorKind::BrokenPipe);
+    let inline = v1::rapidhash_v1_file_inline::<CountingReader, false>(&mut third, len, secrets);
+    [
+        Outcome::new(named, &first),
+        Outcome::new(seeded, &second),
+        Outcome::new(inline, &third),
+    ]
 }
 
 /// V2 of `len` bytes of a reader.
-pub(crate) fn v2_of<const MINOR: u8>(reader: OneByteReader<'_>, len: u64) -> Asked
+pub(crate) fn v2_of<const MINOR: u8>(reader: CountingReader<'_>, len: u64) -> Asked
     requires { MINOR ≤ 2 }
 {
     let mut source = Source::new(reader);
-    let answer = v2::rapidhash_v2_source::<OneByteReader, MINOR, false>(
+    let answer = v2::rapidhash_v2_source::<CountingReader, MINOR, false>(
         &mut source,
         len,
         &v2::DEFAULT_RAPID_SECRETS,

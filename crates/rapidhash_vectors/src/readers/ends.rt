@@ -1,10 +1,12 @@
 //! Bytes behind the length, and readers that end before it.
 
 use crate::readers::asked::{
-    fell_short, gave, sound, v1_of, v1_of_file, v1_of_slice, v2_of, v2_of_slice,
+    fell_short, gave, sound, v1_of, v1_of_files, v1_of_slice, v2_of, v2_of_slice,
 };
+use crate::readers::outcome::Outcome;
 use rapidhash_portable::v1::rapidhash_v1;
 use rapidhash_portable::v2::{DEFAULT_RAPID_SECRETS, rapidhash_v2_inline};
+use std::io::ErrorKind;
 
 // What is behind the length is left, and of fewer bytes all are read.
 #[test]
@@ -21,7 +23,44 @@ fn v1_takes_its_length_and_no_more(rt: HostRuntime) {
     ] {
         assert_eq!(rt; v1_of(sound(bytes), len), want);
         assert_eq!(rt; v1_of_slice(bytes, len), want);
-        assert_eq!(rt; v1_of_file(bytes, len), want);
+    }
+}
+
+/// The file forms of V1 with default secrets, of one text: four bytes are left behind its length,
+/// the text is too short, and its third read fails.
+#[test]
+fn v1_files_of_a_known_text(rt: HostRuntime) {
+    let text = &b"something\n"[..];
+    for (bytes, len, fails_at, answer, reads, longest, left) in [
+        (
+            &b"something\nmore"[..],
+            10u64,
+            0u64,
+            Ok(15965596575264898037),
+            10u64,
+            10usize,
+            4usize,
+        ),
+        (text, 11, 0, Err(ErrorKind::UnexpectedEof), 11, 11, 0),
+        (text, 10, 3, Err(ErrorKind::BrokenPipe), 3, 10, 8),
+        (&b"abc"[..], 0, 0, Ok(6516417773221693515), 0, 0, 3),
+        (
+            &b"abc"[..],
+            u64::MAX,
+            0,
+            Err(ErrorKind::UnexpectedEof),
+            4,
+            65520,
+            0,
+        ),
+    ] {
+        let want = Outcome {
+            answer,
+            reads,
+            longest,
+            left,
+        };
+        assert_eq!(rt; v1_of_files(bytes, len, fails_at), [want; 3]);
     }
 }
 

@@ -1,7 +1,7 @@
 //! A read that fails, each in turn, and the call after it.
 
 use crate::readers::asked::{drip, failed, gave, v1_of, v2_of};
-use rapidhash_fakes::OneByteReader;
+use rapidhash_fakes::CountingReader;
 use rapidhash_portable::reader::Source;
 use rapidhash_portable::v1::{DEFAULT_RAPID_SECRETS, rapidhash_v1, rapidhash_v1_source};
 use rapidhash_portable::v2;
@@ -33,10 +33,10 @@ fn each_read_may_fail(rt: HostRuntime) {
 fn the_next_call_goes_on_behind_a_fault(rt: HostRuntime) -> Result<(), Fail> {
     let secrets = &DEFAULT_RAPID_SECRETS;
     let mut source = Source::new(drip(SOMETHING, 3, ErrorKind::BrokenPipe));
-    let first = rapidhash_v1_source::<OneByteReader, false>(&mut source, 10, secrets);
+    let first = rapidhash_v1_source::<CountingReader, false>(&mut source, 10, secrets);
     assert!(rt; first.is_err());
     assert!(rt; source.failed());
-    let second = rapidhash_v1_source::<OneByteReader, false>(&mut source, 8, secrets)?;
+    let second = rapidhash_v1_source::<CountingReader, false>(&mut source, 8, secrets)?;
     assert_eq!(rt; second, rapidhash_v1(b"mething\n"));
     assert!(rt; !source.failed());
     Ok(())
