@@ -1,7 +1,7 @@
 //! How many chunk steps a stream hasher makes: each table of lengths is the contract of a function
 //! that makes the calls and hands the hasher back.
 
-ghost use Rattle.std.specs.Prelude.{◌≡◌, false, length};
+ghost use Rattle.std.specs.Prelude.{◌≡◌, ◌+◌, ◌++◌, false, length};
 ghost use Rattle.rapidhash_portable.specs.Lanes.{IsLaneCount};
 ghost use Rattle.rapidhash_portable.specs.Stream.{StreamStandsFor, chunk_count, steps_of};
 
@@ -40,6 +40,23 @@ pub fn after_single_bytes<'a, const LANES: usize>(
     hasher
 }
 
+/// A hasher after two pieces.
+pub fn after_two_pieces<'a, const LANES: usize>(
+    secrets: &'a RapidSecrets,
+    first: &[u8],
+    second: &[u8],
+) -> RapidStreamHasherLanes<'a, LANES, true, false>
+    requires { IsLaneCount LANES }
+    ensures stands { StreamStandsFor false result (first.now ++ second.now) }
+    ensures steps { steps_of result
+        ≡ chunk_count LANES (length first.now + length second.now) }
+{
+    let mut hasher = RapidStreamHasherLanes::new(secrets);
+    hasher.write(first);
+    hasher.write(second);
+    hasher
+}
+
 /// Seven lanes: a chunk has 112 bytes, and is folded when a further byte comes.
 #[tactic(auto, unfolding(rapidhash_portable::specs::Stream::chunk_count))]
 pub fn counts_of_seven<'a>(
@@ -49,6 +66,8 @@ pub fn counts_of_seven<'a>(
     ensures at_0 { length bytes.now ≡ 0 → steps_of result ≡ 0 }
     ensures at_1 { length bytes.now ≡ 1 → steps_of result ≡ 0 }
     ensures at_48 { length bytes.now ≡ 48 → steps_of result ≡ 0 }
+    ensures at_49 { length bytes.now ≡ 49 → steps_of result ≡ 0 }
+    ensures at_80 { length bytes.now ≡ 80 → steps_of result ≡ 0 }
     ensures at_81 { length bytes.now ≡ 81 → steps_of result ≡ 0 }
     ensures at_112 { length bytes.now ≡ 112 → steps_of result ≡ 0 }
     ensures at_113 { length bytes.now ≡ 113 → steps_of result ≡ 1 }
@@ -58,6 +77,40 @@ pub fn counts_of_seven<'a>(
     ensures at_338 { length bytes.now ≡ 338 → steps_of result ≡ 3 }
 {
     after_one_piece::<7>(secrets, bytes)
+}
+
+/// The same where the bytes come one by one.
+#[tactic(auto, unfolding(rapidhash_portable::specs::Stream::chunk_count))]
+pub fn counts_of_seven_by_bytes<'a>(
+    secrets: &'a RapidSecrets,
+    bytes: &[u8],
+) -> RapidStreamHasherInlineV3<'a, true, false>
+    ensures at_0 { length bytes.now ≡ 0 → steps_of result ≡ 0 }
+    ensures at_1 { length bytes.now ≡ 1 → steps_of result ≡ 0 }
+    ensures at_112 { length bytes.now ≡ 112 → steps_of result ≡ 0 }
+    ensures at_113 { length bytes.now ≡ 113 → steps_of result ≡ 1 }
+    ensures at_224 { length bytes.now ≡ 224 → steps_of result ≡ 1 }
+    ensures at_225 { length bytes.now ≡ 225 → steps_of result ≡ 2 }
+    ensures at_338 { length bytes.now ≡ 338 → steps_of result ≡ 3 }
+{
+    after_single_bytes::<7>(secrets, bytes)
+}
+
+/// The same where 113 bytes come as one byte and a chunk, or as a chunk and one byte.
+#[tactic(auto, unfolding(rapidhash_portable::specs::Stream::chunk_count))]
+pub fn counts_of_seven_by_two<'a>(
+    secrets: &'a RapidSecrets,
+    first: &[u8],
+    second: &[u8],
+) -> RapidStreamHasherInlineV3<'a, true, false>
+    ensures byte_and_chunk { length first.now ≡ 1 → length second.now ≡ 112 →
+        steps_of result ≡ 1 }
+    ensures chunk_and_byte { length first.now ≡ 112 → length second.now ≡ 1 →
+        steps_of result ≡ 1 }
+    ensures chunk_and_none { length first.now ≡ 112 → length second.now ≡ 0 →
+        steps_of result ≡ 0 }
+{
+    after_two_pieces::<7>(secrets, first, second)
 }
 
 /// Five lanes: a chunk has 80 bytes.

@@ -1,6 +1,9 @@
 //! Known values that no data file has: reads, products, secrets, hashes with default secrets.
 
-use crate::counts::{counts_of_five, counts_of_seven, counts_of_three};
+use crate::counts::{
+    counts_of_five, counts_of_seven, counts_of_seven_by_bytes, counts_of_seven_by_two,
+    counts_of_three,
+};
 use rapidhash_portable::seeding::{GlobalSecrets, SeedSource};
 use rapidhash_portable::util::{rapid_mix, rapid_mum, read_u32, read_u32_combined, read_u64};
 use rapidhash_portable::{v1, v2, v3};
@@ -124,6 +127,10 @@ fn counted_hashers_hash(rt: HostRuntime) {
     let bytes = [7; 241];
     let seven = counts_of_seven(&secrets, &bytes).finish();
     assert_eq!(rt; seven, v3::rapidhash_v3(&bytes));
+    let by_bytes = counts_of_seven_by_bytes(&secrets, &bytes).finish();
+    assert_eq!(rt; by_bytes, seven);
+    let by_two = counts_of_seven_by_two(&secrets, &bytes[..112], &bytes[112..]).finish();
+    assert_eq!(rt; by_two, seven);
     let five = counts_of_five(&secrets, &bytes).finish();
     assert_eq!(rt;
         five,
