@@ -8,4 +8,8 @@ pub mod counts;
 #[cfg(test)]
 mod readers;
 #[cfg(test)]
+mod secrets;
+#[cfg(test)]
+mod stream;
+#[cfg(test)]
 mod values;
