@@ -4,6 +4,8 @@
 #![tactic(auto)]
 
 #[cfg(test)]
+mod aliases;
+#[cfg(test)]
 mod blocks;
 #[cfg(test)]
 mod collections;

@@ -1,0 +1,133 @@
+//! The options of the short names: what `fast` and `quality` name, and the maps and sets.
+
+use rapidhash::inner::{GlobalSecrets, SeedSource};
+use rapidhash::{HashMapExt, HashSetExt, RapidHashMap, RapidHashSet, fast, inner, quality};
+use std::alloc::Global;
+use std::collections::{HashMap, HashSet};
+use std::hash::{BuildHasher, Hasher};
+use std::test::Fail;
+
+/// The hasher with a sponge, and with no other option but an avalanche.
+type Sponge<'s, const AVALANCHE: bool> = inner::RapidHasher<'s, AVALANCHE, true, false, false>;
+
+// Each of these functions takes a value by its short name and returns it by its full one, so it
+// stands only where the two are one type.
+
+fn fast_hasher(hasher: fast::RapidHasher<'_>) -> inner::RapidHasher<'_, false, true, false, false> {
+    hasher
+}
+
+fn fast_global(state: fast::GlobalState<'_>) -> inner::GlobalState<'_, false, true, false, false> {
+    state
+}
+
+fn fast_random(state: fast::RandomState<'_>) -> inner::RandomState<'_, false, true, false, false> {
+    state
+}
+
+fn fast_seedable(
+    state: fast::SeedableState<'_>,
+) -> inner::SeedableState<'_, false, true, false, false> {
+    state
+}
+
+fn quality_hasher(
+    hasher: quality::RapidHasher<'_>,
+) -> inner::RapidHasher<'_, true, true, false, false> {
+    hasher
+}
+
+fn quality_global(
+    state: quality::GlobalState<'_>,
+) -> inner::GlobalState<'_, true, true, false, false> {
+    state
+}
+
+fn quality_random(
+    state: quality::RandomState<'_>,
+) -> inner::RandomState<'_, true, true, false, false> {
+    state
+}
+
+fn quality_seedable(
+    state: quality::SeedableState<'_>,
+) -> inner::SeedableState<'_, true, true, false, false> {
+    state
+}
+
+fn map<'s>(
+    map: RapidHashMap<'s, u32, u64>,
+) -> HashMap<u32, u64, inner::RandomState<'s, false, true, false, false>, Global> {
+    map
+}
+
+fn set<'s>(
+    set: RapidHashSet<'s, u32>,
+) -> HashSet<u32, inner::RandomState<'s, false, true, false, false>, Global> {
+    set
+}
+
+/// What a hasher answers after an integer, which waits in the sponge, and four bytes.
+fn answer<const AVALANCHE: bool>(hasher: Sponge<'_, AVALANCHE>) -> u64 {
+    let mut hasher = hasher;
+    hasher.write_u64(4711);
+    hasher.write(b"user");
+    hasher.finish()
+}
+
+/// The numbers are the Rust crate's, of states with these seeds and secrets. Its global seed and
+/// the first answer of its seed source can't be chosen, so these two are an independent program's.
+#[test]
+fn fast_states_of_known_seeds(rt: HostRuntime) {
+    let secrets = GlobalSecrets::new(1);
+    let mut source = SeedSource::new(&secrets, 11233534814198372660);
+    let hasher = fast_hasher(fast::RapidHasher::default());
+    assert_eq!(rt; answer::<false>(hasher), 6021588442437052047);
+    let global = fast_global(fast::GlobalState::new(&secrets));
+    assert_eq!(rt; answer::<false>(global.build_hasher()), 1604029122039678008);
+    let random = fast_random(fast::RandomState::new(&secrets, &mut source));
+    assert_eq!(rt;
+        answer::<false>(random.build_hasher()),
+        16952220623277801737
+    );
+    let own = [2, 3, 5, 7, 11, 13, 17];
+    let seedable = fast_seedable(fast::SeedableState::custom(1, &own));
+    assert_eq!(rt;
+        answer::<false>(seedable.build_hasher()),
+        7367051224096954094
+    );
+}
+
+/// The same with an avalanche.
+#[test]
+fn quality_states_of_known_seeds(rt: HostRuntime) {
+    let secrets = GlobalSecrets::new(1);
+    let mut source = SeedSource::new(&secrets, 11233534814198372660);
+    let hasher = quality_hasher(quality::RapidHasher::default());
+    assert_eq!(rt; answer::<true>(hasher), 829435165229610713);
+    let global = quality_global(quality::GlobalState::new(&secrets));
+    assert_eq!(rt; answer::<true>(global.build_hasher()), 9139235253658562816);
+    let random = quality_random(quality::RandomState::new(&secrets, &mut source));
+    assert_eq!(rt; answer::<true>(random.build_hasher()), 6209511124463679340);
+    let own = [2, 3, 5, 7, 11, 13, 17];
+    let seedable = quality_seedable(quality::SeedableState::custom(1, &own));
+    assert_eq!(rt;
+        answer::<true>(seedable.build_hasher()),
+        4813190096566161236
+    );
+}
+
+/// A map and a set under their full names still hold what they held.
+#[test]
+fn maps_and_sets_are_those_of_the_fast_state(rt: HostRuntime) -> Result<(), Fail> {
+    let secrets = GlobalSecrets::new(1);
+    let mut source = SeedSource::new(&secrets, 2);
+    let state = fast::RandomState::new(&secrets, &mut source);
+    let mut counts: RapidHashMap<u32, u64> = HashMapExt::new(rt.alloc(), state);
+    let _ = counts.insert(4711, 3)?;
+    assert_eq!(rt; map(counts).get(&4711).copied(), Some(3));
+    let mut keys: RapidHashSet<u32> = HashSetExt::new(rt.alloc(), state);
+    let _ = keys.insert(4711)?;
+    assert!(rt; set(keys).contains(&4711));
+    Ok(())
+}
