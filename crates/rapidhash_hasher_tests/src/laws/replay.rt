@@ -1,51 +1,148 @@
-//! Replays whose allocations fail.
+//! Replays: a list of steps by both calls, and allocations that fail.
 
 use linked_list_allocator::LocalHeap;
-use rapidhash::laws::{StreamOp, replay};
-use rapidhash_portable::v3;
+use rapidhash::laws::{StreamOp, replay, replay_lanes};
+use rapidhash_portable::v3::RapidSecrets;
+use std::alloc::{AllocError, Allocator};
 use std::process::Abort;
+use std::test::Fail;
 
-// Replays over heaps with room for 0, 1, 2 blocks of 16 bytes and so on. With too little room a
-// replay returns the error, with enough it returns all answers, and either way it frees what it
-// allocated. Returns how many of the heaps were too small.
-fn too_small_heaps(rt: &(impl Abort + AllocGlobal), ops: &[StreamOp<'_>], known: &[u64]) -> usize {
-    let secrets = v3::RapidSecrets {
-        seed: 0,
-        secrets: [0; 7],
-    };
-    let mut too_small = 0usize;
-    for blocks in 0..16usize {
-        let heap = LocalHeap::new(rt.alloc(), 16 * (blocks + 1)).expect(rt, "no memory for a heap");
-        // A heap has one block at least, so a byte takes one.
-        let _taken = Box::new(&heap, 0u8).expect(rt, "no room for a byte");
-        assert_eq!(rt; heap.free(), 16 * blocks);
-        match replay::<_, true, false>(&heap, &secrets, ops) {
-            Ok(answers) => assert_eq!(rt; answers.as_slice(), known),
-            Err(_) => {
-                assert_eq!(rt; too_small, blocks);
-                too_small = blocks + 1;
-            }
-        }
-        assert_eq!(rt; heap.free(), 16 * blocks);
+/// Seed 0 and secrets 0.
+const ZEROS: RapidSecrets = RapidSecrets {
+    seed: 0,
+    secrets: [0; 7],
+};
+
+/// The hash of one byte of value 0 with these, and an avalanche. That of no byte is 0.
+const OF_ONE: u64 = 12297829382473034410;
+
+/// How many allocations the vector of the answers makes here: it has room for four of them, then
+/// for eight, and so on.
+const ALLOCATIONS: u32 = 18;
+
+/// A replay with seven lanes or with five, which agree up to 80 bytes.
+fn replayed<A: Allocator>(
+    alloc: A,
+    five_lanes: bool,
+    ops: &[StreamOp<'_>],
+) -> Result<Vec<u64, A>, AllocError> {
+    if five_lanes {
+        replay_lanes::<A, 5, true, false>(alloc, &ZEROS, ops)
+    } else {
+        replay::<A, true, false>(alloc, &ZEROS, ops)
     }
-    too_small
 }
 
-/// The vector of the answers has room for four of them at first, 32 bytes, and then for eight,
-/// which are 64 bytes more while it moves: each of the two allocations fails.
+/// So many times: an answer of no byte, and an answer of one byte.
+fn pairs(rt: &impl AllocGlobal, count: usize) -> Result<Vec<StreamOp<'static>>, AllocError> {
+    let mut ops = Vec::new(rt.alloc());
+    for _ in 0..count {
+        ops.push(StreamOp::Finish)?;
+        ops.push(StreamOp::Write(&[0]))?;
+        ops.push(StreamOp::Finish)?;
+        ops.push(StreamOp::Reset)?;
+    }
+    Ok(ops)
+}
+
+/// Whether these are so many answers, of no byte and of one byte by turns.
+fn alternate(answers: &[u64], count: usize) -> bool {
+    for i in 0..answers.len() {
+        if answers[i] != i as u64 % 2 * OF_ONE {
+            return false;
+        }
+    }
+    answers.len() == count
+}
+
+/// Replays the steps in a heap with so many free bytes, a multiple of 16. Returns whether there was
+/// room for the answers, which are then the right ones. Either way each block is free again.
+fn has_room(
+    rt: &(impl Abort + AllocGlobal),
+    bytes: usize,
+    five_lanes: bool,
+    ops: &[StreamOp<'_>],
+) -> Result<bool, AllocError> {
+    let heap = LocalHeap::new(rt.alloc(), bytes.saturating_add(16))?;
+    // A heap has 16 bytes at least, so a byte takes these.
+    let _taken = Box::new(&heap, 0u8)?;
+    assert_eq!(rt; heap.free(), bytes);
+    let has_room = match replayed(&heap, five_lanes, ops) {
+        Ok(answers) => {
+            assert!(rt; alternate(&answers, ops.len() / 2));
+            true
+        }
+        Err(_) => false,
+    };
+    assert_eq!(rt; heap.free(), bytes);
+    Ok(has_room)
+}
+
+/// Each allocation in turn fails, in a heap that has room for the ones before it alone. The replay
+/// returns the error, and in the same heap a list with no more answers than these allocations hold
+/// is replayed. The first heap that has room for all of them gives all answers.
+fn each_allocation_fails(
+    rt: &(impl Abort + AllocGlobal),
+    five_lanes: bool,
+) -> Result<(), AllocError> {
+    let ops = pairs(rt, 1 << ALLOCATIONS)?;
+    assert!(rt; !has_room(rt, 0, five_lanes, &ops)?);
+    for made in 1..ALLOCATIONS {
+        let answers = 2usize.wrapping_shl(made);
+        let few = &ops[..answers.saturating_mul(2).min(ops.len())];
+        let bytes = held_by(answers);
+        assert!(rt; !has_room(rt, bytes, five_lanes, &ops)?, "{made}");
+        assert!(rt; has_room(rt, bytes, five_lanes, few)?, "{made}");
+    }
+    assert!(rt; has_room(rt, held_by(2 << ALLOCATIONS), five_lanes, &ops)?);
+    Ok(())
+}
+
+/// How many bytes the vector's blocks take until it has room for so many answers. An old block is
+/// freed only after the next one is there, and is too small for any later one.
+fn held_by(answers: usize) -> usize {
+    answers.saturating_sub(2).saturating_mul(16)
+}
+
+/// Eighteen allocations of each call, for half a million answers.
 #[test]
-fn a_replay_tells_that_memory_was_refused(rt: HostRuntime) {
+fn a_replay_tells_that_memory_was_refused(rt: HostRuntime) -> Result<(), Fail> {
+    each_allocation_fails(&rt, false)?;
+    each_allocation_fails(&rt, true)?;
+    Ok(())
+}
+
+/// The answers of both calls are worked out by hand, with seed 1, secrets 0 and no avalanche.
+#[test]
+fn a_run_of_writes_and_resets(rt: HostRuntime) -> Result<(), Fail> {
+    let secrets = RapidSecrets {
+        seed: 1,
+        secrets: [0; 7],
+    };
     let ops = [
+        StreamOp::Write(&[1, 2]),
         StreamOp::Finish,
-        StreamOp::Write(&[0]),
+        StreamOp::Write(&[3]),
         StreamOp::Finish,
         StreamOp::Reset,
         StreamOp::Finish,
-        StreamOp::Finish,
-        StreamOp::Write(&[0]),
-        StreamOp::Finish,
     ];
-    let known = [0, 12297829382473034410, 0, 0, 12297829382473034410];
-    assert_eq!(rt; too_small_heaps(&rt, &ops[..4], &known[..2]), 2);
-    assert_eq!(rt; too_small_heaps(&rt, &ops, &known), 6);
+    let answers = replay::<_, false, false>(rt.alloc(), &secrets, &ops)?;
+    assert_eq!(rt;
+        answers.as_slice(),
+        [105553116266502, 105553116266505, 0].as_slice()
+    );
+    let answers = replay_lanes::<_, 7, false, false>(rt.alloc(), &secrets, &ops)?;
+    assert_eq!(rt;
+        answers.as_slice(),
+        [105553116266502, 105553116266505, 0].as_slice()
+    );
+    let ops = [StreamOp::Reset, StreamOp::Finish, StreamOp::Finish];
+    let answers = replay::<_, false, false>(rt.alloc(), &ZEROS, &ops)?;
+    assert_eq!(rt; answers.as_slice(), [0, 0].as_slice());
+    assert_eq!(rt;
+        replay::<_, false, false>(rt.alloc(), &ZEROS, &[])?.len(),
+        0
+    );
+    Ok(())
 }
