@@ -1,7 +1,9 @@
 //! Words and states of the generator.
 
 use rand_core::{Rng, SeedableRng};
+use rapidhash::fast;
 use rapidhash::rng::{RapidRng, rapidrng_fast, rapidrng_fast_not_portable, rapidrng_time};
+use std::hash::BuildHasher;
 
 /// The step.
 const S0: u64 = 0x2d35_8dcc_aa6c_78a5;
@@ -133,4 +135,22 @@ fn rapidrng_fast_of_known_states(rt: HostRuntime) {
     assert_eq!(rt; (rapidrng_fast(&mut before_zero), before_zero), (0, 0));
     let mut rng = RapidRng::new(0xd2ca_7233_5593_875c);
     assert_eq!(rt; rng.next(), 0x8bb8_4b93_962e_acc8);
+}
+
+/// Generators are ordered by their states as numbers.
+#[test]
+fn generators_are_ordered_by_state(rt: HostRuntime) {
+    let low = RapidRng::new(2);
+    let high = RapidRng::new(256);
+    assert!(rt; low == RapidRng::new(2) && low != high);
+    assert!(rt; low < high && high > low && low <= low);
+    assert_eq!(rt; low.max(high) == high, true);
+}
+
+/// As the key of a map a generator is its state, the lowest byte first. The number is the Rust
+/// crate's, of these eight bytes.
+#[test]
+fn a_generator_is_a_key(rt: HostRuntime) {
+    let state = fast::SeedableState::fixed();
+    assert_eq!(rt; state.hash_one(RapidRng::new(513)), 1737953164354400270);
 }

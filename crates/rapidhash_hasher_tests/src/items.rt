@@ -102,6 +102,27 @@ fn text(compact: bool) -> u64 {
     }
 }
 
+/// The answer of a hasher of seed 0 and secrets 0 after one write of the first `n` of 401 bytes,
+/// four of which are not 0.
+fn long<const COMPACT: bool>(n: usize) -> u64 {
+    let mut bytes = [0; 401];
+    bytes[288] = 1;
+    bytes[296] = 5;
+    bytes[336] = 2;
+    bytes[385] = 1;
+    let state = SeedableState::<false, true, COMPACT, false>::custom(0, &[0; 7]);
+    let mut hasher = state.build_hasher();
+    hasher.write(&bytes[..n.min(bytes.len())]);
+    hasher.finish()
+}
+
+/// Up to 400 bytes are hashed in rows of three, and more in rows of seven.
+#[test]
+fn rows_of_three_and_of_seven(rt: HostRuntime) {
+    assert_eq!(rt; (long::<false>(400), long::<true>(400)), (104960, 104960));
+    assert_eq!(rt; (long::<false>(401), long::<true>(401)), (1681, 1681));
+}
+
 #[test]
 fn integers_share_a_block(rt: HostRuntime) {
     assert_eq!(rt; sharing::<true>(), [0, 258, 258, 258]);
