@@ -6,6 +6,8 @@
 
 pub mod counts;
 #[cfg(test)]
+mod forms;
+#[cfg(test)]
 mod readers;
 #[cfg(test)]
 mod secrets;

@@ -41,3 +41,26 @@ fn the_next_call_goes_on_behind_a_fault(rt: HostRuntime) -> Result<(), Fail> {
     assert!(rt; !source.failed());
     Ok(())
 }
+
+/// A source returns what its reader returns. A failed read turns its mark on, and the mark stays
+/// until it is cleared.
+#[test]
+fn a_source_marks_a_failed_read(rt: HostRuntime) {
+    let mut source = Source::new(drip(SOMETHING, 2, ErrorKind::TimedOut));
+    let mut buffer = [0; 4];
+    assert_eq!(rt; source.read(&mut buffer).ok(), Some(1));
+    assert_eq!(rt; source.failed(), false);
+    let failed = source.read(&mut buffer).map_err(|error| error.kind());
+    assert_eq!(rt; failed, Err(ErrorKind::TimedOut));
+    assert_eq!(rt; source.failed(), true);
+    assert_eq!(rt; source.read(&mut buffer[1..]).ok(), Some(1));
+    assert_eq!(rt; buffer, [b's', b'o', 0, 0]);
+    assert_eq!(rt; source.failed(), true);
+    source.clear();
+    assert_eq!(rt; source.failed(), false);
+    let reader = source.into_inner();
+    assert_eq!(rt;
+        (reader.reads, reader.longest, reader.left.len()),
+        (3, 4, 8)
+    );
+}
