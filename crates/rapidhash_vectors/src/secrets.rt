@@ -57,60 +57,60 @@ fn test_create_secrets(rt: HostRuntime) {
     }
 }
 
-/// Two seeds and secrets are equal where the seeds and all secrets are.
-#[test]
-fn secrets_are_equal_by_seed_and_secrets(rt: HostRuntime) {
-    let global = GlobalSecrets::new(4711);
-    assert!(rt; global == GlobalSecrets::new(4711));
-    assert!(rt; global != GlobalSecrets::new(4712));
-    let three = v1::RapidSecrets::seed(4711);
-    assert!(rt; three == v1::RapidSecrets::seed(4711));
-    assert!(rt; three != v1::RapidSecrets { seed: 0, ..three });
-    let seven = v3::RapidSecrets::seed(4711);
-    assert!(rt; seven == v3::RapidSecrets::seed(4711));
-    assert!(rt; seven != v3::RapidSecrets { seed: 0, ..seven });
-    for place in 0..7usize {
-        let mut other = seven;
-        other.secrets[place] = 0;
-        assert!(rt; seven != other, "{place}");
-    }
-    for place in 0..3usize {
-        let mut other = three;
-        other.secrets[place] = 0;
-        assert!(rt; three != other, "{place}");
-    }
-}
-
 /// What a value hashes to as the key of a map.
 fn hashed<T: Hash>(value: &T) -> u64 {
     fast::SeedableState::fixed().hash_one(value)
 }
 
-/// Equal values are equal keys, and the seed and each secret count.
-#[test]
-fn secrets_are_keys(rt: HostRuntime) {
-    let three = v1::RapidSecrets::seed(4711);
-    assert_eq!(rt; hashed(&v1::RapidSecrets::seed(4711)), hashed(&three));
-    assert_ne!(rt;
-        hashed(&v1::RapidSecrets { seed: 0, ..three }),
-        hashed(&three)
-    );
-    let seven = v3::RapidSecrets::seed(4711);
-    assert_eq!(rt; hashed(&v3::RapidSecrets::seed(4711)), hashed(&seven));
-    assert_ne!(rt;
-        hashed(&v3::RapidSecrets { seed: 0, ..seven }),
-        hashed(&seven)
-    );
-    for place in 0..7usize {
-        let mut other = seven;
-        other.secrets[place] = 0;
-        assert_ne!(rt; hashed(&other), hashed(&seven), "{place}");
-    }
+/// Secrets of V1 with one part taken away: the seed, or one of the secrets.
+fn without_a_part_of_three(secrets: v1::RapidSecrets) -> [v1::RapidSecrets; 4] {
+    let mut all = [secrets; 4];
+    all[3].seed = 0;
     for place in 0..3usize {
-        let mut other = three;
-        other.secrets[place] = 0;
-        assert_ne!(rt; hashed(&other), hashed(&three), "{place}");
+        all[place].secrets[place] = 0;
     }
+    all
+}
+
+/// The same of V2 and V3.
+fn without_a_part_of_seven(secrets: v3::RapidSecrets) -> [v3::RapidSecrets; 8] {
+    let mut all = [secrets; 8];
+    all[7].seed = 0;
+    for place in 0..7usize {
+        all[place].secrets[place] = 0;
+    }
+    all
+}
+
+/// Seed and secrets are equal, and one key of a map, where each of their parts is.
+#[test]
+fn secrets_are_equal_by_each_part(rt: HostRuntime) {
+    let three = v1::RapidSecrets::seed(4711);
+    let again = v1::RapidSecrets::seed(4711);
+    assert!(rt; again == three && hashed(&again) == hashed(&three));
+    for other in without_a_part_of_three(three) {
+        assert!(rt;
+            other != three && hashed(&other) != hashed(&three),
+            "{other:?}"
+        );
+    }
+    let seven = v3::RapidSecrets::seed(4711);
+    let again = v3::RapidSecrets::seed(4711);
+    assert!(rt; again == seven && hashed(&again) == hashed(&seven));
+    for other in without_a_part_of_seven(seven) {
+        assert!(rt;
+            other != seven && hashed(&other) != hashed(&seven),
+            "{other:?}"
+        );
+    }
+}
+
+/// Two random words make secrets that are not equal, and one word makes equal ones.
+#[test]
+fn made_secrets_are_equal_by_their_word(rt: HostRuntime) {
+    let global = GlobalSecrets::new(4711);
+    assert!(rt; global == GlobalSecrets::new(4711));
+    assert!(rt; global != GlobalSecrets::new(4712));
 }
 
 /// A counter that is 0 goes on like any other. This second random word makes the counter start
