@@ -38,8 +38,8 @@ impl Read for OneByteReader<'_> {
     }
 }
 
-/// Returns a number of bytes a read, keeps count of what it was asked for, and fails at one read by
-/// its number.
+/// Returns at most so many bytes a read, counts what it is asked for, and fails at one read by its
+/// number.
 #[derive(Drop)]
 pub struct CountingReader<'a> {
     /// The bytes that it still has.

@@ -67,7 +67,7 @@ fn set<'s>(
     set
 }
 
-/// What a hasher answers after an integer, which waits in the sponge, and four bytes.
+/// The hash of an integer, which waits in the sponge, and four bytes.
 fn answer<const AVALANCHE: bool>(hasher: Sponge<'_, AVALANCHE>) -> u64 {
     let mut hasher = hasher;
     hasher.write_u64(4711);
@@ -75,8 +75,9 @@ fn answer<const AVALANCHE: bool>(hasher: Sponge<'_, AVALANCHE>) -> u64 {
     hasher.finish()
 }
 
-/// The numbers are the Rust crate's, of states with these seeds and secrets. Its global seed and
-/// the first answer of its seed source can't be chosen, so these two are an independent program's.
+/// The hashes are the Rust crate's, of hashers with these seeds and secrets, and so are the secrets
+/// that the random word makes. Its global seed and its source of seeds can't be set, so these two
+/// seeds come from an independent program.
 #[test]
 fn fast_states_of_known_seeds(rt: HostRuntime) {
     let secrets = GlobalSecrets::new(1);

@@ -13,7 +13,7 @@ const ZEROS: RapidSecrets = RapidSecrets {
     secrets: [0; 7],
 };
 
-/// The hash of one byte of value 0 with these, and an avalanche. That of no byte is 0.
+/// The hash of one byte 0 with these and an avalanche. That of no byte is 0.
 const OF_ONE: u64 = 12297829382473034410;
 
 /// How many allocations the vector of the answers makes here: it has room for four of them, then
@@ -33,7 +33,7 @@ fn replayed<A: Allocator>(
     }
 }
 
-/// So many times: an answer of no byte, and an answer of one byte.
+/// So many times: the hash of no byte, and the hash of one byte.
 fn pairs(rt: &impl AllocGlobal, count: usize) -> Result<Vec<StreamOp<'static>>, AllocError> {
     let mut ops = Vec::new(rt.alloc());
     for _ in 0..count {
@@ -45,7 +45,7 @@ fn pairs(rt: &impl AllocGlobal, count: usize) -> Result<Vec<StreamOp<'static>>, 
     Ok(ops)
 }
 
-/// Whether these are so many answers, of no byte and of one byte by turns.
+/// Whether these are so many hashes, of no byte and of one byte by turns.
 fn alternate(answers: &[u64], count: usize) -> bool {
     for i in 0..answers.len() {
         if answers[i] != i as u64 % 2 * OF_ONE {
@@ -78,9 +78,9 @@ fn has_room(
     Ok(has_room)
 }
 
-/// Each allocation in turn fails, in a heap that has room for the ones before it alone. The replay
-/// returns the error, and in the same heap a list with no more answers than these allocations hold
-/// is replayed. The first heap that has room for all of them gives all answers.
+/// Each allocation in turn fails, in a heap that has room for the ones before it alone: the replay
+/// returns the error, while one with no more answers than these allocations hold succeeds in the
+/// same heap. The first heap with room for all of them is enough for the whole list.
 fn each_allocation_fails(
     rt: &(impl Abort + AllocGlobal),
     five_lanes: bool,
@@ -98,8 +98,8 @@ fn each_allocation_fails(
     Ok(())
 }
 
-/// How many bytes the vector's blocks take until it has room for so many answers. An old block is
-/// freed only after the next one is there, and is too small for any later one.
+/// How many bytes the vector's blocks take until it has room for so many answers. A block is freed
+/// only once the next one is there, and all freed blocks together are too small for the one after.
 fn held_by(answers: usize) -> usize {
     answers.saturating_sub(2).saturating_mul(16)
 }

@@ -31,7 +31,7 @@ fn v1_takes_its_length_and_no_more(rt: HostRuntime) {
 #[test]
 fn v1_files_of_a_known_text(rt: HostRuntime) {
     let text = &b"something\n"[..];
-    for (bytes, len, fails_at, answer, reads, longest, left) in [
+    for (bytes, len, fails_at, returned, reads, longest, left) in [
         (
             &b"something\nmore"[..],
             10u64,
@@ -55,7 +55,7 @@ fn v1_files_of_a_known_text(rt: HostRuntime) {
         ),
     ] {
         let want = Outcome {
-            answer,
+            returned,
             reads,
             longest,
             left,

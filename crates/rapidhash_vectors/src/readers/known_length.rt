@@ -1,5 +1,5 @@
 //! The hashes of a number of bytes of a reader, V1 and V2: what each asks its reader for, and what
-//! comes out where a read fails.
+//! is returned where a read fails.
 
 mod form;
 
@@ -15,7 +15,7 @@ fn each_of_ten_reads_fails(rt: &impl Abort, form: Form, kind: ErrorKind) {
     for fails_at in 1..11u64 {
         let reader = CountingReader::failing(b"something\nmore", 1, fails_at, kind);
         let want = Outcome {
-            answer: Err(kind),
+            returned: Err(kind),
             reads: fails_at,
             longest: 10,
             left: 15usize.saturating_sub(fails_at as usize),
@@ -42,7 +42,7 @@ fn each_of_three_reads_fails(rt: &impl Abort, form: Form, bytes: &[u8]) {
             CountingReader::failing(bytes, usize::MAX, fails_at, kind),
             140000,
         );
-        assert_eq!(rt; outcome.answer, Err(kind), "{form:?}");
+        assert_eq!(rt; outcome.returned, Err(kind), "{form:?}");
         assert_eq!(rt; outcome.reads, fails_at, "{form:?}");
     }
 }
@@ -69,7 +69,7 @@ fn reads_of_lengths(rt: &impl Abort, form: Form, bytes: &[u8]) {
     ] {
         let (message, behind) = bytes.split_at(n.min(bytes.len()));
         let want = Outcome {
-            answer: Ok(form.of_bytes(message)),
+            returned: Ok(form.of_bytes(message)),
             reads,
             longest,
             left: behind.len(),
@@ -94,7 +94,7 @@ fn reads_of_single_bytes(rt: &impl Abort, form: Form, bytes: &[u8]) {
     for n in [0usize, 1, 16, 17, 300, 9000] {
         let (message, behind) = bytes.split_at(n.min(bytes.len()));
         let want = Outcome {
-            answer: Ok(form.of_bytes(message)),
+            returned: Ok(form.of_bytes(message)),
             reads: n as u64,
             longest: n,
             left: behind.len(),
@@ -102,7 +102,7 @@ fn reads_of_single_bytes(rt: &impl Abort, form: Form, bytes: &[u8]) {
         let reader = CountingReader::new(bytes, 1);
         assert_eq!(rt; form.outcome(reader, n as u64), want, "{form:?} {n}");
         let want = Outcome {
-            answer: Err(ErrorKind::UnexpectedEof),
+            returned: Err(ErrorKind::UnexpectedEof),
             reads: n as u64 + 1,
             longest: n + 1,
             left: 0,

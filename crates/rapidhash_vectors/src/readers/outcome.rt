@@ -8,7 +8,7 @@ use std::io::ErrorKind;
 /// many bytes are left.
 #[derive(Debug, Clone, Copy, PartialEq, Eq)]
 pub(crate) struct Outcome {
-    pub(crate) answer: Result<u64, ErrorKind>,
+    pub(crate) returned: Result<u64, ErrorKind>,
     pub(crate) reads: u64,
     pub(crate) longest: usize,
     pub(crate) left: usize,
@@ -16,9 +16,9 @@ pub(crate) struct Outcome {
 
 impl Outcome {
     /// The outcome of a call, of what it returned and the reader as it stands after the call.
-    pub(crate) fn new(answer: io::Result<u64>, reader: &CountingReader<'_>) -> Self {
+    pub(crate) fn new(returned: io::Result<u64>, reader: &CountingReader<'_>) -> Self {
         Outcome {
-            answer: answer.map_err(|error| error.kind()),
+            returned: returned.map_err(|error| error.kind()),
             reads: reader.reads,
             longest: reader.longest,
             left: reader.left.len(),

@@ -12,8 +12,8 @@ use std::io;
 use std::io::ErrorKind;
 use std::test::Fail;
 
-/// On how many lengths below the bytes' own both sized forms give the bulk hash, asking for `SIZE`
-/// bytes a read and no more.
+/// At how many lengths up to the bytes' own, but for the last, both sized forms return the hash of
+/// the bytes and ask for `SIZE` bytes a read.
 fn lengths_agreed<const SIZE: usize>(bytes: &[u8], secrets: &RapidSecrets) -> io::Result<usize>
     requires { 0 < SIZE }
 {
@@ -26,10 +26,15 @@ fn lengths_agreed<const SIZE: usize>(bytes: &[u8], secrets: &RapidSecrets) -> io
             &mut source,
             secrets,
         )?;
-        let of_file = rapidhash_v3_file_sized::<&[u8], SIZE, false>(x, secrets)?;
+        let mut reader = CountingReader::new(x, usize::MAX);
+        let of_file = rapidhash_v3_file_sized::<&mut CountingReader, SIZE, false>(
+            &mut reader,
+            secrets,
+        )?;
         let is_marked = source.failed();
         let longest = source.into_inner().longest;
-        if of_source == known && of_file == known && longest == SIZE && !is_marked {
+        let sizes = [longest, reader.longest];
+        if [of_source, of_file] == [known; 2] && sizes == [SIZE; 2] && !is_marked {
             agreed = agreed.saturating_add(1);
         }
     }

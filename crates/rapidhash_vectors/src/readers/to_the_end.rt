@@ -1,5 +1,5 @@
 //! The hashes of all that a reader has, V3, micro and nano: what each asks its reader for, and what
-//! comes out where a read fails.
+//! is returned where a read fails.
 
 mod form;
 
@@ -17,7 +17,7 @@ fn each_read_fails(rt: &impl Abort, form: Form, kind: ErrorKind) {
     for fails_at in 1..12u64 {
         let reader = CountingReader::failing(b"something\n", 1, fails_at, kind);
         let want = Outcome {
-            answer: Err(kind),
+            returned: Err(kind),
             reads: fails_at,
             longest: form.size(),
             left: 11usize.saturating_sub(fails_at as usize),
@@ -42,7 +42,7 @@ fn reads_of_buffers(rt: &impl Abort, form: Form, bytes: &[u8]) {
     for n in [0usize, 1, 112, 113, 8191, 8192, 8193, 25000] {
         let message = &bytes[..n.min(bytes.len())];
         let want = Outcome {
-            answer: Ok(form.of_bytes(message)),
+            returned: Ok(form.of_bytes(message)),
             reads: n.div_ceil(size) as u64 + 1,
             longest: size,
             left: 0,
@@ -66,7 +66,7 @@ fn reads_of_single_bytes(rt: &impl Abort, form: Form, bytes: &[u8]) {
     for n in [0usize, 1, 16, 17, 113, 9000] {
         let message = &bytes[..n.min(bytes.len())];
         let want = Outcome {
-            answer: Ok(form.of_bytes(message)),
+            returned: Ok(form.of_bytes(message)),
             reads: n as u64 + 1,
             longest: form.size(),
             left: 0,
@@ -89,7 +89,7 @@ fn first_difference(form: Form, bytes: &[u8]) -> Option<usize> {
     for n in 0..bytes.len() + 1 {
         let message = &bytes[..n];
         let reader = CountingReader::new(message, usize::MAX);
-        if form.outcome(reader).answer != Ok(form.of_bytes(message)) {
+        if form.outcome(reader).returned != Ok(form.of_bytes(message)) {
             return Some(n);
         }
     }

@@ -132,7 +132,7 @@ impl Form {
     /// What the call returned, and what it asked a reader for.
     pub(crate) fn outcome(self, reader: CountingReader<'_>, len: u64) -> Outcome {
         let mut reader = reader;
-        let answer = self.hash(&mut reader, len);
-        Outcome::new(answer, &reader)
+        let returned = self.hash(&mut reader, len);
+        Outcome::new(returned, &reader)
     }
 }

@@ -131,7 +131,7 @@ impl Form {
     /// What the call returned, and what it asked a reader for.
     pub(crate) fn outcome(self, reader: CountingReader<'_>) -> Outcome {
         let mut reader = reader;
-        let answer = self.hash(&mut reader);
-        Outcome::new(answer, &reader)
+        let returned = self.hash(&mut reader);
+        Outcome::new(returned, &reader)
     }
 }
