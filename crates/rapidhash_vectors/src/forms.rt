@@ -33,8 +33,8 @@ fn compare_micro_nano_v3(rt: HostRuntime) {
     }
 }
 
-/// From 57 to 64 bytes V2.0 folds a row, and V2.1 none. V2.2 reads one to three bytes otherwise than
-/// V2.1, and takes another secret for the third pair of a message without rows.
+/// From 57 to 64 bytes V2.0 folds a row, and V2.1 none. V2.2 reads one to three bytes in another
+/// way than V2.1, and takes another secret for the third pair of a message without rows.
 #[test]
 fn the_minors_differ_at_few_lengths(rt: HostRuntime) {
     let bytes = drawn();
