@@ -14,6 +14,8 @@ pub struct OneByteWriter {
     /// The number of the write that fails, from 1 on, or 0 for none. A failing write takes no byte,
     /// and the next one goes on.
     pub fails_at: u64,
+    /// How many flushes it was asked for. Each of them fails.
+    pub flushes: u64,
 }
 
 impl Write for OneByteWriter {
@@ -32,7 +34,8 @@ impl Write for OneByteWriter {
     }
 
     fn flush(&mut self) -> Result<()> {
-        Ok(())
+        self.flushes = self.flushes.saturating_add(1);
+        Err(Error::from(ErrorKind::Other))
     }
 }
 

@@ -17,8 +17,20 @@ pub const SOMETHING: &[u8] = b"something\n";
 /// The line that V1 prints for them.
 pub const SOMETHING_LINE: &[u8] = b"15965596575264898037\n";
 
+/// The line that V2 prints for them.
+pub const V2_LINE: &[u8] = b"9564150447897697404\n";
+
 /// The line that V3, micro and nano print for them.
 pub const V3_LINE: &[u8] = b"11612086640089003834\n";
+
+/// The bytes 0 to 199.
+pub fn counted() -> [u8; 200] {
+    let mut bytes = [0u8; 200];
+    for i in 0..200u8 {
+        bytes[i as usize] = i;
+    }
+    bytes
+}
 
 /// All versions.
 pub fn versions(protected: bool) -> [RapidhashVersion; 7] {
@@ -63,6 +75,7 @@ pub fn writer(held: Vec<u8>, fails_at: u64) -> OneByteWriter {
         held,
         writes: 0,
         fails_at,
+        flushes: 0,
     }
 }
 

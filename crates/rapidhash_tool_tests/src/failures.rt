@@ -3,10 +3,11 @@
 ghost use Rattle.std.specs.Prelude.{◌<◌};
 
 use crate::ends::{
-    Ended, SOMETHING, SOMETHING_LINE, V1, V3, V3_LINE, failing, of_file, of_stdin, versions, whole,
-    writer,
+    Ended, SOMETHING, SOMETHING_LINE, V2_LINE, V3, V3_LINE, failing, of_file, of_stdin, versions,
+    whole, writer,
 };
 use linked_list_allocator::LocalHeap;
+use rapidhash_fakes::OneByteReader;
 use rapidhash_tool::{CliFault, RapidhashVersion, run_help, run_stdin};
 use std::io::ErrorKind;
 use std::process::Abort;
@@ -16,20 +17,19 @@ const FORTY: &[u8] = b"a line of forty bytes, not one byte more";
 
 // Each byte of the line is a write of its own, and each of them fails in turn.
 fn each_write_fails(rt: &(impl Abort + AllocGlobal), version: RapidhashVersion, line: &[u8]) {
-    let mut kept = 0usize;
-    for fails_at in 1..22u64 {
+    let mut fails_at = 1u64;
+    for kept in 0..line.len() {
         let out = writer(Vec::new(rt.alloc()), fails_at);
         let of_stdin = of_stdin(rt.alloc(), version, whole(SOMETHING), out);
         let out = writer(Vec::new(rt.alloc()), fails_at);
         let of_file = of_file(version, whole(SOMETHING), 10, out);
         assert_eq!(rt; of_stdin.result, Err(CliFault::Write), "at {version:?}");
         assert_eq!(rt; of_file.result, Err(CliFault::Write), "at {version:?}");
-        assert!(rt; kept < line.len());
         assert_eq!(rt; of_stdin.written.as_slice(), &line[..kept]);
         assert_eq!(rt; of_file.written.as_slice(), &line[..kept]);
-        kept += 1;
+        fails_at = fails_at.saturating_add(1);
     }
-    let out = writer(Vec::new(rt.alloc()), 22);
+    let out = writer(Vec::new(rt.alloc()), fails_at);
     let ended = of_stdin(rt.alloc(), version, whole(SOMETHING), out);
     assert_eq!(rt; ended.result, Ok(()), "at {version:?}");
     assert_eq!(rt; ended.written.as_slice(), line);
@@ -37,15 +37,12 @@ fn each_write_fails(rt: &(impl Abort + AllocGlobal), version: RapidhashVersion, 
 
 #[test]
 fn writes_that_fail(rt: HostRuntime) {
-    let micro = RapidhashVersion::V3Micro { protected: false };
-    let nano = RapidhashVersion::V3Nano { protected: false };
-    let lines: [(RapidhashVersion, &[u8]); 4] = [
-        (V1, SOMETHING_LINE),
-        (V3, V3_LINE),
-        (micro, V3_LINE),
-        (nano, V3_LINE),
-    ];
-    for (version, line) in lines {
+    for version in versions(false) {
+        let line = match version {
+            RapidhashVersion::V1 { .. } => SOMETHING_LINE,
+            RapidhashVersion::V2 { .. } => V2_LINE,
+            _ => V3_LINE,
+        };
         each_write_fails(&rt, version, line);
     }
 }
@@ -62,17 +59,18 @@ fn writes_of_the_help_that_fail(rt: HostRuntime) {
     assert!(rt; out.held.as_slice().starts_with(b"Usage: rapidhash "));
 }
 
-// Ten reads give a byte each, and the eleventh finds the end.
+// Ten reads give a byte each, and the eleventh finds the end. No read follows one that failed.
 #[test]
 fn reads_that_fail(rt: HostRuntime) {
     for version in versions(true) {
-        for fails_at in [1u64, 6, 11] {
+        for fails_at in 1..12u64 {
             for kind in [ErrorKind::Other, ErrorKind::Interrupted] {
-                let input = failing(SOMETHING, fails_at, kind);
-                let out = writer(Vec::new(rt.alloc()), 0);
-                let ended = of_stdin(rt.alloc(), version, input, out);
-                assert_eq!(rt; ended.result, Err(CliFault::Stdin), "at {version:?}");
-                assert!(rt; ended.written.is_empty());
+                let mut input = failing(SOMETHING, fails_at, kind);
+                let mut out = writer(Vec::new(rt.alloc()), 0);
+                let result = run_stdin(rt.alloc(), &version, &mut input, &mut out);
+                assert_eq!(rt; result, Err(CliFault::Stdin), "at {version:?}");
+                assert_eq!(rt; input.reads, fails_at, "at {version:?}");
+                assert!(rt; out.held.is_empty());
             }
         }
         let input = failing(SOMETHING, 12, ErrorKind::Other);
@@ -107,6 +105,7 @@ fn in_a_heap(
     rt: &(impl Abort + AllocGlobal),
     version: RapidhashVersion,
     blocks: usize,
+    input: OneByteReader<'_>,
 ) -> (Ended, u64)
     requires { blocks < 16 }
 {
@@ -114,7 +113,7 @@ fn in_a_heap(
     // A heap has one block at least, so a byte takes one.
     let _taken = Box::new(&heap, 0u8).expect(rt, "no room for a byte");
     assert_eq!(rt; heap.free(), 16 * blocks);
-    let mut input = whole(FORTY);
+    let mut input = input;
     let mut out = writer(Vec::new(rt.alloc()), 0);
     let result = run_stdin(&heap, &version, &mut input, &mut out);
     assert_eq!(rt; heap.free(), 16 * blocks, "{version:?} keeps memory");
@@ -132,7 +131,7 @@ fn reads_at_failures(
     let mut too_small = 0usize;
     let mut all_reads = Vec::new(rt.alloc());
     for blocks in 0..16usize {
-        let (ended, reads) = in_a_heap(rt, version, blocks);
+        let (ended, reads) = in_a_heap(rt, version, blocks, whole(FORTY));
         let written = ended.written.as_slice();
         if ended.result == Ok(()) {
             assert_eq!(rt; written, line, "{version:?} with {blocks} blocks");
@@ -146,6 +145,7 @@ fn reads_at_failures(
             all_reads.push(reads).expect(rt, "no memory for a number");
         }
     }
+    assert!(rt; too_small < 16, "{version:?} never prints");
     all_reads
 }
 
@@ -153,17 +153,37 @@ fn reads_at_failures(
 // growth: each of its four allocations fails once.
 #[test]
 fn memory_that_is_refused(rt: HostRuntime) {
+    let growths: &[u64] = &[1, 9, 17, 33];
     for version in versions(false) {
-        let out = writer(Vec::new(rt.alloc()), 0);
-        let ended = of_stdin(rt.alloc(), version, whole(FORTY), out);
-        assert_eq!(rt; ended.result, Ok(()), "at {version:?}");
-        let growths: &[u64] = if version.needs_length() {
-            &[1, 9, 17, 33]
-        } else {
-            &[]
+        let (line, reads): (&[u8], &[u64]) = match version {
+            RapidhashVersion::V1 { .. } => (b"15996196282664043312\n", growths),
+            RapidhashVersion::V2 { .. } => (b"7987881167509358080\n", growths),
+            _ => (b"14936812745944957561\n", &[]),
         };
-        let reads = reads_at_failures(&rt, version, ended.written.as_slice());
-        assert_eq!(rt; reads.as_slice(), growths, "at {version:?}");
+        let all_reads = reads_at_failures(&rt, version, line);
+        assert_eq!(rt; all_reads.as_slice(), reads, "at {version:?}");
+    }
+}
+
+// A piece is read before memory for it is asked for. So without any memory an empty input has its
+// hash, and a first read that fails is told and not the memory.
+#[test]
+fn reads_before_memory(rt: HostRuntime) {
+    for version in versions(false) {
+        let line: &[u8] = match version {
+            RapidhashVersion::V1 { .. } => b"6516417773221693515\n",
+            _ => b"232177599295442350\n",
+        };
+        let (ended, reads) = in_a_heap(&rt, version, 0, whole(b""));
+        assert_eq!(rt; ended.result, Ok(()), "at {version:?}");
+        assert_eq!(rt; ended.written.as_slice(), line, "at {version:?}");
+        assert_eq!(rt; reads, 1, "at {version:?}");
+        for kind in [ErrorKind::Other, ErrorKind::Interrupted] {
+            let (ended, reads) = in_a_heap(&rt, version, 0, failing(FORTY, 1, kind));
+            assert_eq!(rt; ended.result, Err(CliFault::Stdin), "at {version:?}");
+            assert!(rt; ended.written.is_empty());
+            assert_eq!(rt; reads, 1, "at {version:?}");
+        }
     }
 }
 

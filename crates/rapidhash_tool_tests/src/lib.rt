@@ -3,6 +3,10 @@
 #![tactic(auto)]
 
 #[cfg(test)]
+mod asked;
+#[cfg(test)]
+mod cli;
+#[cfg(test)]
 mod ends;
 #[cfg(test)]
 mod failures;

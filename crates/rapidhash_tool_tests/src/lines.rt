@@ -1,7 +1,7 @@
 //! The lines that are printed.
 
 use crate::ends::{
-    SOMETHING, SOMETHING_LINE, V1, V3, V3_LINE, of_file, of_stdin, versions, whole, writer,
+    SOMETHING, SOMETHING_LINE, V1, V3, V3_LINE, counted, of_file, of_stdin, versions, whole, writer,
 };
 use rapidhash_fakes::FullWriter;
 use rapidhash_tool::{CliFault, help, run_file, run_help, run_stdin};
@@ -70,15 +70,6 @@ const OF_200_PROTECTED: [u64; 7] = [
     4897950914338820965,
     16770306864220385383,
 ];
-
-// The bytes 0 to 199.
-fn counted() -> [u8; 200] {
-    let mut bytes = [0u8; 200];
-    for i in 0..200u8 {
-        bytes[i as usize] = i;
-    }
-    bytes
-}
 
 // Every version prints these hashes, from standard input and from a file.
 fn all_print(
@@ -168,6 +159,20 @@ fn lengths_of_files(rt: HostRuntime) {
     let out = writer(Vec::new(rt.alloc()), 0);
     let first = of_file(V1, whole(b"something\nmore"), 10, out);
     assert_eq!(rt; first.written.as_slice(), SOMETHING_LINE);
+}
+
+// V3, micro and nano hash all bytes, whatever length they are told.
+#[test]
+fn lengths_that_are_not_looked_at(rt: HostRuntime) {
+    let bytes = counted();
+    let all = versions(false);
+    for i in 4..7usize {
+        for len in [0, 99, 200, 201, u64::MAX] {
+            let hash = all[i].hash_file(whole(&bytes), len);
+            assert_eq!(rt; hash, Ok(OF_200[i]), "at {len}");
+        }
+    }
+    assert_eq!(rt; V3.hash_file(whole(SOMETHING), 99), Ok(OF_SOMETHING[4]));
 }
 
 #[test]

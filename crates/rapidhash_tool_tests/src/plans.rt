@@ -4,7 +4,8 @@ use rapidhash_tool::{Minor, Plan, RapidhashVersion, plan};
 use std::alloc::AllocError;
 use std::test::Fail;
 
-fn gathered(rt: &impl AllocGlobal, line: &[&str]) -> Result<Vec<String>, AllocError> {
+/// The words of a line.
+pub fn gathered(rt: &impl AllocGlobal, line: &[&str]) -> Result<Vec<String>, AllocError> {
     let mut words = Vec::new(rt.alloc());
     for word in line {
         words.push(String::from_str(rt.alloc(), *word)?)?;
