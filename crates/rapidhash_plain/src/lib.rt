@@ -7,8 +7,15 @@
 
 pub mod bodies;
 mod forms;
+mod generator;
 mod hashes;
 mod secrets;
+mod streams;
 
+pub use generator::{other_word_of, seed_at_moment, state_after, word_of};
 pub use hashes::{memory_hash, mix, portable_hash};
-pub use secrets::{chained, cpp_seeded, reseeded, seeded};
+pub use secrets::{
+    chained, cpp_seeded, global_seed, made_secrets, reseeded, seeded, source_answer, source_next,
+    source_start,
+};
+pub use streams::{chunk_count, finishes};

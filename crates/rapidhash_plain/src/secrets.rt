@@ -1,7 +1,7 @@
 //! How secrets are made, as plain programs.
 
 ghost use Rattle.std.specs.Prelude.{◌≡◌, slice_index};
-ghost use Rattle.rapidhash_portable.specs.Secrets.{chained, cpp_seeded, premixed, reseeded, repaired, seeded, with_bit};
+ghost use Rattle.rapidhash_portable.specs.Secrets.{chained, cpp_seeded, global_seed, made_secrets, made_state, premixed, reseeded, repaired, seeded, source_answer, source_next, source_start, with_bit};
 
 use crate::hashes::mix;
 
@@ -84,4 +84,69 @@ pub fn reseeded(seed: u64, place: usize) -> u64
     ensures { result ≡ reseeded seed place }
 {
     premixed(seed, place)
+}
+
+/// The global seed that a random word gives.
+#[tactic(auto, unfolding(rapidhash_portable::specs::Secrets::global_seed))]
+pub fn global_seed(random: u64) -> u64
+    ensures { result ≡ global_seed random }
+{
+    mix(false, random ^ 0x2d35_8dcc_aa6c_78a5, 0xbdd8_9aa9_8270_4029)
+}
+
+/// What a random word's secrets are made of, after `count` of them.
+fn made_state(random: u64, count: usize) -> u64
+    ensures { result ≡ made_state random count }
+{
+    let mut state = mix(false, random ^ 0x4b33_a62e_d433_d4a3, 0x8bb8_4b93_962e_acc9);
+    for place in 0..count {
+        let mask = random ^ secret(&DEFAULT_SECRETS, place);
+        state = repaired(mix(false, state ^ 0x2d35_8dcc_aa6c_78a5, mask));
+    }
+    state
+}
+
+/// The seven secrets that a random word makes.
+#[tactic(auto, unfolding(rapidhash_portable::specs::Secrets::made_secrets))]
+pub fn made_secrets(random: u64) -> [u64; 7]
+    ensures { result ≡ made_secrets random }
+{
+    [
+        made_state(random, 1),
+        made_state(random, 2),
+        made_state(random, 3),
+        made_state(random, 4),
+        made_state(random, 5),
+        made_state(random, 6),
+        made_state(random, 7),
+    ]
+}
+
+/// Where the counter of a seed source starts, by a global seed and a second random word.
+#[tactic(auto, unfolding(rapidhash_portable::specs::Secrets::source_start))]
+pub fn source_start(global: u64, random: u64) -> u64
+    ensures { result ≡ source_start global random }
+{
+    let next = random.wrapping_add(1);
+    mix(
+        false,
+        next ^ 0x4d5a_2da5_1de1_aa47,
+        global ^ 0xa076_1d64_78bd_642f,
+    )
+}
+
+/// The counter of a seed source after one answer more.
+pub fn source_next(counter: u64) -> u64
+    ensures { result ≡ source_next counter }
+{
+    counter.wrapping_add(0x2d35_8dcc_aa6c_78a5)
+}
+
+/// What a seed source answers at a counter.
+#[tactic(auto, unfolding(rapidhash_portable::specs::Secrets::source_answer))]
+pub fn source_answer(random: u64, counter: u64) -> u64
+    ensures { result ≡ source_answer random counter }
+{
+    let first = counter ^ 0x4b33_a62e_d433_d4a3;
+    counter ^ mix(false, first, random ^ 0x8bb8_4b93_962e_acc9)
 }

@@ -1,0 +1,52 @@
+//! The generator as a plain program: each state by its place on the cycle, and each word by its
+//! state.
+
+ghost use Rattle.std.specs.Prelude.{◌≡◌, ◌<◌, false};
+ghost use Rattle.rapidhash.specs.Generator.{moment_of, seed_at_moment, state_after, word_of};
+ghost use Rattle.rapidhash_portable.specs.Multiply.{mix};
+ghost use Rattle.rapidhash_portable.specs.Secrets.{s1};
+
+use crate::hashes::mix;
+
+/// What a step adds to the state: the first default secret.
+const STEP: u64 = 0x2d35_8dcc_aa6c_78a5;
+
+/// What a word mixes its state with: the second.
+const MASK: u64 = 0x8bb8_4b93_962e_acc9;
+
+/// The state after `count` steps from a seed.
+pub fn state_after(seed: u64, count: u64) -> u64
+    ensures { result ≡ state_after seed count }
+{
+    let sum = u128::from(seed) + u128::from(count) * u128::from(STEP);
+    (sum % 0x1_0000_0000_0000_0000) as u64
+}
+
+/// The word that a state gives.
+pub fn word_of(state: u64) -> u64
+    ensures { result ≡ word_of state }
+{
+    mix(false, state, state ^ MASK)
+}
+
+/// The other word of a state, which other machines may compute otherwise.
+pub fn other_word_of(state: u64) -> u64
+    ensures { result ≡ mix false state s1 }
+{
+    mix(false, state, MASK)
+}
+
+/// A moment as one number.
+fn moment_of(secs: u64, nanos: u32) -> u64
+    ensures { result ≡ moment_of secs nanos }
+{
+    secs % 0x1_0000_0000 * 0x1_0000_0000 + u64::from(nanos)
+}
+
+/// The seed that a moment makes of another.
+pub fn seed_at_moment(seed: u64, secs: u64, nanos: u32) -> u64
+    ensures { result ≡ seed_at_moment seed secs nanos }
+{
+    let moment = mix(false, moment_of(secs, nanos) ^ STEP, seed ^ MASK);
+    mix(false, moment ^ STEP, 0x4b33_a62e_d433_d4a3)
+}
