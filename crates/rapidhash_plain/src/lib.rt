@@ -5,14 +5,17 @@
 //! values, and the fast bodies ([`bodies`]) with both.
 #![tactic(auto)]
 
+mod blocks;
 pub mod bodies;
 mod forms;
 mod generator;
+mod hasher;
 mod hashes;
 mod secrets;
 mod streams;
 
 pub use generator::{other_word_of, seed_at_moment, state_after, word_of};
+pub use hasher::{Absorbed, finished};
 pub use hashes::{memory_hash, mix, portable_hash};
 pub use secrets::{
     chained, cpp_seeded, global_seed, made_secrets, reseeded, seeded, source_answer, source_next,
