@@ -52,6 +52,11 @@ impl Version {
         }
     }
 
+    /// Whether the library has compact code for it.
+    pub fn has_compact(self) -> bool {
+        !matches!(self, Version::Micro | Version::Nano)
+    }
+
     /// Its form in the definition.
     pub fn form(self) -> Form
         ensures { IsForm result }

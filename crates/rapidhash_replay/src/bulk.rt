@@ -1,12 +1,12 @@
 //! Cases of the bulk hashes and of the in-memory core.
 
+use crate::hashers;
+use crate::items::Item;
 use crate::rules::{message, number, secrets_of};
 use crate::tally::Agreement;
 use anyhow::{Result, bail};
-use rapidhash_plain::bodies::{Version, body, defined, memory_body};
-use rapidhash_plain::{memory_hash, mix};
+use rapidhash_plain::bodies::{Version, body, defined};
 use rapidhash_portable::form::Options;
-use rapidhash_portable::v3::DEFAULT_RAPID_SECRETS;
 use std::alloc::Global;
 
 /// The columns of a file of bulk hashes.
@@ -64,22 +64,17 @@ pub fn replay(alloc: Global, line: &str) -> Result<Agreement> {
     let secrets = secrets_of(secrets_rule)?;
     let expected = number(expected)?;
     let bytes = bytes.as_slice();
-    Ok(Agreement {
-        definition: defined(version, options, &secrets, bytes) == expected,
-        body: body::<false>(version, options, &secrets, bytes) == expected,
-        compact: body::<true>(version, options, &secrets, bytes) == expected,
-    })
-}
-
-/// What the hasher answers of the core's value: with AVALANCHE it mixes once more, with the second
-/// default secret.
-pub fn finished(options: Options, value: u64) -> u64 {
-    let [_, second, ..] = DEFAULT_RAPID_SECRETS.secrets;
-    if options.avalanche {
-        mix(options.protected, value, second)
+    let compact = if version.has_compact() {
+        Some(body::<true>(version, options, &secrets, bytes) == expected)
     } else {
-        value
-    }
+        None
+    };
+    Ok(Agreement {
+        definition: Some(defined(version, options, &secrets, bytes) == expected),
+        body: Some(body::<false>(version, options, &secrets, bytes) == expected),
+        compact,
+        steps: None,
+    })
 }
 
 /// Replays the in-memory core, as one write into a hasher and its answer.
@@ -90,14 +85,7 @@ pub fn replay_memory(alloc: Global, line: &str) -> Result<Agreement> {
     };
     let options = options_of(avalanche, protected);
     let bytes = message(alloc, rule, number(length)?)?;
-    let secrets = secrets_of(secrets_rule)?;
-    let expected = number(expected)?;
-    let bytes = bytes.as_slice();
-    let seven = &secrets.seven;
-    let defined = memory_hash(options, bytes, seven.seed, &seven.secrets);
-    Ok(Agreement {
-        definition: finished(options, defined) == expected,
-        body: finished(options, memory_body::<false>(options, &secrets, bytes)) == expected,
-        compact: finished(options, memory_body::<true>(options, &secrets, bytes)) == expected,
-    })
+    let start = secrets_of(secrets_rule)?.seven;
+    let items = [Item::Bytes(bytes)];
+    hashers::compare(alloc, options, true, &start, &items, number(expected)?)
 }

@@ -5,7 +5,7 @@ use crate::seeds::{agreement, numbers};
 use crate::tally::Agreement;
 use anyhow::{Result, bail};
 use rapidhash::rng::{RapidRng, rapidrng_fast, rapidrng_fast_not_portable, rapidrng_time};
-use rapidhash_portable::util::rapid_mix;
+use rapidhash_plain::{other_word_of, seed_at_moment, state_after, word_of};
 use std::alloc::{AllocError, Global};
 
 /// The columns of a file of words and states.
@@ -17,26 +17,17 @@ pub const TIME_COLUMNS: &str = "seed\tsecs\tnanos\texpected";
 /// The columns of a file of distances on the cycle.
 pub const STEPS_COLUMNS: &str = "first\tsecond\texpected";
 
-const STEP: u64 = 0x2d35_8dcc_aa6c_78a5;
-
-const MASK: u64 = 0x8bb8_4b93_962e_acc9;
-
-/// The state after some steps, by one multiplication.
-fn state_after(seed: u64, count: u64) -> u64 {
-    seed.wrapping_add(count.wrapping_mul(STEP))
-}
-
 /// The words that the definition gives, the state that is left, and the words that are not
 /// portable.
 fn defined(alloc: Global, seed: u64, count: u64) -> Result<Vec<u64>, AllocError> {
     let mut all = Vec::new(alloc);
     for i in 0..count {
         let state = state_after(seed, i.wrapping_add(1));
-        all.push(rapid_mix::<false>(state, state ^ MASK))?;
+        all.push(word_of(state))?;
     }
     all.push(state_after(seed, count))?;
     for i in 0..count {
-        all.push(rapid_mix::<false>(state_after(seed, i.wrapping_add(1)), MASK))?;
+        all.push(other_word_of(state_after(seed, i.wrapping_add(1))))?;
     }
     Ok(all)
 }
@@ -80,10 +71,11 @@ pub fn replay_time(alloc: Global, line: &str) -> Result<Agreement> {
     if nanos >= 1_000_000_000 {
         bail!("{nanos} nanoseconds are more than a second");
     }
-    let mut seed = number(seed)?;
-    let answer = rapidrng_time(&mut seed, number(secs)?, nanos);
-    let all = [answer, seed];
-    Ok(agreement(expected.as_slice(), &all, &all))
+    let (seed, secs) = (number(seed)?, number(secs)?);
+    let made = seed_at_moment(seed, secs, nanos);
+    let mut left = seed;
+    let word = rapidrng_time(&mut left, secs, nanos);
+    Ok(agreement(expected.as_slice(), &[word_of(made), made], &[word, left]))
 }
 
 /// Replays how many steps lead from one state to another.
@@ -94,9 +86,5 @@ pub fn replay_steps(alloc: Global, line: &str) -> Result<Agreement> {
     };
     let (first, second, expected) = (number(first)?, number(second)?, number(expected)?);
     let steps = RapidRng::new(first).steps_to(&RapidRng::new(second));
-    Ok(Agreement {
-        definition: state_after(first, expected) == second,
-        body: steps == expected,
-        compact: steps == expected,
-    })
+    Ok(Agreement::new(state_after(first, expected) == second, steps == expected))
 }

@@ -2,6 +2,8 @@
 
 use anyhow::{Result, bail};
 use rapidhash::inner::RapidHasher;
+use rapidhash::laws::Num;
+use rapidhash_plain::Absorbed;
 use std::alloc::Global;
 use std::hash::Hasher;
 
@@ -23,33 +25,22 @@ pub enum Item {
     I128(i128),
 }
 
-/// An item as the definition sees it.
-#[derive(Clone, Copy)]
-pub enum Absorbed<'d> {
-    /// Bytes.
-    Bytes(&'d [u8]),
-    /// A number of 128 bits.
-    Wide(u128),
-    /// An integer by its width in bits and its bits.
-    Number(u32, u64),
-}
-
 impl Item {
     /// What the definition sees of it.
     pub fn absorbed(&self) -> Absorbed<'_> {
         match self {
             Item::Bytes(bytes) => Absorbed::Bytes(bytes.as_slice()),
-            Item::U8(value) => Absorbed::Number(8, u64::from(*value)),
-            Item::U16(value) => Absorbed::Number(16, u64::from(*value)),
-            Item::U32(value) => Absorbed::Number(32, u64::from(*value)),
-            Item::U64(value) => Absorbed::Number(64, *value),
-            Item::Usize(value) => Absorbed::Number(64, *value as u64),
+            Item::U8(value) => Absorbed::Number(Num::N8(*value)),
+            Item::U16(value) => Absorbed::Number(Num::N16(*value)),
+            Item::U32(value) => Absorbed::Number(Num::N32(*value)),
+            Item::U64(value) => Absorbed::Number(Num::N64(*value)),
+            Item::Usize(value) => Absorbed::Number(Num::N64(*value as u64)),
             Item::U128(value) => Absorbed::Wide(*value),
-            Item::I8(value) => Absorbed::Number(8, u64::from(value.cast_unsigned())),
-            Item::I16(value) => Absorbed::Number(16, u64::from(value.cast_unsigned())),
-            Item::I32(value) => Absorbed::Number(32, u64::from(value.cast_unsigned())),
-            Item::I64(value) => Absorbed::Number(64, value.cast_unsigned()),
-            Item::Isize(value) => Absorbed::Number(64, value.cast_unsigned() as u64),
+            Item::I8(value) => Absorbed::Number(Num::N8(value.cast_unsigned())),
+            Item::I16(value) => Absorbed::Number(Num::N16(value.cast_unsigned())),
+            Item::I32(value) => Absorbed::Number(Num::N32(value.cast_unsigned())),
+            Item::I64(value) => Absorbed::Number(Num::N64(value.cast_unsigned())),
+            Item::Isize(value) => Absorbed::Number(Num::N64(value.cast_unsigned() as u64)),
             Item::I128(value) => Absorbed::Wide(value.cast_unsigned()),
         }
     }

@@ -1,7 +1,8 @@
-//! Replays vector files: reads cases whose values come from the Rust crate (see data/README.md),
-//! and compares the definitions and the fast bodies with each. It prints a line of counts for each
-//! file named in its words, the cases that differ on standard error, and ends with status 1 where
-//! one does. The word `--compare` compares bodies and definitions on bytes of the generator.
+//! Replays vector files: reads cases whose values come from elsewhere (see data/README.md), and
+//! compares the definitions and the fast bodies with each. It prints a line of counts for each file
+//! named in its words, the cases that differ on standard error, and ends with status 1 where one
+//! does. The word `--compare` compares bodies and definitions on bytes of the generator. Without
+//! words it prints how it is called, and ends with status 2.
 #![tactic(auto)]
 
 mod bulk;
@@ -9,6 +10,8 @@ mod compare;
 mod draws;
 mod hashers;
 mod items;
+mod lengths;
+mod pieces;
 mod readers;
 mod rules;
 mod seeds;
@@ -16,13 +19,25 @@ mod streams;
 mod tally;
 
 use anyhow::{Context, Result, bail};
+use std::process::ExitCode;
 use std::rt::{Env, Files};
 use std::{env, fs};
 use tally::Tally;
 
-fn main(rt: HostRuntime) -> Result<()> {
+/// How the program is called.
+const USAGE: &str = "usage: rapidhash_replay [--compare] [FILE]..
+
+Compares the values of vector files with the definitions and the library, and
+with --compare the library with the definitions on bytes of a generator.";
+
+fn main(rt: HostRuntime) -> Result<ExitCode> {
+    let words: Vec<String> = env::args(&rt)?.skip(1).collect(rt.alloc())?;
+    if words.is_empty() {
+        eprintln!(rt; "{USAGE}")?;
+        return Ok(ExitCode::from(2));
+    }
     let mut differing = 0u64;
-    for word in env::args(&rt)?.skip(1) {
+    for word in &words {
         if word.as_str() == "--compare" {
             differing = differing.saturating_add(compare::compare(&rt)?);
             continue;
@@ -34,7 +49,7 @@ fn main(rt: HostRuntime) -> Result<()> {
     if differing > 0 {
         bail!("{differing} values differ");
     }
-    Ok(())
+    Ok(ExitCode::SUCCESS)
 }
 
 /// Replays one file, by the kind of cases that its column names tell.

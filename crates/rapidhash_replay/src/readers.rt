@@ -72,9 +72,8 @@ pub fn replay(alloc: Global, line: &str) -> Result<Agreement> {
     } else {
         of_reader::<false>(version, &secrets, bytes)?
     };
-    Ok(Agreement {
-        definition: defined(version, options, &secrets, bytes) == expected,
-        body: answer == expected,
-        compact: answer == expected,
-    })
+    Ok(Agreement::new(
+        defined(version, options, &secrets, bytes) == expected,
+        answer == expected,
+    ))
 }

@@ -3,7 +3,10 @@
 use crate::rules::number;
 use crate::tally::Agreement;
 use anyhow::{Result, bail};
-use rapidhash_plain::{chained, cpp_seeded, reseeded, seeded};
+use rapidhash_plain::{
+    chained, cpp_seeded, global_seed, made_secrets, reseeded, seeded, source_answer, source_next,
+    source_start,
+};
 use rapidhash_portable::seeding::{GlobalSecrets, SeedSource};
 use rapidhash_portable::{v1, v2, v3};
 use std::alloc::{AllocError, Global};
@@ -85,11 +88,7 @@ pub fn numbers(alloc: Global, field: &str) -> Result<Vec<u64>> {
 
 /// Whether two lists are one, for the library's calls and for the definitions.
 pub fn agreement(expected: &[u64], defined: &[u64], made: &[u64]) -> Agreement {
-    Agreement {
-        definition: defined == expected,
-        body: made == expected,
-        compact: made == expected,
-    }
+    Agreement::new(defined == expected, made == expected)
 }
 
 /// Replays a call that makes secrets of a number.
@@ -123,10 +122,23 @@ pub fn replay_made(alloc: Global, line: &str) -> Result<Agreement> {
     let [random, expected] = fields.as_slice() else {
         bail!("no two fields: {line}");
     };
+    let random = number(random)?;
     let expected = numbers(alloc, expected)?;
-    let made = GlobalSecrets::new(number(random)?);
-    let secrets: &[u64] = made.get();
-    Ok(agreement(expected.as_slice(), secrets, secrets))
+    let defined = made_secrets(random);
+    let made = GlobalSecrets::new(random);
+    Ok(agreement(expected.as_slice(), &defined, made.get()))
+}
+
+/// What the definitions give of two random words: a global seed, and four answers of a source.
+fn defined_answers(random: u64, second: u64) -> [u64; 5] {
+    let global = global_seed(random);
+    let mut answers = [global; 5];
+    let mut counter = source_start(global, second);
+    for answer in &mut answers[1..] {
+        counter = source_next(counter);
+        *answer = source_answer(second, counter);
+    }
+    answers
 }
 
 /// Replays a global seed, and the answers of a seed source.
@@ -135,13 +147,14 @@ pub fn replay_source(alloc: Global, line: &str) -> Result<Agreement> {
     let [random, second, expected] = fields.as_slice() else {
         bail!("no three fields: {line}");
     };
+    let (random, second) = (number(random)?, number(second)?);
     let expected = numbers(alloc, expected)?;
-    let global = GlobalSecrets::new(number(random)?);
-    let mut source = SeedSource::new(&global, number(second)?);
-    let mut answers = Vec::new(alloc);
-    answers.push(global.get_global_seed())?;
-    for _ in 0..4u8 {
-        answers.push(source.next())?;
+    let defined = defined_answers(random, second);
+    let global = GlobalSecrets::new(random);
+    let mut source = SeedSource::new(&global, second);
+    let mut answers = [global.get_global_seed(); 5];
+    for answer in &mut answers[1..] {
+        *answer = source.next();
     }
-    Ok(agreement(expected.as_slice(), answers.as_slice(), answers.as_slice()))
+    Ok(agreement(expected.as_slice(), &defined, &answers))
 }

@@ -1,12 +1,14 @@
 //! Cases of the stream hasher: messages in pieces, with a hash asked for between them.
 
+ghost use Rattle.rapidhash_portable.specs.Lanes.{IsLaneCount};
+
 use crate::bulk::options_of;
 use crate::rules::{message, number, secrets_of};
 use crate::seeds::numbers;
 use crate::tally::Agreement;
 use anyhow::{Result, bail};
 use rapidhash::laws::{StreamOp, replay_lanes};
-use rapidhash_plain::bodies::{Secrets, Version, defined};
+use rapidhash_plain::{chunk_count, finishes};
 use rapidhash_portable::form::Options;
 use rapidhash_portable::v3::RapidSecrets;
 use std::alloc::{AllocError, Global};
@@ -40,54 +42,64 @@ fn cut<'d>(alloc: Global, bytes: &'d [u8], operations: &str) -> Result<Vec<Strea
     Ok(steps)
 }
 
-/// What the stream hasher of a version answers.
-fn answers<const AVALANCHE: bool, const PROTECTED: bool>(
+/// What the stream hasher of `LANES` lanes answers.
+fn answers<const LANES: usize>(
     alloc: Global,
-    version: Version,
-    secrets: &RapidSecrets,
-    steps: &[StreamOp<'_>],
-) -> Result<Vec<u64>, AllocError> {
-    match version {
-        Version::Nano => replay_lanes::<_, 3, AVALANCHE, PROTECTED>(alloc, secrets, steps),
-        Version::Micro => replay_lanes::<_, 5, AVALANCHE, PROTECTED>(alloc, secrets, steps),
-        _ => replay_lanes::<_, 7, AVALANCHE, PROTECTED>(alloc, secrets, steps),
-    }
-}
-
-/// The same, of options that are values.
-fn answered(
-    alloc: Global,
-    version: Version,
     options: Options,
     secrets: &RapidSecrets,
     steps: &[StreamOp<'_>],
-) -> Result<Vec<u64>, AllocError> {
+) -> Result<Vec<u64>, AllocError>
+    requires { IsLaneCount LANES }
+{
     match (options.avalanche, options.protected) {
-        (true, true) => answers::<true, true>(alloc, version, secrets, steps),
-        (true, false) => answers::<true, false>(alloc, version, secrets, steps),
-        (false, true) => answers::<false, true>(alloc, version, secrets, steps),
-        (false, false) => answers::<false, false>(alloc, version, secrets, steps),
+        (true, true) => replay_lanes::<_, LANES, true, true>(alloc, secrets, steps),
+        (true, false) => replay_lanes::<_, LANES, true, false>(alloc, secrets, steps),
+        (false, true) => replay_lanes::<_, LANES, false, true>(alloc, secrets, steps),
+        (false, false) => replay_lanes::<_, LANES, false, false>(alloc, secrets, steps),
     }
 }
 
-/// What the definition answers: each hash is that of the bytes written since the last new start.
-fn defined_answers(
-    alloc: Global,
-    version: Version,
-    options: Options,
-    secrets: &Secrets,
-    steps: &[StreamOp<'_>],
-) -> Result<Vec<u64>, AllocError> {
+/// How many chunks are folded at each hash that is asked for, by the definition.
+fn counts(alloc: Global, lanes: usize, steps: &[StreamOp<'_>]) -> Result<Vec<u64>, AllocError>
+    requires { IsLaneCount lanes }
+{
     let mut all = Vec::new(alloc);
-    let mut written = Vec::new(alloc);
+    let mut written = 0usize;
     for step in steps {
         match *step {
-            StreamOp::Write(piece) => written.extend_from_slice(piece)?,
-            StreamOp::Finish => all.push(defined(version, options, secrets, written.as_slice()))?,
-            StreamOp::Reset => written.clear(),
+            StreamOp::Write(piece) => written = written.saturating_add(piece.len()),
+            StreamOp::Finish => all.push(chunk_count(lanes, written) as u64)?,
+            StreamOp::Reset => written = 0,
         }
     }
     Ok(all)
+}
+
+/// Compares the answers of the definition and of the hasher of `LANES` lanes with the expected
+/// ones, and the counts of folded chunks where they are told.
+fn compare<const LANES: usize>(
+    alloc: Global,
+    options: Options,
+    secrets: &RapidSecrets,
+    steps: &[StreamOp<'_>],
+    told: Option<&str>,
+    expected: &str,
+) -> Result<Agreement>
+    requires { IsLaneCount LANES }
+{
+    let expected = numbers(alloc, expected)?;
+    let defined = finishes(alloc, LANES, options, secrets, steps)?;
+    let answered = answers::<LANES>(alloc, options, secrets, steps)?;
+    let mut agreement = Agreement::new(
+        defined.as_slice() == expected.as_slice(),
+        answered.as_slice() == expected.as_slice(),
+    );
+    if let Some(told) = told {
+        let told = numbers(alloc, told)?;
+        let counts = counts(alloc, LANES, steps)?;
+        agreement.steps = Some(counts.as_slice() == told.as_slice());
+    }
+    Ok(agreement)
 }
 
 /// Replays a run of V3's stream hasher.
@@ -108,15 +120,8 @@ pub fn replay(alloc: Global, line: &str) -> Result<Agreement> {
     let options = options_of(avalanche, protected);
     let bytes = message(alloc, rule, number(length)?)?;
     let steps = cut(alloc, bytes.as_slice(), operations)?;
-    let secrets = secrets_of(secrets)?;
-    compare(
-        alloc,
-        Version::V3,
-        options,
-        &secrets,
-        steps.as_slice(),
-        expected,
-    )
+    let secrets = secrets_of(secrets)?.seven;
+    compare::<7>(alloc, options, &secrets, steps.as_slice(), None, expected)
 }
 
 /// Replays a run of a stream hasher with 7, 5 or 3 lanes.
@@ -130,48 +135,22 @@ pub fn replay_with_lanes(alloc: Global, line: &str) -> Result<Agreement> {
         length,
         secrets,
         operations,
-        _,
+        told,
         expected,
     ] = fields.as_slice()
     else {
         bail!("no nine fields: {line}");
     };
-    let version = match *lanes {
-        "3" => Version::Nano,
-        "5" => Version::Micro,
-        "7" => Version::V3,
-        _ => bail!("no hasher of {lanes} lanes"),
-    };
     let options = options_of(avalanche, protected);
     let bytes = message(alloc, rule, number(length)?)?;
     let steps = cut(alloc, bytes.as_slice(), operations)?;
-    let secrets = secrets_of(secrets)?;
-    compare(
-        alloc,
-        version,
-        options,
-        &secrets,
-        steps.as_slice(),
-        expected,
-    )
-}
-
-/// Compares the answers of the hasher and of the definition with the expected ones.
-fn compare(
-    alloc: Global,
-    version: Version,
-    options: Options,
-    secrets: &Secrets,
-    steps: &[StreamOp<'_>],
-    expected: &str,
-) -> Result<Agreement> {
-    let expected = numbers(alloc, expected)?;
-    let defined = defined_answers(alloc, version, options, secrets, steps)?;
-    let answered = answered(alloc, version, options, &secrets.seven, steps)?;
-    let body = answered.as_slice() == expected.as_slice();
-    Ok(Agreement {
-        definition: defined.as_slice() == expected.as_slice(),
-        body,
-        compact: body,
-    })
+    let steps = steps.as_slice();
+    let secrets = secrets_of(secrets)?.seven;
+    let told = Some(*told);
+    match *lanes {
+        "3" => compare::<3>(alloc, options, &secrets, steps, told, expected),
+        "5" => compare::<5>(alloc, options, &secrets, steps, told, expected),
+        "7" => compare::<7>(alloc, options, &secrets, steps, told, expected),
+        _ => bail!("no hasher of {lanes} lanes"),
+    }
 }

@@ -2,63 +2,120 @@
 
 use std::fmt;
 
-/// Which of the values of one case agree with the expected one.
+/// Which of the values of one case agree with the expected one. There is none where the case has no
+/// such value.
 #[derive(Clone, Copy)]
 pub struct Agreement {
     /// The definition's, computed as it is written.
-    pub definition: bool,
+    pub definition: Option<bool>,
     /// The library's.
-    pub body: bool,
-    /// The library's in compact code, where it has any.
-    pub compact: bool,
+    pub body: Option<bool>,
+    /// The library's in compact code.
+    pub compact: Option<bool>,
+    /// The definition's counts of folded chunks.
+    pub steps: Option<bool>,
 }
 
-/// How many cases there are, and how many agree.
+impl Agreement {
+    /// Of a definition and of the library, which has no compact code for it.
+    pub fn new(definition: bool, body: bool) -> Agreement {
+        Agreement {
+            definition: Some(definition),
+            body: Some(body),
+            compact: None,
+            steps: None,
+        }
+    }
+}
+
+/// How many values of one kind were compared, and how many agree.
+#[derive(Clone, Copy)]
+struct Count {
+    compared: u64,
+    agreed: u64,
+}
+
+impl Count {
+    const NONE: Count = Count {
+        compared: 0,
+        agreed: 0,
+    };
+
+    /// Counts a value, and tells whether it differs.
+    fn differs(&mut self, agrees: Option<bool>) -> bool {
+        let Some(agrees) = agrees else {
+            return false;
+        };
+        self.compared = self.compared.saturating_add(1);
+        self.agreed = self.agreed.saturating_add(u64::from(agrees));
+        !agrees
+    }
+
+    fn differing(self) -> u64 {
+        self.compared.saturating_sub(self.agreed)
+    }
+}
+
+/// How many cases there are, and how many of their values agree.
 #[derive(Clone, Copy)]
 pub struct Tally {
     cases: u64,
-    definition: u64,
-    body: u64,
-    compact: u64,
+    definition: Count,
+    body: Count,
+    compact: Count,
+    steps: Count,
 }
 
 impl Tally {
     pub fn new() -> Tally {
         Tally {
             cases: 0,
-            definition: 0,
-            body: 0,
-            compact: 0,
+            definition: Count::NONE,
+            body: Count::NONE,
+            compact: Count::NONE,
+            steps: Count::NONE,
         }
     }
 
     /// Counts a case, and tells whether a value of it differs.
     pub fn differs(&mut self, case: Agreement) -> bool {
         self.cases = self.cases.saturating_add(1);
-        self.definition = self.definition.saturating_add(u64::from(case.definition));
-        self.body = self.body.saturating_add(u64::from(case.body));
-        self.compact = self.compact.saturating_add(u64::from(case.compact));
-        !(case.definition && case.body && case.compact)
+        let definition = self.definition.differs(case.definition);
+        let body = self.body.differs(case.body);
+        let compact = self.compact.differs(case.compact);
+        let steps = self.steps.differs(case.steps);
+        definition || body || compact || steps
     }
 
     /// How many values differ.
     pub fn differing(&self) -> u64 {
-        let definition = self.cases.saturating_sub(self.definition);
-        let body = self.cases.saturating_sub(self.body);
-        let compact = self.cases.saturating_sub(self.compact);
-        definition.saturating_add(body).saturating_add(compact)
+        let mut differing = 0u64;
+        for count in [self.definition, self.body, self.compact, self.steps] {
+            differing = differing.saturating_add(count.differing());
+        }
+        differing
     }
 }
 
 impl fmt::Display for Tally {
     fn fmt<W: fmt::Write>(&self, f: &mut fmt::Formatter<W>) -> fmt::Result {
         let cases = self.cases;
-        let definition = self.definition;
-        let body = self.body;
-        let compact = self.compact;
-        write!(
-            f,
-            "{cases} cases, definition {definition}, body {body}, compact {compact}"
-        )
+        write!(f, "{cases} cases")?;
+        let kinds = [
+            ("definition", self.definition),
+            ("body", self.body),
+            ("compact", self.compact),
+            ("steps", self.steps),
+        ];
+        for (kind, count) in kinds {
+            let agreed = count.agreed;
+            let compared = count.compared;
+            if compared == cases {
+                write!(f, ", {kind} {agreed}")?;
+            } else if compared > 0 {
+                write!(f, ", {kind} {agreed} of {compared}")?;
+            }
+        }
+        Ok(())
     }
 }
