@@ -13,6 +13,7 @@ mod hasher;
 mod hashes;
 mod secrets;
 mod streams;
+mod words;
 
 pub use generator::{other_word_of, seed_at_moment, state_after, word_of};
 pub use hasher::{Absorbed, finished};
@@ -22,3 +23,4 @@ pub use secrets::{
     source_start,
 };
 pub use streams::{chunk_count, finishes};
+pub use words::absorbed_words;
