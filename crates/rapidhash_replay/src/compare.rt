@@ -4,6 +4,7 @@ use crate::lengths::print_lengths;
 use crate::pieces::print_pieces;
 use crate::rules::{message, secrets_of};
 use crate::tally::{Agreement, Tally};
+use crate::words::print_words;
 use anyhow::{Result, bail};
 use rapidhash_plain::bodies::{Secrets, Version, body, defined, memory_body};
 use rapidhash_plain::memory_hash;
@@ -93,18 +94,19 @@ fn print_versions(rt: &impl Print, secrets: &Secrets, bytes: &[u8]) -> Result<u6
 pub fn compare(rt: &(impl Print + AllocGlobal)) -> Result<u64> {
     let secrets = secrets_of("seed:0")?;
     let bytes = message(rt.alloc(), "rng:0", 1025)?;
-    let Some(short) = bytes.as_slice().get(..513) else {
+    let bytes = bytes.as_slice();
+    let (Some(short), Some(shorter)) = (bytes.get(..513), bytes.get(..256)) else {
         bail!("the message is too short");
     };
     let versions = print_versions(rt, &secrets, short)?;
-    let tally = core_agrees(&secrets, bytes.as_slice());
+    let tally = core_agrees(&secrets, bytes);
     println!(rt; "in-memory core by its definition on lengths 0 to 1024: {tally}")?;
     let lengths = print_lengths(rt, &secrets, short)?;
-    let pieces = print_pieces(rt, &secrets, bytes.as_slice())?;
-    Ok(
-        versions
-            .saturating_add(tally.differing())
-            .saturating_add(lengths)
-            .saturating_add(pieces),
-    )
+    let pieces = print_pieces(rt, &secrets, bytes)?;
+    let words = print_words(rt, shorter)?;
+    let mut differing = tally.differing();
+    for others in [versions, lengths, pieces, words] {
+        differing = differing.saturating_add(others);
+    }
+    Ok(differing)
 }

@@ -17,6 +17,7 @@ mod rules;
 mod seeds;
 mod streams;
 mod tally;
+mod words;
 
 use anyhow::{Context, Result, bail};
 use std::process::ExitCode;
