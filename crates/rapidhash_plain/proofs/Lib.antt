@@ -1,3 +1,4 @@
 pub mod BlocksLemmas
 pub mod Cases
+pub mod HasherLemmas
 pub mod LanesLemmas

@@ -1,12 +1,11 @@
-//! The hasher of maps as a plain program: a seed, and the block of integers that is open.
+//! The hasher of maps as a plain program: the steps of a list of items, and the answer after them.
 
-ghost use Rattle.std.specs.Prelude.{◌≡◌, false, map, true};
-ghost use Rattle.rapidhash.specs.Hasher.{closed, finished, step};
-ghost use Rattle.rapidhash.specs.Laws.{item_of as item_of_number};
-ghost use Rattle.rapidhash.specs.Sponge.{Bytes, Wide};
-ghost use Rattle.rapidhash_plain.specs.Items.{Takes, item_of};
+ghost use Rattle.std.specs.Prelude.{◌≡◌, ◌≤◌, ◌<◌, ◌+◌, ◌^◌, false, fold, map, true};
+ghost use Rattle.rapidhash.specs.Hasher.{closed, finished, seed_after, step, steps_of};
+ghost use Rattle.rapidhash.specs.Sponge.{Wide, block};
+ghost use Rattle.rapidhash_plain.specs.Items.{item_of};
 
-use crate::blocks::{Block, alone, behind, value_of, width_of};
+use crate::blocks::{block, end_after, end_of, value_of, width_of};
 use crate::hashes::{memory_hash, mix};
 use crate::secrets::secret;
 use rapidhash::laws::Num;
@@ -23,13 +22,6 @@ pub enum Absorbed<'d> {
     Number(Num),
 }
 
-/// The seed so far, and the block of integers that is open.
-#[derive(Clone, Copy)]
-struct State {
-    seed: u64,
-    block: Block,
-}
-
 /// The seed after a number of 128 bits.
 fn after_wide(options: Options, secrets: &[u64], seed: u64, value: u128) -> u64
     ensures { result ≡ step options secrets.now seed (Wide value) }
@@ -39,87 +31,79 @@ fn after_wide(options: Options, secrets: &[u64], seed: u64, value: u128) -> u64
     mix(options.protected, low ^ seed, high ^ secret(secrets, 0))
 }
 
-/// One integer more, with a sponge: behind the others where the open block has room, else alone in
-/// a new block, and the old one is mixed in.
-fn pack(options: Options, secrets: &[u64], state: State, number: Num) -> State
-    ensures { Takes options true secrets.now state result (item_of_number number) }
-{
-    if state.block.width + width_of(number) <= 128 {
-        State {
-            block: behind(state.block, number),
-            ..state
-        }
-    } else {
-        State {
-            seed: after_wide(options, secrets, state.seed, state.block.bits),
-            block: alone(number),
-        }
-    }
-}
-
-/// One integer more, without a sponge: it is mixed in by itself.
-fn mix_in(options: Options, secrets: &[u64], state: State, number: Num) -> State
-    ensures { Takes options false secrets.now state result (item_of_number number) }
-{
-    let value = value_of(number);
-    let first = secret(secrets, 0);
-    State {
-        seed: mix(options.protected, value ^ first, value ^ state.seed),
-        ..state
-    }
-}
-
-/// Bytes more, which are mixed in by themselves.
-fn mix_bytes(options: Options, sponge: bool, secrets: &[u64], state: State, bytes: &[u8]) -> State
-    ensures { Takes options sponge secrets.now state result (Bytes bytes.now) }
-{
-    State {
-        seed: memory_hash(options, bytes, state.seed, secrets),
-        ..state
-    }
-}
-
-/// A number of 128 bits more, which is mixed in by itself.
-fn mix_wide(options: Options, sponge: bool, secrets: &[u64], state: State, value: u128) -> State
-    ensures { Takes options sponge secrets.now state result (Wide value) }
-{
-    State {
-        seed: after_wide(options, secrets, state.seed, value),
-        ..state
-    }
-}
-
-/// One item more.
-fn absorb(
-    options: Options,
-    sponge: bool,
-    secrets: &[u64],
-    state: State,
-    item: Absorbed<'_>,
-) -> State
-    ensures { Takes options sponge secrets.now state result (item_of item.entry) }
+/// The seed after an item that is a step by itself.
+fn step(options: Options, secrets: &[u64], seed: u64, item: Absorbed<'_>) -> u64
+    ensures { result ≡ step options secrets.now seed (item_of item.entry) }
 {
     match item {
-        Absorbed::Bytes(bytes) => mix_bytes(options, sponge, secrets, state, bytes),
-        Absorbed::Wide(value) => mix_wide(options, sponge, secrets, state, value),
+        Absorbed::Bytes(bytes) => memory_hash(options, bytes, seed, secrets),
+        Absorbed::Wide(value) => after_wide(options, secrets, seed, value),
         Absorbed::Number(number) => {
-            if sponge {
-                pack(options, secrets, state, number)
+            let value = value_of(number);
+            mix(options.protected, value ^ secret(secrets, 0), value ^ seed)
+        }
+    }
+}
+
+/// The seed after the steps that one item of a list brings with a sponge, behind integers that end
+/// at `end`: its own, or that of the block which an integer closes by opening the next.
+fn packed_step(
+    options: Options,
+    secrets: &[u64],
+    items: &[Absorbed<'_>],
+    end: (usize, usize),
+    seed: u64,
+    item: Absorbed<'_>,
+) -> u64
+    requires { end.1 ≤ 128 }
+    ensures { result ≡ fold (step options secrets.now) seed
+        (steps_of (block (map item_of items.now)) end (item_of item.entry)) }
+{
+    match item {
+        Absorbed::Bytes(_) => step(options, secrets, seed, item),
+        Absorbed::Wide(_) => step(options, secrets, seed, item),
+        Absorbed::Number(number) => {
+            if end.1 + width_of(number) <= 128 {
+                seed
             } else {
-                mix_in(options, secrets, state, number)
+                after_wide(options, secrets, seed, block(items, end.0))
             }
         }
     }
 }
 
-/// The answer: the open block is mixed in where there is one, and the avalanche mixes once more.
-fn close(options: Options, secrets: &[u64], state: State) -> u64
-    ensures { result ≡ closed options secrets.now state.seed state.block.bits state.block.width }
+/// The seed after all steps, with a sponge.
+fn after_packed(options: Options, secrets: &[u64], start: u64, items: &[Absorbed<'_>]) -> u64
+    ensures { result ≡ seed_after options true secrets.now start (map item_of items.now) }
 {
-    let last = if state.block.width > 0 {
-        after_wide(options, secrets, state.seed, state.block.bits)
+    let mut seed = start;
+    let mut end = (0, 0);
+    for item in items {
+        seed = packed_step(options, secrets, items, end, seed, *item);
+        end = end_after(end, *item);
+    }
+    seed
+}
+
+/// The same without a sponge, where each item is a step.
+fn after_each(options: Options, secrets: &[u64], start: u64, items: &[Absorbed<'_>]) -> u64
+    ensures { result ≡ seed_after options false secrets.now start (map item_of items.now) }
+{
+    let mut seed = start;
+    for item in items {
+        seed = step(options, secrets, seed, *item);
+    }
+    seed
+}
+
+/// The answer: the last block is a step where there is one, and the avalanche mixes once more.
+fn close(options: Options, secrets: &[u64], seed: u64, pending: u128, width: usize) -> u64
+    ensures { result ≡ closed options secrets.now seed pending width }
+{
+    let last = if width > 0 {
+        after_wide(options, secrets, seed, pending)
     } else {
-        state.seed
+        seed
     };
     if options.avalanche {
         mix(options.protected, last, 0x8bb8_4b93_962e_acc9)
@@ -139,12 +123,12 @@ pub fn finished(
 ) -> u64
     ensures { result ≡ finished options sponge secrets.now start (map item_of items.now) }
 {
-    let mut state = State {
-        seed: start,
-        block: Block { bits: 0, width: 0 },
-    };
-    for item in items {
-        state = absorb(options, sponge, secrets, state, *item);
+    if sponge {
+        let end = end_of(items);
+        let seed = after_packed(options, secrets, start, items);
+        close(options, secrets, seed, block(items, end.0), end.1)
+    } else {
+        let seed = after_each(options, secrets, start, items);
+        close(options, secrets, seed, 0, 0)
     }
-    close(options, secrets, state)
 }

@@ -1,16 +1,14 @@
-use Rattle.std.proofs.Common.{◌≡◌, map, take, ap, ◌∙◌, arith}
-use Rattle.std.proofs.lemmas.List.{take_all}
-use Rattle.rapidhash.specs.Hasher.{finished}
-use Rattle.rapidhash.proofs.HasherLemmas.{stands-finish, stands-new}
+use Rattle.std.proofs.Common.{map}
+use Rattle.rapidhash_plain.proofs.HasherLemmas.{finished-each, finished-packed}
 use Rattle.rapidhash_plain.specs.Items.{item_of}
 use Rattle.rapidhash_plain.proofs.hasher.finished.Goals as goal
 
-pub loop-item-init : goal.loop-item-init
-loop-item-init c = stands-new _ _ _ _ (omega arith)
+pub returns-then-sponge : goal.returns-then-sponge
+returns-then-sponge c =
+    let whole = finished-packed c.args.options c.args.sponge c.args.secrets.now c.args.start (map item_of c.args.items.now) c.if-sponge.true in
+    cc (c.close.ensures, whole, c.block.ensures, c.end_of-end.ensures.end, c.after_packed-seed.ensures)
 
-pub returns : goal.returns
-returns c =
-    let all : take c.loop-item.item-index c.args.items.now ≡ c.args.items.now = take_all c.loop-item.item-index c.args.items.now (omega arith) in
-    c.close.ensures
-    ∙ stands-finish _ _ _ _ _ _ _ _ c.loop-item.invariant
-    ∙ ap (λ xs. finished c.args.options c.args.sponge c.args.secrets.now c.args.start (map item_of xs)) all
+pub returns-else-sponge : goal.returns-else-sponge
+returns-else-sponge c =
+    let whole = finished-each c.args.options c.args.sponge c.args.secrets.now c.args.start (map item_of c.args.items.now) c.if-sponge.false in
+    cc (c.close-else-sponge.ensures, whole, c.after_each-seed.ensures)
