@@ -2,7 +2,9 @@
 
 ghost use Rattle.rapidhash_portable.specs.Form.{IsForm};
 
+use crate::by_words::value_of_words;
 use crate::hashes;
+use crate::words::absorbed_words;
 use rapidhash_portable::form::{Form, Options};
 use rapidhash_portable::memory::memory_hash;
 use rapidhash_portable::v1::{self, rapidhash_v1_inline};
@@ -10,6 +12,7 @@ use rapidhash_portable::v2::rapidhash_v2_inline;
 use rapidhash_portable::v3::{
     self, rapidhash_v3_inline, rapidhash_v3_micro_inline, rapidhash_v3_nano_inline,
 };
+use std::alloc::{AllocError, Global};
 
 /// A portable hash that the library has.
 #[derive(Clone, Copy)]
@@ -133,6 +136,33 @@ pub fn defined(version: Version, options: Options, secrets: &Secrets, bytes: &[u
         ),
         _ => hashes::portable_hash(form, options, seven.seed, &seven.secrets, bytes),
     }
+}
+
+/// The same by the bytes' length and the words that the version reads of them.
+pub fn defined_by_words(
+    alloc: Global,
+    version: Version,
+    options: Options,
+    secrets: &Secrets,
+    bytes: &[u8],
+) -> Result<u64, AllocError> {
+    let form = version.form();
+    let n = bytes.len();
+    let words = absorbed_words(alloc, form, bytes)?;
+    let words = words.as_slice();
+    let three = &secrets.three;
+    let seven = &secrets.seven;
+    Ok(match version {
+        Version::V1 | Version::V1Bug => value_of_words(
+            form,
+            options,
+            three.seed,
+            &three.secrets,
+            n,
+            words,
+        ),
+        _ => value_of_words(form, options, seven.seed, &seven.secrets, n, words),
+    })
 }
 
 /// The in-memory core's value of some options.

@@ -135,7 +135,13 @@ fn after_tail(protected: bool, tail: &[u8], places: &[usize], secrets: &[u64], s
 
 /// The value of the last two words and the seed.
 #[tactic(auto, unfolding(rapidhash_portable::specs::Hash::close))]
-fn close(options: Options, words: (u64, u64), seed: u64, secret: u64, masks: (u64, u64)) -> u64
+pub(crate) fn close(
+    options: Options,
+    words: (u64, u64),
+    seed: u64,
+    secret: u64,
+    masks: (u64, u64),
+) -> u64
     ensures { result ≡ close options words seed secret masks }
 {
     let (a, b) = multiply(options.protected, words.0 ^ secret, words.1 ^ seed);

@@ -8,6 +8,7 @@
 
 mod blocks;
 pub mod bodies;
+mod by_words;
 mod forms;
 mod generator;
 mod hasher;
@@ -16,6 +17,7 @@ mod secrets;
 mod streams;
 mod words;
 
+pub use by_words::value_of_words;
 pub use generator::{other_word_of, seed_at_moment, state_after, word_of};
 pub use hasher::{Absorbed, finished};
 pub use hashes::{memory_hash, mix, portable_hash};
