@@ -5,7 +5,7 @@ use crate::items::Item;
 use crate::rules::{message, number, secrets_of};
 use crate::tally::Agreement;
 use anyhow::{Result, bail};
-use rapidhash_plain::bodies::{Version, body, defined};
+use rapidhash_plain::bodies::{Version, body, defined, defined_by_words};
 use rapidhash_portable::form::Options;
 use std::alloc::Global;
 
@@ -69,8 +69,10 @@ pub fn replay(alloc: Global, line: &str) -> Result<Agreement> {
     } else {
         None
     };
+    let by_words = defined_by_words(alloc, version, options, &secrets, bytes)?;
     Ok(Agreement {
         definition: Some(defined(version, options, &secrets, bytes) == expected),
+        words: Some(by_words == expected),
         body: Some(body::<false>(version, options, &secrets, bytes) == expected),
         compact,
         steps: None,

@@ -34,6 +34,7 @@ pub const OPTIONS: [Options; 4] = [
 fn of_bodies(expected: u64, body: u64, compact: Option<u64>) -> Agreement {
     Agreement {
         definition: None,
+        words: None,
         body: Some(body == expected),
         compact: compact.map(|value| value == expected),
         steps: None,

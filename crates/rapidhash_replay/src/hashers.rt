@@ -72,6 +72,7 @@ pub fn compare(
     );
     Ok(Agreement {
         definition: Some(defined == expected),
+        words: None,
         body: Some(answered::<false>(options, sponge, start, items) == expected),
         compact: Some(answered::<true>(options, sponge, start, items) == expected),
         steps: None,

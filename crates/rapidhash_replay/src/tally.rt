@@ -8,6 +8,8 @@ use std::fmt;
 pub struct Agreement {
     /// The definition's, computed as it is written.
     pub definition: Option<bool>,
+    /// The definition's by the words that it reads of a message.
+    pub words: Option<bool>,
     /// The library's.
     pub body: Option<bool>,
     /// The library's in compact code.
@@ -21,6 +23,7 @@ impl Agreement {
     pub fn new(definition: bool, body: bool) -> Agreement {
         Agreement {
             definition: Some(definition),
+            words: None,
             body: Some(body),
             compact: None,
             steps: None,
@@ -61,6 +64,7 @@ impl Count {
 pub struct Tally {
     cases: u64,
     definition: Count,
+    words: Count,
     body: Count,
     compact: Count,
     steps: Count,
@@ -71,6 +75,7 @@ impl Tally {
         Tally {
             cases: 0,
             definition: Count::NONE,
+            words: Count::NONE,
             body: Count::NONE,
             compact: Count::NONE,
             steps: Count::NONE,
@@ -81,16 +86,23 @@ impl Tally {
     pub fn differs(&mut self, case: Agreement) -> bool {
         self.cases = self.cases.saturating_add(1);
         let definition = self.definition.differs(case.definition);
+        let words = self.words.differs(case.words);
         let body = self.body.differs(case.body);
         let compact = self.compact.differs(case.compact);
         let steps = self.steps.differs(case.steps);
-        definition || body || compact || steps
+        definition || words || body || compact || steps
     }
 
     /// How many values differ.
     pub fn differing(&self) -> u64 {
         let mut differing = 0u64;
-        for count in [self.definition, self.body, self.compact, self.steps] {
+        for count in [
+            self.definition,
+            self.words,
+            self.body,
+            self.compact,
+            self.steps,
+        ] {
             differing = differing.saturating_add(count.differing());
         }
         differing
@@ -103,6 +115,7 @@ impl fmt::Display for Tally {
         write!(f, "{cases} cases")?;
         let kinds = [
             ("definition", self.definition),
+            ("words", self.words),
             ("body", self.body),
             ("compact", self.compact),
             ("steps", self.steps),
