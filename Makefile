@@ -14,7 +14,7 @@ bash = $(share)/bash-completion/completions/rapidhash
 zsh = $(share)/zsh/site-functions/_rapidhash
 fish = $(share)/fish/vendor_completions.d/rapidhash.fish
 config = $(root)/lib/pkgconfig/rapidhash.pc
-installed = $(root)/bin/rapidhash $(root)/lib/librapidhash_c.a $(root)/include/rapidhash.h \
+installed = $(root)/bin/rapidhash $(root)/lib/librapidhash_c.a $(root)/include/rapidhash_c.h \
 	$(config) $(share)/man/man1/rapidhash.1 $(bash) $(zsh) $(fish)
 
 .PHONY: tool library check bench install uninstall clean
@@ -38,7 +38,7 @@ bench:
 install: tool library
 	install -D -m 755 crates/rapidhash_cli/out/rapidhash_cli $(root)/bin/rapidhash
 	install -D -m 644 crates/rapidhash_c/out/librapidhash_c.a $(root)/lib/librapidhash_c.a
-	install -D -m 644 include/rapidhash.h $(root)/include/rapidhash.h
+	install -D -m 644 include/rapidhash_c.h $(root)/include/rapidhash_c.h
 	install -D -m 644 share/rapidhash.1 $(share)/man/man1/rapidhash.1
 	install -D -m 644 share/rapidhash.bash $(bash)
 	install -D -m 644 share/rapidhash.zsh $(zsh)

@@ -3,7 +3,7 @@
 #include <inttypes.h>
 #include <stdio.h>
 
-#include "rapidhash.h"
+#include "rapidhash_c.h"
 
 static int differing;
 
@@ -28,7 +28,7 @@ static void default_secrets(void)
     compare("v3", rapidhash_v3(bytes, 120), UINT64_C(7088138960297660729));
     compare("micro", rapidhash_v3_micro(bytes, 120), UINT64_C(3055975138125564292));
     compare("nano", rapidhash_v3_nano(bytes, 120), UINT64_C(3778853990780631382));
-    compare("v3 in pieces", rapidhash_v3_in_pieces(bytes, 120, 7), UINT64_C(7088138960297660729));
+    compare("v3 protected", rapidhash_v3_protected(bytes, 120), UINT64_C(4753706306364957255));
     compare("v3 of nothing", rapidhash_v3(NULL, 0), UINT64_C(232177599295442350));
 }
 
@@ -45,6 +45,55 @@ static void own_secrets(void)
     compare("v3 seeded", rapidhash_v3_seeded(bytes, 120, &of_others), UINT64_C(13105958653737073913));
     compare("micro seeded", rapidhash_v3_micro_seeded(bytes, 120, &of_others), UINT64_C(5648300410578423183));
     compare("nano seeded", rapidhash_v3_nano_seeded(bytes, 120, &of_others), UINT64_C(4961128163384780230));
+    compare("protected seeded", rapidhash_v3_protected_seeded(bytes, 120, &of_others), UINT64_C(9934095814131968034));
+}
+
+/* One seed word, as the C++ library takes it. */
+static void seed_words(void)
+{
+    struct rapidhash_v1_secrets of_v1;
+    struct rapidhash_secrets of_others;
+
+    compare("v1 with seed", rapidhash_v1_with_seed(bytes, 60, 1), UINT64_C(16595489079910452471));
+    compare("v2.0 with seed", rapidhash_v2_0_with_seed(bytes, 60, 1), UINT64_C(10726147324944781525));
+    compare("v2.1 with seed", rapidhash_v2_1_with_seed(bytes, 60, 1), UINT64_C(10166538060445963011));
+    compare("v2.2 with seed", rapidhash_v2_2_with_seed(bytes, 60, 1), UINT64_C(10905583924937672291));
+    compare("v3 with seed", rapidhash_v3_with_seed(bytes, 120, 1), UINT64_C(8806718467852582029));
+    compare("micro with seed", rapidhash_v3_micro_with_seed(bytes, 120, 1), UINT64_C(13208658450986943527));
+    compare("nano with seed", rapidhash_v3_nano_with_seed(bytes, 120, 1), UINT64_C(1125117906108554434));
+    rapidhash_v1_seed_secrets(1, &of_v1);
+    compare("v1 seed secrets", rapidhash_v1_seeded(bytes, 60, &of_v1), UINT64_C(16595489079910452471));
+    rapidhash_seed_secrets(1, &of_others);
+    compare("seed secrets", rapidhash_v3_seeded(bytes, 120, &of_others), UINT64_C(8806718467852582029));
+}
+
+/* The 120 bytes in pieces of 1, 2, 3 and so on, after a reset of a stream that had other bytes. */
+static uint64_t in_pieces(struct rapidhash_stream *stream)
+{
+    size_t at = 0, size;
+
+    rapidhash_stream_write(stream, bytes, 100);
+    rapidhash_stream_reset(stream);
+    for (size = 1; at < 120; size++) {
+        size_t len = size < 120 - at ? size : 120 - at;
+        rapidhash_stream_write(stream, bytes + at, len);
+        at += len;
+    }
+    return rapidhash_stream_finish(stream);
+}
+
+static void streams(void)
+{
+    const struct rapidhash_secrets secrets = {1, {2, 3, 5, 7, 11, 13, 17}};
+    struct rapidhash_stream stream[3];
+
+    rapidhash_v3_start(&stream[0], &secrets);
+    rapidhash_v3_micro_start(&stream[1], &secrets);
+    rapidhash_v3_nano_start(&stream[2], &secrets);
+    compare("v3 in pieces", in_pieces(&stream[0]), UINT64_C(13105958653737073913));
+    compare("micro in pieces", in_pieces(&stream[1]), UINT64_C(5648300410578423183));
+    compare("nano in pieces", in_pieces(&stream[2]), UINT64_C(4961128163384780230));
+    compare("size of a stream", sizeof stream[0], 216);
 }
 
 static void made_secrets(void)
@@ -75,6 +124,8 @@ int main(void)
         bytes[i] = (uint8_t)i;
     default_secrets();
     own_secrets();
+    seed_words();
     made_secrets();
+    streams();
     return differing;
 }

@@ -1,4 +1,4 @@
-//! The bulk hashes for C and for whatever calls C: `include/rapidhash.h` declares them. Each export
+//! The bulk hashes for C and for whatever calls C: `include/rapidhash_c.h` declares them. Each export
 //! calls the library's function and states its clause again.
 #![tactic(auto)]
 
@@ -7,6 +7,9 @@ ghost use Rattle.rapidhash.specs.Form.{v1, v2, v3, micro, nano};
 ghost use Rattle.rapidhash.specs.Options.{options};
 ghost use Rattle.rapidhash.specs.Secrets.{IsGood, seeded, seeded_secrets};
 ghost use Rattle.rapidhash.specs.Seeded.{default_hash, seeded_hash, seeded_hash_v1};
+
+mod seeds;
+mod streams;
 
 use rapidhash::{v1, v2, v3};
 
@@ -122,6 +125,22 @@ pub extern "C" fn rapidhash_v3_nano_seeded(bytes: &[u8], secrets: &v3::RapidSecr
     v3::rapidhash_v3_nano_inline::<true, false>(bytes, secrets)
 }
 
+/// The hash of `bytes` by V3 with PROTECTED, with the default seed and secrets.
+#[unsafe(no_mangle)]
+pub extern "C" fn rapidhash_v3_protected(bytes: &[u8]) -> u64
+    ensures { result ≡ default_hash v3 (options true true) bytes.now }
+{
+    v3::rapidhash_v3_inline::<true, false, true>(bytes, v3::RapidSecrets::default_ref())
+}
+
+/// The hash of `bytes` by V3 with PROTECTED, with a seed and secrets of the caller's.
+#[unsafe(no_mangle)]
+pub extern "C" fn rapidhash_v3_protected_seeded(bytes: &[u8], secrets: &v3::RapidSecrets) -> u64
+    ensures { result ≡ seeded_hash v3 (options true true) secrets.now bytes.now }
+{
+    v3::rapidhash_v3_inline::<true, false, true>(bytes, secrets)
+}
+
 /// A seed and secrets made of a number, for V1.
 #[unsafe(no_mangle)]
 pub extern "C" fn rapidhash_v1_make_secrets(number: u64, secrets: &mut v1::RapidSecrets)
@@ -140,21 +159,4 @@ pub extern "C" fn rapidhash_make_secrets(number: u64, secrets: &mut v3::RapidSec
     ensures good { All IsGood (secrets.new.seed ∷ secrets.new.secrets) }
 {
     *secrets = v3::RapidSecrets::seed(number);
-}
-
-/// The hash of `bytes` by V3, with the default seed and secrets, through the stream hasher by
-/// pieces of `size` bytes. It is [`rapidhash_v3`]'s, whatever the size.
-#[unsafe(no_mangle)]
-pub extern "C" fn rapidhash_v3_in_pieces(bytes: &[u8], size: usize) -> u64
-    requires { 0 < size }
-    ensures { result ≡ default_hash v3 (options true false) bytes.now }
-{
-    let mut hasher = v3::RapidStreamHasherV3::new(v3::RapidSecrets::default_ref());
-    let mut rest = bytes;
-    'pieces: while rest.len() > size {
-        hasher.write(&rest[..size]);
-        rest = &rest[size..];
-    }
-    hasher.write(rest);
-    hasher.finish()
 }

@@ -1,10 +1,11 @@
 -- What a stream hasher represents.
-use Rattle.std.specs.Prelude.{◌≡◌, ℕ, ◌-◌, ◌*◌, ◌<◌, Bool, List, length, replicate, take, drop, nat_lt}
+use Rattle.std.specs.Prelude.{◌≡◌, ℕ, ◌-◌, ◌*◌, ◌<◌, Bool, false, List, [], length, replicate, take, drop, nat_lt}
 use Rattle.rapidhash_portable.specs.Folded.{HaveFolded}
 use Rattle.rapidhash_portable.specs.Lanes.{rows_in}
 use Rattle.rapidhash_portable.specs.declared.secrets.RapidSecrets.{RapidSecrets}
 use Rattle.rapidhash_portable.specs.declared.v3.stream.parts.Parts.{Parts}
 use Rattle.rapidhash_portable.specs.declared.v3.stream.RapidStreamHasherLanes.{RapidStreamHasherLanes}
+use Rattle.rapidhash_portable.specs.declared.v3.stream.of_c.RapidStream.{RapidStream}
 
 -- how many chunks, rows of a pair for each lane, are folded of `n` bytes, of which the last one is in no folded chunk
 abbrev pub chunk_count : ℕ → ℕ → ℕ
@@ -34,3 +35,21 @@ steps_of hasher = hasher.state.parts.folded.count.steps
 -- the seed and the secrets
 abbrev pub secrets_of : {lanes avalanche protected : ℕ} → RapidStreamHasherLanes lanes avalanche protected → RapidSecrets
 secrets_of hasher = hasher.state.parts.secrets.now
+
+-- the number of lanes of a stream that has it as a field, and its seed and secrets
+abbrev pub lanes_of : RapidStream → ℕ
+lanes_of stream = stream.lanes
+
+abbrev pub secrets_by_lanes : RapidStream → RapidSecrets
+secrets_by_lanes stream = stream.parts.secrets.now
+
+-- its data are what the message leaves
+abbrev pub StandsByLanes : RapidStream → List ℕ → Type 0
+StandsByLanes stream x = PartsStandFor false stream.lanes stream.parts x
+
+-- it has these lanes and secrets, no bytes yet, and has folded no chunk
+pub record StartsByLanes (stream : RapidStream) (lanes : ℕ) (secrets : RapidSecrets) : Type 0 where
+  pub empty : StandsByLanes stream []
+  pub count : stream.parts.folded.count.steps ≡ 0
+  pub lanes_are : lanes_of stream ≡ lanes
+  pub secrets_are : secrets_by_lanes stream ≡ secrets

@@ -22,8 +22,8 @@ pub use readers::{
     rapidhash_v3_source_sized,
 };
 pub use stream::{
-    RapidStreamHasherInlineMicro, RapidStreamHasherInlineNano, RapidStreamHasherInlineV3,
-    RapidStreamHasherLanes, RapidStreamHasherV3,
+    RapidStream, RapidStreamHasherInlineMicro, RapidStreamHasherInlineNano,
+    RapidStreamHasherInlineV3, RapidStreamHasherLanes, RapidStreamHasherV3,
 };
 
 /// The hash of `bytes` with the default seed and secrets.

@@ -13,6 +13,7 @@ use crate::lanes::{fold_row, join};
 use std::marker::Model;
 
 /// How many chunks were folded.
+#[repr(C)]
 #[derive(Drop)]
 struct Count {
     ghost steps: { ℕ },
@@ -40,6 +41,7 @@ impl Count {
 
 /// Seven lanes, of which a stream of fewer uses the first, and how many chunks were folded into
 /// them.
+#[repr(C)]
 #[derive(Drop)]
 pub(crate) struct Folded {
     lanes: [u64; 7],

@@ -19,6 +19,7 @@ use crate::secrets::RapidSecrets;
 use crate::v3::{close_tail, hash};
 
 /// The data of a stream hasher.
+#[repr(C)]
 #[derive(Drop)]
 pub(crate) struct Parts<'a> {
     pub(crate) secrets: &'a RapidSecrets,
