@@ -1,21 +1,33 @@
 # make             proves and builds the tool, which bin/rapidhash runs
 # make check       proves everything from nothing, and runs all tests: what a push has to pass
 # make bench       measures the hashes, beside the Rust crate where RAPIDHASH_CRATE names its folder
+# make library     proves and builds the library for C, static and shared
 # make install     proves and builds the tool and the library for C, and puts them under PREFIX
 # make uninstall   removes what make install put there
 # make clean       removes what the builds left
 
 PREFIX = /usr/local
+BINDIR = $(PREFIX)/bin
+LIBDIR = $(PREFIX)/lib
+INCLUDEDIR = $(PREFIX)/include
+DATADIR = $(PREFIX)/share
 DESTDIR =
 
-root = $(DESTDIR)$(PREFIX)
-share = $(root)/share
-bash = $(share)/bash-completion/completions/rapidhash
-zsh = $(share)/zsh/site-functions/_rapidhash
-fish = $(share)/fish/vendor_completions.d/rapidhash.fish
-config = $(root)/lib/pkgconfig/rapidhash.pc
-installed = $(root)/bin/rapidhash $(root)/lib/librapidhash_c.a $(root)/include/rapidhash_c.h \
-	$(config) $(share)/man/man1/rapidhash.1 $(bash) $(zsh) $(fish)
+bash = $(DATADIR)/bash-completion/completions/rapidhash
+zsh = $(DATADIR)/zsh/site-functions/_rapidhash
+fish = $(DATADIR)/fish/vendor_completions.d/rapidhash.fish
+config = $(LIBDIR)/pkgconfig/rapidhash_c.pc
+licences = $(DATADIR)/doc/rapidhash
+soname = librapidhash_c.so.1
+archive = crates/rapidhash_c/out/librapidhash_c.a
+shared = build/$(soname)
+installed = $(BINDIR)/rapidhash $(LIBDIR)/librapidhash_c.a $(LIBDIR)/$(soname) \
+	$(LIBDIR)/librapidhash_c.so $(INCLUDEDIR)/rapidhash_c.h $(config) \
+	$(DATADIR)/man/man1/rapidhash.1 $(bash) $(zsh) $(fish) \
+	$(addprefix $(licences)/,LICENSE-MIT LICENSE-APACHE NOTICE)
+
+# The linker of the kit, beside the page that rt names.
+linker = $(dir $(shell rt doc))toolchain/bin/ld.lld
 
 .PHONY: tool library check bench install uninstall clean
 
@@ -25,6 +37,9 @@ tool:
 
 library:
 	@cd crates/rapidhash_c && rt lib
+	@mkdir -p build
+	@$(linker) -shared -soname $(soname) -z now -z relro -z noexecstack -z text --gc-sections \
+	  --version-script share/librapidhash_c.map --whole-archive $(archive) -o $(shared)
 
 check:
 	@bash .ci/run
@@ -36,19 +51,23 @@ bench:
 	@bench/tool
 
 install: tool library
-	install -D -m 755 crates/rapidhash_cli/out/rapidhash_cli $(root)/bin/rapidhash
-	install -D -m 644 crates/rapidhash_c/out/librapidhash_c.a $(root)/lib/librapidhash_c.a
-	install -D -m 644 include/rapidhash_c.h $(root)/include/rapidhash_c.h
-	install -D -m 644 share/rapidhash.1 $(share)/man/man1/rapidhash.1
-	install -D -m 644 share/rapidhash.bash $(bash)
-	install -D -m 644 share/rapidhash.zsh $(zsh)
-	install -D -m 644 share/rapidhash.fish $(fish)
-	install -d $(dir $(config))
-	sed 's|@PREFIX@|$(PREFIX)|' share/rapidhash.pc.in >$(config)
-	chmod 644 $(config)
+	install -D -m 755 crates/rapidhash_cli/out/rapidhash_cli $(DESTDIR)$(BINDIR)/rapidhash
+	install -D -m 644 $(archive) $(DESTDIR)$(LIBDIR)/librapidhash_c.a
+	install -D -m 755 $(shared) $(DESTDIR)$(LIBDIR)/$(soname)
+	ln -sf $(soname) $(DESTDIR)$(LIBDIR)/librapidhash_c.so
+	install -D -m 644 include/rapidhash_c.h $(DESTDIR)$(INCLUDEDIR)/rapidhash_c.h
+	install -D -m 644 share/rapidhash.1 $(DESTDIR)$(DATADIR)/man/man1/rapidhash.1
+	install -D -m 644 share/rapidhash.bash $(DESTDIR)$(bash)
+	install -D -m 644 share/rapidhash.zsh $(DESTDIR)$(zsh)
+	install -D -m 644 share/rapidhash.fish $(DESTDIR)$(fish)
+	install -d $(DESTDIR)$(licences) $(DESTDIR)$(dir $(config))
+	install -m 644 LICENSE-MIT LICENSE-APACHE NOTICE $(DESTDIR)$(licences)
+	sed 's|@PREFIX@|$(PREFIX)|; s|@LIBDIR@|$(LIBDIR)|; s|@INCLUDEDIR@|$(INCLUDEDIR)|' \
+	  share/rapidhash_c.pc.in >$(DESTDIR)$(config)
+	chmod 644 $(DESTDIR)$(config)
 
 uninstall:
-	rm -f $(installed)
+	rm -f $(addprefix $(DESTDIR),$(installed))
 
 clean:
 	rm -rf crates/*/out build

@@ -29,7 +29,47 @@ mod ours {
         pub fn rapidhash_v3(bytes: *const u8, len: usize) -> u64;
         pub fn rapidhash_v3_micro(bytes: *const u8, len: usize) -> u64;
         pub fn rapidhash_v3_nano(bytes: *const u8, len: usize) -> u64;
-        pub fn rapidhash_v3_in_pieces(bytes: *const u8, len: usize, size: usize) -> u64;
+        fn rapidhash_seed_secrets(seed: u64, secrets: *mut [u64; 8]);
+        fn rapidhash_stream_reset(stream: *mut Stream);
+        fn rapidhash_stream_write(stream: *mut Stream, bytes: *const u8, len: usize);
+        fn rapidhash_stream_finish(stream: *const Stream) -> u64;
+    }
+
+    /// A stream as the header lays it out.
+    #[repr(C)]
+    struct Stream {
+        secrets: *const [u64; 8],
+        lane: [u64; 7],
+        any: u8,
+        kept: [u8; 128],
+        len: usize,
+        lanes: usize,
+    }
+
+    /// V3 with the default secrets, through a stream by pieces of `SIZE` bytes.
+    pub extern "C" fn v3_in_pieces<const SIZE: usize>(bytes: *const u8, len: usize) -> u64 {
+        let mut secrets = [0; 8];
+        // SAFETY: `secrets` is laid out as the header lays it out, and the stream starts as there;
+        // the caller's pointer and length are a slice's own, and each piece lies in it.
+        unsafe {
+            rapidhash_seed_secrets(0, &mut secrets);
+            let mut stream = Stream {
+                secrets: &secrets,
+                lane: [0; 7],
+                any: 0,
+                kept: [0; 128],
+                len: 0,
+                lanes: 7,
+            };
+            rapidhash_stream_reset(&mut stream);
+            let mut at = 0;
+            while at < len {
+                let piece = SIZE.min(len - at);
+                rapidhash_stream_write(&mut stream, bytes.add(at), piece);
+                at += piece;
+            }
+            rapidhash_stream_finish(&stream)
+        }
     }
 }
 
@@ -104,15 +144,11 @@ fn pieces() -> Vec<(usize, Hash, Option<Hash>)> {
     macro_rules! sized {
         ($($size:literal)*) => {
             vec![$({
-                extern "C" fn ours(bytes: *const u8, len: usize) -> u64 {
-                    // SAFETY: the caller's pointer and length are a slice's own.
-                    unsafe { ours::rapidhash_v3_in_pieces(bytes, len, $size) }
-                }
                 #[cfg(with_crate)]
                 let theirs: Option<Hash> = Some(theirs::v3_in_pieces::<$size>);
                 #[cfg(not(with_crate))]
                 let theirs: Option<Hash> = None;
-                ($size, ours as Hash, theirs)
+                ($size, ours::v3_in_pieces::<$size> as Hash, theirs)
             }),*]
         };
     }
