@@ -23,18 +23,36 @@ try() {
 }
 
 prefix=$room/usr
+cd "$top" || exit 1
 
 prints_the_known_hash() {
   [ "$(echo something | "$prefix/bin/rapidhash" --v1)" = 15965596575264898037 ]
 }
 
-# The words that pkg-config tells are all that a C program needs.
+# Builds the example by some words of the compiler, and runs it with the installed shared library.
+runs_the_example() {
+  cc -O2 -Wall -Werror "$top/examples/known_values.c" "$@" -o "$room/known_values" &&
+    LD_LIBRARY_PATH=$prefix/lib "$room/known_values"
+}
+
+# The words that pkg-config tells are all that a C program needs: they link the shared library.
 links_by_pkg_config() {
   local words
-  words=$(PKG_CONFIG_PATH=$prefix/lib/pkgconfig pkg-config --cflags --libs rapidhash) || return 1
+  words=$(PKG_CONFIG_PATH=$prefix/lib/pkgconfig pkg-config --cflags --libs rapidhash_c) || return 1
   # shellcheck disable=SC2086
-  cc -O2 -Wall -Werror "$top/examples/known_values.c" $words -o "$room/known_values" &&
-    "$room/known_values"
+  runs_the_example $words &&
+    readelf -d "$room/known_values" | grep -q 'NEEDED.*librapidhash_c\.so\.1'
+}
+
+links_the_archive() {
+  runs_the_example -I"$prefix/include" "$prefix/lib/librapidhash_c.a"
+}
+
+# The licences and the notice of the crate whose hashes these are.
+has_the_licences() {
+  grep -q 'Liam Gray' "$prefix/share/doc/rapidhash/NOTICE" &&
+    cmp LICENSE-MIT "$prefix/share/doc/rapidhash/LICENSE-MIT" &&
+    cmp LICENSE-APACHE "$prefix/share/doc/rapidhash/LICENSE-APACHE"
 }
 
 # Completes a word with bash, and compares the answers.
@@ -64,12 +82,14 @@ names_every_option() {
 }
 
 is_empty() {
-  [ -z "$(find "$prefix" -type f)" ]
+  [ -z "$(find "$prefix" ! -type d)" ]
 }
 
 try install make -s -C "$top" install PREFIX="$prefix"
 try program prints_the_known_hash
-try library links_by_pkg_config
+try shared_library links_by_pkg_config
+try static_library links_the_archive
+try licences has_the_licences
 try bash_completion completes --v3- '--v3-micro --v3-nano'
 for file in man/man1/rapidhash.1 bash-completion/completions/rapidhash \
   zsh/site-functions/_rapidhash fish/vendor_completions.d/rapidhash.fish; do
