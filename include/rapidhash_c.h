@@ -1,8 +1,8 @@
 /* The rapidhash family of hashes, from a library whose every function is proved.
  *
  * A call takes the bytes as a pointer and a length and gives their hash as a 64-bit number, the same
- * on every run. It takes no memory, keeps nothing, calls nothing but memcpy and memmove, and may run
- * in any number of threads at once.
+ * on every run. It takes no memory, keeps nothing, calls nothing but memmove, and may run in any
+ * number of threads at once.
  *
  * The archive and the shared library are for x86-64 Linux. The numbers are the same on every machine
  * that computes these hashes, whatever its byte order. To store a hash so that it reads the same
