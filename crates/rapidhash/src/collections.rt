@@ -54,8 +54,8 @@ pub trait HashMapExt<A>: Sized {
     fn new(alloc: A, state: Self::State) -> Self
         ensures { is_empty result };
 
-    /// An empty map with room for `capacity` entries. It fails only where memory is refused, and then
-    /// nothing was made.
+    /// An empty map with room for `capacity` entries. It fails only where memory is refused, and
+    /// then nothing was made.
     fn with_capacity(alloc: A, capacity: usize, state: Self::State) -> Result<Self, AllocError>
         ensures { IfOk result is_empty };
 }

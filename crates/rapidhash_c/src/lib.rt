@@ -1,4 +1,4 @@
-//! The bulk hashes for C and for whatever calls C: `include/rapidhash_c.h` declares them. Each export
+//! The hashes for C and for whatever calls C: `include/rapidhash_c.h` declares them. Each export
 //! calls the library's function and states its clause again.
 #![tactic(auto)]
 

@@ -1,5 +1,5 @@
-//! The hashes by one seed word, as the C++ library takes it: default secrets, and a seed made of the
-//! word.
+//! The hashes by one seed word, as the C++ library takes it: default secrets, and a seed made of
+//! the word.
 
 ghost use Rattle.std.specs.Prelude.{◌≡◌, true, false};
 ghost use Rattle.rapidhash.specs.Form.{v1, v2, v3, micro, nano};

@@ -14,8 +14,8 @@ use crate::util::ALTERNATING_BITS;
 use crate::words::{last_16, words_to_3_v3, words_to_7_v3, words_to_16_v3};
 
 /// The value of `bytes` with a seed and secrets as they are. `AVALANCHE` mixes the last product
-/// once more, `PROTECTED` mixes each product with its factors, and `COMPACT` changes the code and no
-/// value.
+/// once more, `PROTECTED` mixes each product with its factors, and `COMPACT` changes the code and
+/// no value.
 #[inline(always)]
 pub fn memory_hash<const AVALANCHE: bool, const COMPACT: bool, const PROTECTED: bool>(
     bytes: &[u8],

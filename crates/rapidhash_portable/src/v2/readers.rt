@@ -44,8 +44,8 @@ pub fn rapidhash_v2_source<R: Read, const MINOR: u8, const PROTECTED: bool>(
     source.settle(answer)
 }
 
-/// The hash of the next `len` bytes of a reader by V2.2, with the default seed and secrets. An error
-/// is the reader's own, or `ErrorKind::UnexpectedEof` where it had fewer bytes.
+/// The hash of the next `len` bytes of a reader by V2.2, with the default seed and secrets. An
+/// error is the reader's own, or `ErrorKind::UnexpectedEof` where it had fewer bytes.
 ///
 /// ```
 /// let hash = rapidhash_v2_2_file(&mut file, 4096)?;
