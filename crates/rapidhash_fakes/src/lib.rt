@@ -7,5 +7,5 @@
 mod readers;
 mod writers;
 
-pub use readers::{CountingReader, OneByteReader};
+pub use readers::CountingReader;
 pub use writers::{FullWriter, OneByteWriter};

@@ -1,6 +1,6 @@
 //! A run of the tool between two ends that may fail.
 
-use rapidhash_fakes::{OneByteReader, OneByteWriter};
+use rapidhash_fakes::{CountingReader, OneByteWriter};
 use rapidhash_tool::{CliFault, Minor, RapidhashVersion, run_file, run_stdin};
 use std::alloc::Allocator;
 use std::io::ErrorKind;
@@ -55,18 +55,13 @@ pub fn versions(protected: bool) -> [RapidhashVersion; 7] {
 }
 
 /// A reader of the bytes that never fails.
-pub fn whole(bytes: &[u8]) -> OneByteReader<'_> {
+pub fn whole(bytes: &[u8]) -> CountingReader<'_> {
     failing(bytes, 0, ErrorKind::Other)
 }
 
 /// A reader of the bytes that fails at a read.
-pub fn failing(bytes: &[u8], fails_at: u64, kind: ErrorKind) -> OneByteReader<'_> {
-    OneByteReader {
-        left: bytes,
-        reads: 0,
-        fails_at,
-        kind,
-    }
+pub fn failing(bytes: &[u8], fails_at: u64, kind: ErrorKind) -> CountingReader<'_> {
+    CountingReader::failing(bytes, 1, fails_at, kind)
 }
 
 /// A writer that holds nothing yet and fails at a write.
@@ -92,7 +87,7 @@ pub struct Ended {
 pub fn of_stdin<A: Allocator>(
     alloc: A,
     version: RapidhashVersion,
-    input: OneByteReader<'_>,
+    input: CountingReader<'_>,
     out: OneByteWriter,
 ) -> Ended {
     let mut out = out;
@@ -106,7 +101,7 @@ pub fn of_stdin<A: Allocator>(
 /// Hashes a file of `len` bytes to a writer.
 pub fn of_file(
     version: RapidhashVersion,
-    reader: OneByteReader<'_>,
+    reader: CountingReader<'_>,
     len: u64,
     out: OneByteWriter,
 ) -> Ended {

@@ -7,7 +7,7 @@ use crate::ends::{
     whole, writer,
 };
 use linked_list_allocator::LocalHeap;
-use rapidhash_fakes::OneByteReader;
+use rapidhash_fakes::CountingReader;
 use rapidhash_tool::{CliFault, RapidhashVersion, run_help, run_stdin};
 use std::io::ErrorKind;
 use std::process::Abort;
@@ -105,7 +105,7 @@ fn in_a_heap(
     rt: &(impl Abort + AllocGlobal),
     version: RapidhashVersion,
     blocks: usize,
-    input: OneByteReader<'_>,
+    input: CountingReader<'_>,
 ) -> (Ended, u64)
     requires { blocks < 16 }
 {
