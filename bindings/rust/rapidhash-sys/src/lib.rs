@@ -1,0 +1,189 @@
+//! Declarations of the C library rapidhash_c, as its header `rapidhash_c.h` has them. The crate
+//! `yervound-rapidhash` puts safe calls over them:
+//!
+//! ```
+//! let bytes = b"hello";
+//! // SAFETY: the pointer and the length are those of a slice.
+//! let hash = unsafe { rapidhash_sys::rapidhash_v3(bytes.as_ptr().cast(), bytes.len()) };
+//! # assert_ne!(hash, 0);
+//! ```
+#![no_std]
+#![deny(missing_docs)]
+#![allow(non_camel_case_types)]
+
+use core::ffi::c_void;
+
+/// A seed and the secrets of V1.
+#[repr(C)]
+#[derive(Clone, Copy, Debug, PartialEq, Eq)]
+pub struct rapidhash_v1_secrets {
+    /// The seed.
+    pub seed: u64,
+    /// The secrets.
+    pub secrets: [u64; 3],
+}
+
+/// A seed and the secrets of all other versions.
+#[repr(C)]
+#[derive(Clone, Copy, Debug, PartialEq, Eq)]
+pub struct rapidhash_secrets {
+    /// The seed.
+    pub seed: u64,
+    /// The secrets.
+    pub secrets: [u64; 7],
+}
+
+/// A message in pieces. Its fields are the library's own: start it, and touch none.
+#[repr(C)]
+#[derive(Clone, Copy, Debug)]
+pub struct rapidhash_stream {
+    secrets: *const rapidhash_secrets,
+    lane: [u64; 7],
+    any: u8,
+    kept: [u8; 128],
+    len: usize,
+    lanes: usize,
+}
+
+/// Declares one version: its plain call, the one with a seed word, and the one with secrets.
+macro_rules! version {
+    ($plain:ident, $with_seed:ident, $seeded:ident, $secrets:ty) => {
+        unsafe extern "C" {
+            /// The hash with the default seed and secrets.
+            pub fn $plain(bytes: *const c_void, len: usize) -> u64;
+            /// The hash with the default secrets and one seed word.
+            pub fn $with_seed(bytes: *const c_void, len: usize, seed: u64) -> u64;
+            /// The hash with a seed and secrets of the caller's.
+            pub fn $seeded(bytes: *const c_void, len: usize, secrets: *const $secrets) -> u64;
+        }
+    };
+}
+
+version!(
+    rapidhash_v1,
+    rapidhash_v1_with_seed,
+    rapidhash_v1_seeded,
+    rapidhash_v1_secrets
+);
+version!(
+    rapidhash_v2_0,
+    rapidhash_v2_0_with_seed,
+    rapidhash_v2_0_seeded,
+    rapidhash_secrets
+);
+version!(
+    rapidhash_v2_1,
+    rapidhash_v2_1_with_seed,
+    rapidhash_v2_1_seeded,
+    rapidhash_secrets
+);
+version!(
+    rapidhash_v2_2,
+    rapidhash_v2_2_with_seed,
+    rapidhash_v2_2_seeded,
+    rapidhash_secrets
+);
+version!(
+    rapidhash_v3,
+    rapidhash_v3_with_seed,
+    rapidhash_v3_seeded,
+    rapidhash_secrets
+);
+version!(
+    rapidhash_v3_micro,
+    rapidhash_v3_micro_with_seed,
+    rapidhash_v3_micro_seeded,
+    rapidhash_secrets
+);
+version!(
+    rapidhash_v3_nano,
+    rapidhash_v3_nano_with_seed,
+    rapidhash_v3_nano_seeded,
+    rapidhash_secrets
+);
+
+unsafe extern "C" {
+    /// V3 with PROTECTED, with the default seed and secrets.
+    pub fn rapidhash_v3_protected(bytes: *const c_void, len: usize) -> u64;
+    /// V3 with PROTECTED, with a seed and secrets of the caller's.
+    pub fn rapidhash_v3_protected_seeded(
+        bytes: *const c_void,
+        len: usize,
+        secrets: *const rapidhash_secrets,
+    ) -> u64;
+
+    /// A seed and secrets of V1, made of a number.
+    pub fn rapidhash_v1_make_secrets(number: u64, secrets: *mut rapidhash_v1_secrets);
+    /// A seed and secrets of all other versions, made of a number.
+    pub fn rapidhash_make_secrets(number: u64, secrets: *mut rapidhash_secrets);
+    /// The default secrets of V1, and a seed made of one seed word.
+    pub fn rapidhash_v1_seed_secrets(seed: u64, secrets: *mut rapidhash_v1_secrets);
+    /// The default secrets of all other versions, and a seed made of one seed word.
+    pub fn rapidhash_seed_secrets(seed: u64, secrets: *mut rapidhash_secrets);
+
+    /// Adds the next `len` bytes to the message.
+    pub fn rapidhash_stream_write(stream: *mut rapidhash_stream, bytes: *const c_void, len: usize);
+    /// The hash of the message so far. It changes nothing.
+    pub fn rapidhash_stream_finish(stream: *const rapidhash_stream) -> u64;
+    /// Forgets the message. The secrets and the version stay.
+    pub fn rapidhash_stream_reset(stream: *mut rapidhash_stream);
+}
+
+/// A started stream with 7, 5 or 3 lanes, as the header's inline function makes it. The three
+/// functions below name them.
+///
+/// # Safety
+///
+/// `lanes` is 7, 5 or 3. `secrets` points to secrets that stay where they are, and that nothing
+/// writes, for as long as the stream or a copy of it is in use.
+pub unsafe fn rapidhash_stream_start(
+    lanes: usize,
+    secrets: *const rapidhash_secrets,
+) -> rapidhash_stream {
+    let mut stream = rapidhash_stream {
+        secrets,
+        lane: [0; 7],
+        any: 0,
+        kept: [0; 128],
+        len: 0,
+        lanes,
+    };
+    // SAFETY: every field of the stream is set, and its secrets are readable by the caller's word.
+    unsafe { rapidhash_stream_reset(&mut stream) };
+    stream
+}
+
+/// Starts a stream by V3.
+///
+/// # Safety
+///
+/// As `rapidhash_stream_start` wants its secrets.
+pub unsafe fn rapidhash_v3_start(secrets: *const rapidhash_secrets) -> rapidhash_stream {
+    // SAFETY: the caller's word.
+    unsafe { rapidhash_stream_start(7, secrets) }
+}
+
+/// Starts a stream by micro.
+///
+/// # Safety
+///
+/// As `rapidhash_stream_start` wants its secrets.
+pub unsafe fn rapidhash_v3_micro_start(secrets: *const rapidhash_secrets) -> rapidhash_stream {
+    // SAFETY: the caller's word.
+    unsafe { rapidhash_stream_start(5, secrets) }
+}
+
+/// Starts a stream by nano.
+///
+/// # Safety
+///
+/// As `rapidhash_stream_start` wants its secrets.
+pub unsafe fn rapidhash_v3_nano_start(secrets: *const rapidhash_secrets) -> rapidhash_stream {
+    // SAFETY: the caller's word.
+    unsafe { rapidhash_stream_start(3, secrets) }
+}
+
+// The sizes that the header's structs have.
+const _: () = assert!(size_of::<rapidhash_v1_secrets>() == 32);
+const _: () = assert!(size_of::<rapidhash_secrets>() == 64);
+const _: () = assert!(size_of::<rapidhash_stream>() == 216);
