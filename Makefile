@@ -2,6 +2,7 @@
 # make check       proves everything from nothing, and runs all tests: what a push has to pass
 # make bench       measures the hashes, beside the Rust crate where RAPIDHASH_CRATE names its folder
 # make library     proves and builds the library for C, static and shared
+# make wasm        proves and builds the same library for WebAssembly, which bindings/javascript loads
 # make install     proves and builds the tool and the library for C, and puts them under PREFIX
 # make uninstall   removes what make install put there
 # make clean       removes what the builds left
@@ -29,7 +30,7 @@ installed = $(BINDIR)/rapidhash $(LIBDIR)/librapidhash_c.a $(LIBDIR)/$(soname) \
 # The linker of the kit, beside the page that rt names.
 linker = $(dir $(shell rt doc))toolchain/bin/ld.lld
 
-.PHONY: tool library check bench install uninstall clean
+.PHONY: tool library wasm check bench install uninstall clean
 
 # The launcher builds what is missing or old. With no input the tool has little to do.
 tool:
@@ -40,6 +41,9 @@ library:
 	@mkdir -p build
 	@$(linker) -shared -soname $(soname) -z now -z relro -z noexecstack -z text --gc-sections \
 	  --version-script share/librapidhash_c.map --whole-archive $(archive) -o $(shared)
+
+wasm:
+	@bindings/javascript/build.sh
 
 check:
 	@bash .ci/run
