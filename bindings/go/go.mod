@@ -1,0 +1,3 @@
+module yervound.example/rapidhash
+
+go 1.19
