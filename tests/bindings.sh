@@ -1,0 +1,139 @@
+#!/usr/bin/env bash
+# Builds the library for C, static and shared, and tests what stands over it: the header alone by each
+# standard of C and C++, the names that the two files define, and the bindings for Python, Rust,
+# JavaScript and Go. A language that is not on this machine is skipped and not counted. The last line
+# counts the cases.
+set -u
+
+top=$(cd "$(dirname "${BASH_SOURCE[0]}")/.." && pwd) || exit 1
+room=$(mktemp -d) || exit 1
+trap 'rm -rf "$room"' EXIT
+header=$top/include/rapidhash_c.h
+archive=$top/crates/rapidhash_c/out/librapidhash_c.a
+shared=$top/build/librapidhash_c.so.1
+passed=0
+failed=0
+
+# Counts a case by the status of a command: NAME COMMAND..
+try() {
+  local name=$1
+  shift
+  if "$@" >"$room/log" 2>&1; then
+    passed=$((passed + 1))
+    printf 'ok %s\n' "$name"
+  else
+    failed=$((failed + 1))
+    printf 'FAILED %s: %s\n' "$name" "$(tail -c 800 "$room/log")"
+  fi
+}
+
+# The same, where a program is on this machine: NAME PROGRAM COMMAND..
+try_with() {
+  local name=$1 program=$2
+  shift 2
+  if command -v "$program" >/dev/null; then
+    try "$name" "$@"
+  else
+    printf 'skipped %s: no %s\n' "$name" "$program"
+  fi
+}
+
+# Lays the library out as an installed one, with a .pc file: FOLDER FILE..
+lay_out() {
+  local prefix=$1
+  shift
+  mkdir -p "$prefix/lib/pkgconfig" "$prefix/include" &&
+    cp "$header" "$prefix/include/" && cp "$@" "$prefix/lib/" &&
+    sed "s|@PREFIX@|$prefix|; s|@LIBDIR@|$prefix/lib|; s|@INCLUDEDIR@|$prefix/include|" \
+      "$top/share/rapidhash_c.pc.in" >"$prefix/lib/pkgconfig/rapidhash_c.pc"
+}
+
+# The header alone in an empty program: COMPILER LANGUAGE STANDARD
+compiles_alone() {
+  "$1" -x "$2" "-std=$3" -pedantic -Wall -Wextra -Werror -fsyntax-only -I"$top/include" - \
+    <<<'#include <rapidhash_c.h>'
+}
+
+# The names that the header declares and does not define itself.
+declared() {
+  grep -E '^[a-z].*\(.*;$' "$header" | grep -oE 'rapidhash_[a-z0-9_]+\(' | tr -d '(' | sort
+}
+
+# A file defines the names of the header, and no others: the words of nm
+defines_the_header() {
+  declared >"$room/declared"
+  [ "$(wc -l <"$room/declared")" -gt 20 ] || {
+    echo 'the header is laid out otherwise than this test reads it'
+    return 1
+  }
+  nm "$@" --defined-only --extern-only --format=posix >"$room/nm" || return 1
+  awk 'NF > 1 { print $1 }' "$room/nm" | sort | diff "$room/declared" -
+}
+
+python_tests() {
+  RAPIDHASH_LIBRARY=$shared python3 -B "$top/bindings/python/test_rapidhash.py"
+}
+
+# By the library of the folder, or by that of pkg-config: WORDS of env
+rust_tests() (
+  cd "$top/bindings/rust" &&
+    env -u RAPIDHASH_LIB_DIR -u RAPIDHASH_SHARED CARGO_TARGET_DIR="$room/cargo" "$@" \
+      cargo test --offline --locked --jobs 2
+)
+
+go_tests() (
+  cd "$top/bindings/go" &&
+    PKG_CONFIG_PATH=$room/both/lib/pkgconfig LD_LIBRARY_PATH=$room/both/lib GOCACHE=$room/go \
+      GOPROXY=off GOFLAGS=-mod=readonly go test -count 1 -p 2 ./...
+)
+
+# Whether node takes 64-bit memory: the smallest module that has one, with the flag or without.
+node_has_memory64() {
+  node "$@" -e 'process.exit(WebAssembly.validate(new Uint8Array(
+    [0, 97, 115, 109, 1, 0, 0, 0, 5, 4, 1, 5, 1, 1])) ? 0 : 1)' >/dev/null 2>&1
+}
+
+javascript_tests() {
+  local flag=--experimental-wasm-memory64
+  if ! command -v node >/dev/null; then
+    printf 'skipped javascript: no node\n'
+  elif node_has_memory64; then
+    try wasm make -s -C "$top" wasm
+    try javascript node "$top/bindings/javascript/test.mjs"
+  elif node_has_memory64 "$flag"; then
+    try wasm make -s -C "$top" wasm
+    try javascript node "$flag" "$top/bindings/javascript/test.mjs"
+  else
+    printf 'skipped javascript: no node with 64-bit WebAssembly memory\n'
+  fi
+}
+
+make -s -C "$top" library </dev/null >"$room/log" 2>&1 &&
+  lay_out "$room/both" "$archive" "$shared" &&
+  lay_out "$room/shared" "$shared" &&
+  ln -s librapidhash_c.so.1 "$room/both/lib/librapidhash_c.so" &&
+  ln -s librapidhash_c.so.1 "$room/shared/lib/librapidhash_c.so" || {
+  tail -n 5 "$room/log"
+  printf '0 passed, 1 failed\n'
+  exit 1
+}
+
+for standard in c89 c99 c11 c17 c2x; do
+  try "header_$standard" compiles_alone cc c "$standard"
+done
+for standard in c++98 c++11 c++17 c++20 c++23; do
+  try "header_$standard" compiles_alone c++ c++ "$standard"
+done
+try names_of_the_archive defines_the_header "$archive"
+try names_of_the_shared_library defines_the_header -D "$shared"
+
+try_with python python3 python_tests
+try_with rust_by_folder cargo rust_tests RAPIDHASH_LIB_DIR="$room/both/lib"
+try_with rust_by_pkg_config cargo rust_tests PKG_CONFIG_PATH="$room/both/lib/pkgconfig"
+try_with rust_shared cargo rust_tests PKG_CONFIG_PATH="$room/shared/lib/pkgconfig" \
+  LD_LIBRARY_PATH="$room/shared/lib"
+try_with go go go_tests
+javascript_tests
+
+printf '%s passed, %s failed\n' "$passed" "$failed"
+[ "$failed" -eq 0 ]
