@@ -48,6 +48,15 @@ lay_out() {
       "$top/share/rapidhash_c.pc.in" >"$prefix/lib/pkgconfig/rapidhash_c.pc"
 }
 
+# Builds the library, and lays it out with both files, and with the shared one alone.
+prepare() {
+  make -s -C "$top" library </dev/null &&
+    lay_out "$room/both" "$archive" "$shared" &&
+    lay_out "$room/shared" "$shared" &&
+    ln -s librapidhash_c.so.1 "$room/both/lib/librapidhash_c.so" &&
+    ln -s librapidhash_c.so.1 "$room/shared/lib/librapidhash_c.so"
+}
+
 # The header alone in an empty program: COMPILER LANGUAGE STANDARD
 compiles_alone() {
   "$1" -x "$2" "-std=$3" -pedantic -Wall -Wextra -Werror -fsyntax-only -I"$top/include" - \
@@ -108,15 +117,11 @@ javascript_tests() {
   fi
 }
 
-make -s -C "$top" library </dev/null >"$room/log" 2>&1 &&
-  lay_out "$room/both" "$archive" "$shared" &&
-  lay_out "$room/shared" "$shared" &&
-  ln -s librapidhash_c.so.1 "$room/both/lib/librapidhash_c.so" &&
-  ln -s librapidhash_c.so.1 "$room/shared/lib/librapidhash_c.so" || {
+if ! prepare >"$room/log" 2>&1; then
   tail -n 5 "$room/log"
   printf '0 passed, 1 failed\n'
   exit 1
-}
+fi
 
 for standard in c89 c99 c11 c17 c2x; do
   try "header_$standard" compiles_alone cc c "$standard"
