@@ -60,7 +60,8 @@ void rapidhash_v1_make_secrets(uint64_t number, struct rapidhash_v1_secrets *sec
 void rapidhash_make_secrets(uint64_t number, struct rapidhash_secrets *secrets);
 
 /* The default secrets, and a seed made of one seed word. The crate's RapidSecrets::seed_cpp, which by
- * the crate's word is how the C++ library takes its seed. The requirements are those above. */
+ * the crate's word is how the C++ library takes its seed. The default seed is that of word 0, but in
+ * V1 that of 0xbdd89aa982704029. The requirements are those above. */
 void rapidhash_v1_seed_secrets(uint64_t seed, struct rapidhash_v1_secrets *secrets);
 void rapidhash_seed_secrets(uint64_t seed, struct rapidhash_secrets *secrets);
 

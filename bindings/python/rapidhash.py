@@ -61,6 +61,13 @@ def _buffer(data):
     return ctypes.addressof(kept), view.nbytes, kept
 
 
+def _word(number):
+    """A seed word, which ctypes would cut to its low 64 bits unsaid."""
+    if not 0 <= number < 1 << 64:
+        raise OverflowError("a seed is an integer from 0 to 2**64 - 1")
+    return number
+
+
 def _forms(name, secrets):
     plain = _call("rapidhash_" + name, ctypes.c_uint64, ctypes.c_void_p, ctypes.c_size_t)
     seeded = _call("rapidhash_" + name + "_seeded", ctypes.c_uint64, ctypes.c_void_p,
@@ -80,9 +87,7 @@ def _forms(name, secrets):
             return plain(address, length)
         if with_seed is None:
             raise TypeError("this form takes secrets and no seed word")
-        if not 0 <= seed < 1 << 64:
-            raise OverflowError("a seed is an integer from 0 to 2**64 - 1")
-        return with_seed(address, length, seed)
+        return with_seed(address, length, _word(seed))
 
     call.__name__ = name
     call.__doc__ = f"""The {name} hash of `data`.
@@ -113,10 +118,8 @@ _finish = _call("rapidhash_stream_finish", ctypes.c_uint64, ctypes.POINTER(_Stre
 def make_secrets(number, version=3):
     """A seed and secrets of one's own, made of a number from 0 to 2**64 - 1, for V1 (`version` 1) or
     for all others."""
-    if not 0 <= number < 1 << 64:
-        raise OverflowError("secrets are made of an integer from 0 to 2**64 - 1")
     secrets = _SecretsV1() if version == 1 else _Secrets()
-    (_make_v1 if version == 1 else _make)(number, ctypes.byref(secrets))
+    (_make_v1 if version == 1 else _make)(_word(number), ctypes.byref(secrets))
     return secrets
 
 
@@ -131,7 +134,7 @@ class V3:
     def __init__(self, data=b"", seed=None, secrets=None):
         if secrets is None:
             secrets = _Secrets()
-            _seed(0 if seed is None else seed, ctypes.byref(secrets))
+            _seed(0 if seed is None else _word(seed), ctypes.byref(secrets))
         elif seed is not None:
             raise TypeError("secrets have a seed of their own: give one of the two")
         self._secrets = secrets
