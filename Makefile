@@ -4,6 +4,7 @@
 # make library     proves and builds the library for C, static and shared
 # make wasm        proves and builds the same library for WebAssembly, which bindings/javascript loads
 # make install     proves and builds the tool and the library for C, and puts them under PREFIX
+# make dist        puts all that a user without the kit needs into one archive in build/
 # make uninstall   removes what make install put there
 # make clean       removes what the builds left
 
@@ -22,6 +23,7 @@ licences = $(DATADIR)/doc/rapidhash
 soname = librapidhash_c.so.1
 archive = crates/rapidhash_c/out/librapidhash_c.a
 shared = build/$(soname)
+name = yervound-1.0-x86_64-linux
 installed = $(BINDIR)/rapidhash $(LIBDIR)/librapidhash_c.a $(LIBDIR)/$(soname) \
 	$(LIBDIR)/librapidhash_c.so $(INCLUDEDIR)/rapidhash_c.h $(config) \
 	$(DATADIR)/man/man1/rapidhash.1 $(bash) $(zsh) $(fish) \
@@ -30,7 +32,7 @@ installed = $(BINDIR)/rapidhash $(LIBDIR)/librapidhash_c.a $(LIBDIR)/$(soname) \
 # The linker of the kit, beside the page that rt names.
 linker = $(dir $(shell rt doc))toolchain/bin/ld.lld
 
-.PHONY: tool library wasm check bench install uninstall clean
+.PHONY: tool library wasm check bench install uninstall clean dist
 
 # The launcher builds what is missing or old. With no input the tool has little to do.
 tool:
@@ -69,6 +71,21 @@ install: tool library
 	sed 's|@PREFIX@|$(PREFIX)|; s|@LIBDIR@|$(LIBDIR)|; s|@INCLUDEDIR@|$(INCLUDEDIR)|' \
 	  share/rapidhash_c.pc.in >$(DESTDIR)$(config)
 	chmod 644 $(DESTDIR)$(config)
+
+dist: wasm
+	rm -rf build/$(name)
+	$(MAKE) -s install DESTDIR= PREFIX=$(CURDIR)/build/$(name)
+	sed 's|@PREFIX@|$${pcfiledir}/../..|; s|@LIBDIR@|$${prefix}/lib|; s|@INCLUDEDIR@|$${prefix}/include|' \
+	  share/rapidhash_c.pc.in >build/$(name)/lib/pkgconfig/rapidhash_c.pc
+	tar --exclude=__pycache__ --exclude=target --exclude=build.sh -cf - bindings | \
+	  tar -C build/$(name) -xf -
+	install -D -m 644 build/rapidhash_c.wasm build/$(name)/build/rapidhash_c.wasm
+	install -m 644 LICENSE-MIT LICENSE-APACHE NOTICE docs/C.md docs/ALGORITHM.md build/$(name)
+	install -m 644 share/dist.md build/$(name)/README.md
+	install -m 755 share/check_vectors.py build/$(name)
+	python3 share/vectors.py crates/rapidhash_replay/data >build/$(name)/rapidhash_vectors.tsv
+	tar -C build -czf build/$(name).tar.gz $(name)
+	rm -rf build/$(name)
 
 uninstall:
 	rm -f $(addprefix $(DESTDIR),$(installed))

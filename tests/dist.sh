@@ -1,0 +1,65 @@
+#!/usr/bin/env bash
+# Makes the archive for users without the kit, unpacks it in a room of its own, and uses what is in it.
+# The last line counts the cases.
+set -u
+
+top=$(cd "$(dirname "${BASH_SOURCE[0]}")/.." && pwd) || exit 1
+room=$(mktemp -d) || exit 1
+trap 'rm -rf "$room"' EXIT
+passed=0
+failed=0
+
+# Counts a case by the status of a command: NAME COMMAND..
+try() {
+  local name=$1
+  shift
+  if "$@" >"$room/log" 2>&1; then
+    passed=$((passed + 1))
+    printf 'ok %s\n' "$name"
+  else
+    failed=$((failed + 1))
+    printf 'FAILED %s: %s\n' "$name" "$(tail -c 400 "$room/log")"
+  fi
+}
+
+makes_the_archive() {
+  make -s -C "$top" dist </dev/null && tar -C "$room" -xzf "$top"/build/yervound-*.tar.gz &&
+    mv "$room"/yervound-* "$room/unpacked"
+}
+
+prints_the_known_hash() {
+  [ "$(echo something | "$room/unpacked/bin/rapidhash" --v1)" = 15965596575264898037 ]
+}
+
+# Every case of the vector file agrees, and there are more than a thousand.
+agrees_with_the_vectors() {
+  (cd / && python3 -B "$room/unpacked/check_vectors.py") >"$room/cases" || return 1
+  [[ $(tail -n 1 "$room/cases") =~ ^([0-9]+)\ passed,\ 0\ failed$ ]] &&
+    [ "${BASH_REMATCH[1]}" -gt 1000 ]
+}
+
+# Where a hash of the file is another one, the check says so.
+tells_a_wrong_vector() {
+  cp -r "$room/unpacked" "$room/turned" &&
+    sed -i '$ s/$/0/' "$room/turned/rapidhash_vectors.tsv" &&
+    ! python3 -B "$room/turned/check_vectors.py"
+}
+
+# The file for pkg-config finds the library where the archive was unpacked.
+links_where_it_stands() {
+  local words
+  words=$(PKG_CONFIG_PATH=$room/unpacked/lib/pkgconfig pkg-config --cflags --libs rapidhash_c) ||
+    return 1
+  # shellcheck disable=SC2086
+  cc -O2 "$top/examples/known_values.c" $words -o "$room/known_values" &&
+    LD_LIBRARY_PATH=$room/unpacked/lib "$room/known_values"
+}
+
+try archive makes_the_archive
+try program prints_the_known_hash
+try vectors agrees_with_the_vectors
+try wrong_vector tells_a_wrong_vector
+try library links_where_it_stands
+
+printf '%s passed, %s failed\n' "$passed" "$failed"
+[ "$failed" -eq 0 ]
