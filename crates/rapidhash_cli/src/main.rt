@@ -8,8 +8,8 @@ use std::fs::File;
 use std::io::{ErrorKind, Write};
 use std::process::ExitCode;
 
-// All words, the program's name first. Where one is not UTF-8, std hands out none: that is told as
-// a file that cannot be opened, which is what such a word nearly always names.
+// All words, the program's name first. Where one is not UTF-8, `env::args` fails and returns none.
+// The answer is that of a file that cannot be opened, which such a word nearly always names.
 fn gather(rt: &HostRuntime) -> Result<Vec<String>, CliFault> {
     let words = match env::args(rt) {
         Ok(words) => words,

@@ -9,7 +9,7 @@ use rapidhash_plain::absorbed_words;
 use rapidhash_plain::bodies::Version;
 use std::alloc::{AllocError, Global};
 
-/// Whether the library tells that two messages are one.
+/// Whether the library finds that two messages are equal.
 fn body(version: Version, x: &[u8], y: &[u8]) -> bool {
     match version {
         Version::V1 => same_words_v1::<false>(x, y),
