@@ -96,6 +96,29 @@ static void streams(void)
     compare("size of a stream", sizeof stream[0], 216);
 }
 
+/* One MiB in pieces of several sizes: the hash of the whole, whatever the size. */
+static void large_streams(void)
+{
+    static const size_t sizes[5] = {16, 64, 112, 1024, 65536};
+    static uint8_t large[1 << 20];
+    struct rapidhash_secrets secrets;
+    struct rapidhash_stream stream;
+    size_t i, at;
+
+    for (at = 0; at < sizeof large; at++)
+        large[at] = (uint8_t)(at * 7 + at / 251);
+    rapidhash_seed_secrets(0, &secrets);
+    rapidhash_v3_start(&stream, &secrets);
+    for (i = 0; i < 5; i++) {
+        for (at = 0; at < sizeof large; at += sizes[i]) {
+            size_t left = sizeof large - at;
+            rapidhash_stream_write(&stream, large + at, left < sizes[i] ? left : sizes[i]);
+        }
+        compare("1 MiB in pieces", rapidhash_stream_finish(&stream), rapidhash_v3(large, sizeof large));
+        rapidhash_stream_reset(&stream);
+    }
+}
+
 static void made_secrets(void)
 {
     static const uint64_t known[8] = {
@@ -127,5 +150,6 @@ int main(void)
     seed_words();
     made_secrets();
     streams();
+    large_streams();
     return differing;
 }
