@@ -3,7 +3,10 @@ use Rattle.std.proofs.Common.{◌≡◌, ℕ, ◌+◌, ◌*◌, ◌^◌, Bool, t
 use Rattle.std.proofs.lemmas.Nat.{pow-add}
 use Rattle.rapidhash_portable.specs.declared.form.Options.{Options}
 use Rattle.rapidhash.specs.Hasher.{StandsFor}
-use Rattle.rapidhash.specs.Laws.{HasRoom}
+use Rattle.rapidhash.specs.Laws.{HasRoom, JoinsWrites, TurnsWrites, item_of, value_of, width_of}
+use Rattle.rapidhash.specs.RapidHasher.{Absorbs, options_of, secrets_of}
+use Rattle.rapidhash.specs.declared.laws.blocks.Num.{Num as Integer}
+use Rattle.rapidhash.specs.declared.inner.hasher.RapidHasher.{RapidHasher}
 use Rattle.rapidhash.specs.Sponge.{IsItem, Item, Num, end_of}
 use Rattle.rapidhash.proofs.HasherLemmas.{stands-behind, width-on}
 
@@ -56,3 +59,28 @@ stands-turned {options} {secrets} {secrets'} {seed} {number} {width} {seed'} {nu
     let behind = stands-behind options true secrets after number width start _ bits value _ _ refl is (omega arith) refl refl (absorb _ _ _ old) in
     let before = stands-behind options true secrets seed number width start items bits value _ _ refl is (omega arith) refl refl old in
     stands-same new (stands-two _ _ _ behind) (stands-two _ _ _ (absorb _ _ _ before))
+
+-- two writes of integers of one width are the joined write, where the last block has room
+pub joins-writes : {avalanche compact protected : ℕ} {old mid new : RapidHasher avalanche 1 compact protected} (bits low high : ℕ)
+    → IsItem (Num bits low) → IsItem (Num bits high) → IsItem (Num (2 * bits) (low + high * 2 ^ bits))
+    → Absorbs old mid (Num bits low) → Absorbs mid new (Num bits high) → JoinsWrites old new bits low high
+joins-writes bits low high is_low is_high is_both first second = record {
+  secrets = second.secrets ∙ first.secrets;
+  apart = λ start items h. stands-two items _ _ (second.stands start _ (first.stands start items h));
+  joined = λ start items h room.
+      stands-joined bits low high is_low is_high is_both room (second.secrets ∙ first.secrets) h
+      (stands-two items _ _ (second.stands start _ (first.stands start items h)));
+}
+
+-- a write that leaves the last block alone and a write of an integer may change places, where the block has room
+pub turns-writes : {avalanche compact protected after : ℕ} {old mid new : RapidHasher avalanche 1 compact protected} (item : Item) (number : Integer)
+    → ((start bits width : ℕ) (items : List Item) → StandsFor (options_of old) true (secrets_of new) old.seed bits width start items
+    → StandsFor (options_of old) true (secrets_of new) after bits width start (items ++ item ∷ []))
+    → IsItem (item_of number) → Absorbs old mid item → Absorbs mid new (item_of number) → TurnsWrites old new item number
+turns-writes item number absorb is first second = record {
+  secrets = second.secrets ∙ first.secrets;
+  in_order = λ start items h. stands-two items _ _ (second.stands start _ (first.stands start items h));
+  turned = λ start items h room.
+      stands-turned item (width_of number) (value_of number) (absorb start) is room (second.secrets ∙ first.secrets) h
+      (stands-two items _ _ (second.stands start _ (first.stands start items h)));
+}

@@ -1,5 +1,5 @@
 -- Lanes and tails over any pairs.
-use Rattle.std.proofs.Common.{◌≡◌, ℕ, ◌+◌, ◌-◌, ◌*◌, ◌/◌, ◌≤◌, ◌<◌, Bool, List, [], ◌∷◌, ◌++◌, map, fold, length, get_or, take, min, refl, ap, ◌∙◌, arith}
+use Rattle.std.proofs.Common.{◌≡◌, ℕ, ◌+◌, ◌-◌, ◌*◌, ◌/◌, ◌≤◌, ◌<◌, Bool, List, ◌++◌, map, fold, length, get_or, take, min, refl, ap, ◌∙◌, arith}
 use Rattle.std.specs.List.{range_with_len}
 use Rattle.std.proofs.lemmas.Bool.{le-ltb, lt-ltb}
 use Rattle.std.proofs.lemmas.List.{append-nil, length-take-le, take_min, take_more}
@@ -8,6 +8,7 @@ use Rattle.std.proofs.lemmas.List.Sums.{fold_push}
 use Rattle.rapidhash_portable.specs.declared.form.Shape.{Shape}
 use Rattle.rapidhash_portable.specs.Lanes.{column, lane_of, pairs_of, step}
 use Rattle.rapidhash_portable.specs.Tail.{after_tail, fold_pairs}
+use Rattle.rapidhash_portable.proofs.TailLemmas.{fold_pairs-push}
 
 -- a lane with no row
 pub lane-none : (protected : Bool) (secret : ℕ) (pair : ℕ → ℕ × ℕ) (first width place seed : ℕ) →
@@ -35,18 +36,6 @@ column-three pair shape lane h = rw (lt-ltb lane 3 h) refl
 pub column-rest : (pair : ℕ → ℕ × ℕ) (shape : Shape) (lane : ℕ) → 3 ≤ lane → column pair shape lane ≡ pairs_of pair 0 shape.lanes shape.rows lane
 unfolding column
 column-rest pair shape lane h = rw (le-ltb lane 3 h) (append-nil _)
-
--- one pair more
-fold_pairs-push : (protected : Bool) (cs : List ℕ) (c : ℕ) (pair : ℕ → ℕ × ℕ) (at seed : ℕ)
-    → fold_pairs protected (cs ++ c ∷ []) pair at seed ≡ step protected c (fold_pairs protected cs pair at seed) (pair (at + length cs))
-unfolding fold_pairs
-fold_pairs-push protected [] c pair at seed =
-    let e : at ≡ at + 0 = omega arith in
-    ap (λ k. step protected c seed (pair k)) e
-fold_pairs-push protected (d ∷ cs) c pair at seed =
-    let e : at + 1 + length cs ≡ at + length (d ∷ cs) = omega arith in
-    fold_pairs-push protected cs c pair (at + 1) (step protected d seed (pair at))
-    ∙ ap (λ k. step protected c (fold_pairs protected cs pair (at + 1) (step protected d seed (pair at))) (pair k)) e
 
 -- no pair leaves the seed
 pub tail-none : (protected : Bool) (table : List ℕ) (pair : ℕ → ℕ × ℕ) (at seed : ℕ) → fold_pairs protected (take 0 table) pair at seed ≡ seed

@@ -6,7 +6,7 @@ use Rattle.rapidhash_portable.specs.Tail.{after_tail, fold_pairs}
 use Rattle.rapidhash_portable.proofs.LanesLemmas.{pair_at-drop}
 
 -- one pair more
-fold_pairs-push : (protected : Bool) (cs : List ℕ) (c : ℕ) (pair : ℕ → ℕ × ℕ) (at seed : ℕ)
+pub fold_pairs-push : (protected : Bool) (cs : List ℕ) (c : ℕ) (pair : ℕ → ℕ × ℕ) (at seed : ℕ)
     → fold_pairs protected (cs ++ c ∷ []) pair at seed ≡ step protected c (fold_pairs protected cs pair at seed) (pair (at + length cs))
 unfolding fold_pairs
 fold_pairs-push protected [] c pair at seed =
