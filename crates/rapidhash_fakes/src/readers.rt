@@ -1,4 +1,4 @@
-//! Readers that count what they are asked for, and fail.
+//! A reader that counts what it is asked for, and fails.
 
 ghost use Rattle.std.specs.Prelude.{Some};
 

@@ -29,7 +29,7 @@ pub fn word_of(state: u64) -> u64
     mix(false, state, state ^ MASK)
 }
 
-/// The other word of a state, which other machines may compute otherwise.
+/// The other word of a state, which the crate calls not portable.
 pub fn other_word_of(state: u64) -> u64
     ensures { result ≡ mix false state s1 }
 {

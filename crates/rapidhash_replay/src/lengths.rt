@@ -16,9 +16,10 @@ struct Known {
     runs: &'static [(usize, usize)],
 }
 
-/// What is known: V3, micro and nano part where the first chunk of a form is folded, and V1's fault
-/// is one at 48 bytes. V2.0 begins its rows at 57 bytes and not at 65, and V2.2 reads up to 3 bytes
-/// otherwise, and takes another secret for the third pair of a tail.
+/// What is known. Of V3 and a relative, the one with fewer lanes folds its first chunk at the first
+/// length at which they differ, and V1's fault shows at 48 bytes alone. V2.0 begins its rows at 57
+/// bytes and not at 65, and V2.2 reads up to 3 bytes otherwise, and takes another secret for the
+/// third pair of a tail.
 const ALL: [Known; 5] = [
     Known {
         first: Version::V3,
@@ -81,7 +82,7 @@ impl Known {
     }
 }
 
-/// Prints on how many of the lengths 0 to 512 two versions agree or differ as is known; tells how
+/// Prints on how many of the lengths 0 to 512 two versions agree or differ as is known; returns how
 /// many lengths are otherwise.
 pub fn print_lengths(rt: &impl Print, secrets: &Secrets, bytes: &[u8]) -> Result<u64> {
     let all = bytes.len() as u64;

@@ -40,7 +40,7 @@ const SIZES: [usize; 14] = [
     1, 2, 15, 16, 17, 111, 112, 113, 128, 223, 224, 225, 511, 1024,
 ];
 
-/// Compares by pieces of each size; tells how many values differ.
+/// Compares by pieces of each size; returns how many values differ.
 fn print_sizes(rt: &impl Print, secrets: &Secrets, bytes: &[u8]) -> Result<u64> {
     let lengths = bytes.len() as u64;
     let mut differing = 0u64;
@@ -103,7 +103,7 @@ const PAIRS: [(usize, usize); 16] = [
     (128, 256),
 ];
 
-/// Compares by pieces of one size and by pairs of pieces; tells how many values differ.
+/// Compares by pieces of one size and by pairs of pieces; returns how many values differ.
 pub fn print_pieces(rt: &impl Print, secrets: &Secrets, bytes: &[u8]) -> Result<u64> {
     let sizes = print_sizes(rt, secrets, bytes)?;
     let agreed = pairs_agree(secrets, bytes);

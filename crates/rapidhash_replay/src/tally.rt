@@ -44,7 +44,7 @@ impl Count {
         agreed: 0,
     };
 
-    /// Counts a value, and tells whether it differs.
+    /// Counts a value, and returns whether it differs.
     fn differs(&mut self, agrees: Option<bool>) -> bool {
         let Some(agrees) = agrees else {
             return false;

@@ -54,7 +54,7 @@ fn words_tell(alloc: Global, version: Version, bytes: &[u8]) -> Result<Tally, Al
     Ok(tally)
 }
 
-/// Prints a line for each version, on the lengths 0 to 255; tells how many values differ.
+/// Prints a line for each version, on the lengths 0 to 255; returns how many values differ.
 pub fn print_words(rt: &(impl Print + AllocGlobal), bytes: &[u8]) -> Result<u64> {
     let mut differing = 0u64;
     for version in Version::ALL {
