@@ -1,0 +1,101 @@
+//! Whether files still have the hashes that a list says.
+
+ghost use Rattle.std.specs.Prelude.{◌≡◌, IfOk};
+ghost use Rattle.std.specs.List.{list_all};
+ghost use Rattle.example_sums.specs.Check.{EachIsRight, IsRight, passes};
+
+use crate::line::Entry;
+use crate::problem::Problem;
+use crate::store::{Store, hash_named};
+use std::alloc::Allocator;
+use std::io;
+use std::io::ErrorKind;
+
+/// What was found of one line of a list.
+#[derive(Debug, Clone, Copy, PartialEq, Eq)]
+pub enum Verdict {
+    /// The file has the hash of the line.
+    Same,
+    /// It has another one.
+    Different,
+    /// There is no such file, and such lines are left out.
+    Missing,
+    /// The file could not be opened or read.
+    Unreadable,
+}
+
+/// What was found of all lines.
+#[derive(Drop)]
+pub struct Checked<A: Allocator> {
+    /// A verdict for each line, in their order.
+    pub verdicts: Vec<Verdict, A>,
+    /// Whether no line has the verdict `Different` or `Unreadable`.
+    pub passed: bool,
+}
+
+impl<A: Allocator> Checked<A> {
+    /// How many lines have a verdict.
+    pub fn count(&self, verdict: Verdict) -> usize {
+        self.verdicts
+            .iter()
+            .filter(|other| **other == verdict)
+            .count()
+    }
+}
+
+/// Who is told of each line as it is checked.
+pub trait Report {
+    /// A file was checked. The error is that of a file that could not be opened or read.
+    fn tell(
+        &mut self,
+        name: &[u8],
+        verdict: Verdict,
+        error: Option<io::Error>,
+    ) -> Result<(), Problem>;
+}
+
+// The verdict of a line, and the error of a file that could not be opened or read.
+fn judge<S: Store, A: Allocator>(
+    store: &S,
+    entry: &Entry<A>,
+    ignore_missing: bool,
+) -> (Verdict, Option<io::Error>)
+    ensures { IsRight result.0 ignore_missing (S.told store.now entry.now.name.items) entry.now.hash }
+{
+    match hash_named(store, entry.name.as_slice()) {
+        Ok(hash) if hash == entry.hash => (Verdict::Same, None),
+        Ok(_) => (Verdict::Different, None),
+        Err(error) if ignore_missing && error.kind() == ErrorKind::NotFound => {
+            (Verdict::Missing, None)
+        }
+        Err(error) => (Verdict::Unreadable, Some(error)),
+    }
+}
+
+/// Hashes the file of each line and tells the verdicts.
+///
+/// Where the bytes of a file are known, its line has the verdict `Same` exactly where their V3 hash
+/// is the line's, unless it could not be opened or read. All pass exactly where each line has the
+/// verdict `Same`, or, with `ignore_missing`, `Missing`.
+pub fn check_entries<S: Store, P: Report, A: Allocator, B: Allocator>(
+    alloc: B,
+    entries: &[Entry<A>],
+    store: &S,
+    ignore_missing: bool,
+    report: &mut P,
+) -> Result<Checked<B>, Problem>
+    ensures right { IfOk result (λ checked.
+        EachIsRight ignore_missing (S.told store.now) entries.now checked.verdicts.items) }
+    ensures passed { IfOk result (λ checked.
+        checked.passed ≡ list_all passes checked.verdicts.items) }
+{
+    let mut verdicts = Vec::new(alloc);
+    let mut passed = true;
+    for entry in entries {
+        let (verdict, error) = judge(store, entry, ignore_missing);
+        report.tell(entry.name.as_slice(), verdict, error)?;
+        passed = passed && matches!(verdict, Verdict::Same | Verdict::Missing);
+        verdicts.push(verdict)?;
+    }
+    Ok(Checked { verdicts, passed })
+}

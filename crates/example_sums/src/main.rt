@@ -1,0 +1,52 @@
+//! Prints the V3 hash of each file as a line, and checks such lines, as sha256sum does it with its
+//! hashes.
+#![tactic(auto)]
+
+mod check;
+mod console;
+mod disk;
+mod line;
+mod list;
+mod names;
+mod problem;
+mod runs;
+mod store;
+mod sum;
+mod words;
+
+use problem::Problem;
+use std::env;
+use std::io::{Error, ErrorKind};
+use std::process::ExitCode;
+use words::command;
+
+// All words, the program's name first.
+fn gather(rt: &HostRuntime) -> Result<Vec<String>, Problem> {
+    let words = env::args(rt).map_err(Problem::Words)?;
+    Ok(words.collect(rt.alloc())?)
+}
+
+// Does what the words ask for. The answer is whether all files could be read and all checks passed.
+fn run(rt: &HostRuntime) -> Result<bool, Problem> {
+    let words = gather(rt)?;
+    let matches = match command(rt.alloc())?.try_get_matches_from(words.as_slice()) {
+        Ok(matches) => matches,
+        Err(error) => {
+            error.print(rt).map_err(Problem::Write)?;
+            return Ok(error.exit_code() == 0);
+        }
+    };
+    runs::run_files(rt, &matches)
+}
+
+fn main(rt: HostRuntime) -> ExitCode {
+    match run(&rt) {
+        Ok(true) => ExitCode::SUCCESS,
+        Ok(false) => ExitCode::FAILURE,
+        Err(problem) => {
+            // Where standard error takes no text, the status still tells of the failure.
+            let _ = eprintln!(rt; "rapidsum: {problem}");
+            ExitCode::FAILURE
+        }
+    }
+}

@@ -1,0 +1,41 @@
+//! What can go wrong.
+
+use std::alloc::{AllocError, AllocFailed};
+use std::fmt;
+use std::io;
+
+/// Why a call failed.
+#[derive(Drop)]
+pub enum Problem {
+    /// Memory was refused.
+    Memory,
+    /// The words of the command line are not UTF-8, or could not be had.
+    Words(io::Error),
+    /// A file could not be opened or read.
+    Read(io::Error),
+    /// A line could not be written.
+    Write(io::Error),
+}
+
+impl From<AllocError> for Problem {
+    fn from(_error: AllocError) -> Problem {
+        Problem::Memory
+    }
+}
+
+impl<T: Drop> From<AllocFailed<T>> for Problem {
+    fn from(_error: AllocFailed<T>) -> Problem {
+        Problem::Memory
+    }
+}
+
+impl fmt::Display for Problem {
+    fn fmt<W: fmt::Write>(&self, f: &mut fmt::Formatter<W>) -> fmt::Result {
+        match self {
+            Problem::Memory => write!(f, "out of memory"),
+            Problem::Words(error) => write!(f, "the command line: {error}"),
+            Problem::Read(error) => write!(f, "{error}"),
+            Problem::Write(error) => write!(f, "write error: {error}"),
+        }
+    }
+}
