@@ -3,7 +3,7 @@
 # make bench       measures the hashes, beside the Rust crate where RAPIDHASH_CRATE names its folder
 # make library     proves and builds the library for C, static and shared
 # make wasm        proves and builds the same library for WebAssembly, which bindings/javascript loads
-# make install     proves and builds the tool and the library for C, and puts them under PREFIX
+# make install     proves and builds the tools and the library for C, and puts them under PREFIX
 # make dist        puts all that a user without the kit needs into one archive in build/
 # make uninstall   removes what make install put there
 # make clean       removes what the builds left
@@ -18,6 +18,9 @@ DESTDIR =
 bash = $(DATADIR)/bash-completion/completions/rapidhash
 zsh = $(DATADIR)/zsh/site-functions/_rapidhash
 fish = $(DATADIR)/fish/vendor_completions.d/rapidhash.fish
+sum_bash = $(DATADIR)/bash-completion/completions/rapidsum
+sum_zsh = $(DATADIR)/zsh/site-functions/_rapidsum
+sum_fish = $(DATADIR)/fish/vendor_completions.d/rapidsum.fish
 config = $(LIBDIR)/pkgconfig/rapidhash_c.pc
 licences = $(DATADIR)/doc/rapidhash
 soname = librapidhash_c.so.1
@@ -27,12 +30,13 @@ name = yervound-1.0-x86_64-linux
 installed = $(BINDIR)/rapidhash $(LIBDIR)/librapidhash_c.a $(LIBDIR)/$(soname) \
 	$(LIBDIR)/librapidhash_c.so $(INCLUDEDIR)/rapidhash_c.h $(config) \
 	$(DATADIR)/man/man1/rapidhash.1 $(bash) $(zsh) $(fish) \
+	$(BINDIR)/rapidsum $(DATADIR)/man/man1/rapidsum.1 $(sum_bash) $(sum_zsh) $(sum_fish) \
 	$(addprefix $(licences)/,LICENSE-MIT LICENSE-APACHE NOTICE)
 
 # The linker of the kit, beside the page that rt names.
 linker = $(dir $(shell rt doc))toolchain/bin/ld.lld
 
-.PHONY: tool library wasm check bench install uninstall clean dist
+.PHONY: tool sums library wasm check bench install uninstall clean dist
 
 # The launcher builds what is missing or old. With no input the tool has little to do.
 tool:
@@ -56,7 +60,11 @@ bench:
 	@bench/memory
 	@bench/tool
 
-install: tool library
+# With --version the program reads no file.
+sums:
+	@cd crates/example_sums && rt run -- --version </dev/null >/dev/null
+
+install: tool sums library
 	install -D -m 755 crates/rapidhash_cli/out/rapidhash_cli $(DESTDIR)$(BINDIR)/rapidhash
 	install -D -m 644 $(archive) $(DESTDIR)$(LIBDIR)/librapidhash_c.a
 	install -D -m 755 $(shared) $(DESTDIR)$(LIBDIR)/$(soname)
@@ -66,6 +74,11 @@ install: tool library
 	install -D -m 644 share/rapidhash.bash $(DESTDIR)$(bash)
 	install -D -m 644 share/rapidhash.zsh $(DESTDIR)$(zsh)
 	install -D -m 644 share/rapidhash.fish $(DESTDIR)$(fish)
+	install -D -m 755 crates/example_sums/out/example_sums $(DESTDIR)$(BINDIR)/rapidsum
+	install -D -m 644 share/rapidsum.1 $(DESTDIR)$(DATADIR)/man/man1/rapidsum.1
+	install -D -m 644 share/rapidsum.bash $(DESTDIR)$(sum_bash)
+	install -D -m 644 share/rapidsum.zsh $(DESTDIR)$(sum_zsh)
+	install -D -m 644 share/rapidsum.fish $(DESTDIR)$(sum_fish)
 	install -d $(DESTDIR)$(licences) $(DESTDIR)$(dir $(config))
 	install -m 644 LICENSE-MIT LICENSE-APACHE NOTICE $(DESTDIR)$(licences)
 	sed 's|@PREFIX@|$(PREFIX)|; s|@LIBDIR@|$(LIBDIR)|; s|@INCLUDEDIR@|$(INCLUDEDIR)|' \

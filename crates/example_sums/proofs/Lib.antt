@@ -1,1 +1,2 @@
+mod Checks
 mod Lines

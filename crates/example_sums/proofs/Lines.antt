@@ -114,8 +114,12 @@ line-cases : (hash : ℕ) (name line : List ℕ) (escapes : Bool) → needs_esca
 unfolding plain_line
 line-cases hash name line true needs is = inl (ap (drop 1) is, ap (λ (xs : List ℕ). slice_index xs 0) is)
 line-cases hash name line false needs is =
-    inr (is, escaped-plain name needs, λ found.
-    digits-no_backslash hash (32 ∷ 32 ∷ escaped name) (ap (λ (xs : List ℕ). slice_index xs 0) (sym is) ∙ found))
+    inr (
+      is,
+      escaped-plain name needs,
+      λ found.
+          digits-no_backslash hash (32 ∷ 32 ∷ escaped name) (ap (λ (xs : List ℕ). slice_index xs 0) (sym is) ∙ found),
+    )
 
 -- a line that begins with a backslash has its digits behind it
 pub behind_backslash : (hash : ℕ) (name line : List ℕ) → line ≡ line_of hash name → slice_index line 0 ≡ 92

@@ -24,6 +24,15 @@ pub enum Verdict {
     Unreadable,
 }
 
+impl Verdict {
+    /// Whether a check passes that has this verdict.
+    pub fn passes(self) -> bool
+        ensures { result ≡ passes self }
+    {
+        matches!(self, Verdict::Same | Verdict::Missing)
+    }
+}
+
 /// What was found of all lines.
 #[derive(Drop)]
 pub struct Checked<A: Allocator> {
@@ -94,7 +103,7 @@ pub fn check_entries<S: Store, P: Report, A: Allocator, B: Allocator>(
     for entry in entries {
         let (verdict, error) = judge(store, entry, ignore_missing);
         report.tell(entry.name.as_slice(), verdict, error)?;
-        passed = passed && matches!(verdict, Verdict::Same | Verdict::Missing);
+        passed &= verdict.passes();
         verdicts.push(verdict)?;
     }
     Ok(Checked { verdicts, passed })

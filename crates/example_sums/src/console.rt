@@ -19,12 +19,7 @@ pub struct Console<'a> {
 }
 
 // A name as a line shows it, and a text behind it.
-fn with_name(
-    alloc: Global,
-    start: &str,
-    name: &[u8],
-    end: &str,
-) -> Result<Vec<u8>, Problem> {
+fn with_name(alloc: Global, start: &str, name: &[u8], end: &str) -> Result<Vec<u8>, Problem> {
     let mut text = Vec::new(alloc);
     text.extend_from_slice(start.as_bytes())?;
     if needs_escape(name) {
@@ -41,7 +36,10 @@ impl Console<'_> {
         let mut text = with_name(self.rt.alloc(), "rapidsum: ", name, ": ")?;
         text.extend_from_slice(why.as_bytes())?;
         text.push(b'\n')?;
-        self.rt.stderr().write_all(text.as_slice()).map_err(Problem::Write)
+        self.rt
+            .stderr()
+            .write_all(text.as_slice())
+            .map_err(Problem::Write)
     }
 
     /// Says why a file could not be opened or read.
@@ -123,6 +121,9 @@ impl Report for Console<'_> {
             return Ok(());
         }
         let text = with_name(self.rt.alloc(), "", name, end)?;
-        self.rt.stdout().write_all(text.as_slice()).map_err(Problem::Write)
+        self.rt
+            .stdout()
+            .write_all(text.as_slice())
+            .map_err(Problem::Write)
     }
 }

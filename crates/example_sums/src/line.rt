@@ -1,7 +1,16 @@
 //! A line of the program: how it is made, and how it is read back.
 
 ghost use Rattle.std.specs.Prelude.{
-    ◌≡◌, ◌++◌, ◌∷◌, ◌<◌, ◌^◌, ℕ, List, Some, IfOk, IsSomeAnd,
+  ◌≡◌,
+  ◌++◌,
+  ◌∷◌,
+  ◌<◌,
+  ◌^◌,
+  ℕ,
+  List,
+  Some,
+  IfOk,
+  IsSomeAnd,
 };
 ghost use Rattle.example_sums.specs.Line.{digits_of, escaped, line_of, plain_line};
 ghost use Rattle.example_sums.specs.Entry.{IsEntry};
@@ -145,7 +154,10 @@ fn entry_of<A: Allocator>(alloc: A, line: &[u8]) -> Result<Option<Entry<A>>, All
 
 // The line without the blanks and tabs at its start.
 fn without_blanks(line: &[u8]) -> &[u8] {
-    let blanks = line.iter().take_while(|byte| matches!(**byte, b' ' | b'\t')).count();
+    let blanks = line
+        .iter()
+        .take_while(|byte| matches!(**byte, b' ' | b'\t'))
+        .count();
     line.get(blanks..).unwrap_or(&[])
 }
 

@@ -12,6 +12,8 @@ mod problem;
 mod runs;
 mod store;
 mod sum;
+#[cfg(test)]
+mod tests;
 mod words;
 
 use problem::Problem;

@@ -2,7 +2,11 @@
 
 ghost use Rattle.std.specs.Prelude.{◌≡◌, ◌++◌, [], false, option_map, IfOk, OnOk};
 ghost use Rattle.example_sums.specs.Line.{
-    byte_of, escaped, letter_of, needs_escape, unescape_from,
+  byte_of,
+  escaped,
+  letter_of,
+  needs_escape,
+  unescape_from,
 };
 
 use std::alloc::{AllocError, Allocator};

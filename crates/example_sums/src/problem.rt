@@ -1,8 +1,8 @@
 //! What can go wrong.
 
 use std::alloc::{AllocError, AllocFailed};
-use std::fmt;
-use std::io;
+use std::io::ErrorKind;
+use std::{fmt, io};
 
 /// Why a call failed.
 #[derive(Drop)]
@@ -33,6 +33,9 @@ impl fmt::Display for Problem {
     fn fmt<W: fmt::Write>(&self, f: &mut fmt::Formatter<W>) -> fmt::Result {
         match self {
             Problem::Memory => write!(f, "out of memory"),
+            Problem::Words(error) if error.kind() == ErrorKind::InvalidData => {
+                write!(f, "a word of the command line is not UTF-8")
+            }
             Problem::Words(error) => write!(f, "the command line: {error}"),
             Problem::Read(error) => write!(f, "{error}"),
             Problem::Write(error) => write!(f, "write error: {error}"),

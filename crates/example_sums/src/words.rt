@@ -40,7 +40,11 @@ fn flag<'a>(alloc: Global, name: &'a str, help: &'a str) -> Arg<'a> {
 
 /// The command line.
 pub fn command<'a>(alloc: Global) -> Result<Command<'a>, AllocError> {
-    let check = flag(alloc, "check", "Read lines from the files, and check the files that they name");
+    let check = flag(
+        alloc,
+        "check",
+        "Read lines from the files, and check the files that they name",
+    );
     let quiet = flag(alloc, "quiet", "Print no line for a file that has its hash");
     let status = flag(alloc, "status", "Print nothing, the status tells");
     let missing = flag(alloc, "ignore-missing", "Leave out files that are missing");
@@ -55,5 +59,9 @@ pub fn command<'a>(alloc: Global) -> Result<Command<'a>, AllocError> {
         .arg(missing.requires_arg("check")?)?
         .arg(strict.requires_arg("check")?)?
         .arg(warn.short('w').requires_arg("check")?)?
-        .arg(Arg::new(alloc, "FILE").num_args(0..).help("Files; - is standard input"))
+        .arg(
+            Arg::new(alloc, "FILE")
+                .num_args(0..)
+                .help("Files; - is standard input"),
+        )
 }

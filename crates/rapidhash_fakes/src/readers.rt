@@ -24,13 +24,19 @@ pub struct CountingReader<'a> {
 }
 
 impl<'a> CountingReader<'a> {
+    ghost use Rattle.rapidhash_fakes.specs.Readers.{Starts};
+
     /// A reader that was asked for nothing yet and never fails.
-    pub fn new(left: &'a [u8], most: usize) -> Self {
+    pub fn new(left: &'a [u8], most: usize) -> Self
+        ensures { Starts result left.now most 0 ErrorKind.Other }
+    {
         CountingReader::failing(left, most, 0, ErrorKind::Other)
     }
 
     /// A reader that was asked for nothing yet and fails at one read.
-    pub fn failing(left: &'a [u8], most: usize, fails_at: u64, kind: ErrorKind) -> Self {
+    pub fn failing(left: &'a [u8], most: usize, fails_at: u64, kind: ErrorKind) -> Self
+        ensures { Starts result left.now most fails_at kind }
+    {
         CountingReader {
             left,
             most,

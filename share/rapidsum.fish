@@ -1,0 +1,9 @@
+# Completion of rapidsum for fish.
+complete -c rapidsum -s c -l check -d 'Check the files that lines name'
+complete -c rapidsum -l ignore-missing -d 'Leave out files that are missing'
+complete -c rapidsum -l quiet -d 'Print no line for a file that has its hash'
+complete -c rapidsum -l status -d 'Print nothing, the status tells'
+complete -c rapidsum -l strict -d 'Fail where a line is malformed'
+complete -c rapidsum -s w -l warn -d 'Name each malformed line'
+complete -c rapidsum -s h -l help -d 'Print the help'
+complete -c rapidsum -s V -l version -d 'Print the version'
