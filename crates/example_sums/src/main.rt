@@ -3,17 +3,19 @@
 #![tactic(auto)]
 
 mod check;
+#[cfg(test)]
+mod check_tests;
 mod console;
 mod disk;
 mod line;
+#[cfg(test)]
+mod line_tests;
 mod list;
 mod names;
 mod problem;
 mod runs;
 mod store;
 mod sum;
-#[cfg(test)]
-mod tests;
 mod words;
 
 use problem::Problem;
