@@ -1,0 +1,110 @@
+package rapidhash
+
+/*
+#include <rapidhash_c.h>
+
+// Memory of Go's that C is given may hold no pointer, so a stream has one for the time of a call only.
+static void go_start(struct rapidhash_stream *stream, const struct rapidhash_secrets *secrets, size_t lanes)
+{
+	rapidhash_stream_start(stream, lanes, secrets);
+	stream->secrets = NULL;
+}
+
+static void go_write(
+	struct rapidhash_stream *stream, const struct rapidhash_secrets *secrets, const void *bytes, size_t len)
+{
+	stream->secrets = secrets;
+	rapidhash_stream_write(stream, bytes, len);
+	stream->secrets = NULL;
+}
+
+static uint64_t go_finish(struct rapidhash_stream *stream, const struct rapidhash_secrets *secrets)
+{
+	uint64_t hash;
+	stream->secrets = secrets;
+	hash = rapidhash_stream_finish(stream);
+	stream->secrets = NULL;
+	return hash;
+}
+
+static void go_reset(struct rapidhash_stream *stream, const struct rapidhash_secrets *secrets)
+{
+	stream->secrets = secrets;
+	rapidhash_stream_reset(stream);
+	stream->secrets = NULL;
+}
+*/
+import "C"
+
+import (
+	"encoding/binary"
+	"hash"
+	"unsafe"
+)
+
+// A Stream is a message in pieces, by V3, micro or nano. It is a hash.Hash64 and so an io.Writer.
+// NewV3, NewV3Micro or NewV3Nano starts it. It keeps a copy of its secrets, and a copy of it by = goes
+// on alone.
+type Stream struct {
+	inner   C.struct_rapidhash_stream
+	secrets Secrets
+	block   int
+}
+
+var _ hash.Hash64 = (*Stream)(nil)
+
+// NewV3 starts a stream by V3. Where secrets is nil, the default ones are taken.
+func NewV3(secrets *Secrets) *Stream {
+	return start(7, secrets)
+}
+
+// NewV3Micro starts a stream by micro.
+func NewV3Micro(secrets *Secrets) *Stream {
+	return start(5, secrets)
+}
+
+// NewV3Nano starts a stream by nano.
+func NewV3Nano(secrets *Secrets) *Stream {
+	return start(3, secrets)
+}
+
+func start(lanes int, secrets *Secrets) *Stream {
+	if secrets == nil {
+		secrets = SeedSecrets(0)
+	}
+	stream := &Stream{secrets: *secrets, block: 16 * lanes}
+	C.go_start(&stream.inner, stream.secrets.inner(), C.size_t(lanes))
+	return stream
+}
+
+// Write adds a piece to the message. It takes all of it, and the error is nil.
+func (stream *Stream) Write(data []byte) (int, error) {
+	bytes, size := piece(data)
+	C.go_write(&stream.inner, stream.secrets.inner(), unsafe.Pointer(&bytes[0]), size)
+	return len(data), nil
+}
+
+// Sum64 is the hash of the message so far. More pieces may follow.
+func (stream *Stream) Sum64() uint64 {
+	return uint64(C.go_finish(&stream.inner, stream.secrets.inner()))
+}
+
+// Sum appends the hash as 8 bytes, the highest first.
+func (stream *Stream) Sum(data []byte) []byte {
+	return binary.BigEndian.AppendUint64(data, stream.Sum64())
+}
+
+// Reset forgets the message, and keeps the secrets and the version.
+func (stream *Stream) Reset() {
+	C.go_reset(&stream.inner, stream.secrets.inner())
+}
+
+// Size is the length of a hash in bytes.
+func (stream *Stream) Size() int {
+	return 8
+}
+
+// BlockSize is how many bytes one turn of the hash takes.
+func (stream *Stream) BlockSize() int {
+	return stream.block
+}
