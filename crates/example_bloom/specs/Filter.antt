@@ -1,0 +1,58 @@
+-- What a filter finds.
+use Rattle.std.specs.Prelude.{◌≡◌, ℕ, ◌<◌, ◌+◌, ◌*◌, ◌%◌, ◌/◌, List, true, false, length, slice_index, ◌⊎◌}
+use Rattle.std.specs.Int.{bit_at}
+use Rattle.rapidhash.specs.Form.{v3}
+use Rattle.rapidhash.specs.Options.{options}
+use Rattle.rapidhash.specs.Seeded.{default_hash}
+use Rattle.example_bloom.specs.declared.filter.Filter.{Filter}
+
+-- the hash of a key
+abbrev pub hash_of : List ℕ → ℕ
+hash_of key = default_hash v3 (options true false) key
+
+-- where mark number `i` of a hash lies, before the count of bits is known
+unfoldable pub step_of : ℕ → ℕ → ℕ
+step_of hash i = hash % 4294967296 + i * (hash / 4294967296)
+
+-- the bit at a step is set: the steps go through the words, and then through the bits of a word
+abbrev pub HasBit : List ℕ → ℕ → Type 0
+HasBit words step = bit_at (slice_index words (step % length words)) (step / length words % 64) ≡ 1
+
+-- so many marks of a hash are set
+abbrev pub HasMarks : List ℕ → ℕ → ℕ → Type 0
+HasMarks words marks hash = (i : ℕ) → i < marks → HasBit words (step_of hash i)
+
+-- the marks of a hash were set, and every bit that was set before still is
+pub record Marks (old new : List ℕ) (marks hash : ℕ) : Type 0 where
+  pub added : HasMarks new marks hash
+  pub kept : (step : ℕ) → HasBit old step → HasBit new step
+  pub same : length new ≡ length old
+
+-- the filter has words to mark
+abbrev pub HasWords : Filter → Type 0
+HasWords filter = 0 < length filter.words.items
+
+-- the filter finds a key
+abbrev pub Finds : Filter → List ℕ → Type 0
+Finds filter key = HasMarks filter.words.items filter.marks (hash_of key)
+
+-- two filters have as many words, and give a key as many marks
+pub record HasSameShape (filter other : Filter) : Type 0 where
+  pub words : length other.words.items ≡ length filter.words.items
+  pub marks : other.marks ≡ filter.marks
+
+-- a key was put in: it is found, and whatever was found before still is
+pub record Adds (old new : Filter) (key : List ℕ) : Type 0 where
+  pub found : Finds new key
+  pub kept : (other : List ℕ) → Finds old other → Finds new other
+  pub shape : HasSameShape old new
+
+-- two filters became one: it finds what either finds
+pub record Unites (old other new : Filter) : Type 0 where
+  pub found : (key : List ℕ) → Finds old key ⊎ Finds other key → Finds new key
+  pub shape : HasSameShape old new
+
+-- whatever was found before still is
+pub record KeepsAll (old new : Filter) : Type 0 where
+  pub kept : (key : List ℕ) → Finds old key → Finds new key
+  pub shape : HasSameShape old new

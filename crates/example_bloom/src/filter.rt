@@ -1,0 +1,114 @@
+//! The filter: bits in words, and the marks of a key among them.
+
+ghost use Rattle.std.specs.Prelude.{◌≡◌, ◌↔◌, ◌<◌, ℕ, true, length, IfOk};
+ghost use Rattle.example_bloom.specs.Filter.{Adds, Finds, HasBit, HasSameShape, HasWords, Marks, Unites, step_of};
+
+use crate::shape::Shape;
+use rapidhash::v3::rapidhash_v3;
+use std::alloc::{AllocError, Global};
+
+/// A set of keys that may hold more keys than were put in, and never fewer.
+///
+/// A key has so many marks, each a bit of the words, at places that its hash tells. To put a key in
+/// sets its marks. A key is found where all of its marks are set.
+#[derive(Drop)]
+pub struct Filter {
+    words: Vec<u64>,
+    marks: u32,
+}
+
+// Where a key's mark number `i` lies is told by this number and the count of words.
+#[tactic(auto, unfolding(crate::specs::Filter::step_of))]
+fn step(hash: u64, i: u32) -> u64
+    ensures { result ≡ step_of hash i }
+{
+    hash % 4294967296 + (i as u64) * (hash / 4294967296)
+}
+
+// Sets a bit.
+#[tactic(auto, using(crate::proofs::Bits::set_sets, crate::proofs::Bits::set_keeps))]
+fn set(words: &mut [u64], step: u64)
+    requires { 0 < length words.old }
+    ensures same { length words.new ≡ length words.old }
+    ensures added { HasBit words.new step }
+    ensures kept { (other : ℕ) → HasBit words.old other → HasBit words.new other }
+{
+    let len = words.len() as u64;
+    words[(step % len) as usize] |= 1 << (step / len % 64);
+}
+
+// Sets all marks of a hash.
+fn mark(words: &mut [u64], marks: u32, hash: u64)
+    requires { 0 < length words.old }
+    ensures { Marks words.old words.new marks hash }
+{
+    for i in 0..marks {
+        set(words, step(hash, i));
+    }
+}
+
+// Whether a bit is set.
+fn is_set(words: &[u64], step: u64) -> bool
+    requires { 0 < length words.now }
+    ensures { result ≡ true ↔ HasBit words.now step }
+{
+    let len = words.len() as u64;
+    (words[(step % len) as usize] >> (step / len % 64)) & 1 == 1
+}
+
+impl Filter {
+    /// A filter with no mark set. It allocates once.
+    pub fn new(alloc: Global, shape: Shape) -> Result<Filter, AllocError>
+        ensures { IfOk result HasWords }
+    {
+        let words = vec![in alloc; 0u64; shape.words()]?;
+        Ok(Filter {
+            words,
+            marks: shape.marks(),
+        })
+    }
+
+    /// A filter of the same shape, with no mark set. It allocates once.
+    pub fn empty_alike(&self, alloc: Global) -> Result<Filter, AllocError>
+        ensures { IfOk result (HasSameShape self.now) }
+    {
+        let words = vec![in alloc; 0u64; self.words.len()]?;
+        Ok(Filter {
+            words,
+            marks: self.marks,
+        })
+    }
+
+    /// Puts a key in. It allocates nothing.
+    pub fn insert(&mut self, key: &[u8])
+        requires { HasWords self.old }
+        ensures { Adds self.old self.new key.now }
+    {
+        mark(&mut self.words, self.marks, rapidhash_v3(key));
+    }
+
+    /// Whether the key may have been put in. `false` is certain, and `true` is a guess.
+    pub fn contains(&self, key: &[u8]) -> bool
+        requires { HasWords self.now }
+        ensures { result ≡ true ↔ Finds self.now key.now }
+    {
+        let hash = rapidhash_v3(key);
+        for i in 0..self.marks {
+            if !is_set(&self.words, step(hash, i)) {
+                return false;
+            }
+        }
+        true
+    }
+
+    /// Puts in what another filter of the same shape has.
+    pub fn unite(&mut self, other: &Filter)
+        requires words { HasWords self.old }
+        requires shape { HasSameShape self.old other.now }
+        ensures { Unites self.old other.now self.new }
+    {
+        for i in 0..self.words.len() {
+            self.words[i] |= other.words[i];
+        }
+    }
+}

@@ -1,0 +1,63 @@
+//! What the command line asks for.
+
+/// How the program is called.
+pub const USAGE: &str = "usage: example_bloom [--one-in N] LIST..
+
+Tells of each line of standard input whether it may be a line of a LIST:
+'maybe LINE', or 'no LINE' where it certainly is none. About one in N lines
+that stand in no LIST, or fewer, are told as 'maybe'. N is 100 by default.";
+
+/// Why the words ask for nothing.
+#[derive(Debug, Clone, Copy, PartialEq, Eq, thiserror::Error, Drop)]
+pub enum OptionsError {
+    /// No list is named.
+    #[error("no list is named")]
+    NoList,
+    /// No number, or one out of range, follows `--one-in`.
+    #[error("--one-in takes a number from 2 to 4294967295")]
+    OneIn,
+    /// There is no such option.
+    #[error("an option is unknown")]
+    Unknown,
+}
+
+/// What the words ask for.
+#[derive(Debug, Clone, Copy, PartialEq, Eq)]
+pub enum Request<'a> {
+    /// To print how the program is called.
+    Help,
+    /// To look lines up.
+    LookUp {
+        /// At most one in so many other lines is to be told as `maybe`.
+        one_in: u32,
+        /// The names of the lists.
+        lists: &'a [String],
+    },
+}
+
+// How rarely other lines are found where the words do not say.
+const ONE_IN: u32 = 100;
+
+/// What the words behind the program's name ask for.
+pub fn parse_words<'a>(words: &'a [String]) -> Result<Request<'a>, OptionsError> {
+    let mut lists = words;
+    let mut one_in = ONE_IN;
+    if let [option, others @ ..] = lists
+        && option.as_str() == "--one-in"
+    {
+        let [number, others @ ..] = others else {
+            return Err(OptionsError::OneIn);
+        };
+        one_in = match number.as_str().parse::<u32>() {
+            Ok(number) if number >= 2 => number,
+            _ => return Err(OptionsError::OneIn),
+        };
+        lists = others;
+    }
+    match lists.first() {
+        None => Err(OptionsError::NoList),
+        Some(word) if word.as_str() == "--help" => Ok(Request::Help),
+        Some(word) if word.as_str().starts_with("--") => Err(OptionsError::Unknown),
+        Some(_) => Ok(Request::LookUp { one_in, lists }),
+    }
+}

@@ -1,0 +1,119 @@
+#!/usr/bin/env bash
+# Runs crates/example_bloom as its users do, on good and on bad input. It prints a line for each
+# case, and at last how many passed.
+set -u
+
+top=$(cd "$(dirname "${BASH_SOURCE[0]}")/.." && pwd) || exit 1
+program=$top/crates/example_bloom/out/example_bloom
+room=$(mktemp -d) || exit 1
+trap 'rm -rf "$room"' EXIT
+cd "$room" || exit 1
+passed=0
+failed=0
+
+# ended NAME STATUS ERR: compares the files out and wanted, the status and standard error.
+ended() {
+  if [ "$(cat status)" != "$2" ]; then
+    failed=$((failed + 1))
+    printf 'FAILED %s: its status is %s, and not %s\n' "$1" "$(cat status)" "$2"
+  elif ! cmp -s out wanted; then
+    failed=$((failed + 1))
+    printf 'FAILED %s: it printed: %s\n' "$1" "$(head -c 200 out)"
+  elif [ "$(head -n 1 err)" != "$3" ]; then
+    failed=$((failed + 1))
+    printf 'FAILED %s: standard error has: %s\n' "$1" "$(head -c 200 err)"
+  else
+    passed=$((passed + 1))
+    printf 'ok %s\n' "$1"
+  fi
+  : >out
+  : >err
+  : >wanted
+}
+
+# Runs the program with these words, and leaves its status and what it wrote.
+run() {
+  "$program" "$@" >out 2>err
+  echo $? >status
+}
+
+# Help ends with status 0, so that another status is the build's.
+(cd "$top/crates/example_bloom" && rt run -- --help </dev/null >"$room/build.log" 2>&1) || {
+  tail -n 5 build.log
+  printf '0 passed, 1 failed\n'
+  exit 1
+}
+
+: >wanted
+seq 1 2 19999 >odd
+seq 2 2 20000 >even
+printf 'pear\n\nplum' >fruit
+
+sed 's/^/maybe /' odd >wanted
+run odd <odd
+ended every-key-is-found 0 ''
+
+cat odd even | sed 's/^/maybe /' >wanted
+cat odd even | run --one-in 5 even odd
+ended every-key-of-two-lists-is-found 0 ''
+
+sed 's/^/no /' even >wanted
+run --one-in 4294967295 odd <even
+ended no-other-key-is-found 0 ''
+
+run odd <even
+if [ "$(grep -c '^maybe ' out)" -le 100 ]; then
+  cp out wanted
+fi
+ended at-most-one-in-100-other-keys-is-found 0 ''
+
+printf 'maybe plum\nmaybe \nno fig\n' >wanted
+printf 'plum\n\nfig' | run --one-in 1000000 fruit
+ended last-lines-without-a-newline 0 ''
+
+printf 'maybe \377\nno \376\n' >wanted
+printf '\377\n' >bytes
+printf '\377\n\376\n' | run --one-in 1000000 bytes
+ended lines-that-are-not-utf-8 0 ''
+
+printf 'no fig\nno \n' >wanted
+printf 'fig\n\n' | run /dev/null
+ended an-empty-list-has-no-line 0 ''
+
+run fruit </dev/null
+ended no-line-is-asked 0 ''
+
+run </dev/null
+ended no-list-is-named 2 'example_bloom: no list is named'
+run --one-in 1 fruit </dev/null
+ended a-rate-of-1 2 'example_bloom: --one-in takes a number from 2 to 4294967295'
+run --rate 5 fruit </dev/null
+ended an-unknown-option 2 'example_bloom: an option is unknown'
+run $'\377' </dev/null
+ended a-name-that-is-not-utf-8 1 'example_bloom: could not take the words, which must be UTF-8: invalid data'
+run missing </dev/null
+ended a-missing-list 1 'example_bloom: could not read missing: No such file or directory (os error 2)'
+run "$room" </dev/null
+ended a-list-that-is-a-folder 1 "example_bloom: could not read $room: Is a directory (os error 21)"
+run fruit <"$room"
+ended an-input-that-is-a-folder 1 'example_bloom: could not read standard input: Is a directory (os error 21)'
+run fruit <&-
+ended no-input 1 'example_bloom: could not read standard input: Bad file descriptor (os error 9)'
+
+"$program" fruit <odd >/dev/full 2>err
+echo $? >status
+ended a-full-disk 1 'example_bloom: could not write standard output: No space left on device (os error 28)'
+("$program" odd <odd 2>err; echo $? >status) | :
+ended a-closed-pipe 1 'example_bloom: could not write standard output: Broken pipe (os error 32)'
+"$program" fruit <odd >&- 2>err
+echo $? >status
+ended no-output 1 'example_bloom: could not write standard output: Bad file descriptor (os error 9)'
+
+head -c 100000000 /dev/zero >large
+(ulimit -v 60000 && run large </dev/null)
+ended memory-refused-to-a-list 1 'example_bloom: could not read large: out of memory'
+(ulimit -v 60000 && run fruit <large)
+ended memory-refused-to-a-line 1 'example_bloom: out of memory'
+
+printf '%s passed, %s failed\n' "$passed" "$failed"
+[ "$failed" -eq 0 ]
