@@ -138,7 +138,7 @@ fn command_lines(rt: HostRuntime) {
         assert_eq!(rt; parse_words(words.as_slice()), Err(error));
     }
     let words = words(rt.alloc(), &["--one-in", "1000", "a", "b"]).expect(&rt, "memory");
-    let lists = &words.as_slice()[2..];
+    let lists = words.as_slice().get(2..).expect(&rt, "two more words");
     assert_eq!(rt;
         parse_words(words.as_slice()),
         Ok(Request::LookUp {
