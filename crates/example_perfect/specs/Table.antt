@@ -1,0 +1,44 @@
+-- What a table finds.
+use Rattle.std.specs.Prelude.{◌≡◌, ℕ, ◌<◌, ◌%◌, List, true, false, length, map, slice_index, slice_get, Some}
+use Rattle.rapidhash.specs.Form.{v3}
+use Rattle.rapidhash.specs.Hash.{portable_hash}
+use Rattle.rapidhash.specs.Options.{options}
+use Rattle.rapidhash.specs.Secrets.{cpp_seeded, default_secrets}
+use Rattle.rapidhash.specs.Seeded.{default_hash}
+use Rattle.example_perfect.specs.declared.displace.Displaced.{Displaced}
+use Rattle.example_perfect.specs.declared.table.Table.{Table}
+
+-- the bucket of a key
+unfoldable pub bucket_of : List ℕ → ℕ → ℕ
+bucket_of key buckets = default_hash v3 (options true false) key % buckets
+
+-- the place that a seed gives a key
+unfoldable pub place_of : List ℕ → ℕ → ℕ → ℕ
+place_of key seed places = portable_hash v3 (options true false) (cpp_seeded seed 2) default_secrets key % places
+
+-- the place of a key: the one that the seed of its bucket gives it
+abbrev pub place_in : Table → List ℕ → ℕ
+place_in table key =
+    place_of key (slice_index table.seeds.items (bucket_of key (length table.seeds.items))) (length table.places.items)
+
+-- the keys that the table was built of
+abbrev pub keys_of : Table → List (List ℕ)
+keys_of table = map (λ key. key.now) table.keys.now
+
+-- key number `i`, from 0 on, is this text
+abbrev pub IsKeyAt : Table → ℕ → List ℕ → Type 0
+IsKeyAt table i key = slice_get (keys_of table) i ≡ Some key
+
+-- there are a bucket and a place
+abbrev pub HasPlaces : Displaced → Type 0
+HasPlaces displaced = (0 < length displaced.seeds.items) × (0 < length displaced.places.items)
+
+abbrev pub HasRoom : Table → Type 0
+HasRoom table = (0 < length table.seeds.items) × (0 < length table.places.items)
+
+-- each key has a place below the count of places, its index stands there, and no other key has that place
+pub record IsPerfect (table : Table) : Type 0 where
+  pub room : HasRoom table
+  pub inside : (i : ℕ) (key : List ℕ) → IsKeyAt table i key → place_in table key < length table.places.items
+  pub stands : (i : ℕ) (key : List ℕ) → IsKeyAt table i key → slice_index table.places.items (place_in table key) ≡ i
+  pub own : (i j : ℕ) (key other : List ℕ) → IsKeyAt table i key → IsKeyAt table j other → place_in table key ≡ place_in table other → i ≡ j
