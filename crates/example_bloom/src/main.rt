@@ -9,6 +9,7 @@ pub mod filter;
 pub mod lookup;
 pub mod options;
 pub mod shape;
+#[cfg(test)]
 mod tests;
 
 use anyhow::{Context, Result};

@@ -33,6 +33,7 @@ pub is_key : (keys : List (Bor (List ℕ))) (i : ℕ) (found : Bor (List ℕ)) (
     → (r ≡ true) ↔ (slice_get (map (λ key. key.now) keys) i ≡ Some key)
 is_key keys i found key r inside is compared =
     let there : slice_get (map (λ (key : Bor (List ℕ)). key.now) keys) i ≡ Some found.now = key_there keys i found inside ∙ ap (λ (k : Bor (List ℕ)). Some k.now) (sym is) in
-    let same : Decides r (found.now ≡ key) = slice_eq-Decides Decides-eqb found.now key r compared in
-    ( (λ yes. there ∙ ap (λ (k : List ℕ). Some k) (same.0 yes))
-    , (λ at. same.1 (same_Some found.now key (sym there ∙ at))) )
+    let same : Decides r (found.now ≡ key) = slice_eq-Decides Decides-eqb found.now key r compared in (
+      (λ yes. there ∙ ap (λ (k : List ℕ). Some k) (same.0 yes)),
+      (λ at. same.1 (same_Some found.now key (sym there ∙ at))),
+    )

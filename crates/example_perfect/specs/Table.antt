@@ -1,5 +1,5 @@
 -- What a table finds.
-use Rattle.std.specs.Prelude.{◌≡◌, ℕ, ◌<◌, ◌%◌, List, true, false, length, map, slice_index, slice_get, Some}
+use Rattle.std.specs.Prelude.{◌≡◌, ℕ, ◌<◌, ◌%◌, List, true, false, length, map, max, slice_index, slice_get, Some}
 use Rattle.rapidhash.specs.Form.{v3}
 use Rattle.rapidhash.specs.Hash.{portable_hash}
 use Rattle.rapidhash.specs.Options.{options}
@@ -29,14 +29,19 @@ keys_of table = map (λ key. key.now) table.keys.now
 abbrev pub IsKeyAt : Table → ℕ → List ℕ → Type 0
 IsKeyAt table i key = slice_get (keys_of table) i ≡ Some key
 
--- there are a bucket and a place
-abbrev pub HasPlaces : Displaced → Type 0
-HasPlaces displaced = (0 < length displaced.seeds.items) × (0 < length displaced.places.items)
+-- there is a bucket, and as many places as keys, or one where there is no key
+pub record HasPlaces (keys : ℕ) (displaced : Displaced) : Type 0 where
+  pub bucket : 0 < length displaced.seeds.items
+  pub place : 0 < length displaced.places.items
+  pub size : length displaced.places.items ≡ max keys 1
 
-abbrev pub HasRoom : Table → Type 0
-HasRoom table = (0 < length table.seeds.items) × (0 < length table.places.items)
+pub record HasRoom (table : Table) : Type 0 where
+  pub bucket : 0 < length table.seeds.items
+  pub place : 0 < length table.places.items
+  pub size : length table.places.items ≡ max (length table.keys.now) 1
 
--- each key has a place below the count of places, its index stands there, and no other key has that place
+-- each key has a place below the count of places, where its index stands, and no other key has that place;
+-- there are no more places than keys (`room`)
 pub record IsPerfect (table : Table) : Type 0 where
   pub room : HasRoom table
   pub inside : (i : ℕ) (key : List ℕ) → IsKeyAt table i key → place_in table key < length table.places.items

@@ -36,7 +36,11 @@ fn members<'k>(
 {
     let mut members = Vec::with_capacity(alloc, keys.len())?;
     for (index, key) in (0..count).zip(keys) {
-        members.push(Member { bucket: bucket(key, buckets), key, index })?;
+        members.push(Member {
+            bucket: bucket(key, buckets),
+            key,
+            index,
+        })?;
     }
     members.sort()?;
     Ok(members)
@@ -45,8 +49,13 @@ fn members<'k>(
 // Fails where two neighbours are one key, and so where any two members are.
 fn refuse_twins(members: &[Member<'_>]) -> Result<(), BuildError> {
     for pair in members.windows(2) {
-        if let [first, second] = pair && first.key == second.key {
-            return Err(BuildError::Twice { first: first.index, second: second.index });
+        if let [first, second] = pair
+            && first.key == second.key
+        {
+            return Err(BuildError::Twice {
+                first: first.index,
+                second: second.index,
+            });
         }
     }
     Ok(())
@@ -149,7 +158,7 @@ fn settle_groups(
 
 /// Finds seeds and places for all keys.
 pub(crate) fn displace(alloc: Global, keys: &[&[u8]]) -> Result<Displaced, BuildError>
-    ensures { IfOk result HasPlaces }
+    ensures { IfOk result (HasPlaces (length keys.now)) }
 {
     let count = match u32::try_from(keys.len()) {
         Ok(count) if count < FREE => count,

@@ -1,8 +1,75 @@
-//! Finds lines in a list.
+//! Finds lines in a list, by a perfect hash table: each line of the list has a place of its own, so
+//! that one look tells the line's number, or that it is absent.
+//!
+//! The table and what is proved of it stand in `table`. A fault is one line on standard error, with
+//! status 1, or 2 where the words of the command line are at fault.
 #![tactic(auto)]
 
 mod displace;
+pub mod lookup;
 pub mod table;
+#[cfg(test)]
+mod tests;
 
-fn main(rt: HostRuntime) {
+use anyhow::{Context, Error, Result, anyhow};
+use std::io::{BufReader, BufWriter};
+use std::process::ExitCode;
+use std::{env, fs};
+use table::{BuildError, Table};
+
+/// How the program is called.
+const USAGE: &str = "usage: example_perfect LIST
+
+Finds each line of standard input in LIST, whose lines all differ: writes
+'NUMBER LINE', the number of the line in LIST, or 'absent LINE'.";
+
+// The error of a list with the numbers of its lines, which count from 1.
+fn list_error(name: &str, error: BuildError) -> Error {
+    match error {
+        BuildError::Twice { first, second } => {
+            let (first, second) = (first as u64 + 1, second as u64 + 1);
+            anyhow!("lines {first} and {second} of {name} are the same")
+        }
+        error => anyhow!("no table of {name}: {error}"),
+    }
+}
+
+fn look_up(rt: &HostRuntime, name: &str) -> Result<()> {
+    let list = fs::read(rt, name).context(format_args!("could not read {name}"))?;
+    let keys = lookup::lines(rt.alloc(), list.as_slice())?;
+    let table = match Table::build(rt.alloc(), keys.as_slice()) {
+        Ok(table) => table,
+        Err(error) => return Err(list_error(name, error)),
+    };
+    let mut input = BufReader::new(rt.alloc(), rt.stdin())?;
+    let mut out = BufWriter::new(rt.alloc(), rt.stdout())?;
+    lookup::answer(rt.alloc(), &table, &mut input, &mut out)?;
+    Ok(())
+}
+
+fn run(rt: &HostRuntime) -> Result<ExitCode> {
+    let words = env::args(rt).context("could not take the words, which must be UTF-8")?;
+    let words: Vec<String> = words.skip(1).collect(rt.alloc())?;
+    match words.as_slice() {
+        [word] if word.as_str() == "--help" => {
+            println!(rt; "{USAGE}").context("could not write standard output")?;
+        }
+        [name] => look_up(rt, name.as_str())?,
+        _ => {
+            eprintln!(rt; "example_perfect: it takes the name of one list\n{USAGE}")?;
+            return Ok(ExitCode::from(2));
+        }
+    }
+    Ok(ExitCode::SUCCESS)
+}
+
+fn main(rt: HostRuntime) -> ExitCode {
+    match run(&rt) {
+        Ok(status) => status,
+        Err(error) => {
+            // Where standard error takes no text, the status still tells the fault.
+            let _ = eprintln!(rt; "example_perfect: {error:#}");
+            ExitCode::FAILURE
+        }
+    }
 }

@@ -67,8 +67,16 @@ impl<'k> Table<'k> {
         ensures { IfOk result (λ table. IsPerfect table × (table.keys ≡ keys.entry)) }
     {
         let displaced = displace(alloc, keys)?;
-        let table = Table { keys, seeds: displaced.seeds, places: displaced.places };
-        if table.is_perfect() { Ok(table) } else { Err(BuildError::GaveUp) }
+        let table = Table {
+            keys,
+            seeds: displaced.seeds,
+            places: displaced.places,
+        };
+        if table.is_perfect() {
+            Ok(table)
+        } else {
+            Err(BuildError::GaveUp)
+        }
     }
 
     // Whether each key's index stands at its place.
@@ -101,7 +109,11 @@ impl<'k> Table<'k> {
         ensures { (i : ℕ) → (result ≡ Some i ↔ IsKeyAt self.now i key.now) }
     {
         let index = self.places[self.place(key)] as usize;
-        if self.is_key_at(index, key) { Some(index) } else { None }
+        if self.is_key_at(index, key) {
+            Some(index)
+        } else {
+            None
+        }
     }
 
     // Whether a key has this index.
