@@ -1,17 +1,29 @@
 -- Bits in words: a bit that is set stays set, whatever else is set.
-use Rattle.std.proofs.Common.{◌⊎◌, mod-lt, ◌≡◌, ℕ, ◌<◌, ◌%◌, ◌/◌, ◌*◌, ◌^◌, max, List, length, get_or, set, ap, ◌∙◌, ⊎_elim, get_or-set_same, get_or-set_other, length-set, arith, sym}
-use Rattle.std.proofs.lemmas.Bool.{cases_eq}
-use Rattle.std.proofs.lemmas.Nat.Bits.{bit_at_or, bit_at-lt, bit_at_set_same}
+use Rattle.std.proofs.Common.{subst, ◌≤◌, ◌+◌, inl, inr, replicate, ◌⊎◌, mod-lt, ◌≡◌, ℕ, ◌<◌, ◌%◌, ◌/◌, ◌*◌, ◌^◌, max, List, length, get_or, set, ap, ◌∙◌, ⊎_elim, get_or-set_same, get_or-set_other, length-set, arith, sym}
+use Rattle.std.proofs.lemmas.Bool.{cases_eq, cases_lt}
+use Rattle.std.proofs.lemmas.Nat.Bits.{bit_at_or, bit_at-lt, bit_at-zero, bit_at_set_same, bit_at_set_other}
 use Rattle.std.specs.Int.{bit_at, w64}
 use mir.Val.{bits}
 use Rattle.std.specs.Int.RustNames.{bit_or}
-use Rattle.example_bloom.specs.Filter.{HasBit}
+use Rattle.std.proofs.lemmas.List.{get_or-replicate, get_or_past, length-replicate}
+use Rattle.example_bloom.specs.Filter.{HasBit, IsMark, SameBit, step_of}
 
 max_l : (x y : ℕ) → x ≡ 1 → y < 2 → max x y ≡ 1
 max_l x y is below = omega arith
 
 max_r : (x y : ℕ) → y ≡ 1 → x < 2 → max x y ≡ 1
 max_r x y is below = omega arith
+
+max_one : (x y : ℕ) → max x y ≡ 1 → (x ≡ 1) ⊎ (y ≡ 1)
+max_one x y is = ⊎_elim (λ (one : x ≡ 1). inl one) (λ other. inr (omega arith)) (cases_eq x 1)
+
+-- each of some zeros is 0, and so is what stands behind them
+zero_there : (count place : ℕ) → get_or {A = ℕ} (replicate count 0) place 0 ≡ 0
+zero_there count place =
+    ⊎_elim
+    (λ (inside : place < count). get_or-replicate count place 0 0 inside)
+    (λ (past : count ≤ place). get_or_past (replicate count 0) place 0 (rw (length-replicate {A = ℕ} count 0) past))
+    (cases_lt place count)
 
 -- an `|` keeps the bits of either side
 pub or_keeps_l : (a b i : ℕ) → bit_at a i ≡ 1 → bit_at (bit_or a b) i ≡ 1
@@ -63,3 +75,61 @@ joined_has words others joined same_others same_joined each some step either =
     let has' : bit_at (get_or others at 0) i ≡ 1 = rw (← same_others) has in
     or_keeps_r (get_or words at 0) (get_or others at 0) i has')
     either)
+
+-- the bits of the `|` of two words at each place are bits of either
+pub joined_only : (words others joined : List ℕ) → length others ≡ length words → length joined ≡ length words
+    → ((k : ℕ) → k < length words → get_or joined k 0 ≡ bit_or (get_or words k 0) (get_or others k 0))
+    → 0 < length words → (step : ℕ) → HasBit joined step → HasBit words step ⊎ HasBit others step
+joined_only words others joined same_others same_joined each some step has =
+    let at : ℕ = step % length words in
+    let i : ℕ = step / length words % 64 in
+    let has' : bit_at (get_or joined at 0) i ≡ 1 = rw (← same_joined) has in
+    let is : max (bit_at (get_or words at 0) i) (bit_at (get_or others at 0) i) ≡ 1 =
+    sym (bit_at_or (get_or words at 0) (get_or others at 0) i) ∙ ap (λ (n : ℕ). bit_at n i) (sym (each at (mod-lt step some))) ∙ has' in
+    rw same_others (max_one (bit_at (get_or words at 0) i) (bit_at (get_or others at 0) i) is)
+
+-- a bit that is set behind the `|` that sets a step's bit was set before, or is the step's
+pub set_only : (words : List ℕ) (step other : ℕ) → 0 < length words
+    → HasBit (set words (step % length words) (bit_or (get_or words (step % length words) 0) (1 * 2 ^ (step / length words % 64) % 2 ^ bits w64))) other
+    → HasBit words other ⊎ SameBit (length words) other step
+set_only words step other some has =
+    let at : ℕ = step % length words in
+    let k : ℕ = step / length words % 64 in
+    let place : ℕ = other % length words in
+    let i : ℕ = other / length words % 64 in
+    let word : ℕ = bit_or (get_or words at 0) (1 * 2 ^ k % 2 ^ bits w64) in
+    let has' : bit_at (get_or (set words at word) place 0) i ≡ 1 = subst (λ (n : ℕ). bit_at (get_or (set words at word) (other % n) 0) (other / n % 64) ≡ 1) (length-set words at word) has in
+    ⊎_elim
+    (λ (same : place ≡ at).
+    let here : bit_at word i ≡ 1 =
+    sym (ap (λ (n : ℕ). bit_at n i) (ap (λ (p : ℕ). get_or (set words at word) p 0) same ∙ get_or-set_same words at word 0 (mod-lt step some))) ∙ has' in
+    ⊎_elim
+    (λ (same_bit : i ≡ k). inr (same, same_bit))
+    (λ apart. inl (ap (λ (p : ℕ). bit_at (get_or words p 0) i) same ∙ sym (bit_at_set_other w64 (get_or words at 0) k (omega arith) i apart) ∙ here))
+    (cases_eq i k))
+    (λ apart. inl (ap (λ (n : ℕ). bit_at n i) (sym (get_or-set_other words at place word 0 apart)) ∙ has'))
+    (cases_eq place at)
+
+-- one more mark
+pub marked_one : (old mid new : List ℕ) (i hash : ℕ) → length mid ≡ length old
+    → ((step : ℕ) → HasBit mid step → HasBit old step ⊎ IsMark (length old) i hash step)
+    → ((step : ℕ) → HasBit new step → HasBit mid step ⊎ SameBit (length mid) step (step_of hash i))
+    → (step : ℕ) → HasBit new step → HasBit old step ⊎ IsMark (length old) (i + 1) hash step
+marked_one old mid new i hash same before one step has =
+    ⊎_elim
+    (λ (was : HasBit mid step). ⊎_elim
+    (λ (was : HasBit old step). inl was)
+    (λ (is : IsMark (length old) i hash step). inr (is.0, omega (arith, is.1), is.2))
+    (before step was))
+    (λ (is : SameBit (length mid) step (step_of hash i)). inr (i, omega arith, rw (← same) is))
+    (one step has)
+
+-- words that are 0 have no bit
+pub zeros_have_none : (count step : ℕ) → HasBit (replicate count 0) step → ⊥
+zeros_have_none count step has =
+    let zeros : List ℕ = replicate count 0 in
+    let i : ℕ = step / length zeros % 64 in
+    let none : bit_at (get_or zeros (step % length zeros) 0) i ≡ 0 =
+    ap (λ (n : ℕ). bit_at n i) (zero_there count (step % length zeros)) ∙ bit_at-zero i in
+    let differ : 1 ≡ 0 = sym has ∙ none in
+    absurd (omega (arith, differ))

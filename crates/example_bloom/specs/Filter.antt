@@ -22,10 +22,19 @@ HasBit words step = bit_at (slice_index words (step % length words)) (step / len
 abbrev pub HasMarks : List ℕ → ℕ → ℕ → Type 0
 HasMarks words marks hash = (i : ℕ) → i < marks → HasBit words (step_of hash i)
 
--- the marks of a hash were set, and every bit that was set before still is
+-- two steps lead to one bit of so many words
+abbrev pub SameBit : ℕ → ℕ → ℕ → Type 0
+SameBit words step other = (step % words ≡ other % words) × (step / words % 64 ≡ other / words % 64)
+
+-- a step leads to one of so many marks of a hash
+abbrev pub IsMark : ℕ → ℕ → ℕ → ℕ → Type 0
+IsMark words marks hash step = (i : ℕ) × (i < marks) × SameBit words step (step_of hash i)
+
+-- the marks of a hash were set, every bit that was set before still is, and no other bit is
 pub record Marks (old new : List ℕ) (marks hash : ℕ) : Type 0 where
   pub added : HasMarks new marks hash
   pub kept : (step : ℕ) → HasBit old step → HasBit new step
+  pub only : (step : ℕ) → HasBit new step → HasBit old step ⊎ IsMark (length old) marks hash step
   pub same : length new ≡ length old
 
 -- the filter has words to mark
@@ -36,20 +45,27 @@ HasWords filter = 0 < length filter.words.items
 abbrev pub Finds : Filter → List ℕ → Type 0
 Finds filter key = HasMarks filter.words.items filter.marks (hash_of key)
 
+-- no bit of the filter is set, though it has words
+pub record IsEmpty (filter : Filter) : Type 0 where
+  pub words : HasWords filter
+  pub none : (step : ℕ) → HasBit filter.words.items step → ⊥
+
 -- two filters have as many words, and give a key as many marks
 pub record HasSameShape (filter other : Filter) : Type 0 where
   pub words : length other.words.items ≡ length filter.words.items
   pub marks : other.marks ≡ filter.marks
 
--- a key was put in: it is found, and whatever was found before still is
+-- a key was put in: it is found, whatever was found before still is, and no bit was set but the key's marks
 pub record Adds (old new : Filter) (key : List ℕ) : Type 0 where
   pub found : Finds new key
   pub kept : (other : List ℕ) → Finds old other → Finds new other
+  pub only : (step : ℕ) → HasBit new.words.items step → HasBit old.words.items step ⊎ IsMark (length old.words.items) old.marks (hash_of key) step
   pub shape : HasSameShape old new
 
--- two filters became one: it finds what either finds
+-- two filters became one: it finds what either finds, and no bit is set but theirs
 pub record Unites (old other new : Filter) : Type 0 where
   pub found : (key : List ℕ) → Finds old key ⊎ Finds other key → Finds new key
+  pub only : (step : ℕ) → HasBit new.words.items step → HasBit old.words.items step ⊎ HasBit other.words.items step
   pub shape : HasSameShape old new
 
 -- whatever was found before still is

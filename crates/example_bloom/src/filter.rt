@@ -1,7 +1,7 @@
 //! The filter: bits in words, and the marks of a key among them.
 
-ghost use Rattle.std.specs.Prelude.{◌≡◌, ◌↔◌, ◌<◌, ℕ, true, length, IfOk};
-ghost use Rattle.example_bloom.specs.Filter.{Adds, Finds, HasBit, HasSameShape, HasWords, Marks, Unites, step_of};
+ghost use Rattle.std.specs.Prelude.{◌≡◌, ◌↔◌, ◌⊎◌, ◌<◌, ℕ, true, length, IfOk};
+ghost use Rattle.example_bloom.specs.Filter.{Adds, Finds, HasBit, HasSameShape, HasWords, IsEmpty, Marks, SameBit, Unites, step_of};
 
 use crate::shape::Shape;
 use rapidhash::v3::rapidhash_v3;
@@ -26,18 +26,21 @@ fn step(hash: u64, i: u32) -> u64
 }
 
 // Sets a bit.
-#[tactic(auto, using(crate::proofs::Bits::set_sets, crate::proofs::Bits::set_keeps))]
+#[tactic(auto, using(crate::proofs::Bits::set_sets, crate::proofs::Bits::set_keeps, crate::proofs::Bits::set_only))]
 fn set(words: &mut [u64], step: u64)
     requires { 0 < length words.old }
     ensures same { length words.new ≡ length words.old }
     ensures added { HasBit words.new step }
     ensures kept { (other : ℕ) → HasBit words.old other → HasBit words.new other }
+    ensures only { (other : ℕ) → HasBit words.new other →
+        HasBit words.old other ⊎ SameBit (length words.old) other step }
 {
     let len = words.len() as u64;
     words[(step % len) as usize] |= 1 << (step / len % 64);
 }
 
 // Sets all marks of a hash.
+#[tactic(auto, using(crate::proofs::Bits::marked_one))]
 fn mark(words: &mut [u64], marks: u32, hash: u64)
     requires { 0 < length words.old }
     ensures { Marks words.old words.new marks hash }
@@ -58,8 +61,9 @@ fn is_set(words: &[u64], step: u64) -> bool
 
 impl Filter {
     /// A filter with no mark set. It allocates once.
+    #[tactic(auto, using(crate::proofs::Bits::zeros_have_none))]
     pub fn new(alloc: Global, shape: Shape) -> Result<Filter, AllocError>
-        ensures { IfOk result HasWords }
+        ensures { IfOk result IsEmpty }
     {
         let words = vec![in alloc; 0u64; shape.words()]?;
         Ok(Filter {
@@ -69,8 +73,11 @@ impl Filter {
     }
 
     /// A filter of the same shape, with no mark set. It allocates once.
+    #[tactic(auto, using(crate::proofs::Bits::zeros_have_none))]
     pub fn empty_alike(&self, alloc: Global) -> Result<Filter, AllocError>
-        ensures { IfOk result (HasSameShape self.now) }
+        requires { HasWords self.now }
+        ensures empty { IfOk result IsEmpty }
+        ensures shape { IfOk result (HasSameShape self.now) }
     {
         let words = vec![in alloc; 0u64; self.words.len()]?;
         Ok(Filter {

@@ -1,7 +1,7 @@
 use Rattle.std.proofs.Common.{rules, ◌≡◌, ◌<◌, ℕ, length, List, inl, inr, ⊎_elim, ◌⊎◌, slice_index}
 use Rattle.std.specs.Int.RustNames.{bit_or}
 use Rattle.example_bloom.specs.Filter.{Finds, hash_of, step_of}
-use Rattle.example_bloom.proofs.Bits.{joined_has}
+use Rattle.example_bloom.proofs.Bits.{joined_has, joined_only}
 use Rattle.example_bloom.proofs.filter.Filter.unite.Goals as goal
 
 -- src/filter.rt:99:5
@@ -17,5 +17,6 @@ returns c =
       found = λ (key : List ℕ) (either : Finds c.args.self.now key ⊎ Finds c.args.other.now key) (i : ℕ) inside.
           joined_has words others joined c.requires.shape.words same each c.requires.words (step_of (hash_of key) i)
           (⊎_elim (λ (has : Finds c.args.self.now key). inl (has i (search rules))) (λ (has : Finds c.args.other.now key). inr (has i (search rules))) either);
+      only = λ step has. joined_only words others joined c.requires.shape.words same each c.requires.words step has;
       shape = c.loop-i.invariant.shape;
     }
