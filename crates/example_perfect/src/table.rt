@@ -82,7 +82,7 @@ impl<'k> Table<'k> {
     // Whether each key's index stands at its place.
     fn is_perfect(&self) -> bool
         requires { HasRoom self.now }
-        ensures { result ≡ true → IsPerfect self.now }
+        ensures { result ≡ true ↔ IsPerfect self.now }
     {
         for i in 0..self.keys.len() {
             let key = self.keys[i];
