@@ -1,5 +1,6 @@
 //! How a table is built: the keys of a bucket go to free places by one seed, the largest bucket
-//! first. Nothing is proved of it but that it is safe and ends: the table is checked afterwards.
+//! first. Nothing is proved of it but that it is safe, ends and makes as many places as keys: what
+//! stands at them is checked afterwards.
 
 ghost use Rattle.std.specs.Prelude.{◌≡◌, ◌<◌, ◌≤◌, length, IfOk};
 ghost use Rattle.example_perfect.specs.Table.{HasPlaces};
@@ -46,7 +47,7 @@ fn members<'k>(
     Ok(members)
 }
 
-// Fails where two neighbours are one key, and so where any two members are.
+// Fails where two neighbours are one key, and so, in the members' order, where any two are.
 fn refuse_twins(members: &[Member<'_>]) -> Result<(), BuildError> {
     for pair in members.windows(2) {
         if let [first, second] = pair

@@ -21,26 +21,28 @@ loop-i-preserved c = λ (i : ℕ) (key : List ℕ) below at.
 pub returns-then-index-i : goal.returns-then-index-i
 returns-then-index-i c =
     let none : Bor (List ℕ) = record { ref_ptr = (0, 0); now = [] } in
-    let inside : c.loop-i.i < length c.args.self.now.keys.now = search rules in
-    ( (λ no. search rules)
-    , (λ (perfect : IsPerfect c.args.self.now).
-        let key : List ℕ = (get_or c.args.self.now.keys.now c.loop-i.i none).now in
-        let stands : slice_index c.args.self.now.places.items (place_in c.args.self.now key) ≡ c.loop-i.i =
+    let inside : c.loop-i.i < length c.args.self.now.keys.now = search rules in (
+      (λ no. search rules),
+      (λ (perfect : IsPerfect c.args.self.now).
+          let key : List ℕ = (get_or c.args.self.now.keys.now c.loop-i.i none).now in
+          let stands : slice_index c.args.self.now.places.items (place_in c.args.self.now key) ≡ c.loop-i.i =
           perfect.stands c.loop-i.i key (key_there c.args.self.now.keys.now c.loop-i.i none inside) in
-        let read : slice_index c.args.self.now.places.items c.place.result ≡ c.index.result.now =
+          let read : slice_index c.args.self.now.places.items c.place.result ≡ c.index.result.now =
           sym (get_or_default_zero c.args.self.now.places.items c.place.result c.index.result.now c.place.ensures.inside) ∙ sym c.index.ensures in
-        let told : c.index.result.now ≡ c.loop-i.i =
+          let told : c.index.result.now ≡ c.loop-i.i =
           sym read ∙ ap (λ (p : ℕ). slice_index c.args.self.now.places.items p) c.place.ensures.value ∙ stands in
-        absurd (search rules)) )
+          absurd (search rules)),
+    )
 
 pub returns : goal.returns
 returns c =
     let stands : (i : ℕ) (key : List ℕ) → IsKeyAt c.args.self.now i key → slice_index c.args.self.now.places.items (place_in c.args.self.now key) ≡ i =
-      λ i key at. let inside = key_within c.args.self.now.keys.now i key at in c.loop-i.invariant i key (search rules) at in
-    ( (λ yes. record {
+    λ i key at. let inside = key_within c.args.self.now.keys.now i key at in c.loop-i.invariant i key (search rules) at in (
+      (λ yes. record {
         room = c.requires;
         inside = λ i key at. place_inside key (slice_index c.args.self.now.seeds.items (bucket_of key (length c.args.self.now.seeds.items))) (length c.args.self.now.places.items) c.requires.place;
         stands = stands;
         own = λ i j key other at there same. sym (stands i key at) ∙ ap (λ (p : ℕ). slice_index c.args.self.now.places.items p) same ∙ stands j other there;
-      })
-    , (λ perfect. refl) )
+      }),
+      (λ perfect. refl),
+    )
