@@ -41,8 +41,8 @@ impl Shape {
     /// The shape for `keys` keys, where at most one in `one_in` other keys is to be found.
     ///
     /// A key has the least number of marks whose power of two is `one_in` or more. The bits are
-    /// 1.4427 times all marks, at which about half of them come to be set, and a part of a bit or of
-    /// a word counts as a whole one.
+    /// 1.4427 times all marks, at which about half of them come to be set. A part of a bit a key,
+    /// and a part of a word, count as a whole one.
     pub fn new(keys: u64, one_in: u32) -> Result<Shape, ShapeError> {
         if one_in < 2 {
             return Err(ShapeError::Rate);

@@ -1,7 +1,8 @@
 //! The table: a place of its own for each key of a fixed set.
 
 ghost use Rattle.std.specs.Prelude.{◌≡◌, ◌↔◌, ◌<◌, ℕ, Some, true, length, IfOk};
-ghost use Rattle.example_perfect.specs.Table.{HasRoom, IsKeyAt, IsPerfect, bucket_of, place_in, place_of};
+ghost use Rattle.example_perfect.specs.Table.{HasRoom, IsKeyAt, IsPerfect};
+ghost use Rattle.example_perfect.specs.Table.{bucket_of, place_in, place_of};
 
 use crate::displace::displace;
 use rapidhash::v3::{RapidSecrets, rapidhash_v3, rapidhash_v3_seeded};
