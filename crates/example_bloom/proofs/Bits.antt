@@ -6,7 +6,7 @@ use Rattle.std.specs.Int.{bit_at, w64}
 use mir.Val.{bits}
 use Rattle.std.specs.Int.RustNames.{bit_or}
 use Rattle.std.proofs.lemmas.List.{get_or-replicate, get_or_past, length-replicate}
-use Rattle.example_bloom.specs.Filter.{HasBit, IsMark, SameBit, step_of}
+use Rattle.example_bloom.specs.Filter.{HasBit, IsMark, SameBit, Sets, step_of}
 
 max_l : (x y : ℕ) → x ≡ 1 → y < 2 → max x y ≡ 1
 max_l x y is below = omega arith
@@ -45,13 +45,13 @@ bit_stays words at mask place i inside was =
     (λ other. ap (λ (n : ℕ). bit_at n i) (get_or-set_other words at place word 0 other) ∙ was)
     (cases_eq place at)
 
-pub set_keeps : (words : List ℕ) (at mask step : ℕ) → at < length words
+set_keeps : (words : List ℕ) (at mask step : ℕ) → at < length words
     → HasBit words step → HasBit (set words at (bit_or (get_or words at 0) mask)) step
 set_keeps words at mask step inside was =
     rw (length-set words at (bit_or (get_or words at 0) mask)) (bit_stays words at mask (step % length words) (step / length words % 64) inside was)
 
 -- the bit of a step is set behind the `|` that sets it
-pub set_sets : (words : List ℕ) (step : ℕ) → 0 < length words
+set_sets : (words : List ℕ) (step : ℕ) → 0 < length words
     → HasBit (set words (step % length words) (bit_or (get_or words (step % length words) 0) (1 * 2 ^ (step / length words % 64) % 2 ^ bits w64))) step
 set_sets words step some =
     let at : ℕ = step % length words in
@@ -89,7 +89,7 @@ joined_only words others joined same_others same_joined each some step has =
     rw same_others (max_one (bit_at (get_or words at 0) i) (bit_at (get_or others at 0) i) is)
 
 -- a bit that is set behind the `|` that sets a step's bit was set before, or is the step's
-pub set_only : (words : List ℕ) (step other : ℕ) → 0 < length words
+set_only : (words : List ℕ) (step other : ℕ) → 0 < length words
     → HasBit (set words (step % length words) (bit_or (get_or words (step % length words) 0) (1 * 2 ^ (step / length words % 64) % 2 ^ bits w64))) other
     → HasBit words other ⊎ SameBit (length words) other step
 set_only words step other some has =
@@ -109,6 +109,16 @@ set_only words step other some has =
     (cases_eq i k))
     (λ apart. inl (ap (λ (n : ℕ). bit_at n i) (sym (get_or-set_other words at place word 0 apart)) ∙ has'))
     (cases_eq place at)
+
+-- the `|` that sets a step's bit sets just this one
+pub set_is : (words : List ℕ) (step : ℕ) → 0 < length words
+    → Sets words (set words (step % length words) (bit_or (get_or words (step % length words) 0) (1 * 2 ^ (step / length words % 64) % 2 ^ bits w64))) step
+set_is words step some = record {
+  added = set_sets words step some;
+  kept = λ other was. set_keeps words (step % length words) (1 * 2 ^ (step / length words % 64) % 2 ^ bits w64) other (mod-lt step some) was;
+  only = λ other has. set_only words step other some has;
+  same = length-set words (step % length words) (bit_or (get_or words (step % length words) 0) (1 * 2 ^ (step / length words % 64) % 2 ^ bits w64));
+}
 
 -- one more mark
 pub marked_one : (old mid new : List ℕ) (i hash : ℕ) → length mid ≡ length old

@@ -26,6 +26,13 @@ HasMarks words marks hash = (i : ℕ) → i < marks → HasBit words (step_of ha
 abbrev pub SameBit : ℕ → ℕ → ℕ → Type 0
 SameBit words step other = (step % words ≡ other % words) × (step / words % 64 ≡ other / words % 64)
 
+-- the bit of a step was set, every bit that was set before still is, and no other bit is
+pub record Sets (old new : List ℕ) (step : ℕ) : Type 0 where
+  pub added : HasBit new step
+  pub kept : (other : ℕ) → HasBit old other → HasBit new other
+  pub only : (other : ℕ) → HasBit new other → HasBit old other ⊎ SameBit (length old) other step
+  pub same : length new ≡ length old
+
 -- a step leads to one of so many marks of a hash
 abbrev pub IsMark : ℕ → ℕ → ℕ → ℕ → Type 0
 IsMark words marks hash step = (i : ℕ) × (i < marks) × SameBit words step (step_of hash i)

@@ -1,8 +1,8 @@
 //! The filter: bits in words, and the marks of a key among them.
 
-ghost use Rattle.std.specs.Prelude.{◌≡◌, ◌↔◌, ◌⊎◌, ◌<◌, ℕ, true, length, IfOk};
+ghost use Rattle.std.specs.Prelude.{◌≡◌, ◌↔◌, ◌<◌, ℕ, true, length, IfOk};
 ghost use Rattle.example_bloom.specs.Filter.{Adds, Finds, HasSameShape, HasWords, IsEmpty, Unites};
-ghost use Rattle.example_bloom.specs.Filter.{HasBit, Marks, SameBit, step_of};
+ghost use Rattle.example_bloom.specs.Filter.{HasBit, Marks, Sets, step_of};
 
 use crate::shape::Shape;
 use rapidhash::v3::rapidhash_v3;
@@ -27,14 +27,9 @@ fn step(hash: u64, i: u32) -> u64
 }
 
 // Sets a bit.
-#[tactic(auto, using(crate::proofs::Bits::set_sets, crate::proofs::Bits::set_keeps, crate::proofs::Bits::set_only))]
 fn set(words: &mut [u64], step: u64)
     requires { 0 < length words.old }
-    ensures same { length words.new ≡ length words.old }
-    ensures added { HasBit words.new step }
-    ensures kept { (other : ℕ) → HasBit words.old other → HasBit words.new other }
-    ensures only { (other : ℕ) → HasBit words.new other →
-        HasBit words.old other ⊎ SameBit (length words.old) other step }
+    ensures { Sets words.old words.new step }
 {
     let len = words.len() as u64;
     words[(step % len) as usize] |= 1 << (step / len % 64);
