@@ -1,0 +1,54 @@
+//! What can go wrong.
+
+use std::alloc::AllocError;
+use std::io;
+use std::io::ErrorKind;
+use std::process::ExitCode;
+use thiserror::Error;
+
+/// Why the program stopped.
+#[derive(Debug, Drop, Error)]
+pub enum Fault {
+    #[error("a word is not UTF-8")]
+    Words,
+    #[error("no option has the name {0}")]
+    Option(String),
+    #[error("no node is named")]
+    NoNode,
+    #[error("the node {0} is named twice")]
+    Twice(String),
+    #[error("--without {0}: no such node")]
+    Without(String),
+    #[error("reading: {0}")]
+    Read(io::Error),
+    #[error("writing: {0}")]
+    Write(io::Error),
+    #[error("out of memory")]
+    Memory(#[from(alloc)] AllocError),
+}
+
+impl Fault {
+    /// The exit status: 2 for words that ask for nothing that can be done, and 1 for a run that failed.
+    pub fn status(&self) -> ExitCode {
+        match self {
+            Fault::Read(_) | Fault::Write(_) | Fault::Memory(_) => ExitCode::from(1),
+            _ => ExitCode::from(2),
+        }
+    }
+
+    /// A failed read, or refused memory.
+    pub fn of_read(error: io::Error) -> Fault {
+        if error.kind() == ErrorKind::OutOfMemory {
+            return Fault::Memory(AllocError);
+        }
+        Fault::Read(error)
+    }
+
+    /// A failed write, or refused memory.
+    pub fn of_write(error: io::Error) -> Fault {
+        if error.kind() == ErrorKind::OutOfMemory {
+            return Fault::Memory(AllocError);
+        }
+        Fault::Write(error)
+    }
+}

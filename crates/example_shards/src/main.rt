@@ -1,0 +1,41 @@
+//! Spreads the lines of standard input over named nodes: each line goes to the node whose hash with
+//! the line is greatest. Where a node goes, only its own lines move; where one comes, lines move to
+//! it alone.
+#![tactic(auto)]
+
+mod fault;
+mod nodes;
+mod shards;
+mod spread;
+mod words;
+
+use fault::Fault;
+use std::io;
+use std::io::{BufReader, BufWriter};
+use std::process::ExitCode;
+use words::gather;
+
+fn run(rt: &HostRuntime) -> Result<(), Fault> {
+    let words = gather(rt)?;
+    let nodes = words.nodes.as_slice();
+    let mut input = BufReader::new(rt.alloc(), rt.reader()).map_err(Fault::of_read)?;
+    let mut out = BufWriter::new(rt.alloc(), io::writer(rt)).map_err(Fault::of_write)?;
+    let mut line = Vec::new(rt.alloc());
+    if !words.counts {
+        return spread::spread(&mut input, &mut out, &mut line, nodes);
+    }
+    let mut counts = vec![in rt.alloc(); 0u64; nodes.len()]?;
+    spread::count(&mut input, &mut line, nodes, &mut counts)?;
+    spread::print_counts(&mut out, nodes, &counts)
+}
+
+fn main(rt: HostRuntime) -> ExitCode {
+    match run(&rt) {
+        Ok(()) => ExitCode::SUCCESS,
+        Err(fault) => {
+            // Where standard error takes no text, the status still tells the fault.
+            let _ = eprintln!(rt; "example_shards: {fault}");
+            fault.status()
+        }
+    }
+}
