@@ -1,6 +1,6 @@
 -- The greatest of a list, where an element comes or goes.
-use Rattle.std.proofs.Common.{◌≡◌, ◌≢◌, ◌⊎◌, ◌≤◌, ◌<◌, ◌+◌, ℕ, suc, List, [], ◌∷◌, ◌++◌, Option, Some, None, length, take, drop, get_or, refl, ap, subst, arith, ◌∙◌, sym, drop-cons, add-one, inl, inr}
-use Rattle.std.specs.Prelude.{slice_get, insert, remove, All, IfSome, MatchOption, nat_lt, ⊤}
+use Rattle.std.proofs.Common.{◌≡◌, ◌≢◌, ◌⊎◌, ◌≤◌, ◌<◌, ◌+◌, ℕ, suc, List, [], ◌∷◌, ◌++◌, Option, Some, None, length, take, drop, get_or, refl, ap, arith, ◌∙◌, sym, drop-cons, add-one}
+use Rattle.std.specs.Prelude.{slice_get, insert, remove, All, IfSome}
 use Rattle.std.proofs.Math.Seq.{take-suc}
 use Rattle.std.proofs.lemmas.List.{take-append-drop}
 use Rattle.std.proofs.lemmas.List.Elements.{All-nil, All-cons, All-weaker}

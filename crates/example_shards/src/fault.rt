@@ -9,6 +9,7 @@ use thiserror::Error;
 /// Why the program stopped.
 #[derive(Debug, Drop, Error)]
 pub enum Fault {
+    /// `env::args` returns no word at all where one of them is not UTF-8.
     #[error("a word is not UTF-8")]
     Words,
     #[error("no option has the name {0}")]
@@ -17,6 +18,8 @@ pub enum Fault {
     NoNode,
     #[error("the node {0} is named twice")]
     Twice(String),
+    #[error("--without: no node is named behind it")]
+    Behind,
     #[error("--without {0}: no such node")]
     Without(String),
     #[error("reading: {0}")]

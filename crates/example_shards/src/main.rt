@@ -1,12 +1,17 @@
 //! Spreads the lines of standard input over named nodes: each line goes to the node whose hash with
 //! the line is greatest. Where a node goes, only its own lines move; where one comes, lines move to
 //! it alone.
+//!
+//! `example_shards NODE..` prints `NODE<tab>LINE` for each line, and with `--counts` only how many
+//! lines each node has. `--without NODE` takes a node out that was named before it.
 #![tactic(auto)]
 
 mod fault;
 mod nodes;
 mod shards;
 mod spread;
+#[cfg(test)]
+mod tests;
 mod words;
 
 use fault::Fault;

@@ -28,7 +28,10 @@ impl Node {
             seeded_secrets 7 (default_hash v3 (options true false) (string_bytes name)) }
     {
         let hash = rapidhash_v3(name.as_bytes());
-        Node { name, secrets: RapidSecrets::seed(hash) }
+        Node {
+            name,
+            secrets: RapidSecrets::seed(hash),
+        }
     }
 
     /// The hash of a key under the node's secrets.

@@ -30,7 +30,8 @@ pub fn spread<R: BufRead, W: Write>(
         }
         let node = &nodes[pick(nodes, line.as_slice())];
         line.push(b'\n')?;
-        out.write_all(node.name.as_bytes()).map_err(Fault::of_write)?;
+        out.write_all(node.name.as_bytes())
+            .map_err(Fault::of_write)?;
         out.write_all(b"\t").map_err(Fault::of_write)?;
         out.write_all(line.as_slice()).map_err(Fault::of_write)?;
     }

@@ -69,6 +69,9 @@ pub fn gather(rt: &(impl Env + AllocGlobal)) -> Result<Words, Fault> {
             add(&mut nodes, word)?;
         }
     }
+    if without {
+        return Err(Fault::Behind);
+    }
     if nodes.is_empty() {
         return Err(Fault::NoNode);
     }

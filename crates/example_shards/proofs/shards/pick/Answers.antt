@@ -1,4 +1,4 @@
-use Rattle.std.proofs.Common.{◌≡◌, ◌∙◌, sym, Some, refl, arith, rules}
+use Rattle.std.proofs.Common.{◌≡◌, ◌∙◌, sym, Some, refl, arith}
 use Rattle.std.specs.Prelude.{slice_get}
 use Rattle.std.proofs.lemmas.Option.{slice_get_read}
 use Rattle.example_shards.specs.Nodes.{score_of}
@@ -23,12 +23,12 @@ loop-at-preserved c =
     let at = c.loop-at.at in
     let here : slice_get nodes at ≡ Some c.index-nodes-at.result = slice_get_read nodes _ at _ refl c.loop-at-test.true c.index-nodes-at.is in
     elim c.if-score-best_score.branch [
-      then-score-best_score w ↦ record {
+      | then-score-best_score w ↦ record {
         inside = omega arith;
         node = rw w.best-is (greatest_later score nodes at c.loop-at.best c.loop-at.best_score c.index-nodes-at.result here c.loop-at.invariant.inside c.loop-at.invariant.node c.loop-at.invariant.score (rw c.score-score.ensures at w.if-score-best_score.true));
         score = rw (w.best-is, w.best_score-is, here) c.score-score.ensures;
       }
-    | else-score-best_score w ↦ record {
+      | else-score-best_score w ↦ record {
         inside = omega arith;
         node = rw w.best-is (greatest_former score nodes at c.loop-at.best c.loop-at.best_score c.index-nodes-at.result here c.loop-at.invariant.inside c.loop-at.invariant.node c.loop-at.invariant.score (rw c.score-score.ensures at w.if-score-best_score.false));
         score = rw (w.best-is, w.best_score-is) c.loop-at.invariant.score;

@@ -1,4 +1,4 @@
-use Rattle.std.proofs.Common.{◌≡◌, ◌<◌, ℕ, take}
+use Rattle.std.proofs.Common.{◌≡◌, ◌<◌, take}
 use Rattle.std.specs.Prelude.{slice_get, IfSome}
 use Rattle.example_shards.specs.Nodes.{node_of, score_of}
 use Rattle.example_shards.proofs.shards.pick.Given as goal
