@@ -1,13 +1,100 @@
-//! Prints groups of equal files.
+//! Prints groups of equal files, as `fdupes -r` does.
+//!
+//! `example_dedupe NAME..` takes files and folders, and all that is below the folders. It prints the
+//! names of each group of two and more files of equal bytes, a name a line, and an empty line behind
+//! each group.
 #![tactic(auto)]
 
 mod compare;
+mod fault;
+mod groups;
+mod names;
+mod print;
+mod store;
 
-use std::io;
+ghost use Rattle.std.specs.Prelude.{true, false};
+ghost use Rattle.rapidhash_portable.specs.Form.{v3};
+ghost use Rattle.rapidhash_portable.specs.Options.{options};
+ghost use Rattle.rapidhash_portable.specs.Seeded.{default_hash};
 
-fn main(rt: HostRuntime) -> io::Result<()> {
-    let mut a: &[u8] = b"abc";
-    let mut b: &[u8] = b"abc";
-    let same = compare::same_bytes(&mut a, &mut b)?;
-    println!(rt; "{same}")
+use fault::Fault;
+use names::{Names, Search};
+use rapidhash::inner::{GlobalSecrets, SeedSource};
+use rapidhash::v3::rapidhash_v3_file;
+use rapidhash::{HashSetExt, fast};
+use std::alloc::AllocError;
+use std::io::{BufWriter, ErrorKind, Read};
+use std::process::ExitCode;
+use std::random::RandomSource;
+use std::{env, io};
+use store::Fingerprint;
+
+/// The hash of rapidhash V3, with its default seed.
+struct Rapidhash;
+
+impl Fingerprint for Rapidhash {
+    ghost number = { λ _ bytes. default_hash v3 (options true false) bytes };
+
+    fn of<R: Read + Drop>(&self, reader: R) -> io::Result<u64> {
+        rapidhash_v3_file(reader)
+    }
+}
+
+fn random_word(rt: &HostRuntime) -> Result<u64, Fault> {
+    let mut bytes = [0; 8];
+    rt.fill_bytes(&mut bytes).map_err(Fault::Random)?;
+    Ok(u64::from_le_bytes(bytes))
+}
+
+// The names that the words give.
+fn gather(rt: &HostRuntime) -> Result<Vec<String>, Fault> {
+    let words = match env::args(rt) {
+        Ok(words) => words,
+        Err(error) if error.kind() == ErrorKind::OutOfMemory => {
+            return Err(Fault::Memory(AllocError));
+        }
+        Err(_) => return Err(Fault::Words),
+    };
+    let mut names = Vec::new(rt.alloc());
+    for word in words.skip(1) {
+        if word.as_str().starts_with("--") {
+            return Err(Fault::Option(word));
+        }
+        names.push(word)?;
+    }
+    if names.is_empty() {
+        return Err(Fault::NoName);
+    }
+    Ok(names)
+}
+
+// Whether all that was named could be read.
+fn run(rt: &HostRuntime) -> Result<bool, Fault> {
+    let names = gather(rt)?;
+    let secrets = GlobalSecrets::new(random_word(rt)?);
+    let mut source = SeedSource::new(&secrets, random_word(rt)?);
+    let state = fast::RandomState::new(&secrets, &mut source);
+    let mut search = Search::new(rt, HashSetExt::new(rt.alloc(), state));
+    for name in names {
+        search.find(rt, name)?;
+    }
+    search.files.sort()?;
+    let files = search.files.as_slice();
+    let store = Names { rt, files };
+    let places = groups::groups(&store, &Rapidhash, files.len(), rt.alloc(), state)?;
+    let mut out = BufWriter::new(rt.alloc(), io::writer(rt)).map_err(Fault::of_write)?;
+    let failures = print::print_groups(rt, &mut out, files, places.as_slice())?;
+    Ok(search.failures == 0 && failures == 0)
+}
+
+fn main(rt: HostRuntime) -> ExitCode {
+    match run(&rt) {
+        Ok(true) => ExitCode::SUCCESS,
+        Ok(false) => ExitCode::FAILURE,
+        Err(fault) => {
+            // Where standard error takes no text, the status still tells the fault.
+            let _ = eprintln!(rt; "example_dedupe: {fault}");
+            fault.status()
+        }
+    }
 }

@@ -1,0 +1,43 @@
+//! What stops the program.
+
+use std::alloc::AllocError;
+use std::io;
+use std::io::ErrorKind;
+use std::process::ExitCode;
+use thiserror::Error;
+
+/// Why the program stopped. A file that cannot be read does not stop it.
+#[derive(Debug, Drop, Error)]
+pub enum Fault {
+    /// `env::args` returns no word at all where one of them is not UTF-8.
+    #[error("a word is not UTF-8")]
+    Words,
+    #[error("no file or folder is named")]
+    NoName,
+    #[error("no option has the name {0}")]
+    Option(String),
+    #[error("no random number: {0}")]
+    Random(io::Error),
+    #[error("writing: {0}")]
+    Write(io::Error),
+    #[error("out of memory")]
+    Memory(#[from(alloc)] AllocError),
+}
+
+impl Fault {
+    /// The exit status: 2 for words that ask for nothing that can be done, and 1 for a run that failed.
+    pub fn status(&self) -> ExitCode {
+        match self {
+            Fault::Words | Fault::NoName | Fault::Option(_) => ExitCode::from(2),
+            _ => ExitCode::from(1),
+        }
+    }
+
+    /// A failed write, or refused memory.
+    pub fn of_write(error: io::Error) -> Fault {
+        if error.kind() == ErrorKind::OutOfMemory {
+            return Fault::Memory(AllocError);
+        }
+        Fault::Write(error)
+    }
+}

@@ -1,0 +1,131 @@
+//! The files below the names that the words give.
+
+ghost use Rattle.std.specs.Prelude.{None};
+
+use crate::fault::Fault;
+use crate::store::Store;
+use rapidhash::RapidHashSet;
+use std::fs;
+use std::fs::{File, Metadata};
+use std::io;
+use std::io::ErrorKind;
+use std::os::unix::fs::MetadataExt;
+
+/// A file: its name, and its size when it was found.
+#[derive(Drop, PartialEq, Eq, PartialOrd, Ord)]
+pub struct Named {
+    pub name: String,
+    pub size: u64,
+}
+
+/// Files of the operating system, by their names.
+#[derive(Drop)]
+pub struct Names<'a> {
+    pub rt: &'a HostRuntime,
+    pub files: &'a [Named],
+}
+
+impl Store for Names<'_> {
+    type Reader = File;
+
+    ghost bytes = { λ store file. None };
+
+    fn size(&self, file: usize) -> u64 {
+        match self.files.get(file) {
+            Some(named) => named.size,
+            None => 0,
+        }
+    }
+
+    fn open(&self, file: usize) -> io::Result<File> {
+        match self.files.get(file) {
+            Some(named) => File::open(self.rt, named.name.as_str()),
+            None => Err(io::Error::from(ErrorKind::NotFound)),
+        }
+    }
+}
+
+/// A search for files: what was found, and what is still to be visited.
+#[derive(Drop)]
+pub struct Search<'s> {
+    /// The files that were found.
+    pub files: Vec<Named>,
+    /// How many names could not be read. Each was told on standard error.
+    pub failures: u64,
+    folders: Vec<String>,
+    seen: RapidHashSet<'s, (u64, u64)>,
+}
+
+/// Tells a failure in one line on standard error. Where that takes no text, the status still does.
+pub fn tell(rt: &HostRuntime, name: &str, error: &io::Error) {
+    let _ = eprintln!(rt; "example_dedupe: {name}: {error}");
+}
+
+impl<'s> Search<'s> {
+    /// A search that has found nothing.
+    pub fn new(rt: &HostRuntime, seen: RapidHashSet<'s, (u64, u64)>) -> Search<'s> {
+        Search {
+            files: Vec::new(rt.alloc()),
+            failures: 0,
+            folders: Vec::new(rt.alloc()),
+            seen,
+        }
+    }
+
+    fn fail(&mut self, rt: &HostRuntime, name: &str, error: io::Error) -> Result<(), Fault> {
+        tell(rt, name, &error);
+        self.failures = self.failures.saturating_add(1);
+        Ok(())
+    }
+
+    // A file is taken once, whatever the number of its names. What is neither a file nor a folder,
+    // as a symbolic link below a folder, is left out.
+    fn visit(&mut self, name: String, metadata: Metadata) -> Result<(), Fault> {
+        if metadata.is_dir() {
+            self.folders.push(name)?;
+        } else if metadata.is_file() && self.seen.insert((metadata.dev(), metadata.ino()))? {
+            let size = metadata.len();
+            self.files.push(Named { name, size })?;
+        }
+        Ok(())
+    }
+
+    // The names of one folder.
+    fn visit_folder(&mut self, rt: &HostRuntime, folder: &str) -> Result<(), Fault> {
+        let entries = match fs::read_dir(rt, folder) {
+            Ok(entries) => entries,
+            Err(error) => return self.fail(rt, folder, error),
+        };
+        for entry in entries {
+            let entry = match entry {
+                Ok(entry) => entry,
+                Err(error) => {
+                    self.fail(rt, folder, error)?;
+                    continue;
+                }
+            };
+            let name = String::from_str(rt.alloc(), entry.path().to_string_lossy())?;
+            match entry.metadata() {
+                Ok(metadata) => self.visit(name, metadata)?,
+                Err(error) => self.fail(rt, name.as_str(), error)?,
+            }
+        }
+        Ok(())
+    }
+
+    /// Finds the files of a name, and of all folders below it. A name that is a symbolic link is
+    /// followed; one below a folder is not.
+    pub fn find(&mut self, rt: &HostRuntime, name: String) -> Result<(), Fault> {
+        match fs::metadata(rt, name.as_str()) {
+            Ok(metadata) => self.visit(name, metadata)?,
+            Err(error) => self.fail(rt, name.as_str(), error)?,
+        }
+        for _ in 0..u64::MAX {
+            let Some(folder) = self.folders.pop() else {
+                break;
+            };
+            self.visit_folder(rt, folder.as_str())?;
+        }
+        Ok(())
+    }
+}

@@ -1,0 +1,35 @@
+//! Where files come from, and what they are told apart by.
+
+ghost use Rattle.std.specs.Prelude.{◌≡◌, ℕ, List, Option, IfOk, IfSome, length};
+
+use std::io;
+use std::io::Read;
+
+/// Files by their numbers.
+pub trait Store {
+    /// What a file is read by.
+    type Reader: Read + Drop;
+
+    // The bytes of a file, where its readers tell them. Every reader tells the same ones.
+    ghost bytes: { Self → ℕ → Option (List ℕ) };
+
+    /// How many bytes a file has.
+    fn size(&self, file: usize) -> u64
+        ensures { IfSome (bytes self.now file) (λ xs. result ≡ length xs) };
+
+    /// A reader at the start of a file.
+    fn open(&self, file: usize) -> io::Result<Self::Reader>
+        ensures { IfOk result (λ reader.
+            Self.Reader.remaining reader ≡ bytes self.now file) };
+}
+
+/// A number made of a file's bytes. Nothing is asked of it but that equal bytes have equal numbers.
+pub trait Fingerprint {
+    // The number of some bytes.
+    ghost number: { Self → List ℕ → ℕ };
+
+    /// The number of all that a reader has.
+    fn of<R: Read + Drop>(&self, reader: R) -> io::Result<u64>
+        ensures { IfOk result (λ found. IfSome (R.remaining reader) (λ xs.
+            found ≡ number self.now xs)) };
+}
