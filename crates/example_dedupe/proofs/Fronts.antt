@@ -25,11 +25,11 @@ shorter p q x x' y y' left ends right less same =
 different : (x x' y y' p q : List ℕ) (size : ℕ) → x ≡ p ++ x' → y ≡ q ++ y' → length p ≤ size → length q ≤ size → (length p < size → x' ≡ []) → (length q < size → y' ≡ []) → p ≢ q → x ≡ y → ⊥
 different x x' y y' p q size left right left_in right_in left_end right_end differ same =
     ⊎_elim (λ (long : length p ≡ length q). differ (front_of p q x' y' long (sym left ∙ same ∙ right)))
-        (λ (uneven : length p ≡ length q → ⊥). ⊎_elim
-            (λ (less : length p < length q). shorter p q x x' y y' left (left_end (omega arith)) right less same)
-            (λ (more : length q ≤ length p). shorter q p y y' x x' right (right_end (omega arith)) left (omega arith) (sym same))
-            (cases_lt (length p) (length q)))
-        (cases_eq (length p) (length q))
+    (λ (uneven : length p ≡ length q → ⊥). ⊎_elim
+    (λ (less : length p < length q). shorter p q x x' y y' left (left_end (omega arith)) right less same)
+    (λ (more : length q ≤ length p). shorter q p y y' x x' right (right_end (omega arith)) left (omega arith) (sym same))
+    (cases_lt (length p) (length q)))
+    (cases_eq (length p) (length q))
 
 -- pieces differ: of readers that end only where a piece is short
 pub pieces_differ : (a a' b b' : Option (List ℕ)) (p q : List ℕ) (size : ℕ) → Consumes a a' p → Consumes b b' q → length p ≤ size → length q ≤ size → (length p < size → IsAtEnd a') → (length q < size → IsAtEnd b') → p ≢ q → SameBytes false a b
@@ -56,9 +56,10 @@ behind_front None a' b b' same shared rest = tt
 behind_front (Some x) None b b' same shared rest = absurd shared.of_left
 behind_front (Some x) (Some x') None b' same shared rest = tt
 behind_front (Some x) (Some x') (Some y) None same shared rest = absurd shared.of_right
-behind_front (Some x) (Some x') (Some y) (Some y') same shared rest =
-    ((λ (yes : same ≡ true). shared.of_left ∙ ap (λ (l : List ℕ). shared.front ++ l) (rest.0 yes) ∙ sym shared.of_right),
-     (λ (equal : x ≡ y). rest.1 (append_cancel_left shared.front x' y' (sym shared.of_left ∙ equal ∙ shared.of_right))))
+behind_front (Some x) (Some x') (Some y) (Some y') same shared rest = (
+  (λ (yes : same ≡ true). shared.of_left ∙ ap (λ (l : List ℕ). shared.front ++ l) (rest.0 yes) ∙ sym shared.of_right),
+  (λ (equal : x ≡ y). rest.1 (append_cancel_left shared.front x' y' (sym shared.of_left ∙ equal ∙ shared.of_right))),
+)
 
 -- a longer common front
 pub longer_front : (a a' a'' b b' b'' : Option (List ℕ)) → SharesFront a a' b b' → SharesFront a' a'' b' b'' → SharesFront a a'' b b''

@@ -55,15 +55,15 @@ joined_placed key bytes leaders leaders' places k l same among equal placed =
     let leads : slice_get places l ≡ Some (Ok l) = placed.are_leaders k l among in
     let before : l < length places = slice_get_within places l (Ok l) leads in
     let was : (r : ℕ) → slice_get (places ++ Ok l ∷ []) r ≡ Some (Ok r) → slice_get places r ≡ Some (Ok r) = λ r is.
-          ⊎_elim (λ (old : slice_get places r ≡ Some (Ok r)). old) (λ (new : (r ≡ length places) × (Ok l ≡ Ok r)). absurd (not_last l r (length places) before (ok_is l r new.1) new.0)) (old_or_new places (Ok l) r (Ok r) is) in
+    ⊎_elim (λ (old : slice_get places r ≡ Some (Ok r)). old) (λ (new : (r ≡ length places) × (Ok l ≡ Ok r)). absurd (not_last l r (length places) before (ok_is l r new.1) new.0)) (old_or_new places (Ok l) r (Ok r) is) in
     record {
       are_leaders = λ j r found. still places (Ok l) r (Ok r) (placed.are_leaders j r (subst (λ (ls : List ℕ). Contains ls r) (same j) found));
       are_found = λ r is. subst (λ (ls : List ℕ). Contains ls r) (sym (same (key (bytes r)))) (placed.are_found r (was r is));
       are_led = λ i m is. ⊎_elim
-        (λ (old : slice_get places i ≡ Some (Ok m)). let led = placed.are_led i m old in (still places (Ok l) m (Ok m) led.0, led.1))
-        (λ (new : (i ≡ length places) × (Ok l ≡ Ok m)). let is_l : l ≡ m = ok_is l m new.1 in
+          (λ (old : slice_get places i ≡ Some (Ok m)). let led = placed.are_led i m old in (still places (Ok l) m (Ok m) led.0, led.1))
+          (λ (new : (i ≡ length places) × (Ok l ≡ Ok m)). let is_l : l ≡ m = ok_is l m new.1 in
           (still places (Ok l) m (Ok m) (subst (λ (x : ℕ). slice_get places x ≡ Some (Ok x)) is_l leads), ap bytes (sym is_l) ∙ equal ∙ ap bytes (sym new.0)))
-        (old_or_new places (Ok l) i (Ok m) is);
+          (old_or_new places (Ok l) i (Ok m) is);
       are_apart = λ r s is also. placed.are_apart r s (was r is) (was s also);
     }
 
@@ -75,43 +75,44 @@ pub leading_placed : (key : List ℕ → ℕ) (bytes : ℕ → List ℕ) (leader
 leading_placed key bytes leaders leaders' places k n count keyed others added differ placed =
     let last : slice_get (places ++ Ok n ∷ []) n ≡ Some (Ok n) = subst (λ (x : ℕ). slice_get (places ++ Ok n ∷ []) x ≡ Some (Ok n)) count (last_is places (Ok n)) in
     let more : (j r : ℕ) → Contains (leaders j) r → Contains (leaders' j) r = λ j r among.
-          ⊎_elim (λ (same : j ≡ k). subst (λ (ls : List ℕ). Contains ls r) (sym (ap leaders' same ∙ added)) (Contains-append_left (leaders k) (n ∷ []) r (subst (λ (x : ℕ). Contains (leaders x) r) same among)))
-            (λ (other : j ≡ k → ⊥). subst (λ (ls : List ℕ). Contains ls r) (sym (others j other)) among)
-            (cases_eq j k) in
+    ⊎_elim (λ (same : j ≡ k). subst (λ (ls : List ℕ). Contains ls r) (sym (ap leaders' same ∙ added)) (Contains-append_left (leaders k) (n ∷ []) r (subst (λ (x : ℕ). Contains (leaders x) r) same among)))
+    (λ (other : j ≡ k → ⊥). subst (λ (ls : List ℕ). Contains ls r) (sym (others j other)) among)
+    (cases_eq j k) in
     let apart : (r : ℕ) → slice_get places r ≡ Some (Ok r) → bytes r ≡ bytes n → ⊥ = λ r is same.
-          All-contains (λ (l : ℕ). bytes l ≢ bytes n) (leaders k) r differ (subst (λ (x : ℕ). Contains (leaders x) r) (ap key same ∙ keyed) (placed.are_found r is)) same in
+    All-contains (λ (l : ℕ). bytes l ≢ bytes n) (leaders k) r differ (subst (λ (x : ℕ). Contains (leaders x) r) (ap key same ∙ keyed) (placed.are_found r is)) same in
     record {
       are_leaders = λ j r among. ⊎_elim
-        (λ (same : j ≡ k). ⊎_elim
+          (λ (same : j ≡ k). ⊎_elim
           (λ (old : Contains (leaders k) r). still places (Ok n) r (Ok r) (placed.are_leaders k r old))
           (λ (new : n ≡ r). subst (λ (x : ℕ). slice_get (places ++ Ok n ∷ []) x ≡ Some (Ok x)) new last)
           (Contains-push_cases (leaders k) n r (subst (λ (ls : List ℕ). Contains ls r) (ap leaders' same ∙ added) among)))
-        (λ (other : j ≡ k → ⊥). still places (Ok n) r (Ok r) (placed.are_leaders j r (subst (λ (ls : List ℕ). Contains ls r) (others j other) among)))
-        (cases_eq j k);
+          (λ (other : j ≡ k → ⊥). still places (Ok n) r (Ok r) (placed.are_leaders j r (subst (λ (ls : List ℕ). Contains ls r) (others j other) among)))
+          (cases_eq j k);
       are_found = λ r is. ⊎_elim
-        (λ (old : slice_get places r ≡ Some (Ok r)). more (key (bytes r)) r (placed.are_found r old))
-        (λ (new : (r ≡ length places) × (Ok n ≡ Ok r)). subst (λ (x : ℕ). Contains (leaders' (key (bytes x))) x) (ok_is n r new.1) (subst (λ (ls : List ℕ). Contains ls n) (sym (ap leaders' keyed ∙ added)) (Contains-push (leaders k) n)))
-        (old_or_new places (Ok n) r (Ok r) is);
+          (λ (old : slice_get places r ≡ Some (Ok r)). more (key (bytes r)) r (placed.are_found r old))
+          (λ (new : (r ≡ length places) × (Ok n ≡ Ok r)). subst (λ (x : ℕ). Contains (leaders' (key (bytes x))) x) (ok_is n r new.1) (subst (λ (ls : List ℕ). Contains ls n) (sym (ap leaders' keyed ∙ added)) (Contains-push (leaders k) n)))
+          (old_or_new places (Ok n) r (Ok r) is);
       are_led = λ i l is. ⊎_elim
-        (λ (old : slice_get places i ≡ Some (Ok l)). let led = placed.are_led i l old in (still places (Ok n) l (Ok l) led.0, led.1))
-        (λ (new : (i ≡ length places) × (Ok n ≡ Ok l)). let is_n : n ≡ l = ok_is n l new.1 in
+          (λ (old : slice_get places i ≡ Some (Ok l)). let led = placed.are_led i l old in (still places (Ok n) l (Ok l) led.0, led.1))
+          (λ (new : (i ≡ length places) × (Ok n ≡ Ok l)). let is_n : n ≡ l = ok_is n l new.1 in
           (subst (λ (x : ℕ). slice_get (places ++ Ok n ∷ []) x ≡ Some (Ok x)) is_n last, ap bytes (sym is_n ∙ sym count ∙ sym new.0)))
-        (old_or_new places (Ok n) i (Ok l) is);
+          (old_or_new places (Ok n) i (Ok l) is);
       are_apart = λ r s is also same. ⊎_elim
-        (λ (old : slice_get places r ≡ Some (Ok r)). ⊎_elim
+          (λ (old : slice_get places r ≡ Some (Ok r)). ⊎_elim
           (λ (old' : slice_get places s ≡ Some (Ok s)). placed.are_apart r s old old' same)
           (λ (new : (s ≡ length places) × (Ok n ≡ Ok s)). absurd (apart r old (same ∙ ap bytes (sym (ok_is n s new.1)))))
           (old_or_new places (Ok n) s (Ok s) also))
-        (λ (new : (r ≡ length places) × (Ok n ≡ Ok r)). ⊎_elim
+          (λ (new : (r ≡ length places) × (Ok n ≡ Ok r)). ⊎_elim
           (λ (old' : slice_get places s ≡ Some (Ok s)). absurd (apart s old' (sym same ∙ ap bytes (sym (ok_is n r new.1)))))
           (λ (new' : (s ≡ length places) × (Ok n ≡ Ok s)). sym (ok_is n r new.1) ∙ ok_is n s new'.1)
           (old_or_new places (Ok n) s (Ok s) also))
-        (old_or_new places (Ok n) r (Ok r) is);
+          (old_or_new places (Ok n) r (Ok r) is);
     }
 
 pub grouped : (key : List ℕ → ℕ) (bytes : ℕ → List ℕ) (leaders : ℕ → List ℕ) (places : List (Result ℕ Error)) → ArePlaced key bytes leaders places → GroupsByBytes bytes places
 grouped key bytes leaders places placed = λ i j l m leads_i leads_j.
     let of_i = placed.are_led i l leads_i in
-    let of_j = placed.are_led j m leads_j in
-    ((λ (same : l ≡ m). sym of_i.1 ∙ ap bytes same ∙ of_j.1),
-     (λ (equal : bytes i ≡ bytes j). placed.are_apart l m of_i.0 of_j.0 (of_i.1 ∙ equal ∙ sym of_j.1)))
+    let of_j = placed.are_led j m leads_j in (
+      (λ (same : l ≡ m). sym of_i.1 ∙ ap bytes same ∙ of_j.1),
+      (λ (equal : bytes i ≡ bytes j). placed.are_apart l m of_i.0 of_j.0 (of_i.1 ∙ equal ∙ sym of_j.1)),
+    )

@@ -47,15 +47,11 @@ fn same_files<S: Store>(store: &S, first: usize, second: usize) -> io::Result<bo
 }
 
 // The first of some files that has the same bytes as a file.
-fn find_equal<S: Store>(
-    store: &S,
-    leaders: &[usize],
-    file: usize,
-) -> io::Result<Option<usize>>
+fn find_equal<S: Store>(store: &S, leaders: &[usize], file: usize) -> io::Result<Option<usize>>
     ensures among { IfOk result (λ found. IfSome found (λ leader. Contains leaders.now leader)) }
     ensures same { (bytes : ℕ → List ℕ) → Tells (S.bytes store.now) bytes → IfOk result (λ found.
         MatchOption found (All (λ leader. bytes leader ≢ bytes file) leaders.now)
-            (λ leader. bytes leader ≡ bytes file)) }
+        (λ leader. bytes leader ≡ bytes file)) }
 {
     for at in 0..leaders.len() {
         if same_files(store, leaders[at], file)? {
@@ -81,8 +77,8 @@ fn look_up<S: Store>(
         Contains (leaders_of by_key.old key) leader))) }
     ensures same { (bytes : ℕ → List ℕ) → Tells (S.bytes store.now) bytes →
         IfOk result (λ found. IfOk found (λ place. MatchOption place
-            (All (λ leader. bytes leader ≢ bytes file) (leaders_of by_key.old key))
-            (λ leader. bytes leader ≡ bytes file))) }
+        (All (λ leader. bytes leader ≢ bytes file) (leaders_of by_key.old key))
+        (λ leader. bytes leader ≡ bytes file))) }
 {
     let mut leaders = match by_key.remove(&key) {
         Some(leaders) => leaders,
@@ -108,9 +104,9 @@ fn place<S: Store, F: Fingerprint>(
     ensures { (bytes : ℕ → List ℕ) → Tells (S.bytes store.now) bytes →
         (places : List (Result ℕ Error)) → length places ≡ file →
         ArePlaced (key_of (F.number fingerprint.now) sizes.now) bytes
-            (leaders_of by_key.old) places →
+        (leaders_of by_key.old) places →
         IfOk result (λ place. ArePlaced (key_of (F.number fingerprint.now) sizes.now) bytes
-            (leaders_of by_key.new) (places ++ place ∷ [])) }
+        (leaders_of by_key.new) (places ++ place ∷ [])) }
 {
     let key = match key(store, fingerprint, sizes, file) {
         Ok(key) => key,

@@ -5,11 +5,10 @@ ghost use Rattle.std.specs.Prelude.{None};
 use crate::fault::Fault;
 use crate::store::Store;
 use rapidhash::RapidHashSet;
-use std::fs;
 use std::fs::{File, Metadata};
-use std::io;
 use std::io::ErrorKind;
 use std::os::unix::fs::MetadataExt;
+use std::{fs, io};
 
 /// A file: its name, and its size when it was found.
 #[derive(Drop, PartialEq, Eq, PartialOrd, Ord)]
@@ -99,6 +98,11 @@ impl<'s> Search<'s> {
         for entry in entries {
             let entry = match entry {
                 Ok(entry) => entry,
+                Err(error) if error.kind() == ErrorKind::InvalidFilename => {
+                    let unnamed = io::Error::other("a name in it is not UTF-8");
+                    self.fail(rt, folder, unnamed)?;
+                    continue;
+                }
                 Err(error) => {
                     self.fail(rt, folder, error)?;
                     continue;

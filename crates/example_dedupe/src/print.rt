@@ -38,7 +38,9 @@ fn print_pairs<W: Write>(
 ) -> Result<(), Fault> {
     for (at, (_, file)) in pairs.iter().enumerate() {
         let (before, behind) = neighbours(pairs, at);
-        if let Some(named) = files.get(*file) && (before || behind) {
+        if let Some(named) = files.get(*file)
+            && (before || behind)
+        {
             writeln!(out, "{}", named.name.as_str()).map_err(Fault::of_write)?;
         }
         if before && !behind {
