@@ -1,9 +1,9 @@
 -- Places of files, one more each turn.
-use Rattle.std.proofs.Common.{◌≡◌, ◌≢◌, ◌⊎◌, ◌≤◌, ◌<◌, ◌+◌, ℕ, zero, suc, List, [], ◌∷◌, ◌++◌, Option, Some, None, length, refl, ap, subst, arith, ◌∙◌, sym, length-append, ⊎_elim, inl, inr}
+use Rattle.std.proofs.Common.{◌≡◌, ◌≢◌, ◌⊎◌, ◌≤◌, ◌<◌, ◌+◌, ℕ, zero, suc, List, [], ◌∷◌, ◌++◌, Option, Some, None, length, get_or, refl, ap, subst, arith, ◌∙◌, sym, length-append, ⊎_elim, inl, inr}
 use Rattle.std.specs.Prelude.{All, Contains, Result, Ok, Err, slice_get, ◌↔◌}
 use Rattle.std.specs.declared.io.Error.{Error}
 use Rattle.std.proofs.lemmas.Bool.{cases_eq}
-use Rattle.std.proofs.lemmas.List.Elements.{All-contains, Contains-append_left, Contains-push, Contains-push_cases}
+use Rattle.std.proofs.lemmas.List.Elements.{All-contains, All-from_get_or, Contains-get_or, Contains-append_left, Contains-push, Contains-push_cases}
 use Rattle.std.proofs.lemmas.Option.{slice_get_within}
 use Rattle.example_dedupe.specs.Groups.{ArePlaced, GroupsByBytes}
 
@@ -116,3 +116,9 @@ grouped key bytes leaders places placed = λ i j l m leads_i leads_j.
       (λ (same : l ≡ m). sym of_i.1 ∙ ap bytes same ∙ of_j.1),
       (λ (equal : bytes i ≡ bytes j). placed.are_apart l m of_i.0 of_j.0 (of_i.1 ∙ equal ∙ sym of_j.1)),
     )
+
+-- the leaders are files that have a place
+pub leaders_within : (key : List ℕ → ℕ) (bytes : ℕ → List ℕ) (leaders : ℕ → List ℕ) (places : List (Result ℕ Error)) → ArePlaced key bytes leaders places → (k n count : ℕ) → length places ≡ n → n < count → All (λ l. l < count) (leaders k)
+leaders_within key bytes leaders places placed k n count long inside = All-from_get_or (λ (l : ℕ). l < count) (leaders k) 0 (λ i here.
+    let before : get_or (leaders k) i 0 < length places = slice_get_within places _ _ (placed.are_leaders k _ (Contains-get_or (leaders k) i 0 here)) in
+    omega arith)

@@ -1,12 +1,12 @@
 -- What groups of equal files are.
-use Rattle.std.specs.Prelude.{◌≡◌, ◌↔◌, ℕ, Contains, ◌++◌, [], ◌∷◌, Bool, List, Option, Some, None, Result, Ok, Err, length, nat_eq, nat_lt, unwrap_or, slice_get, if◌then◌else◌}
+use Rattle.std.specs.Prelude.{◌≡◌, ◌↔◌, ◌<◌, ℕ, Contains, ◌++◌, [], ◌∷◌, Bool, List, Option, Some, None, Result, Ok, Err, length, nat_eq, nat_lt, unwrap_or, slice_get, if◌then◌else◌}
 use Rattle.std.specs.declared.io.Error.{Error}
 use Rattle.std.specs.declared.vec.Vec.{Vec}
 use Rattle.std.specs.HashMap.{get, HashMap}
 
--- the bytes that the readers of each file tell
-abbrev pub Tells : (ℕ → Option (List ℕ)) → (ℕ → List ℕ) → Type 0
-Tells told bytes = (file : ℕ) → told file ≡ Some (bytes file)
+-- the bytes that the readers of each of so many files tell
+abbrev pub Tells : (ℕ → Option (List ℕ)) → ℕ → (ℕ → List ℕ) → Type 0
+Tells told count bytes = (file : ℕ) → file < count → told file ≡ Some (bytes file)
 
 -- whether more than one file has this size
 abbrev pub shared : {S : Type 0} → HashMap ℕ ℕ S → ℕ → Bool

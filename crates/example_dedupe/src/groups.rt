@@ -1,6 +1,6 @@
 //! Groups of equal files.
 
-ghost use Rattle.std.specs.Prelude.{◌≡◌, ◌≢◌, ◌↔◌, ◌++◌, ◌∷◌, [], ℕ, List, All, Contains, IsTrue, IfOk, IfSome, MatchOption, OnOk, Result, length};
+ghost use Rattle.std.specs.Prelude.{◌≡◌, ◌≢◌, ◌↔◌, ◌<◌, ◌++◌, ◌∷◌, [], ℕ, List, All, Contains, IsTrue, IfOk, IfSome, MatchOption, OnOk, Result, length};
 ghost use Rattle.std.specs.declared.io.Error.{Error};
 ghost use Rattle.example_dedupe.specs.Groups.{ArePlaced, GroupsByBytes, key_of, leaders_after, leaders_of, shared, Tells};
 
@@ -26,8 +26,8 @@ fn key<S: Store, F: Fingerprint>(
     sizes: &RapidHashMap<'_, u64, u64>,
     file: usize,
 ) -> io::Result<u64>
-    ensures { (bytes : ℕ → List ℕ) → Tells (S.bytes store.now) bytes → IfOk result (λ key.
-        key ≡ key_of (F.number fingerprint.now) sizes.now (bytes file)) }
+    ensures { IfSome (S.bytes store.now file) (λ bytes. IfOk result (λ key.
+        key ≡ key_of (F.number fingerprint.now) sizes.now bytes)) }
 {
     let size = store.size(file);
     if !is_shared(sizes, size) {
@@ -38,8 +38,8 @@ fn key<S: Store, F: Fingerprint>(
 
 // Whether two files have the same bytes.
 fn same_files<S: Store>(store: &S, first: usize, second: usize) -> io::Result<bool>
-    ensures { (bytes : ℕ → List ℕ) → Tells (S.bytes store.now) bytes → IfOk result (λ same.
-        IsTrue same ↔ (bytes first ≡ bytes second)) }
+    ensures { IfOk result (λ same. IfSome (S.bytes store.now first) (λ xs.
+        IfSome (S.bytes store.now second) (λ ys. IsTrue same ↔ (xs ≡ ys)))) }
 {
     let mut left = store.open(first)?;
     let mut right = store.open(second)?;
@@ -49,7 +49,8 @@ fn same_files<S: Store>(store: &S, first: usize, second: usize) -> io::Result<bo
 // The first of some files that has the same bytes as a file.
 fn find_equal<S: Store>(store: &S, leaders: &[usize], file: usize) -> io::Result<Option<usize>>
     ensures among { IfOk result (λ found. IfSome found (λ leader. Contains leaders.now leader)) }
-    ensures same { (bytes : ℕ → List ℕ) → Tells (S.bytes store.now) bytes → IfOk result (λ found.
+    ensures same { (bytes : ℕ → List ℕ) (count : ℕ) → Tells (S.bytes store.now) count bytes →
+        file < count → All (λ leader. leader < count) leaders.now → IfOk result (λ found.
         MatchOption found (All (λ leader. bytes leader ≢ bytes file) leaders.now)
         (λ leader. bytes leader ≡ bytes file)) }
 {
@@ -75,7 +76,8 @@ fn look_up<S: Store>(
         leaders_of by_key.new key ≡ leaders_after found file (leaders_of by_key.old key)) }
     ensures among { IfOk result (λ found. IfOk found (λ place. IfSome place (λ leader.
         Contains (leaders_of by_key.old key) leader))) }
-    ensures same { (bytes : ℕ → List ℕ) → Tells (S.bytes store.now) bytes →
+    ensures same { (bytes : ℕ → List ℕ) (count : ℕ) → Tells (S.bytes store.now) count bytes →
+        file < count → All (λ leader. leader < count) (leaders_of by_key.old key) →
         IfOk result (λ found. IfOk found (λ place. MatchOption place
         (All (λ leader. bytes leader ≢ bytes file) (leaders_of by_key.old key))
         (λ leader. bytes leader ≡ bytes file))) }
@@ -101,8 +103,8 @@ fn place<S: Store, F: Fingerprint>(
     alloc: Global,
     file: usize,
 ) -> Result<io::Result<usize>, AllocError>
-    ensures { (bytes : ℕ → List ℕ) → Tells (S.bytes store.now) bytes →
-        (places : List (Result ℕ Error)) → length places ≡ file →
+    ensures { (bytes : ℕ → List ℕ) (count : ℕ) → Tells (S.bytes store.now) count bytes →
+        file < count → (places : List (Result ℕ Error)) → length places ≡ file →
         ArePlaced (key_of (F.number fingerprint.now) sizes.now) bytes
         (leaders_of by_key.old) places →
         IfOk result (λ place. ArePlaced (key_of (F.number fingerprint.now) sizes.now) bytes
@@ -133,7 +135,7 @@ pub fn groups<S: Store, F: Fingerprint>(
     state: RandomState<'_>,
 ) -> Result<Vec<io::Result<usize>>, AllocError>
     ensures count { IfOk result (λ places. length places.items ≡ count) }
-    ensures groups { (bytes : ℕ → List ℕ) → Tells (S.bytes store.now) bytes →
+    ensures groups { (bytes : ℕ → List ℕ) → Tells (S.bytes store.now) count bytes →
         IfOk result (λ places. GroupsByBytes bytes places.items) }
 {
     let sizes = count_sizes(store, count, alloc, state)?;

@@ -1,8 +1,7 @@
 //! Groups of texts in memory, by fingerprints that collide and by ones that do not.
 
-ghost use Rattle.std.specs.Prelude.{ℕ, None};
+ghost use Rattle.std.specs.Prelude.{None, slice_get};
 ghost use Rattle.std.specs.Option.{option_map};
-ghost use Rattle.std.specs.Prelude.{slice_get};
 
 use crate::Rapidhash;
 use crate::compare::same_bytes;

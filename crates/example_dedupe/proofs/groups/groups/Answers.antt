@@ -7,7 +7,7 @@ use Rattle.example_dedupe.proofs.groups.groups.Goals as goal
 pub loop-file-preserved : goal.loop-file-preserved
 loop-file-preserved g c = record {
   count = grind (arith, common_steps);
-  placed = λ bytes told. rw c.in_ok-push.ensures.items (c.in_ok-place.ensures bytes told _ c.loop-file.invariant.count (c.loop-file.invariant.placed bytes told));
+  placed = λ bytes told. rw c.in_ok-push.ensures.items (c.in_ok-place.ensures bytes c.args.count told c.loop-file-test.true _ c.loop-file.invariant.count (c.loop-file.invariant.placed bytes told));
 }
 
 pub returns-clause-groups : goal.returns-clause-groups
