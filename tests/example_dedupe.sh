@@ -40,7 +40,6 @@ fault() {
   tell "$name" $?
 }
 
-
 mkdir -p tree/below links odd
 printf 'same\n' >tree/a
 printf 'same\n' >tree/below/b
