@@ -1,9 +1,8 @@
 -- Bytes that are compared piece by piece.
-use Rattle.std.proofs.Common.{◌≡◌, ◌≢◌, ◌⊎◌, ◌≤◌, ◌<◌, ◌+◌, ℕ, Bool, true, false, List, [], ◌∷◌, ◌++◌, Option, Some, None, length, take, drop, refl, ap, subst, arith, ◌∙◌, sym, length-append, ⊎_elim}
-use Rattle.std.specs.Prelude.{◌↔◌, IsTrue, IfSome}
+use Rattle.std.proofs.Common.{◌≡◌, ◌≢◌, ◌≤◌, ◌<◌, ◌+◌, ℕ, Bool, true, false, List, [], ◌++◌, Option, Some, None, length, take, refl, ap, arith, ◌∙◌, sym, length-append, ⊎_elim}
 use Rattle.std.specs.Io.KnownBytes.{Consumes, IsAtEnd}
 use Rattle.std.proofs.KnownBytes.{Consumes-trans}
-use Rattle.std.proofs.lemmas.List.{length-take-le, take-append-le, append_cancel_left, append-nil}
+use Rattle.std.proofs.lemmas.List.{length-take-le, take-append-le, append_cancel_left}
 use Rattle.std.proofs.Math.Seq.{take-length}
 use Rattle.std.proofs.lemmas.Bool.{cases_eq, cases_lt, false≢true}
 use Rattle.example_dedupe.specs.Bytes.{SameBytes, SharesFront}

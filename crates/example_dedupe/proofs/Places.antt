@@ -1,6 +1,6 @@
 -- Places of files, one more each turn.
-use Rattle.std.proofs.Common.{◌≡◌, ◌≢◌, ◌⊎◌, ◌≤◌, ◌<◌, ◌+◌, ℕ, zero, suc, List, [], ◌∷◌, ◌++◌, Option, Some, None, length, get_or, refl, ap, subst, arith, ◌∙◌, sym, length-append, ⊎_elim, inl, inr}
-use Rattle.std.specs.Prelude.{All, Contains, Result, Ok, Err, slice_get, ◌↔◌}
+use Rattle.std.proofs.Common.{◌≡◌, ◌≢◌, ◌⊎◌, ◌<◌, ℕ, zero, suc, List, [], ◌∷◌, ◌++◌, Some, length, get_or, refl, ap, subst, arith, ◌∙◌, sym, ⊎_elim, inl, inr}
+use Rattle.std.specs.Prelude.{All, Contains, Result, Ok, Err, slice_get}
 use Rattle.std.specs.declared.io.Error.{Error}
 use Rattle.std.proofs.lemmas.Bool.{cases_eq}
 use Rattle.std.proofs.lemmas.List.Elements.{All-contains, All-from_get_or, Contains-get_or, Contains-append_left, Contains-push, Contains-push_cases}

@@ -5,6 +5,7 @@ ghost use Rattle.std.specs.Prelude.{None};
 use crate::fault::Fault;
 use crate::store::Store;
 use rapidhash::RapidHashSet;
+use std::alloc::AllocError;
 use std::fs::{File, Metadata};
 use std::io::ErrorKind;
 use std::os::unix::fs::MetadataExt;
@@ -71,7 +72,11 @@ impl<'s> Search<'s> {
         }
     }
 
+    // A failure to read a name does not stop the search, but refused memory does.
     fn fail(&mut self, rt: &HostRuntime, name: &str, error: io::Error) -> Result<(), Fault> {
+        if error.kind() == ErrorKind::OutOfMemory {
+            return Err(Fault::Memory(AllocError));
+        }
         tell(rt, name, &error);
         self.failures = self.failures.saturating_add(1);
         Ok(())

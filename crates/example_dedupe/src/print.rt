@@ -21,33 +21,18 @@ fn in_order(
     Ok(pairs)
 }
 
-// Whether the pair at a place stands beside another of its group, before it and behind it.
-fn neighbours(pairs: &[(usize, usize)], at: usize) -> (bool, bool) {
-    let same = |other: Option<&(usize, usize)>| match (pairs.get(at), other) {
-        (Some((leader, _)), Some((also, _))) => leader == also,
-        _ => false,
-    };
-    let before = at > 0 && same(pairs.get(at.wrapping_sub(1)));
-    (before, same(pairs.get(at.wrapping_add(1))))
-}
-
-fn print_pairs<W: Write>(
+// The files of one group, and the empty line behind it.
+fn print_group<W: Write>(
     out: &mut W,
     files: &[Named],
-    pairs: &[(usize, usize)],
+    group: &[(usize, usize)],
 ) -> Result<(), Fault> {
-    for (at, (_, file)) in pairs.iter().enumerate() {
-        let (before, behind) = neighbours(pairs, at);
-        if let Some(named) = files.get(*file)
-            && (before || behind)
-        {
+    for (_, file) in group {
+        if let Some(named) = files.get(*file) {
             writeln!(out, "{}", named.name.as_str()).map_err(Fault::of_write)?;
         }
-        if before && !behind {
-            writeln!(out, "").map_err(Fault::of_write)?;
-        }
     }
-    out.flush().map_err(Fault::of_write)
+    writeln!(out, "").map_err(Fault::of_write)
 }
 
 /// Prints each group of two and more files: a name a line, and an empty line behind the group. Each
@@ -59,7 +44,15 @@ pub fn print_groups<W: Write>(
     places: &[io::Result<usize>],
 ) -> Result<u64, Fault> {
     let pairs = in_order(rt.alloc(), places)?;
-    print_pairs(out, files, pairs.as_slice())?;
+    for group in pairs
+        .as_slice()
+        .chunk_by(|first, second| first.0 == second.0)
+    {
+        if group.len() > 1 {
+            print_group(out, files, group)?;
+        }
+    }
+    out.flush().map_err(Fault::of_write)?;
     let mut failures = 0u64;
     for (named, place) in files.iter().zip(places) {
         if let Err(error) = place {

@@ -1,10 +1,8 @@
-use Rattle.std.proofs.Common.{◌≡◌, ◌≢◌, ◌<◌, ℕ, Bool, Option, Some, List, take, length, subst, sym, ◌∙◌, arith, false}
+use Rattle.std.proofs.Common.{◌≡◌, ◌≢◌, ◌<◌, ℕ, Bool, Option, Some, List, subst, sym, ◌∙◌}
 use Rattle.std.specs.Prelude.{All, ◌↔◌, IsTrue, IfSome, slice_index_or}
-use Rattle.std.proofs.Math.Seq.{take-length}
 use Rattle.std.proofs.lemmas.Bool.{true≢false}
 use Rattle.std.proofs.lemmas.List.Elements.{All-more}
 use Rattle.std.proofs.lemmas.List.{take_all}
-use Rattle.example_dedupe.specs.Groups.{Tells}
 use Rattle.example_dedupe.proofs.groups.find_equal.Goals as goal
 
 -- whether two files are the same, by the bytes that are told

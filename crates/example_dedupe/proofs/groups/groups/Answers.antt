@@ -1,6 +1,5 @@
-use Rattle.std.proofs.Common.{arith, subst, sym, List}
+use Rattle.std.proofs.Common.{arith}
 use Rattle.std.proofs.lemmas.Grind.{common_steps}
-use Rattle.example_dedupe.specs.Groups.{ArePlaced}
 use Rattle.example_dedupe.proofs.Places.{grouped}
 use Rattle.example_dedupe.proofs.groups.groups.Goals as goal
 

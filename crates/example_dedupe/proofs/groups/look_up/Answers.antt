@@ -1,4 +1,4 @@
-use Rattle.std.proofs.Common.{◌≡◌, rules, arith}
+use Rattle.std.proofs.Common.{◌≡◌, arith}
 use Rattle.std.proofs.lemmas.Grind.{common_steps}
 use Rattle.example_dedupe.specs.Groups.{leaders_of}
 use Rattle.example_dedupe.proofs.groups.look_up.Goals.{in-Some, in-None}

@@ -1,5 +1,4 @@
 use Rattle.std.proofs.Common.{refl, ap, sym, ◌∙◌}
-use Rattle.example_dedupe.specs.Groups.{key_of, leaders_of}
 use Rattle.example_dedupe.proofs.Places.{all_same, failed_placed, joined_placed, leaders_within, leading_placed}
 use Rattle.example_dedupe.proofs.groups.place.Goals as goal
 
