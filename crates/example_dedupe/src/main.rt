@@ -1,8 +1,8 @@
 //! Prints groups of equal files, as `fdupes -r` does.
 //!
-//! `example_dedupe NAME..` takes files and folders, and all that is below the folders. It prints the
-//! names of each group of two and more files of equal bytes, a name a line, and an empty line behind
-//! each group.
+//! `example_dedupe NAME..` takes files and folders, and all that is below the folders. It prints
+//! the names of each group of two and more files of equal bytes, a name a line, and an empty line
+//! behind each group.
 #![tactic(auto)]
 
 mod compare;

@@ -22,7 +22,8 @@ struct Texts {
 impl Store for Texts {
     type Reader = &'static [u8];
 
-    ghost bytes = { λ store file. option_map (λ text. text.now) (slice_get store.texts.items file) };
+    ghost bytes = { λ store file.
+        option_map (λ text. text.now) (slice_get store.texts.items file) };
 
     fn size(&self, file: usize) -> u64 {
         match self.texts.get(file) {

@@ -31,7 +31,8 @@ pub enum Fault {
 }
 
 impl Fault {
-    /// The exit status: 2 for words that ask for nothing that can be done, and 1 for a run that failed.
+    /// The exit status: 2 for words that ask for nothing that can be done, and 1 for a run that
+    /// failed.
     pub fn status(&self) -> ExitCode {
         match self {
             Fault::Read(_) | Fault::Write(_) | Fault::Memory(_) => ExitCode::from(1),

@@ -1,12 +1,12 @@
 -- What is true of printed lines, for the functions that read them.
-use Rattle.std.proofs.Common.{◌≡◌, ℕ, ◌+◌, ◌-◌, ◌*◌, ◌/◌, ◌%◌, ◌^◌, ◌<◌, Bool, true, false, cond, List, [], ◌∷◌, ◌++◌, length, slice_index, ◌||◌, ◌==◌, is_some, zero, suc, Result, Ok, take, drop, ◌⊎◌, inl, inr, ⊎_elim, nat_eq, Option, None, Some, option_and_then, refl, sym, ap, ◌∙◌, arith}
+use Rattle.std.proofs.Common.{◌≡◌, ℕ, ◌-◌, ◌/◌, ◌%◌, ◌^◌, ◌<◌, ◌≤◌, Bool, true, false, cond, List, [], ◌∷◌, ◌++◌, length, slice_index, ◌||◌, ◌==◌, is_some, zero, suc, Ok, take, drop, ◌⊎◌, inl, inr, ⊎_elim, Option, None, Some, option_and_then, refl, sym, ap, ◌∙◌, arith}
 use Rattle.std.proofs.Math.Seq.{take-length}
 use Rattle.std.proofs.lemmas.List.{append-nil, append_assoc, length-drop}
 use Rattle.std.proofs.lemmas.Bool.{ne_eqb}
 use Rattle.std.proofs.lemmas.Nat.{from_be_bytes-to_be_bytes_8}
 use Rattle.std.specs.Int.{from_be_bytes, to_be_bytes, w64}
-use Rattle.hex.specs.Hex.{decode_sized, encode_with, hex_digit_value, lower_digits}
-use Rattle.hex.proofs.HexLemmas.{IsDigits-lower_digits, decode_sized-encode_lower, length-encode_with}
+use Rattle.hex.specs.Hex.{decode_sized, encode_with, hex_digit_value}
+use Rattle.hex.proofs.HexLemmas.{IsDigits-lower_digits, decode_sized-encode_lower}
 use Rattle.example_sums.specs.Line.{byte_of, digits_of, escape_by, escaped, letter_of, line_of, needs_escape, plain_line, unescape_from}
 
 -- an escape reads back as its byte
@@ -91,20 +91,15 @@ digits_decode hash = decode_sized-encode_lower (to_be_bytes w64 hash) 8 refl (by
 pub hash_of_bytes : (hash : ℕ) → hash < 2 ^ 64 → from_be_bytes w64 (to_be_bytes w64 hash) ≡ hash
 hash_of_bytes hash fits = from_be_bytes-to_be_bytes_8 hash fits
 
--- a plain line has 16 digits
-pub plain_length : (hash : ℕ) (name : List ℕ) → length (plain_line hash name) ≡ 18 + length (escaped name)
+-- a plain line is its 16 digits and what stands behind them
+pub digits_part : (hash : ℕ) (name : List ℕ) → take 16 (plain_line hash name) ≡ digits_of hash
 unfolding plain_line encode_with
-plain_length hash name = grind (arith)
+digits_part hash name = refl
 
--- the digits are the first 16 bytes of a plain line
-pub take_digits : (hash : ℕ) (name : List ℕ) → take 16 (plain_line hash name) ≡ digits_of hash
+pub name_part : (hash : ℕ) (name : List ℕ)
+    → drop 16 (plain_line hash name) ≡ 32 ∷ 32 ∷ escaped name × 16 ≤ length (plain_line hash name)
 unfolding plain_line encode_with
-take_digits hash name = refl
-
--- and the rest is behind them
-pub drop_digits : (hash : ℕ) (name : List ℕ) → drop 16 (plain_line hash name) ≡ 32 ∷ 32 ∷ escaped name
-unfolding plain_line encode_with
-drop_digits hash name = refl
+name_part hash name = (refl, grind (arith))
 
 -- one of the two forms of a line
 line-cases : (hash : ℕ) (name line : List ℕ) (escapes : Bool) → needs_escape name ≡ escapes

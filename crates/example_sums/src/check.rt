@@ -69,7 +69,8 @@ fn judge<S: Store, A: Allocator>(
     entry: &Entry<A>,
     ignore_missing: bool,
 ) -> (Verdict, Option<io::Error>)
-    ensures { IsRight result.0 ignore_missing (S.told store.now entry.now.name.items) entry.now.hash }
+    ensures { IsRight result.0 ignore_missing
+        (S.told store.now entry.now.name.items) entry.now.hash }
 {
     match hash_named(store, entry.name.as_slice()) {
         Ok(hash) if hash == entry.hash => (Verdict::Same, None),

@@ -102,7 +102,7 @@ fn name_behind(rest: &[u8]) -> Option<&[u8]>
 }
 
 // The hash and the text of the name, of a line that begins with the digits.
-#[tactic(auto, using(crate::proofs::Lines::take_digits, crate::proofs::Lines::drop_digits, crate::proofs::Lines::plain_length))]
+#[tactic(auto, using(crate::proofs::Lines::digits_part, crate::proofs::Lines::name_part))]
 fn split_line(line: &[u8]) -> Option<(u64, &[u8])>
     ensures { (hash : ℕ) (name : List ℕ) → hash < 2 ^ 64 → line.now ≡ plain_line hash name →
         IsSomeAnd result (λ parts. (parts.0 ≡ hash) × (parts.1.now ≡ escaped name)) }

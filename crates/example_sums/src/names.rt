@@ -67,7 +67,8 @@ pub fn push_escaped<A: Allocator>(text: &mut Vec<u8, A>, name: &[u8]) -> Result<
 /// before a byte that is no letter of an escape.
 #[tactic(auto, unfolding(crate::specs::Line::unescape_from))]
 pub fn unescape<A: Allocator>(alloc: A, text: &[u8]) -> Result<Option<Vec<u8, A>>, AllocError>
-    ensures { IfOk result (λ name. option_map (λ v. v.items) name ≡ unescape_from [] false text.now) }
+    ensures { IfOk result (λ name.
+        option_map (λ v. v.items) name ≡ unescape_from [] false text.now) }
 {
     let mut name = Vec::new(alloc);
     let mut pending = false;

@@ -1,7 +1,3 @@
-use Rattle.std.proofs.Common.{◌≡◌, ◌∙◌, ◌&&◌, ◌∷◌, [], ap, Bool, List, true}
-use Rattle.std.proofs.lemmas.List.Folds.{list_all-append}
-use Rattle.std.specs.List.{list_all}
-use Rattle.example_sums.specs.Check.{passes}
 use Rattle.example_sums.proofs.Checks.{right-next, passed-next}
 use Rattle.example_sums.proofs.check.check_entries.Goals as goal
 
