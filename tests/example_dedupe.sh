@@ -84,6 +84,8 @@ groups = [sorted(g.split(b"\n")) for g in sys.stdin.buffer.read().strip(b"\n").s
 sys.stdout.buffer.write(b"\n\n".join(b"\n".join(g) for g in sorted(groups)))' >theirs
   [ -s ours ] && cmp -s ours theirs
   tell 'the groups of fdupes' $?
+else
+  printf 'skipped the groups of fdupes: there is no fdupes\n'
 fi
 
 fault 'no words' 2 'no file or folder is named' "$program"

@@ -29,6 +29,13 @@ prints_the_known_hash() {
   [ "$(echo something | "$prefix/bin/rapidhash" --v1)" = 15965596575264898037 ]
 }
 
+# A line of a known hash is printed, and reads back.
+prints_and_checks_a_sum() {
+  echo something >"$room/file" &&
+    [ "$("$prefix/bin/rapidsum" "$room/file")" = "a1266b469390773a  $room/file" ] &&
+    "$prefix/bin/rapidsum" "$room/file" | "$prefix/bin/rapidsum" --check | grep -qx "$room/file: OK"
+}
+
 # Builds the example by some words of the compiler, and runs it with the installed shared library.
 runs_the_example() {
   cc -O2 -Wall -Werror "$top/examples/known_values.c" "$@" -o "$room/known_values" &&
@@ -55,22 +62,22 @@ has_the_licences() {
     cmp LICENSE-APACHE "$prefix/share/doc/rapidhash/LICENSE-APACHE"
 }
 
-# Completes a word with bash, and compares the answers.
+# Completes a word of a program with bash, and compares the answers: PROGRAM WORD ANSWERS.
 completes() {
   bash -c '
-    . "$1"
-    COMP_WORDS=(rapidhash "$2") COMP_CWORD=1
-    _rapidhash 2>/dev/null
+    . "$1/share/bash-completion/completions/$2"
+    COMP_WORDS=("$2" "$3") COMP_CWORD=1
+    "_$2" 2>/dev/null
     echo "${COMPREPLY[*]}"
-  ' - "$prefix/share/bash-completion/completions/rapidhash" "$1" | grep -qx -- "$2"
+  ' - "$prefix" "$1" "$2" | grep -qx -- "$3"
 }
 
-# Every option that the help names stands in each completion and in the manual.
+# Every option that the help of a program names stands in a file: PROGRAM, how many there are, FILE.
 names_every_option() {
-  local file=$1 option options
-  options=$("$prefix/bin/rapidhash" --help | grep -o '^  --[a-z0-9.-]*')
-  [ "$(wc -w <<<"$options")" -eq 8 ] || {
-    echo "the help does not name seven versions and --protected, but: $options"
+  local program=$1 count=$2 file=$3 option options
+  options=$("$prefix/bin/$program" --help | grep -oE '^ .{0,5} --[a-z0-9.-]+' | grep -oE -- '--.*')
+  [ "$(wc -w <<<"$options")" -eq "$count" ] || {
+    echo "the help does not name $count options, but: $options"
     return 1
   }
   for option in $options; do
@@ -87,13 +94,19 @@ is_empty() {
 
 try install make -s -C "$top" install PREFIX="$prefix"
 try program prints_the_known_hash
+try program_of_sums prints_and_checks_a_sum
 try shared_library links_by_pkg_config
 try static_library links_the_archive
 try licences has_the_licences
-try bash_completion completes --v3- '--v3-micro --v3-nano'
-for file in man/man1/rapidhash.1 bash-completion/completions/rapidhash \
-  zsh/site-functions/_rapidhash fish/vendor_completions.d/rapidhash.fish; do
-  try "options_in_$(basename "$file")" names_every_option "$prefix/share/$file"
+try bash_completion completes rapidhash --v3- '--v3-micro --v3-nano'
+try bash_completion_of_sums completes rapidsum --s '--status --strict'
+for file in man/man1/NAME.1 bash-completion/completions/NAME zsh/site-functions/_NAME \
+  fish/vendor_completions.d/NAME.fish; do
+  for program in 'rapidhash 8' 'rapidsum 8'; do
+    read -r name count <<<"$program"
+    place=${file/NAME/$name}
+    try "options_in_$(basename "$place")" names_every_option "$name" "$count" "$prefix/share/$place"
+  done
 done
 try uninstall make -s -C "$top" uninstall PREFIX="$prefix"
 try nothing_left is_empty
