@@ -55,6 +55,7 @@ check:
 	@bash .ci/run
 
 bench:
+	@bench/slices default seeded
 	@bench/run
 	@bench/files
 	@bench/memory

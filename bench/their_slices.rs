@@ -1,0 +1,158 @@
+//! What the programs of `bench/slices` do, by the Rust crate: `their_slices FORM LENGTH PLACE NUMBER
+//! PASSES REPEATS [call]`. With the feature `seeded` the secrets are the program's own.
+
+use rapidhash::rng::RapidRng;
+use rapidhash::{v1, v2, v3};
+use std::time::Instant;
+
+const V1: u8 = 0;
+const V2_0: u8 = 1;
+const V2_1: u8 = 2;
+const V2_2: u8 = 3;
+const V3: u8 = 4;
+const MICRO: u8 = 5;
+const NANO: u8 = 6;
+
+/// Secrets of all forms that the compiler does not know.
+struct Secrets {
+    three: v1::RapidSecrets,
+    seven: v3::RapidSecrets,
+    same_seven: v2::RapidSecrets,
+}
+
+#[inline(always)]
+fn hash<const FORM: u8>(text: &[u8], secrets: &Secrets) -> u64 {
+    let seeded = cfg!(feature = "seeded");
+    let three = if seeded { &secrets.three } else { &v1::DEFAULT_RAPID_SECRETS };
+    let two = if seeded { &secrets.same_seven } else { &v2::DEFAULT_RAPID_SECRETS };
+    let seven = if seeded { &secrets.seven } else { &v3::DEFAULT_RAPID_SECRETS };
+    match FORM {
+        V1 => v1::rapidhash_v1_seeded(text, three),
+        V2_0 => v2::rapidhash_v2_inline::<0, true, false, false>(text, two),
+        V2_1 => v2::rapidhash_v2_inline::<1, true, false, false>(text, two),
+        V2_2 => v2::rapidhash_v2_2_seeded(text, two),
+        V3 => v3::rapidhash_v3_seeded(text, seven),
+        MICRO => v3::rapidhash_v3_micro_inline::<true, false>(text, seven),
+        _ => v3::rapidhash_v3_nano_inline::<true, false>(text, seven),
+    }
+}
+
+#[inline(always)]
+fn start<const PLACE: u64>(sum: u64) -> u64 {
+    (0..PLACE).fold(sum, |sum, _| (sum ^ sum / 128).wrapping_mul(3))
+}
+
+#[inline(never)]
+fn call<const FORM: u8, const PLACE: u64>(text: &[u8], secrets: &Secrets) -> u64 {
+    hash::<FORM>(text, secrets) ^ PLACE
+}
+
+#[inline(never)]
+fn hash_all<const FORM: u8, const CALL: bool, const PLACE: u64>(
+    list: &[&[u8]],
+    secrets: &Secrets,
+    passes: u64,
+    sum: u64,
+) -> u64 {
+    let mut sum = start::<PLACE>(sum);
+    for _ in 0..passes {
+        for text in list {
+            let hash = match CALL {
+                true => call::<FORM, PLACE>(text, secrets),
+                false => hash::<FORM>(text, secrets),
+            };
+            sum = (sum ^ hash).wrapping_mul(3);
+        }
+    }
+    sum
+}
+
+/// What is hashed, and how often.
+struct Row<'x> {
+    list: Vec<&'x [u8]>,
+    secrets: Secrets,
+    passes: u64,
+    place: u64,
+    is_call: bool,
+}
+
+impl Row<'_> {
+    fn work(&self, form: &str, sum: u64) -> u64 {
+        match form {
+            "v1" => self.by_form::<V1>(sum),
+            "v2.0" => self.by_form::<V2_0>(sum),
+            "v2.1" => self.by_form::<V2_1>(sum),
+            "v2.2" => self.by_form::<V2_2>(sum),
+            "v3" => self.by_form::<V3>(sum),
+            "micro" => self.by_form::<MICRO>(sum),
+            "nano" => self.by_form::<NANO>(sum),
+            _ => panic!("no form {form}"),
+        }
+    }
+
+    fn by_form<const FORM: u8>(&self, sum: u64) -> u64 {
+        match self.is_call {
+            true => self.at_place::<FORM, true>(sum),
+            false => self.at_place::<FORM, false>(sum),
+        }
+    }
+
+    fn at_place<const FORM: u8, const CALL: bool>(&self, sum: u64) -> u64 {
+        let (list, secrets, passes) = (&self.list, &self.secrets, self.passes);
+        match self.place {
+            0 => hash_all::<FORM, CALL, 0>(list, secrets, passes, sum),
+            1 => hash_all::<FORM, CALL, 1>(list, secrets, passes, sum),
+            2 => hash_all::<FORM, CALL, 2>(list, secrets, passes, sum),
+            3 => hash_all::<FORM, CALL, 3>(list, secrets, passes, sum),
+            4 => hash_all::<FORM, CALL, 4>(list, secrets, passes, sum),
+            5 => hash_all::<FORM, CALL, 5>(list, secrets, passes, sum),
+            6 => hash_all::<FORM, CALL, 6>(list, secrets, passes, sum),
+            7 => hash_all::<FORM, CALL, 7>(list, secrets, passes, sum),
+            place => panic!("no place {place}"),
+        }
+    }
+}
+
+/// 64 texts of one length, or for `1-300` 8,192 of 1 to 300 bytes.
+fn texts<'x>(bytes: &'x [u8], length: &str, rng: &mut RapidRng) -> Vec<&'x [u8]> {
+    let Some(most) = length.strip_prefix("1-") else {
+        let length = length.parse::<usize>().unwrap();
+        return (0..64).map(|first| &bytes[first..first + length]).collect();
+    };
+    let most = most.parse::<u64>().unwrap();
+    (0..8192)
+        .map(|_| {
+            let first = (rng.next() % 4096) as usize;
+            let length = (1 + rng.next() % most) as usize;
+            &bytes[first..first + length]
+        })
+        .collect()
+}
+
+fn main() {
+    let words: Vec<String> = std::env::args().skip(1).collect();
+    let mut sum = words[3].parse::<u64>().unwrap();
+    let mut rng = RapidRng::new(sum);
+    let three = v1::RapidSecrets::seed(rng.next());
+    let word = rng.next();
+    let secrets = Secrets {
+        three,
+        seven: v3::RapidSecrets::seed(word),
+        same_seven: v2::RapidSecrets::seed(word),
+    };
+    let bytes: Vec<u8> = (0..1 << 17).map(|_| (rng.next() % 256) as u8).collect();
+    let row = Row {
+        list: texts(&bytes, &words[1], &mut rng),
+        secrets,
+        passes: words[4].parse().unwrap(),
+        place: words[2].parse().unwrap(),
+        is_call: words.len() > 6,
+    };
+    let mut least = u128::MAX;
+    for _ in 0..words[5].parse::<u64>().unwrap() {
+        let start = Instant::now();
+        sum = row.work(&words[0], sum);
+        least = least.min(start.elapsed().as_nanos());
+    }
+    println!("{sum} {least}");
+}

@@ -1,0 +1,101 @@
+//! The loop over the texts, in eight copies, each behind more code. On some processors a jump that
+//! lies across a 32-byte boundary costs extra, so a loop is measured at eight places in memory.
+
+use crate::hash::{MICRO, NANO, Secrets, V1, V2_0, V2_1, V2_2, V3, hash};
+use anyhow::{Result, bail};
+
+/// What is hashed, and how often.
+#[derive(Drop)]
+pub struct Row<'x> {
+    /// The texts.
+    pub list: &'x [&'x [u8]],
+    /// The secrets, where the program has its own.
+    pub secrets: &'x Secrets,
+    /// How often the list is hashed.
+    pub passes: u64,
+    /// Which copy of the loop, from 0 to 7.
+    pub place: u64,
+    /// Whether the hash is a function of its own.
+    pub is_call: bool,
+}
+
+impl Row<'_> {
+    /// Hashes the texts by a form, and returns the sum that all hashes went into.
+    pub fn work<const SEEDED: bool>(&self, form: &str, sum: u64) -> Result<u64> {
+        match form {
+            "v1" => self.by_form::<V1, SEEDED>(sum),
+            "v2.0" => self.by_form::<V2_0, SEEDED>(sum),
+            "v2.1" => self.by_form::<V2_1, SEEDED>(sum),
+            "v2.2" => self.by_form::<V2_2, SEEDED>(sum),
+            "v3" => self.by_form::<V3, SEEDED>(sum),
+            "micro" => self.by_form::<MICRO, SEEDED>(sum),
+            "nano" => self.by_form::<NANO, SEEDED>(sum),
+            _ => bail!("no form {form}"),
+        }
+    }
+
+    fn by_form<const FORM: u8, const SEEDED: bool>(&self, sum: u64) -> Result<u64> {
+        if self.is_call {
+            self.at_place::<FORM, SEEDED, true>(sum)
+        } else {
+            self.at_place::<FORM, SEEDED, false>(sum)
+        }
+    }
+
+    fn at_place<const FORM: u8, const SEEDED: bool, const CALL: bool>(
+        &self,
+        sum: u64,
+    ) -> Result<u64> {
+        Ok(match self.place {
+            0 => hash_all::<FORM, SEEDED, CALL, 0>(self.list, self.secrets, self.passes, sum),
+            1 => hash_all::<FORM, SEEDED, CALL, 1>(self.list, self.secrets, self.passes, sum),
+            2 => hash_all::<FORM, SEEDED, CALL, 2>(self.list, self.secrets, self.passes, sum),
+            3 => hash_all::<FORM, SEEDED, CALL, 3>(self.list, self.secrets, self.passes, sum),
+            4 => hash_all::<FORM, SEEDED, CALL, 4>(self.list, self.secrets, self.passes, sum),
+            5 => hash_all::<FORM, SEEDED, CALL, 5>(self.list, self.secrets, self.passes, sum),
+            6 => hash_all::<FORM, SEEDED, CALL, 6>(self.list, self.secrets, self.passes, sum),
+            7 => hash_all::<FORM, SEEDED, CALL, 7>(self.list, self.secrets, self.passes, sum),
+            place => bail!("no place {place}"),
+        })
+    }
+}
+
+// What a sum starts from. Each step is code in front of the loop.
+#[inline(always)]
+fn start<const PLACE: u64>(sum: u64) -> u64 {
+    let mut sum = sum;
+    for _ in 0..PLACE {
+        sum = (sum ^ sum / 128).wrapping_mul(3);
+    }
+    sum
+}
+
+// The hash as a function of its own, once for each place.
+#[inline(never)]
+fn call<const FORM: u8, const SEEDED: bool, const PLACE: u64>(
+    text: &[u8],
+    secrets: &Secrets,
+) -> u64 {
+    hash::<FORM, SEEDED>(text, secrets) ^ PLACE
+}
+
+#[inline(never)]
+fn hash_all<const FORM: u8, const SEEDED: bool, const CALL: bool, const PLACE: u64>(
+    list: &[&[u8]],
+    secrets: &Secrets,
+    passes: u64,
+    sum: u64,
+) -> u64 {
+    let mut sum = start::<PLACE>(sum);
+    for _ in 0..passes {
+        for text in list.iter() {
+            let hash = if CALL {
+                call::<FORM, SEEDED, PLACE>(text, secrets)
+            } else {
+                hash::<FORM, SEEDED>(text, secrets)
+            };
+            sum = (sum ^ hash).wrapping_mul(3);
+        }
+    }
+    sum
+}
