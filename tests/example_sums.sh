@@ -133,8 +133,9 @@ printf 'a1266b469390773a  x\xff\n' | "$program" -c >out 2>log
 [ $? -eq 1 ] && grep -q 'UTF-8' log && grep -q 'FAILED open or read' out
 tell name-that-is-not-utf-8 $?
 
-# A pipe that is closed is a failed write.
-(trap '' PIPE && "$program" first first 2>log; echo $? >status) | true
+# A pipe that is closed is a failed write. Its reader has ended before the program starts.
+(sleep 0.2 && "$program" first first 2>log
+echo $? >status) | true
 [ "$(cat status)" -eq 1 ] && grep -q 'write error' log
 tell closed-pipe $?
 
