@@ -1,0 +1,126 @@
+#!/usr/bin/env python3
+"""Checks what the pages say against the repository: links and paths lead somewhere, names stand in the
+code, counts are those of the files, and pages and lines keep their limits. The last line counts the
+cases."""
+
+import re
+import subprocess
+import sys
+from pathlib import Path
+
+TOP = Path(__file__).resolve().parent.parent
+PAGES = sorted([*TOP.glob("*.md"), *TOP.glob("docs/*.md"), TOP / "share" / "dist.md"])
+# Folders that builds make, and what lies in an archive or in an installed copy alone.
+BUILT = ("build/", "crates/example_NAME", "tests/example_NAME")
+PATH = re.compile(r"`((?:crates|docs|tests|bench|bin|include|bindings|examples|share|\.ci)/[^` ]*)`")
+NAME = re.compile(r"`([A-Za-z]\w*(?:::\w+)*)`")
+passed = failed = 0
+
+
+def tell(name, findings):
+    """Counts a case, which passes where nothing was found."""
+    global passed, failed
+    if findings:
+        failed += 1
+        print(f"FAILED {name}:", *findings[:20], sep="\n  ")
+    else:
+        passed += 1
+        print(f"ok {name}")
+
+
+def prose(page):
+    """The lines of a page with their numbers, outside code blocks."""
+    is_code = False
+    for number, line in enumerate(page.read_text().splitlines(), 1):
+        if line.startswith("```"):
+            is_code = not is_code
+        elif not is_code:
+            yield number, line
+
+
+def place(page, number):
+    return f"{page.relative_to(TOP)}:{number}"
+
+
+def links():
+    for page in PAGES:
+        for number, line in prose(page):
+            for target in re.findall(r"\]\(([^)#]+)", line):
+                if "://" not in target and not (page.parent / target).exists():
+                    yield f"{place(page, number)}: no {target}"
+            for target in re.findall(r"\bdocs/\w+\.md\b", line):
+                if not (TOP / target).exists():
+                    yield f"{place(page, number)}: no {target}"
+
+
+def paths():
+    for page in PAGES:
+        if page.name == "dist.md":
+            continue
+        for number, line in prose(page):
+            for path in PATH.findall(line):
+                if "/out/" in path or path.startswith(BUILT):
+                    continue
+                if not any(TOP.glob(path.rstrip("/"))):
+                    yield f"{place(page, number)}: no {path}"
+
+
+def limits():
+    for page in PAGES:
+        lines = len(page.read_text().splitlines())
+        most = 149 if page == TOP / "README.md" else 200
+        if lines > most:
+            yield f"{page.relative_to(TOP)} has {lines} lines"
+        for number, line in prose(page):
+            if len(line) > 120 and not line.startswith("|"):
+                yield f"{place(page, number)} has {len(line)} columns"
+
+
+def words_of_the_code():
+    files = subprocess.run(["git", "ls-files", "-z"], cwd=TOP, stdout=subprocess.PIPE, check=True)
+    words = set()
+    for name in files.stdout.decode().split("\0"):
+        if name and not name.endswith((".md", ".tsv")):
+            words.update(re.findall(r"\w+", (TOP / name).read_text(errors="replace")))
+            words.update(re.findall(r"\w+", name))
+    return words
+
+
+def names():
+    words = words_of_the_code()
+    for page in (TOP / "docs" / "PROVED.md", TOP / "docs" / "ARCHITECTURE.md", TOP / "docs" / "C.md"):
+        for number, line in prose(page):
+            for name in NAME.findall(line):
+                for part in name.split("::"):
+                    if part not in words:
+                        yield f"{place(page, number)}: no {part} of {name} in the code"
+
+
+def edits():
+    count = len(list(TOP.glob("crates/*/must-fail/*.edit")))
+    if f"{count} must-fail edits" not in " ".join((TOP / "docs" / "PROVED.md").read_text().split()):
+        yield f"there are {count} must-fail edits, and docs/PROVED.md says another number"
+
+
+def code_lines(files, comment):
+    lines = [line.strip() for file in files for line in file.read_text().splitlines()]
+    return sum(1 for line in lines if line and not line.startswith(comment))
+
+
+def program_lines():
+    readme = (TOP / "README.md").read_text()
+    for program in ("bloom", "dedupe", "perfect", "shards", "sums"):
+        crate = TOP / "crates" / f"example_{program}"
+        code = code_lines([f for f in crate.glob("src/*.rt") if "tests" not in f.name], "//")
+        specs = code_lines(crate.glob("specs/**/*.antt"), "--")
+        proofs = code_lines(crate.glob("proofs/**/*.antt"), "--")
+        row = next(line for line in readme.splitlines() if line.startswith(f"| `example_{program}`"))
+        if not row.endswith(f"| {code}, {specs}, {proofs} |"):
+            yield f"example_{program} has {code}, {specs}, {proofs} lines"
+
+
+for name, check in [("links", links), ("paths", paths), ("limits", limits), ("names", names),
+                    ("edits", edits), ("lines of the programs", program_lines)]:
+    tell(name, list(check()))
+print(f"{passed} passed, {failed} failed")
+sys.exit(failed > 0)
