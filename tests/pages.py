@@ -119,8 +119,29 @@ def program_lines():
             yield f"example_{program} has {code}, {specs}, {proofs} lines"
 
 
+VERSIONS = {
+    "CHANGELOG.md": r"^## (\d+\.\d+)",
+    "Makefile": r"^name = yervound-(\d+\.\d+)-",
+    "share/rapidhash_c.pc.in": r"^Version: (\d+\.\d+)$",
+    "share/rapidhash.1": r'^\.TH .*"Yervound (\d+\.\d+)"',
+    "share/rapidsum.1": r'^\.TH .*"Yervound (\d+\.\d+)"',
+    "include/rapidhash_c.h": r'VERSION_STRING "(\d+\.\d+)"',
+    "crates/example_sums/src/words.rt": r'\.version\("(\d+\.\d+)"\)',
+    "bindings/rust/Cargo.toml": r'^version = "(\d+\.\d+)\.\d+"',
+}
+
+
+def version():
+    wanted = None
+    for name, pattern in VERSIONS.items():
+        found = re.search(pattern, (TOP / name).read_text(), re.MULTILINE)
+        wanted = wanted or (found and found[1])
+        if found is None or found[1] != wanted:
+            yield f"{name} has {found and found[1]}, and CHANGELOG.md {wanted}"
+
+
 for name, check in [("links", links), ("paths", paths), ("limits", limits), ("names", names),
-                    ("edits", edits), ("lines of the programs", program_lines)]:
+                    ("edits", edits), ("lines of the programs", program_lines), ("version", version)]:
     tell(name, list(check()))
 print(f"{passed} passed, {failed} failed")
 sys.exit(failed > 0)
