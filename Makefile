@@ -1,10 +1,14 @@
 # make             proves and builds the tool, which bin/rapidhash runs
 # make check       proves everything from nothing, and runs all tests: what a push has to pass
+# make quick       lays the sources out, checks the pages, and proves what has changed: before a commit
+# make test        proves and runs the tests of all crates, and runs the programs from end to end
+# make fmt         lays the sources out
 # make bench       measures the hashes, beside the Rust crate where RAPIDHASH_CRATE names its folder
 # make library     proves and builds the library for C, static and shared
 # make wasm        proves and builds the same library for WebAssembly, which bindings/javascript loads
 # make install     proves and builds the tools and the library for C, and puts them under PREFIX
 # make dist        puts all that a user without the kit needs into one archive in build/
+# make vendor      copies the library into another Rattle repository: make vendor INTO=FOLDER
 # make uninstall   removes what make install put there
 # make clean       removes what the builds left
 
@@ -36,7 +40,7 @@ installed = $(BINDIR)/rapidhash $(LIBDIR)/librapidhash_c.a $(LIBDIR)/$(soname) \
 # The linker of the kit, beside the page that rt names.
 linker = $(dir $(shell rt doc))toolchain/bin/ld.lld
 
-.PHONY: tool sums library wasm check bench install uninstall clean dist
+.PHONY: tool sums library wasm check quick test fmt bench install uninstall clean dist vendor
 
 # The launcher builds what is missing or old. With no input the tool has little to do.
 tool:
@@ -53,6 +57,17 @@ wasm:
 
 check:
 	@bash .ci/run
+
+fmt:
+	@for crate in crates/*; do (cd $$crate && rt fmt) || exit 1; done
+
+quick: fmt
+	@tests/pages.py
+	@rt all check
+
+test:
+	@rt all test
+	@for script in tests/end_to_end.sh tests/example_*.sh; do echo $$script; $$script || exit 1; done
 
 bench:
 	@bench/slices default seeded
@@ -100,6 +115,9 @@ dist: wasm
 	python3 share/vectors.py crates/rapidhash_replay/data >build/$(name)/rapidhash_vectors.tsv
 	tar -C build -czf build/$(name).tar.gz $(name)
 	rm -rf build/$(name)
+
+vendor:
+	@bin/vendor "$(INTO)"
 
 uninstall:
 	rm -f $(addprefix $(DESTDIR),$(installed))

@@ -1,0 +1,154 @@
+#!/usr/bin/env python3
+"""Runs what README.md shows: each command of its shell blocks, and its two programs in a new repository
+that the library was copied into. A command or a block that this test does not know is a failure, so
+nothing in README.md goes untried. The values are those of the Rust crate. The last line counts the
+cases."""
+
+import os
+import re
+import shutil
+import subprocess
+import sys
+import tempfile
+from pathlib import Path
+
+TOP = Path(__file__).resolve().parent.parent
+ROOM = Path(tempfile.mkdtemp())
+passed = failed = 0
+
+# Commands that other tests run: the gate itself, and tests/install.sh.
+ELSEWHERE = ('make install PREFIX="$HOME/.local"', "make check")
+
+# What a program of a user's own has around the blocks of README.md. It prints values that follow from
+# each line of theirs.
+MAIN = """//! The programs of README.md.
+#![tactic(auto)]
+
+{uses}
+use anyhow::Result;
+use std::alloc::{{AllocError, Global}};
+use std::fs::File;
+use std::io;
+use std::random::RandomSource;
+
+fn hashes(file: File) -> io::Result<[u64; 4]> {{
+{first}
+    Ok([shard, hash, same_shard, fingerprint])
+}}
+
+fn count(random_word: u64, second_random_word: u64, alloc: Global) -> Result<u64, AllocError> {{
+{second}
+    for text in ["a", "b", "a"] {{
+        let count = counts.entry(text)?.or_insert(0);
+        *count = count.saturating_add(1);
+    }}
+    Ok(counts.get(&"a").copied().unwrap_or(0))
+}}
+
+fn random_word(rt: &HostRuntime) -> io::Result<u64> {{
+    let mut bytes = [0; 8];
+    rt.fill_bytes(&mut bytes)?;
+    Ok(u64::from_le_bytes(bytes))
+}}
+
+fn main(rt: HostRuntime) -> Result<()> {{
+    let [shard, hash, same_shard, fingerprint] = hashes(File::open(&rt, "something")?)?;
+    let twice = count(random_word(&rt)?, random_word(&rt)?, rt.alloc())?;
+    println!(rt; "{{shard}} {{hash}} {{same_shard}} {{fingerprint}} {{twice}}")?;
+    Ok(())
+}}
+"""
+PRINTED = "43 14860858794976638546 43 11612086640089003834 2\n"
+
+
+def tell(name, is_right, seen=""):
+    """Counts a case."""
+    global passed, failed
+    if is_right:
+        passed += 1
+        print(f"ok {name}", flush=True)
+    else:
+        failed += 1
+        print(f"FAILED {name}: {seen[-600:]}", flush=True)
+
+
+def blocks():
+    """The code blocks of README.md, each with its language."""
+    return re.findall(r"^```(\w+)\n(.*?)^```$", (TOP / "README.md").read_text(), re.MULTILINE | re.DOTALL)
+
+
+def shell(command, folder, path=""):
+    words = dict(os.environ, PATH=f"{path}:{os.environ['PATH']}" if path else os.environ["PATH"])
+    return subprocess.run(["bash", "-c", command], cwd=folder, env=words, stdin=subprocess.DEVNULL,
+                          stdout=subprocess.PIPE, stderr=subprocess.STDOUT, text=True)
+
+
+def run_command(command, comment, programs):
+    """Runs one command where its words say, and compares what it prints with what README.md says."""
+    if command in ELSEWHERE:
+        return
+    is_program = command.startswith(("rapidhash ", "rapidsum "))
+    done = shell(command, ROOM / "files" if is_program else TOP, programs if is_program else "")
+    said = re.search(r"prints (\d+)", comment)
+    is_right = done.returncode == 0 and (said is None or done.stdout.strip() == said[1])
+    if command.startswith("cc "):
+        is_right = is_right and shell("build/known_values", TOP).returncode == 0
+    tell(command, is_right, done.stdout)
+
+
+def run_shell_blocks():
+    (ROOM / "files").mkdir()
+    for name in ("Makefile", "README.md"):
+        shutil.copy(TOP / name, ROOM / "files")
+    programs = ROOM / "bin"
+    programs.mkdir()
+    for crate, name in (("rapidhash_cli", "rapidhash"), ("example_sums", "rapidsum")):
+        shell("rt run -- --version </dev/null", TOP / "crates" / crate)
+        os.symlink(TOP / "crates" / crate / "out" / crate, programs / name)
+    for language, text in blocks():
+        for line in text.splitlines() if language == "sh" else []:
+            command, _, comment = line.partition(" #")
+            run_command(command.strip(), comment, str(programs))
+
+
+def parted(text):
+    """The lines that import, and the others as they stand in a function."""
+    lines = text.splitlines()
+    uses = [line for line in lines if line.startswith("use ")]
+    return uses, "\n".join(f"    {line}".rstrip() for line in lines if not line.startswith("use "))
+
+
+def run_programs():
+    """Both programs in a repository of their own, which has the library by make vendor."""
+    programs = [text for language, text in blocks() if language == "rust"]
+    tell("two programs", len(programs) == 2)
+    place = ROOM / "repository"
+    crate = place / "crates" / "readme"
+    (crate / "src").mkdir(parents=True)
+    (crate / "data").mkdir()
+    (crate / "data" / "something").write_text("something\n")
+    (crate / "stdout").write_text(PRINTED)
+    done = shell(f"make -s vendor INTO={place}", TOP)
+    tell("make vendor", done.returncode == 0, done.stdout)
+    lines = [line for line in done.stdout.splitlines() if re.match(r"^\w+:", line)]
+    wanted = [line.replace("YOUR_CRATE", "readme") + (" anyhow" if "YOUR" in line else "") for line in lines]
+    (place / "crates.txt").write_text("\n".join(wanted) + "\n")
+    (place / "HANDLES").write_text("Handles allowed: none.\n")
+    (uses, first), (other_uses, second) = map(parted, programs)
+    main = MAIN.format(uses="\n".join(uses + other_uses), first=first, second=second)
+    (crate / "src" / "main.rt").write_text(main)
+    shell("git init -q && rt fmt", place)
+    shell("rt fmt", crate)
+    done = shell("rt run -- 2>/dev/null", crate)
+    shutil.copy(crate / "data" / "something", ROOM)
+    done = shell(f"{crate}/out/readme", ROOM)
+    tell("the programs of README.md", done.stdout == PRINTED, done.stdout)
+
+
+try:
+    run_shell_blocks()
+    run_programs()
+finally:
+    shutil.rmtree(ROOM, ignore_errors=True)
+print(f"{passed} passed, {failed} failed")
+sys.exit(failed > 0)
