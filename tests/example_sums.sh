@@ -92,14 +92,21 @@ check_without_a_last_newline() { list && printf %s "$(cat list)" >short && "$sum
 check_to_a_full_disk() { list && "$sum" -c list >/dev/full; }
 
 # That an unreadable file is refused shows only to a user who may not read all.
-unreadable() { chmod 0 first && "$sum" first 'second name'; }
-check_of_an_unreadable_file() { list && chmod 0 first && "$sum" -c list; }
+as_user=()
+if [ "$(id -u)" -eq 0 ]; then
+  chmod 755 "$room"
+  as_user=(setpriv --reuid=65534 --regid=65534 --clear-groups)
+fi
+unreadable() { chmod 0 first && "${as_user[@]}" "$sum" first 'second name'; }
+check_of_an_unreadable_file() { list && chmod 0 first && "${as_user[@]}" "$sum" -c list; }
 
 (cd "$top/crates/example_sums" && rt run -- --version </dev/null >"$room/build.log" 2>&1) || {
   tail -n 5 "$room/build.log"
   printf '0 passed, 1 failed\n'
   exit 1
 }
+# The other user may not come to where the program was built.
+cp "$program" "$room/rapidsum" && program=$room/rapidsum
 
 for name in sums sums_of_standard_input missing_file folder words_behind_two_hyphens full_disk \
   check check_of_standard_input check_of_two_lists check_with_carriage_returns check_with_stars \
@@ -108,13 +115,10 @@ for name in sums sums_of_standard_input missing_file folder words_behind_two_hyp
   check_of_missing_files_alone check_where_all_are_missing check_by_status_where_all_are_missing \
   check_of_a_folder check_of_no_list check_of_an_empty_list check_of_malformed_lines \
   check_that_names_malformed_lines check_strictly check_of_malformed_lines_alone \
-  check_with_comments check_without_a_last_newline check_to_a_full_disk; do
+  check_with_comments check_without_a_last_newline check_to_a_full_disk unreadable \
+  check_of_an_unreadable_file; do
   beside "$name"
 done
-if [ "$(id -u)" -ne 0 ]; then
-  beside unreadable
-  beside check_of_an_unreadable_file
-fi
 
 cd "$room" || exit 1
 files
