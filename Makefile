@@ -76,9 +76,9 @@ bench:
 	@bench/memory
 	@bench/tool
 
-# With --version the program reads no file.
+# Builds rapidsum where it is missing or old. With --version it reads no file.
 sums:
-	@cd crates/example_sums && rt run -- --version </dev/null >/dev/null
+	@tests/build.sh example_sums --version >/dev/null
 
 install: tool sums library
 	install -D -m 755 crates/rapidhash_cli/out/rapidhash_cli $(DESTDIR)$(BINDIR)/rapidhash
