@@ -32,8 +32,8 @@ pub enum BuildError {
 
 /// A table of the keys of a fixed set, with no more places than keys.
 ///
-/// A key's hash tells its bucket. The bucket has a seed, and the key's hash by that seed tells its
-/// place, where the key's index stands.
+/// A key's hash gives its bucket. Each bucket has a seed, and the key's hash with that seed gives
+/// its place, where the key's index is stored.
 #[derive(Drop)]
 pub struct Table<'k> {
     keys: &'k [&'k [u8]],

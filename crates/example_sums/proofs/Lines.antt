@@ -59,13 +59,13 @@ escaped-no_return (c ∷ cs) i found = no_return-step c i cs (letter_of c) refl 
 pub no_return_at : (name text : List ℕ) (i : ℕ) → text ≡ escaped name → slice_index text i ≡ 13 → ⊥
 no_return_at name text i is found = escaped-no_return name i (ap (λ (xs : List ℕ). slice_index xs i) (sym is) ∙ found)
 
--- one byte of a name without an escape stands for itself
+-- one byte of a name without an escape is printed as it is
 plain-step : (c : ℕ) (cs : List ℕ) (letter : Option ℕ) → letter_of c ≡ letter → is_some letter || needs_escape cs ≡ false
     → (needs_escape cs ≡ false → escaped cs ≡ cs) → escape_by c letter ++ escaped cs ≡ c ∷ cs
 plain-step c cs None is h rest = ap (λ xs. c ∷ xs) (rest h)
 plain-step c cs (Some letter) is h rest = cc h
 
--- a name without an escape stands for itself
+-- a name without an escape is printed as it is
 pub escaped-plain : (name : List ℕ) → needs_escape name ≡ false → escaped name ≡ name
 unfolding escaped
 escaped-plain [] h = refl

@@ -8,7 +8,7 @@ use Rattle.hex.specs.Hex.{encode_lower}
 abbrev pub letter_of : ℕ → Option ℕ
 letter_of c = cond (nat_eq c 92) (Some 92) (cond (nat_eq c 10) (Some 110) (cond (nat_eq c 13) (Some 114) None))
 
--- the byte that a letter behind a backslash stands for
+-- the byte that a letter behind a backslash represents
 abbrev pub byte_of : ℕ → Option ℕ
 byte_of c = cond (nat_eq c 92) (Some 92) (cond (nat_eq c 110) (Some 10) (cond (nat_eq c 114) (Some 13) None))
 
