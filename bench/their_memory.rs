@@ -4,12 +4,14 @@
 
 use rapidhash::{fast, quality, rng::RapidRng};
 use std::collections::HashMap;
-use std::hash::{BuildHasher, Hasher};
+use std::hash::{BuildHasher, Hash, Hasher};
 use std::time::Instant;
 
 const ITEMS: u64 = 1 << 21;
 
-const KEYS: u64 = 1 << 24;
+const KEYS: usize = 1 << 24;
+
+const WIDTH: usize = 20;
 
 #[inline(never)]
 fn next() -> u64 {
@@ -119,54 +121,76 @@ fn hashed_at<S: BuildHasher, const PLACE: u64>(state: S, item: &str, number: u64
     }
 }
 
-fn filled<S: BuildHasher>(state: S, keys: u64) -> HashMap<u64, u64, S> {
+fn filled<K: Eq + Hash + Copy, S: BuildHasher>(state: S, keys: &[K]) -> HashMap<K, u64, S> {
     let mut map = HashMap::with_hasher(state);
-    for key in 0..keys {
-        map.insert(key, key);
+    for (place, key) in keys.iter().enumerate() {
+        map.insert(*key, place as u64);
     }
     map
 }
 
 #[inline(never)]
-fn fill<S: BuildHasher + Clone>(state: S, keys: u64) -> u64 {
-    (0..KEYS / keys).fold(0, |sum, _| sum + filled(state.clone(), keys).len() as u64)
+fn fill<K: Eq + Hash + Copy, S: BuildHasher + Clone>(state: S, keys: &[K]) -> u64 {
+    (0..KEYS / keys.len()).fold(0, |sum, _| sum + filled(state.clone(), keys).len() as u64)
 }
 
 #[inline(never)]
-fn found<S: BuildHasher>(map: &HashMap<u64, u64, S>, first: u64, keys: u64) -> u64 {
-    let (mut sum, mut key) = (0, first);
-    for _ in 0..KEYS {
-        sum += map.contains_key(&key) as u64;
-        key += 1;
-        if key == first + keys {
-            key = first;
+fn found<K: Eq + Hash, S: BuildHasher>(map: &HashMap<K, u64, S>, keys: &[K]) -> u64 {
+    let mut sum = 0;
+    for _ in 0..KEYS / keys.len() {
+        for key in keys {
+            sum += map.contains_key(key) as u64;
         }
     }
     sum
 }
 
+/// What is done, and with how many keys.
+fn named(name: &str) -> (&str, usize) {
+    let (work, count) = name.split_at(name.find(|c: char| c.is_ascii_digit()).unwrap());
+    (work, count.parse().unwrap())
+}
+
 /// The sum, and when the time began: a map that keys are looked up in is filled before.
-fn table<S: BuildHasher + Clone>(state: S, name: &str) -> (u64, Instant) {
-    let keys = |work| name.strip_prefix(work).map(|keys| keys.parse::<u64>().unwrap());
-    if let Some(keys) = keys("insert") {
+fn table<K: Eq + Hash + Copy, S: BuildHasher + Clone>(
+    state: S,
+    work: &str,
+    keys: &[K],
+) -> (u64, Instant) {
+    let (there, missing) = keys.split_at(keys.len() / 2);
+    if work == "insert" {
         let start = Instant::now();
-        return (fill(state, keys), start);
+        return (fill(state, there), start);
     }
-    let (first, keys) = match keys("hit") {
-        Some(keys) => (0, keys),
-        None => (keys("miss").unwrap(), keys("miss").unwrap()),
-    };
-    let map = filled(state, keys);
+    let asked = if work == "hit" { there } else { missing };
+    let map = filled(state, there);
     let start = Instant::now();
-    (found(&map, first, keys), start)
+    (found(&map, asked), start)
+}
+
+/// Maps from integers.
+fn integers<S: BuildHasher + Clone>(state: S, name: &str) -> (u64, Instant) {
+    let (work, count) = named(name);
+    table(state, work, &(0..2 * count as u64).collect::<Vec<_>>())
+}
+
+/// Maps from keys of bytes.
+fn byte_keys<S: BuildHasher + Clone>(state: S, name: &str) -> (u64, Instant) {
+    let (work, count) = named(name);
+    let mut rng = RapidRng::new(0);
+    let bytes: Vec<u8> = (0..2 * count * WIDTH).map(|_| (rng.next() % 256) as u8).collect();
+    table(state, work, &bytes.chunks_exact(WIDTH).collect::<Vec<_>>())
 }
 
 fn work(form: &str, number: u64, place: u64) -> (u64, Instant) {
     if let Some(name) = form.strip_prefix("map_") {
-        return table(fast::RandomState::new(), name);
+        return integers(fast::RandomState::new(), name);
+    }
+    if let Some(name) = form.strip_prefix("keys_") {
+        return byte_keys(fast::RandomState::new(), name);
     }
     if let Some(name) = form.strip_prefix("std_") {
-        return table(std::hash::RandomState::new(), name);
+        return integers(std::hash::RandomState::new(), name);
     }
     // A seed and secrets that the compiler does not know.
     let mut rng = RapidRng::new(number);

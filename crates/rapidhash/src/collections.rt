@@ -11,7 +11,7 @@ use std::hash::Hash;
 ///
 /// A key's bytes reach the hasher as std hands them over: a text by one write and a byte behind it,
 /// an integer as its bytes, but `[u8]` and `Vec<u8>` by one write a byte, which is slow for long
-/// keys.
+/// keys: put those into a [`ByteKey`](crate::ByteKey).
 ///
 /// How often each word stands in a text. The two random words are the program's own, drawn once:
 ///

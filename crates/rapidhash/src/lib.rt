@@ -3,6 +3,7 @@
 //! - [`v1`], [`v2`], [`v3`]: the portable hashes, whose values never change.
 //! - [`reader`]: the reader with a mark that the hashes of a reader take.
 //! - [`RapidHashMap`] and [`RapidHashSet`]: maps and sets over the fast hasher.
+//! - [`ByteKey`]: a key of bytes, which they hash by one write.
 //! - [`fast`], [`quality`]: the hasher and the states of maps, without and with an avalanche.
 //! - [`inner`]: the hasher of maps, with every option.
 //! - [`rng`]: a small generator.
@@ -19,9 +20,11 @@
 mod collections;
 pub mod fast;
 pub mod inner;
+mod keys;
 pub mod laws;
 pub mod quality;
 pub mod rng;
 
 pub use collections::{HashMapExt, HashSetExt, RapidHashMap, RapidHashSet};
+pub use keys::ByteKey;
 pub use rapidhash_portable::{reader, util, v1, v2, v3};

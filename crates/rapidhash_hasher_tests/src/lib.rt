@@ -18,6 +18,8 @@ mod integers;
 #[cfg(test)]
 mod items;
 #[cfg(test)]
+mod keys;
+#[cfg(test)]
 mod laws;
 #[cfg(test)]
 mod sizes;

@@ -37,6 +37,9 @@ fn measured(rt: &(impl Clock + AllocGlobal), form: &str, number: u64, place: u64
     if let Some(table) = form.strip_prefix("map_") {
         return tables::rapid(rt, table);
     }
+    if let Some(table) = form.strip_prefix("keys_") {
+        return tables::rapid_bytes(rt, table);
+    }
     let start = Instant::now(rt)?;
     let sum = match form {
         "next" => draws::next(),

@@ -1,16 +1,20 @@
-//! Maps from integers to integers.
+//! Maps from integers, and from keys of 20 bytes, to integers.
 
 use anyhow::{Result, bail};
-use rapidhash::fast;
 use rapidhash::inner::{GlobalSecrets, SeedSource};
+use rapidhash::rng::RapidRng;
+use rapidhash::{ByteKey, fast};
 use std::alloc::{AllocError, Allocator};
 use std::collections::HashMap;
-use std::hash::{BuildHasher, BuildHasherDefault, FoldHasher};
+use std::hash::{BuildHasher, BuildHasherDefault, FoldHasher, Hash};
 use std::rt::Clock;
 use std::time::Instant;
 
 /// How many keys a form puts in, or looks up.
-const KEYS: u64 = 1 << 24;
+const KEYS: usize = 1 << 24;
+
+/// How many bytes a key of bytes has.
+const WIDTH: usize = 20;
 
 /// A number that all work went into, and the nanoseconds it took.
 pub struct Taken {
@@ -22,114 +26,175 @@ pub struct Taken {
 #[derive(Clone, Copy)]
 enum Work {
     /// Puts each key into a new map, over and over.
-    Insert(u64),
+    Insert(usize),
     /// Looks up keys that are there.
-    Hit(u64),
+    Hit(usize),
     /// Looks up keys that are not there.
-    Miss(u64),
+    Miss(usize),
 }
 
 impl Work {
     /// The work of a name such as `insert1000`.
     fn named(name: &str) -> Result<Work> {
         if let Some(keys) = name.strip_prefix("insert") {
-            return Ok(Work::Insert(keys.parse::<u64>()?));
+            return Ok(Work::Insert(keys.parse::<usize>()?));
         }
         if let Some(keys) = name.strip_prefix("hit") {
-            return Ok(Work::Hit(keys.parse::<u64>()?));
+            return Ok(Work::Hit(keys.parse::<usize>()?));
         }
         if let Some(keys) = name.strip_prefix("miss") {
-            return Ok(Work::Miss(keys.parse::<u64>()?));
+            return Ok(Work::Miss(keys.parse::<usize>()?));
         }
         bail!("no form {name}")
     }
+
+    /// How many keys the map has.
+    fn count(self) -> usize {
+        match self {
+            Work::Insert(count) | Work::Hit(count) | Work::Miss(count) => count,
+        }
+    }
 }
 
-/// A map of the first `keys` integers.
-fn filled<S: BuildHasher + Copy, A: Allocator + Clone>(
+/// A map of keys, each to its place in the list.
+fn filled<K: Eq + Hash + Copy, S: BuildHasher + Copy, A: Allocator + Clone>(
     alloc: A,
     state: S,
-    keys: u64,
-) -> Result<HashMap<u64, u64, S, A>, AllocError> {
+    keys: &[K],
+) -> Result<HashMap<K, u64, S, A>, AllocError> {
     let mut map = HashMap::with_hasher(alloc, state);
-    for key in 0..keys {
-        let _ = map.insert(key, key)?;
+    for (place, key) in keys.iter().enumerate() {
+        let _ = map.insert(*key, place as u64)?;
     }
     Ok(map)
 }
 
 /// Fills a map anew, over and over.
 #[inline(never)]
-fn fill<S: BuildHasher + Copy, A: Allocator + Clone>(
+fn fill<K: Eq + Hash + Copy, S: BuildHasher + Copy, A: Allocator + Clone>(
     alloc: A,
     state: S,
-    keys: u64,
+    keys: &[K],
 ) -> Result<u64, AllocError> {
     let mut sum = 0u64;
-    for _ in 0..KEYS / keys.max(1) {
+    for _ in 0..KEYS / keys.len().max(1) {
         let map = filled(alloc.clone()?, state, keys)?;
         sum = sum.wrapping_add(map.len() as u64);
     }
     Ok(sum)
 }
 
-/// Looks up the integers from `first` on, `keys` of them over and over; tells how many were there.
-#[inline(never)]
-fn found<S: BuildHasher + Copy, A: Allocator>(
-    map: &HashMap<u64, u64, S, A>,
-    first: u64,
-    keys: u64,
+/// How many of the keys are in the map.
+#[inline(always)]
+fn found_once<K: Eq + Hash, S: BuildHasher, A: Allocator>(
+    map: &HashMap<K, u64, S, A>,
+    keys: &[K],
 ) -> u64 {
     let mut sum = 0u64;
-    let end = first.wrapping_add(keys);
-    let mut key = first;
-    for _ in 0..KEYS {
-        if map.contains_key(&key) {
+    for key in keys {
+        if map.contains_key(key) {
             sum = sum.wrapping_add(1);
-        }
-        key = key.wrapping_add(1);
-        if key == end {
-            key = first;
         }
     }
     sum
 }
 
-/// Does the work with maps of one state. A map that keys are looked up in is filled before the time
-/// begins.
-fn measured<S: BuildHasher + Copy>(
+/// Looks the keys up, over and over, and counts how often one was there.
+#[inline(never)]
+fn found<K: Eq + Hash, S: BuildHasher, A: Allocator>(
+    map: &HashMap<K, u64, S, A>,
+    keys: &[K],
+) -> u64 {
+    let mut sum = 0u64;
+    for _ in 0..KEYS / keys.len().max(1) {
+        sum = sum.wrapping_add(found_once(map, keys));
+    }
+    sum
+}
+
+/// Does the work with maps of one state: the first half of the keys is put in. A map that keys are
+/// looked up in is filled before the time begins.
+fn measured<K: Eq + Hash + Copy, S: BuildHasher + Copy>(
     rt: &(impl Clock + AllocGlobal),
     state: S,
     work: Work,
+    keys: &[K],
 ) -> Result<Taken> {
-    let (first, keys) = match work {
-        Work::Insert(keys) => {
+    let (there, missing) = keys.split_at(keys.len() / 2);
+    let asked = match work {
+        Work::Insert(_) => {
             let start = Instant::now(rt)?;
-            let sum = fill(rt.alloc(), state, keys)?;
+            let sum = fill(rt.alloc(), state, there)?;
             let nanos = start.elapsed(rt)?.as_nanos();
             return Ok(Taken { sum, nanos });
         }
-        Work::Hit(keys) => (0, keys),
-        Work::Miss(keys) => (keys, keys),
+        Work::Hit(_) => there,
+        Work::Miss(_) => missing,
     };
-    let map = filled(rt.alloc(), state, keys)?;
+    let map = filled(rt.alloc(), state, there)?;
     let start = Instant::now(rt)?;
-    let sum = found(&map, first, keys);
+    let sum = found(&map, asked);
     let nanos = start.elapsed(rt)?.as_nanos();
     Ok(Taken { sum, nanos })
 }
 
-/// Maps over a random state, whose words the compiler does not know.
-pub fn rapid(rt: &(impl Clock + AllocGlobal), name: &str) -> Result<Taken> {
-    let work = Work::named(name)?;
-    let word = name.len() as u64;
-    let secrets = GlobalSecrets::new(word);
-    let mut source = SeedSource::new(&secrets, word);
-    measured(rt, fast::RandomState::new(&secrets, &mut source), work)
+/// The first `2 * count` integers.
+fn integers<A: Allocator>(alloc: A, count: usize) -> Result<Vec<u64, A>, AllocError> {
+    let mut keys = Vec::new(alloc);
+    for key in 0..count.saturating_mul(2) as u64 {
+        keys.push(key)?;
+    }
+    Ok(keys)
 }
 
-/// Maps over the state that std's maps have by default.
+/// The bytes of `2 * count` keys, one key behind another.
+fn key_bytes<A: Allocator>(alloc: A, count: usize) -> Result<Vec<u8, A>, AllocError> {
+    let mut rng = RapidRng::new(0);
+    let mut bytes = Vec::new(alloc);
+    for _ in 0..count.saturating_mul(2 * WIDTH) {
+        bytes.push((rng.next() % 256) as u8)?;
+    }
+    Ok(bytes)
+}
+
+/// Keys of bytes, cut out of their bytes.
+fn byte_keys<'b, A: Allocator>(
+    alloc: A,
+    bytes: &'b [u8],
+) -> Result<Vec<ByteKey<&'b [u8]>, A>, AllocError> {
+    let mut keys = Vec::new(alloc);
+    for key in bytes.chunks_exact(WIDTH) {
+        keys.push(ByteKey(key))?;
+    }
+    Ok(keys)
+}
+
+/// A random state, whose words the compiler does not know.
+fn random_state<'s>(secrets: &'s GlobalSecrets, word: u64) -> fast::RandomState<'s> {
+    let mut source = SeedSource::new(secrets, word);
+    fast::RandomState::new(secrets, &mut source)
+}
+
+/// Maps from integers over a random state.
+pub fn rapid(rt: &(impl Clock + AllocGlobal), name: &str) -> Result<Taken> {
+    let work = Work::named(name)?;
+    let secrets = GlobalSecrets::new(name.len() as u64);
+    let state = random_state(&secrets, name.len() as u64);
+    measured(rt, state, work, &integers(rt.alloc(), work.count())?)
+}
+
+/// Maps from keys of bytes over a random state.
+pub fn rapid_bytes(rt: &(impl Clock + AllocGlobal), name: &str) -> Result<Taken> {
+    let work = Work::named(name)?;
+    let secrets = GlobalSecrets::new(name.len() as u64);
+    let state = random_state(&secrets, name.len() as u64);
+    let bytes = key_bytes(rt.alloc(), work.count())?;
+    measured(rt, state, work, &byte_keys(rt.alloc(), &bytes)?)
+}
+
+/// Maps from integers over the state that std's maps have by default.
 pub fn standard(rt: &(impl Clock + AllocGlobal), name: &str) -> Result<Taken> {
+    let work = Work::named(name)?;
     let state: BuildHasherDefault<FoldHasher> = BuildHasherDefault::new();
-    measured(rt, state, Work::named(name)?)
+    measured(rt, state, work, &integers(rt.alloc(), work.count())?)
 }

@@ -1,0 +1,62 @@
+//! Keys of bytes, for maps and sets.
+
+ghost use Rattle.std.specs.Prelude.{◌≡◌, [], ◌∷◌, nat_eq};
+ghost use Rattle.std.specs.Cmp.{on_equiv, on_per, partial_equiv_from_equiv};
+ghost use Rattle.std.specs.Cmp.Lexicographic.{pointwise, nat_list_eq_equiv};
+ghost use Rattle.std.specs.Hash.{on_Alike, same_Alike};
+ghost use Rattle.std.proofs.lemmas.Slice.Eq.{bytes_eq-Decides};
+
+use std::convert::AsSlice;
+use std::hash::{Hash, Hasher};
+
+/// A key that is made of bytes, and that reaches the hasher by one write.
+///
+/// By std's law a `&[u8]` or a `Vec<u8>` writes its length and then each byte by a call of its own,
+/// which takes a hash step for each. This key writes all its bytes at once. It holds anything that
+/// lends bytes: `&[u8]`, `Vec<u8>`, `bytes::Bytes`, `[u8; N]` or `&str`. Two keys are equal where
+/// their bytes are.
+///
+/// A map of owned keys that is searched by borrowed slices takes `ByteKey<CowSlice<u8>>`:
+///
+/// ```
+/// let mut sizes: RapidHashMap<ByteKey<CowSlice<u8>>, u64> = HashMapExt::new(alloc, state);
+/// sizes.insert(ByteKey(CowSlice::Owned(name)), 4096)?;
+/// let size = sizes.get(&ByteKey(CowSlice::Borrowed(b"notes.txt")));
+/// ```
+#[derive(Clone, Copy, Debug, Drop)]
+pub struct ByteKey<T>(pub T);
+
+impl<T: AsSlice<u8>> AsSlice<u8> for ByteKey<T> {
+    ghost items = { λ key. T.items key.0 };
+
+    #[inline]
+    fn as_slice(&self) -> &[u8] {
+        self.0.as_slice()
+    }
+}
+
+impl<T: AsSlice<u8>> PartialEq for ByteKey<T> {
+    ghost eq = { λ x y. pointwise nat_eq (T.items x.0) (T.items y.0) };
+
+    ghost laws = { on_per (λ key. T.items key.0) (partial_equiv_from_equiv nat_list_eq_equiv) };
+
+    #[inline]
+    fn eq(&self, other: &Self) -> bool {
+        self.0.as_slice() == other.0.as_slice()
+    }
+}
+
+impl<T: AsSlice<u8>> Eq for ByteKey<T> {
+    ghost laws = { on_equiv (λ key. T.items key.0) nat_list_eq_equiv };
+}
+
+impl<T: AsSlice<u8>> Hash for ByteKey<T> {
+    ghost hash_input = { λ key. T.items key.0 ∷ [] };
+
+    ghost respects_eq = { (on_Alike (λ key. T.items key.0) (same_Alike (λ bytes. bytes ∷ []) bytes_eq-Decides)).fed };
+
+    #[inline]
+    fn hash<H: Hasher>(&self, state: &mut H) {
+        state.write(self.0.as_slice());
+    }
+}
