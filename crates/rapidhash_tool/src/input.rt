@@ -1,10 +1,10 @@
 //! How the bytes are read.
 
-ghost use Rattle.std.specs.Prelude.{◌≡◌, ◌⊎◌, IfErr, IfOk, OnOk};
+ghost use Rattle.std.specs.Prelude.{◌≡◌, ◌⊎◌, ◌++◌, if◌then◌else◌, is_ok, IfErr, IfOk, OnOk};
 ghost use Rattle.std.specs.Io.KnownBytes.{Consumes, IsAtEnd};
 
 use crate::fault::CliFault;
-use std::alloc::Allocator;
+use std::alloc::{AllocError, Allocator};
 use std::io::Read;
 
 // How many bytes are asked of the reader at once: what a pipe of Linux holds.
@@ -28,7 +28,7 @@ pub(crate) fn read_whole<A: Allocator, R: Read>(
         match input.read(&mut piece) {
             Ok(0) => return Ok(whole),
             Ok(count) => {
-                if whole.extend_from_slice(&piece[..count]).is_err() {
+                if append(&mut whole, &piece[..count]).is_err() {
                     return Err(CliFault::Memory);
                 }
             }
@@ -36,4 +36,18 @@ pub(crate) fn read_whole<A: Allocator, R: Read>(
         }
     }
     Err(CliFault::Stdin)
+}
+
+// Adds a piece. The vector doubles its room; where that allocation fails, it allocates only what
+// the piece needs.
+#[inline(always)]
+fn append<A: Allocator>(whole: &mut Vec<u8, A>, piece: &[u8]) -> Result<(), AllocError>
+    ensures { whole.new.items
+        ≡ (if is_ok result then whole.old.items ++ piece.now else whole.old.items) }
+{
+    if whole.extend_from_slice(piece).is_ok() {
+        return Ok(());
+    }
+    whole.reserve_exact(piece.len())?;
+    whole.extend_from_slice(piece)
 }

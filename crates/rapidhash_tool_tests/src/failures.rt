@@ -165,6 +165,17 @@ fn memory_that_is_refused(rt: HostRuntime) {
     }
 }
 
+// In a heap of 7 blocks the 32 bytes that were read cannot move into twice the room, since the free
+// blocks lie apart. Room for one byte more fits, so the message is hashed all the same.
+#[test]
+fn less_than_twice_the_room(rt: HostRuntime) {
+    for version in versions(false) {
+        let (ended, reads) = in_a_heap(&rt, version, 7, whole(FORTY));
+        assert_eq!(rt; ended.result, Ok(()), "at {version:?}");
+        assert_eq!(rt; reads, 41, "at {version:?}");
+    }
+}
+
 // A piece is read before memory for it is asked for. So without any memory an empty input has its
 // hash, and a first read that fails is told and not the memory.
 #[test]
