@@ -1,7 +1,7 @@
 #!/usr/bin/env python3
 """Checks what the pages say against the repository: links and paths lead somewhere, names stand in the
-code, counts are those of the files, and pages and lines keep their limits. The last line counts the
-cases."""
+code, counts are those of the files, pages and lines keep their limits, and what a script makes of the
+sources is current. The last line counts the cases."""
 
 import re
 import subprocess
@@ -102,6 +102,17 @@ def edits():
         yield f"there are {count} must-fail edits, and docs/PROVED.md says another number"
 
 
+def made_by(*command):
+    """What a script that makes a page of the sources tells where the page is not current."""
+    done = subprocess.run(command, cwd=TOP, stdout=subprocess.PIPE, stderr=subprocess.STDOUT, text=True)
+    if done.returncode != 0:
+        yield from done.stdout.splitlines() or [f"{command[0]} ended with status {done.returncode}"]
+
+
+def calls():
+    return made_by("bin/api", "--check")
+
+
 def code_lines(files, comment):
     lines = [line.strip() for file in files for line in file.read_text().splitlines()]
     return sum(1 for line in lines if line and not line.startswith(comment))
@@ -141,7 +152,8 @@ def version():
 
 
 for name, check in [("links", links), ("paths", paths), ("limits", limits), ("names", names),
-                    ("edits", edits), ("lines of the programs", program_lines), ("version", version)]:
+                    ("edits", edits), ("lines of the programs", program_lines), ("version", version),
+                    ("calls", calls)]:
     tell(name, list(check()))
 print(f"{passed} passed, {failed} failed")
 sys.exit(failed > 0)

@@ -50,11 +50,11 @@ pub trait HashMapExt<A>: Sized {
     // Whether the map has no entry.
     ghost is_empty: { Self → Type 0 };
 
-    /// An empty map, which takes no memory.
+    /// An empty map, which allocates nothing.
     fn new(alloc: A, state: Self::State) -> Self
         ensures { is_empty result };
 
-    /// An empty map with room for `capacity` entries. It fails only where memory is refused, and
+    /// An empty map with room for `capacity` entries. It fails only where the allocation does, and
     /// then nothing was made.
     fn with_capacity(alloc: A, capacity: usize, state: Self::State) -> Result<Self, AllocError>
         ensures { IfOk result is_empty };
@@ -68,12 +68,12 @@ pub trait HashSetExt<A>: Sized {
     // Whether the set has no key.
     ghost is_empty: { Self → Type 0 };
 
-    /// An empty set, which takes no memory.
+    /// An empty set, which allocates nothing.
     fn new(alloc: A, state: Self::State) -> Self
         ensures { is_empty result };
 
-    /// An empty set with room for `capacity` keys. It fails only where memory is refused, and then
-    /// nothing was made.
+    /// An empty set with room for `capacity` keys. It fails only where the allocation does, and
+    /// then nothing was made.
     fn with_capacity(alloc: A, capacity: usize, state: Self::State) -> Result<Self, AllocError>
         ensures { IfOk result is_empty };
 }

@@ -17,7 +17,7 @@
 
 use crate::inner;
 
-/// The hasher.
+/// The hasher of [`crate::RapidHashMap`], without the avalanche.
 pub type RapidHasher<'s> = inner::RapidHasher<'s, false, true, false, false>;
 
 /// Makes hashers of the next seed of a [`crate::inner::SeedSource`].

@@ -6,7 +6,7 @@
 //! - [`lane_after_its_secret`]: what `PROTECTED` keeps.
 //! - [`same_blocks`]: integers of equal widths are packed one to one.
 //! - [`join_u8`], [`turn_bytes`] and their like: writes that may be joined, or may change places.
-//! - [`replay`]: a stream hasher answers the hash of what was written since the last reset.
+//! - [`replay`]: a stream hasher returns the hash of what was written since the last reset.
 
 ghost use Rattle.std.specs.Prelude.{◌≡◌, IfOk};
 ghost use Rattle.rapidhash_portable.specs.Lanes.{IsLaneCount};
@@ -38,8 +38,8 @@ pub enum StreamOp<'d> {
     Reset,
 }
 
-/// What V3's stream hasher answers to each `Finish` of a run, in order. It fails only where memory
-/// for the answers is refused, and then it has given back what it had.
+/// What V3's stream hasher returns for each `Finish` of a run, in order. It fails only where an
+/// allocation for the list of hashes does, and then it has freed what it had.
 ///
 /// ```
 /// let ops = [StreamOp::Write(b"hello"), StreamOp::Finish];

@@ -18,7 +18,7 @@
 
 use crate::inner;
 
-/// The hasher.
+/// The hasher with the avalanche.
 pub type RapidHasher<'s> = inner::RapidHasher<'s, true, true, false, false>;
 
 /// Makes hashers of the next seed of a [`crate::inner::SeedSource`].

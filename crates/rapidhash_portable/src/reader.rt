@@ -65,7 +65,7 @@ impl<R: Read> Source<R> {
         failed.error
     }
 
-    /// Takes the mark off.
+    /// Turns the mark off.
     pub fn clear(&mut self)
         ensures unmarked { is_marked self.new ≡ false }
         ensures reader { reader_of self.new ≡ reader_of self.old }

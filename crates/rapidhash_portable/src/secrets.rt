@@ -85,7 +85,7 @@ impl RapidSecrets {
         }
     }
 
-    /// The source's next answer as the seed, beside secrets made of a random word.
+    /// The next seed of `source`, beside the secrets of `global`.
     ///
     /// ```
     /// let global = GlobalSecrets::new(random_word);

@@ -43,7 +43,7 @@ impl GlobalSecrets {
         &self.secrets
     }
 
-    /// The seed.
+    /// The seed that was made beside the secrets.
     #[inline]
     pub fn get_global_seed(&self) -> u64
         ensures { result ≡ seed_of self.now }

@@ -40,8 +40,8 @@ pub fn rapid_mix<const PROTECTED: bool>(a: u64, b: u64) -> u64
     low ^ high
 }
 
-/// The little-endian number of the 8 bytes from `offset` on. That they lie in `bytes` is the
-/// caller's condition.
+/// The little-endian number of the 8 bytes from `offset` on. That they lie in `bytes` is a
+/// precondition.
 #[inline(always)]
 #[tactic(auto, unfolding(crate::specs::Bytes::word64))]
 pub fn read_u64(bytes: &[u8], offset: usize) -> u64
@@ -60,8 +60,8 @@ pub fn read_u64(bytes: &[u8], offset: usize) -> u64
     ])
 }
 
-/// The little-endian number of the 4 bytes from `offset` on. That they lie in `bytes` is the
-/// caller's condition.
+/// The little-endian number of the 4 bytes from `offset` on. That they lie in `bytes` is a
+/// precondition.
 #[inline(always)]
 #[tactic(auto, unfolding(crate::specs::Bytes::word32))]
 pub fn read_u32(bytes: &[u8], offset: usize) -> u32
@@ -77,7 +77,7 @@ pub fn read_u32(bytes: &[u8], offset: usize) -> u32
 }
 
 /// Two numbers of 4 bytes in one of 8: the one at `top` in the upper half, the one at `bot` in the
-/// lower. That both lie in `bytes` is the caller's condition.
+/// lower. That both lie in `bytes` is a precondition.
 #[inline(always)]
 pub fn read_u32_combined(bytes: &[u8], top: usize, bot: usize) -> u64
     requires top_inside { top + 4 ≤ length bytes.now }

@@ -37,7 +37,7 @@ pub fn rapidhash_v2_2_seeded(bytes: &[u8], secrets: &RapidSecrets) -> u64
 
 /// The hash of `bytes` with every option.
 ///
-/// - `MINOR` is 0, 1 or 2, for V2.0, V2.1 and V2.2; that it is at most 2 is the caller's condition.
+/// - `MINOR` is 0, 1 or 2, for V2.0, V2.1 and V2.2; that it is at most 2 is a precondition.
 /// - `AVALANCHE` mixes the last product once more, as the C++ library does.
 /// - `COMPACT` goes row by row in place of two rows a turn: less code, the same value.
 /// - `PROTECTED` mixes each product with its factors.

@@ -68,7 +68,7 @@ impl<
         )
     }
 
-    /// `new` of the default seed.
+    /// A hasher of the default seed and the default secrets: [`RapidHasher::new`] of 0.
     #[inline(always)]
     pub fn default_const() -> Self
         ensures secrets { secrets_of result ≡ default_secrets }
@@ -132,6 +132,7 @@ impl<
 
     ghost finish = { answer_of };
 
+    /// Absorbs bytes in one step. What waits in the sponge stays there.
     #[inline(always)]
     fn write(&mut self, bytes: &[u8])
         ensures value { self.new ≡ written self.old bytes.now }
@@ -140,6 +141,7 @@ impl<
         self.seed = memory_hash::<AVALANCHE, COMPACT, PROTECTED>(bytes, self.seed, self.secrets);
     }
 
+    /// The hash of what was absorbed so far. It changes nothing: further writes may follow.
     #[inline(always)]
     fn finish(&self) -> u64
         ensures value { result ≡ answer_of self.now }
@@ -166,6 +168,7 @@ impl<
     ghost is_default = { λ hasher. (secrets_of hasher ≡ default_secrets)
         × Stands hasher default_seed [] };
 
+    /// As [`RapidHasher::default_const`].
     #[inline(always)]
     fn default() -> Self {
         RapidHasher::default_const()

@@ -38,7 +38,7 @@ impl<
     ghost use Rattle.rapidhash.specs.States.{seed_of_global, secrets_of_global};
     ghost use Rattle.rapidhash_portable.specs.Seeding.{secrets_of, seed_of};
 
-    /// The global seed, and the made secrets.
+    /// A state of the seed and the secrets of `secrets`.
     #[inline(always)]
     pub fn new(secrets: &'s GlobalSecrets) -> Self
         ensures seed { seed_of_global result ≡ seed_of secrets.now }
@@ -96,6 +96,7 @@ impl<
 
     ghost build_hasher = { built_by_global };
 
+    /// A hasher of the state's seed and secrets that has absorbed nothing.
     #[inline(always)]
     fn build_hasher(&self) -> RapidHasher<'s, AVALANCHE, SPONGE, COMPACT, PROTECTED>
         ensures value { result ≡ built_by_global self.now }

@@ -39,7 +39,7 @@ impl<
     ghost use Rattle.rapidhash.specs.States.{seed_of_random, secrets_of_random};
     ghost use Rattle.rapidhash_portable.specs.Seeding.{Draws, secrets_of};
 
-    /// The next seed of the source, and the made secrets.
+    /// A state of the next seed of `source` and of the secrets of `secrets`.
     #[inline(always)]
     pub fn new(secrets: &'s GlobalSecrets, source: &mut SeedSource) -> Self
         ensures seed { Draws source.old source.new (seed_of_random result) }
@@ -97,6 +97,7 @@ impl<
 
     ghost build_hasher = { built_by_random };
 
+    /// A hasher of the state's seed and secrets that has absorbed nothing.
     #[inline(always)]
     fn build_hasher(&self) -> RapidHasher<'s, AVALANCHE, SPONGE, COMPACT, PROTECTED>
         ensures value { result ≡ built_by_random self.now }

@@ -49,7 +49,8 @@ impl<
     ghost use Rattle.rapidhash.specs.States.{seed_of_seedable, secrets_of_seedable};
     ghost use Rattle.rapidhash_portable.specs.Seeding.{Draws, secrets_of};
 
-    /// A seed made of `seed` as `v3::RapidSecrets::seed_cpp` makes it, and the made secrets.
+    /// A state of the secrets of `secrets`, and of a seed made of `seed` as
+    /// `v3::RapidSecrets::seed_cpp` makes it.
     #[inline(always)]
     pub fn new(seed: u64, secrets: &'s GlobalSecrets) -> Self
         ensures seed { seed_of_seedable result ≡ cpp_seeded seed 2 }
@@ -58,7 +59,7 @@ impl<
         SeedableState::custom(RapidSecrets::seed_cpp(seed).seed, secrets.get())
     }
 
-    /// The next seed of the source, and the made secrets.
+    /// A state of the next seed of `source` and of the secrets of `secrets`.
     #[inline(always)]
     pub fn random(secrets: &'s GlobalSecrets, source: &mut SeedSource) -> Self
         ensures seed { Draws source.old source.new (seed_of_seedable result) }
@@ -67,8 +68,8 @@ impl<
         SeedableState::custom(source.next(), secrets.get())
     }
 
-    /// The default seed and the default secrets, the same in every run of every program. Whoever
-    /// knows them can find keys that all have one hash.
+    /// A state of the default seed and the default secrets, the same in every run of every program.
+    /// Whoever knows them can find keys that all have one hash.
     #[inline(always)]
     pub fn fixed() -> Self
         ensures seed { seed_of_seedable result ≡ default_seed }
@@ -78,7 +79,7 @@ impl<
         SeedableState::custom(default.seed, &default.secrets)
     }
 
-    /// The seed and the secrets as they are.
+    /// A state of a seed and secrets as they are.
     #[inline(always)]
     pub fn custom(seed: u64, secrets: &'s [u64; 7]) -> Self
         ensures seed { seed_of_seedable result ≡ seed }
@@ -142,6 +143,7 @@ impl<
 
     ghost build_hasher = { built_by_seedable };
 
+    /// A hasher of the state's seed and secrets that has absorbed nothing.
     #[inline(always)]
     fn build_hasher(&self) -> RapidHasher<'s, AVALANCHE, SPONGE, COMPACT, PROTECTED>
         ensures value { result ≡ built_by_seedable self.now }
