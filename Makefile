@@ -9,6 +9,7 @@
 # make install     proves and builds the tools and the library for C, and puts them under PREFIX
 # make dist        puts all that a user without the kit needs into one archive in build/
 # make vendor      copies the library into another Rattle repository: make vendor INTO=FOLDER
+# make test-vendor runs the merge gate of such a repository, which proves all from nothing
 # make uninstall   removes what make install put there
 # make clean       removes what the builds left
 
@@ -124,3 +125,8 @@ uninstall:
 
 clean:
 	rm -rf crates/*/out build
+
+# Not a part of the gate, since it takes some minutes more.
+.PHONY: test-vendor
+test-vendor:
+	@tests/vendor.sh ci

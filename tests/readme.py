@@ -2,7 +2,7 @@
 """Runs what README.md shows: each command of its shell blocks, and its two programs in a new repository
 that the library was copied into. A command or a block that this test does not know is a failure, so
 nothing in README.md goes untried. The values are those of the Rust crate. The last line counts the
-cases."""
+cases. With the words --repository FOLDER it only writes that repository, for tests/vendor.sh."""
 
 import os
 import re
@@ -118,17 +118,16 @@ def parted(text):
     return uses, "\n".join(f"    {line}".rstrip() for line in lines if not line.startswith("use "))
 
 
-def run_programs():
-    """Both programs in a repository of their own, which has the library by make vendor."""
+def write_repository(place):
+    """A repository of a user's own, with both programs in one crate and the library by make vendor."""
     programs = [text for language, text in blocks() if language == "rust"]
     tell("two programs", len(programs) == 2)
-    place = ROOM / "repository"
     crate = place / "crates" / "readme"
     (crate / "src").mkdir(parents=True)
     (crate / "data").mkdir()
     (crate / "data" / "something").write_text("something\n")
     (crate / "stdout").write_text(PRINTED)
-    done = shell(f"make -s vendor INTO={place}", TOP)
+    done = shell(f"make -s vendor INTO='{place}'", TOP)
     tell("make vendor", done.returncode == 0, done.stdout)
     lines = [line for line in done.stdout.splitlines() if re.match(r"^\w+:", line)]
     wanted = [line.replace("YOUR_CRATE", "readme") + (" anyhow" if "YOUR" in line else "") for line in lines]
@@ -137,17 +136,26 @@ def run_programs():
     (uses, first), (other_uses, second) = map(parted, programs)
     main = MAIN.format(uses="\n".join(uses + other_uses), first=first, second=second)
     (crate / "src" / "main.rt").write_text(main)
-    shell("git init -q && rt fmt", place)
+    shell("git init -q", place)
     shell("rt fmt", crate)
-    done = shell("rt run -- 2>/dev/null", crate)
+    return crate
+
+
+def run_programs():
+    """Both programs, as a user proves and runs them."""
+    crate = write_repository(ROOM / "repository")
+    shell("rt run -- 2>/dev/null", crate)
     shutil.copy(crate / "data" / "something", ROOM)
     done = shell(f"{crate}/out/readme", ROOM)
     tell("the programs of README.md", done.stdout == PRINTED, done.stdout)
 
 
 try:
-    run_shell_blocks()
-    run_programs()
+    if sys.argv[1:2] == ["--repository"]:
+        write_repository(Path(sys.argv[2]))
+    else:
+        run_shell_blocks()
+        run_programs()
 finally:
     shutil.rmtree(ROOM, ignore_errors=True)
 print(f"{passed} passed, {failed} failed")

@@ -1,0 +1,139 @@
+#!/usr/bin/env bash
+# Copies the library into other repositories by bin/vendor: where that works, where it is refused, and
+# where it fails half way. The last line counts the cases.
+#
+# With the word ci it also runs the merge gate of such a repository, which proves all from nothing and
+# runs the programs of README.md. That takes some minutes: make test-vendor.
+set -u
+
+top=$(cd "$(dirname "${BASH_SOURCE[0]}")/.." && pwd) || exit 1
+room=$(mktemp -d) || exit 1
+trap 'rm -rf "$room"' EXIT
+exec </dev/null
+library=$room/library
+vendor=$library/bin/vendor
+passed=0
+failed=0
+
+# Counts a case by the status of a command: NAME COMMAND..
+try() {
+  local name=$1
+  shift
+  if "$@" >"$room/log" 2>&1; then
+    passed=$((passed + 1))
+    printf 'ok %s\n' "$name"
+  else
+    failed=$((failed + 1))
+    printf 'FAILED %s: %s\n' "$name" "$(tail -c 600 "$room/log")"
+  fi
+}
+
+# A clone of the repository, with what stands for a large folder of proofs.
+clone() {
+  git clone -q -s "$top" "$library" && cp "$top/bin/vendor" "$vendor" &&
+    mkdir "$library/crates/rapidhash/out" && echo proved >"$library/crates/rapidhash/out/proved"
+}
+
+# is_copy FOLDER: both crates are there whole, but for their must-fail edits, and nothing else is left.
+is_copy() {
+  local crate
+  for crate in rapidhash_portable rapidhash; do
+    diff -r --exclude=must-fail "$library/crates/$crate" "$1/crates/$crate" >"$room/other"
+    [ "$(sort "$room/other" | sed -E 's/.*: //' | tr '\n' ' ')" = 'LICENSE-APACHE LICENSE-MIT NOTICE VENDORED ' ] ||
+      return 1
+    [ ! -e "$1/crates/$crate/must-fail" ] || return 1
+  done
+  [ "$(ls -A "$1" "$1/crates" | tr '\n' ' ')" = "$1: crates  $1/crates: rapidhash rapidhash_portable " ]
+}
+
+# refused MESSAGE COMMAND..: the command fails, and its last message is this one.
+refused() {
+  local message=$1
+  shift
+  "$@" >"$room/said" 2>&1
+  [ $? -eq 1 ] && cat "$room/said" && [ "$(tail -n 1 "$room/said")" = "vendor: $message" ]
+}
+
+makes_a_copy() {
+  mkdir "$room/a folder" && make -s -C "$library" vendor INTO="$room/a folder" && is_copy "$room/a folder"
+}
+
+prints_the_lines() {
+  "$vendor" "$room/a folder" >"$room/said" &&
+    diff <(grep -E '^\w+:' "$room/said") - <<'LINES'
+rapidhash_portable:
+rapidhash: rapidhash_portable rand_core
+YOUR_CRATE: rapidhash
+LINES
+}
+
+# vendored TEXT: the copy is of the clone's commit, and says so.
+vendored() {
+  [ "$(cat "$room/a folder/crates/rapidhash/VENDORED")" = "Yervound $(git -C "$library" rev-parse HEAD)$1" ]
+}
+
+says_which_commit() { vendored ''; }
+
+says_that_it_has_changes() {
+  echo '// changed' >>"$library/crates/rapidhash/src/lib.rt"
+  "$vendor" "$room/a folder" && vendored ', with changes' && is_copy "$room/a folder"
+}
+
+replaces_a_copy() {
+  touch "$room/a folder/crates/rapidhash/src/gone.rt"
+  echo changed >"$room/a folder/crates/rapidhash_portable/src/lib.rt"
+  "$vendor" "$room/a folder" && is_copy "$room/a folder"
+}
+
+refuses_no_folder() {
+  refused 'give the top folder of the repository: make vendor INTO=FOLDER' "$vendor" '' &&
+    refused "$room/none is no folder" "$vendor" "$room/none"
+}
+
+refuses_a_crate_of_another() {
+  mkdir -p "$room/another/crates/rapidhash" && echo mine >"$room/another/crates/rapidhash/mine"
+  refused "$room/another/crates/rapidhash is there, and no copy of the library" "$vendor" "$room/another" &&
+    [ "$(cd "$room/another" && find . -type f)" = ./crates/rapidhash/mine ]
+}
+
+# Nobody, not even root, can make a folder in /proc.
+tells_a_folder_that_is_not_writable() {
+  refused 'could not write into /proc' "$vendor" /proc
+}
+
+# No file may have more than 4 KiB, so the copy fails half way, as it does on a full disk.
+keeps_what_was_there() {
+  refused "could not copy rapidhash_portable, so $room/a folder/crates is as it was" \
+    prlimit --fsize=4096 "$vendor" "$room/a folder" && is_copy "$room/a folder"
+}
+
+leaves_nothing_half_copied() {
+  mkdir -p "$room/new"
+  refused "could not copy rapidhash_portable, so $room/new/crates is as it was" \
+    prlimit --fsize=4096 "$vendor" "$room/new" && [ -z "$(find "$room/new" -type f)" ] &&
+    [ "$(ls -A "$room/new")" = crates ]
+}
+
+# The merge gate of a repository that has the library and the programs of README.md: all three crates
+# are proved from nothing, the library's tests run, and the program prints what README.md promises.
+passes_the_gate() {
+  "$top/tests/readme.py" --repository "$room/user" && cd "$room/user" && echo out/ >.gitignore &&
+    git add -A && git -c user.name=User -c user.email=user@example.org commit -qm 'Take the library' &&
+    rt ci && [ -z "$(git status --porcelain)" ]
+}
+
+clone || exit 1
+try copy makes_a_copy
+try lines prints_the_lines
+try commit says_which_commit
+try changes says_that_it_has_changes
+try again replaces_a_copy
+try no_folder refuses_no_folder
+try another_crate refuses_a_crate_of_another
+try not_writable tells_a_folder_that_is_not_writable
+try full_disk_over_a_copy keeps_what_was_there
+try full_disk leaves_nothing_half_copied
+[ "${1:-}" != ci ] || try gate passes_the_gate
+
+printf '%s passed, %s failed\n' "$passed" "$failed"
+[ "$failed" -eq 0 ]
