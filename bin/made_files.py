@@ -1,0 +1,37 @@
+"""What the scripts do that make files of others: print the files, write them, or check that they are
+current."""
+
+import difflib
+import sys
+from pathlib import Path
+
+TOP = Path(__file__).resolve().parent.parent
+
+
+def stale_lines(name, text):
+    """The differences between a file and what it should be."""
+    file = TOP / name
+    old = file.read_text() if file.exists() else ""
+    lines = difflib.unified_diff(
+        old.splitlines(), text.splitlines(), name, "what it should be", n=0, lineterm=""
+    )
+    return list(lines)
+
+
+def run(script, usage, files):
+    """Runs a script by its words: none, --write or --check. FILES are texts by their files."""
+    words = sys.argv[1:]
+    if words not in ([], ["--write"], ["--check"]):
+        print(usage, file=sys.stderr)
+        return 2
+    stale = []
+    for name, text in files.items():
+        if words == ["--write"]:
+            (TOP / name).write_text(text)
+        elif words == ["--check"]:
+            stale += stale_lines(name, text)
+        else:
+            print(text, end="")
+    if stale:
+        print(*stale, f"Run {script} --write.", sep="\n")
+    return 1 if stale else 0
