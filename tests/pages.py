@@ -117,6 +117,10 @@ def picture_of_the_crates():
     return made_by("bin/crates_picture", "--check")
 
 
+def plot_of_the_speed():
+    return made_by("bench/plot", "--check")
+
+
 def code_lines(files, comment):
     lines = [line.strip() for file in files for line in file.read_text().splitlines()]
     return sum(1 for line in lines if line and not line.startswith(comment))
@@ -157,7 +161,8 @@ def version():
 
 for name, check in [("links", links), ("paths", paths), ("limits", limits), ("names", names),
                     ("edits", edits), ("lines of the programs", program_lines), ("version", version),
-                    ("calls", calls), ("picture of the crates", picture_of_the_crates)]:
+                    ("calls", calls), ("picture of the crates", picture_of_the_crates),
+                    ("plot of the speed", plot_of_the_speed)]:
     tell(name, list(check()))
 print(f"{passed} passed, {failed} failed")
 sys.exit(failed > 0)

@@ -1,0 +1,129 @@
+/* What the programs of bench/slices do, by XXH3's 64 bits: xxh3_slices FORM LENGTH PLACE NUMBER PASSES
+ * REPEATS [call]. The form is not looked at. Texts, places, loop and sum are those of their_slices.rs. */
+#define _POSIX_C_SOURCE 200809L
+#define XXH_INLINE_ALL
+#include <inttypes.h>
+#include <stdint.h>
+#include <stdio.h>
+#include <stdlib.h>
+#include <string.h>
+#include <time.h>
+#include <xxhash.h>
+
+#define BYTES ((size_t)1 << 17)
+#define MIXED_TEXTS 8192
+#define TEXTS 64
+
+struct text {
+    const uint8_t *bytes;
+    size_t length;
+};
+
+/* What is hashed, and how often. */
+struct row {
+    const struct text *list;
+    size_t count;
+    uint64_t passes;
+    int is_call;
+};
+
+static uint64_t mix(uint64_t a, uint64_t b) {
+    __uint128_t product = (__uint128_t)a * b;
+    return (uint64_t)product ^ (uint64_t)(product >> 64);
+}
+
+/* The next word of the generator that the other programs draw their bytes from. */
+static uint64_t next_word(uint64_t *state) {
+    *state += UINT64_C(0x2d358dccaa6c78a5);
+    return mix(*state, *state ^ UINT64_C(0x8bb84b93962eacc9));
+}
+
+static uint64_t added(uint64_t sum, uint64_t hash) { return (sum ^ hash) * 3; }
+
+/* The loop over the texts, which is compiled anew for each function that it is given. */
+static inline __attribute__((always_inline)) uint64_t fold(
+    struct row row, uint64_t sum, uint64_t (*hash)(struct text)) {
+    for (uint64_t pass = 0; pass < row.passes; pass++) {
+        for (size_t at = 0; at < row.count; at++) {
+            sum = added(sum, hash(row.list[at]));
+        }
+    }
+    return sum;
+}
+
+static inline __attribute__((always_inline)) uint64_t xxh3(struct text text) {
+    return XXH3_64bits(text.bytes, text.length);
+}
+
+/* The loop once for each place, behind as many steps. */
+#define AT_PLACE(place)                                                                       \
+    static __attribute__((noinline)) uint64_t call_##place(struct text text) {                \
+        return xxh3(text) ^ (place);                                                          \
+    }                                                                                         \
+    static __attribute__((noinline)) uint64_t hash_all_##place(struct row row, uint64_t sum) { \
+        for (int step = 0; step < (place); step++) {                                          \
+            sum = added(sum, sum / 128);                                                      \
+        }                                                                                     \
+        return row.is_call ? fold(row, sum, call_##place) : fold(row, sum, xxh3);             \
+    }
+
+AT_PLACE(0)
+AT_PLACE(1)
+AT_PLACE(2)
+AT_PLACE(3)
+AT_PLACE(4)
+AT_PLACE(5)
+AT_PLACE(6)
+AT_PLACE(7)
+
+static uint64_t (*const PLACES[])(struct row, uint64_t) = {
+    hash_all_0, hash_all_1, hash_all_2, hash_all_3, hash_all_4, hash_all_5, hash_all_6, hash_all_7,
+};
+
+/* Writes 64 texts of one length into the list, or for 1-300 8,192 of 1 to 300 bytes. Returns how many. */
+static size_t texts(struct text *list, const uint8_t *bytes, const char *length, uint64_t *state) {
+    if (strncmp(length, "1-", 2) != 0) {
+        for (size_t first = 0; first < TEXTS; first++) {
+            list[first] = (struct text){bytes + first, strtoull(length, NULL, 10)};
+        }
+        return TEXTS;
+    }
+    uint64_t most = strtoull(length + 2, NULL, 10);
+    for (size_t at = 0; at < MIXED_TEXTS; at++) {
+        size_t first = next_word(state) % 4096;
+        list[at] = (struct text){bytes + first, 1 + next_word(state) % most};
+    }
+    return MIXED_TEXTS;
+}
+
+static uint64_t nanoseconds(void) {
+    struct timespec now;
+    clock_gettime(CLOCK_MONOTONIC, &now);
+    return (uint64_t)now.tv_sec * 1000000000 + (uint64_t)now.tv_nsec;
+}
+
+int main(int count, char **words) {
+    static uint8_t bytes[BYTES];
+    static struct text list[MIXED_TEXTS];
+    if (count < 7 || words[3][0] < '0' || words[3][0] > '7') {
+        fprintf(stderr, "xxh3_slices FORM LENGTH PLACE NUMBER PASSES REPEATS [call]\n");
+        return 2;
+    }
+    uint64_t sum = strtoull(words[4], NULL, 10), state = sum;
+    /* The others draw their secrets here. */
+    next_word(&state);
+    next_word(&state);
+    for (size_t at = 0; at < BYTES; at++) {
+        bytes[at] = (uint8_t)next_word(&state);
+    }
+    struct row row = {list, texts(list, bytes, words[2], &state), strtoull(words[5], NULL, 10), count > 7};
+    uint64_t least = UINT64_MAX;
+    for (uint64_t repeat = strtoull(words[6], NULL, 10); repeat > 0; repeat--) {
+        uint64_t start = nanoseconds();
+        sum = PLACES[words[3][0] - '0'](row, sum);
+        uint64_t took = nanoseconds() - start;
+        least = took < least ? took : least;
+    }
+    printf("%" PRIu64 " %" PRIu64 "\n", sum, least);
+    return 0;
+}
