@@ -78,6 +78,8 @@ class Parser:
                 found.append(self.item(match, indent, doc, attributes))
                 doc, attributes = [], ""
                 continue
+            elif text.startswith("pub "):
+                raise SystemExit(f"what kind of item is this? {text}")
             self.at += 1
         return [item for item in found if item]
 
