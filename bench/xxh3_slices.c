@@ -27,22 +27,28 @@ struct row {
     int is_call;
 };
 
-static uint64_t mix(uint64_t a, uint64_t b) {
+static uint64_t mix(uint64_t a, uint64_t b)
+{
     __uint128_t product = (__uint128_t)a * b;
     return (uint64_t)product ^ (uint64_t)(product >> 64);
 }
 
 /* The next word of the generator that the other programs draw their bytes from. */
-static uint64_t next_word(uint64_t *state) {
+static uint64_t next_word(uint64_t *state)
+{
     *state += UINT64_C(0x2d358dccaa6c78a5);
     return mix(*state, *state ^ UINT64_C(0x8bb84b93962eacc9));
 }
 
-static uint64_t added(uint64_t sum, uint64_t hash) { return (sum ^ hash) * 3; }
+static uint64_t added(uint64_t sum, uint64_t hash)
+{
+    return (sum ^ hash) * 3;
+}
 
 /* The loop over the texts, which is compiled anew for each function that it is given. */
 static inline __attribute__((always_inline)) uint64_t fold(
-    struct row row, uint64_t sum, uint64_t (*hash)(struct text)) {
+    struct row row, uint64_t sum, uint64_t (*hash)(struct text))
+{
     for (uint64_t pass = 0; pass < row.passes; pass++) {
         for (size_t at = 0; at < row.count; at++) {
             sum = added(sum, hash(row.list[at]));
@@ -51,7 +57,8 @@ static inline __attribute__((always_inline)) uint64_t fold(
     return sum;
 }
 
-static inline __attribute__((always_inline)) uint64_t xxh3(struct text text) {
+static inline __attribute__((always_inline)) uint64_t xxh3(struct text text)
+{
     return XXH3_64bits(text.bytes, text.length);
 }
 
@@ -81,7 +88,8 @@ static uint64_t (*const PLACES[])(struct row, uint64_t) = {
 };
 
 /* Writes 64 texts of one length into the list, or for 1-300 8,192 of 1 to 300 bytes. Returns how many. */
-static size_t texts(struct text *list, const uint8_t *bytes, const char *length, uint64_t *state) {
+static size_t texts(struct text *list, const uint8_t *bytes, const char *length, uint64_t *state)
+{
     if (strncmp(length, "1-", 2) != 0) {
         for (size_t first = 0; first < TEXTS; first++) {
             list[first] = (struct text){bytes + first, strtoull(length, NULL, 10)};
@@ -96,13 +104,15 @@ static size_t texts(struct text *list, const uint8_t *bytes, const char *length,
     return MIXED_TEXTS;
 }
 
-static uint64_t nanoseconds(void) {
+static uint64_t nanoseconds(void)
+{
     struct timespec now;
     clock_gettime(CLOCK_MONOTONIC, &now);
     return (uint64_t)now.tv_sec * 1000000000 + (uint64_t)now.tv_nsec;
 }
 
-int main(int count, char **words) {
+int main(int count, char **words)
+{
     static uint8_t bytes[BYTES];
     static struct text list[MIXED_TEXTS];
     if (count < 7 || words[3][0] < '0' || words[3][0] > '7') {

@@ -133,7 +133,10 @@ try another_crate refuses_a_crate_of_another
 try not_writable tells_a_folder_that_is_not_writable
 try full_disk_over_a_copy keeps_what_was_there
 try full_disk leaves_nothing_half_copied
-[ "${1:-}" != ci ] || try gate passes_the_gate
+if [ "${1:-}" = ci ]; then
+  echo 'the merge gate of a repository with the library: some minutes'
+  try gate passes_the_gate
+fi
 
 printf '%s passed, %s failed\n' "$passed" "$failed"
 [ "$failed" -eq 0 ]
