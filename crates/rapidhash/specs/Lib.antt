@@ -17,6 +17,7 @@ pub use Rattle.rapidhash_portable.specs.Tail
 pub use Rattle.rapidhash_portable.specs.Words
 pub mod Generator
 pub mod Hasher
+pub mod Keys
 pub mod Laws
 pub mod RapidHasher
 pub mod Replay

@@ -1,10 +1,10 @@
 //! Keys of bytes, for maps and sets.
 
-ghost use Rattle.std.specs.Prelude.{◌≡◌, [], ◌∷◌, nat_eq};
+ghost use Rattle.std.specs.Prelude.{◌≡◌, nat_eq};
 ghost use Rattle.std.specs.Cmp.{on_equiv, on_per, partial_equiv_from_equiv};
 ghost use Rattle.std.specs.Cmp.Lexicographic.{pointwise, nat_list_eq_equiv};
-ghost use Rattle.std.specs.Hash.{on_Alike, same_Alike};
-ghost use Rattle.std.proofs.lemmas.Slice.Eq.{bytes_eq-Decides};
+ghost use Rattle.std.specs.Hash.{on_Alike};
+ghost use Rattle.rapidhash.specs.Keys.{one_write, one_write-Alike};
 
 use std::convert::AsSlice;
 use std::hash::{Hash, Hasher};
@@ -51,9 +51,9 @@ impl<T: AsSlice<u8>> Eq for ByteKey<T> {
 }
 
 impl<T: AsSlice<u8>> Hash for ByteKey<T> {
-    ghost hash_input = { λ key. T.items key.0 ∷ [] };
+    ghost hash_input = { λ key. one_write (T.items key.0) };
 
-    ghost respects_eq = { (on_Alike (λ key. T.items key.0) (same_Alike (λ bytes. bytes ∷ []) bytes_eq-Decides)).fed };
+    ghost respects_eq = { (on_Alike (λ key. T.items key.0) one_write-Alike).fed };
 
     #[inline]
     fn hash<H: Hasher>(&self, state: &mut H) {
