@@ -2,6 +2,7 @@
 //! goes into, and the nanoseconds it took. As there, what is timed is not inlined, so that what stands
 //! beside it changes nothing.
 
+use rapidhash::v3::{RapidSecrets, RapidStreamHasherV3, rapidhash_v3_seeded};
 use rapidhash::{fast, quality, rng::RapidRng};
 use std::collections::HashMap;
 use std::hash::{BuildHasher, Hash, Hasher};
@@ -121,6 +122,32 @@ fn hashed_at<S: BuildHasher, const PLACE: u64>(state: S, item: &str, number: u64
     }
 }
 
+#[inline(never)]
+fn streamed(message: &[u8], size: usize, secrets: &RapidSecrets) -> u64 {
+    let mut hasher = RapidStreamHasherV3::new(secrets);
+    for piece in message.chunks(size) {
+        hasher.write(piece);
+    }
+    hasher.finish()
+}
+
+/// The hashes of a message by pieces, or in one call where `size` is 0.
+fn streams(size: &str, number: u64) -> (u64, Instant) {
+    let size = size.parse::<usize>().unwrap();
+    let mut rng = RapidRng::new(0);
+    let message: Vec<u8> = (0..1 << 20).map(|_| (rng.next() % 256) as u8).collect();
+    let secrets = RapidSecrets::seed(number);
+    let start = Instant::now();
+    let sum = (0..1 << 7).fold(number, |sum, pass| {
+        let hash = match size {
+            0 => rapidhash_v3_seeded(&message[pass..], &secrets),
+            _ => streamed(&message[pass..], size, &secrets),
+        };
+        (sum ^ hash).wrapping_mul(3)
+    });
+    (sum, start)
+}
+
 fn filled<K: Eq + Hash + Copy, S: BuildHasher>(state: S, keys: &[K]) -> HashMap<K, u64, S> {
     let mut map = HashMap::with_hasher(state);
     for (place, key) in keys.iter().enumerate() {
@@ -191,6 +218,9 @@ fn work(form: &str, number: u64, place: u64) -> (u64, Instant) {
     }
     if let Some(name) = form.strip_prefix("std_") {
         return integers(std::hash::RandomState::new(), name);
+    }
+    if let Some(size) = form.strip_prefix("stream") {
+        return streams(size, number);
     }
     // A seed and secrets that the compiler does not know.
     let mut rng = RapidRng::new(number);

@@ -1,9 +1,10 @@
-//! Times the generator, the hasher of maps, and maps: `rapidhash_memory_bench FORM NUMBER PLACE`,
+//! Times the generator, the stream hasher, the hasher of maps, and maps: `rapidhash_memory_bench FORM NUMBER PLACE`,
 //! for `bench/memory`. It prints a number that all its work goes into, and the nanoseconds it took.
 #![tactic(auto)]
 
 mod draws;
 mod hashers;
+mod streams;
 mod tables;
 
 use anyhow::{Context, Result};
@@ -39,6 +40,9 @@ fn measured(rt: &(impl Clock + AllocGlobal), form: &str, number: u64, place: u64
     }
     if let Some(table) = form.strip_prefix("keys_") {
         return tables::rapid_bytes(rt, table);
+    }
+    if let Some(size) = form.strip_prefix("stream") {
+        return streams::measured(rt, size, number);
     }
     let start = Instant::now(rt)?;
     let sum = match form {
