@@ -11,7 +11,7 @@ trap 'chmod -R u+rwx "$room"; rm -rf "$room"' EXIT
 passed=0
 failed=0
 
-"$top/tests/build.sh" example_dedupe "$crate/args" >"$room/build.log" 2>&1 || {
+"$top/bin/build" example_dedupe "$crate/args" >"$room/build.log" 2>&1 || {
   tail -n 5 "$room/build.log"
   printf '0 passed, 1 failed\n'
   exit 1

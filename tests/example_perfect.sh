@@ -38,7 +38,7 @@ run() {
 }
 
 # Help ends with status 0, so that another status is the build's.
-"$top/tests/build.sh" example_perfect --help >"$room/build.log" 2>&1 || {
+"$top/bin/build" example_perfect --help >"$room/build.log" 2>&1 || {
   tail -n 5 build.log
   printf '0 passed, 1 failed\n'
   exit 1

@@ -100,7 +100,7 @@ fi
 unreadable() { chmod 0 first && "${as_user[@]}" "$sum" first 'second name'; }
 check_of_an_unreadable_file() { list && chmod 0 first && "${as_user[@]}" "$sum" -c list; }
 
-"$top/tests/build.sh" example_sums --version >"$room/build.log" 2>&1 || {
+"$top/bin/build" example_sums --version >"$room/build.log" 2>&1 || {
   tail -n 5 "$room/build.log"
   printf '0 passed, 1 failed\n'
   exit 1

@@ -23,7 +23,7 @@ example() {
   fi
 }
 
-(cd "$top/crates/rapidhash_c" && rt lib </dev/null >"$room/lib.log" 2>&1) || {
+"$top/bin/build" rapidhash_c >"$room/lib.log" 2>&1 || {
   tail -n 5 "$room/lib.log"
   printf '0 passed, 1 failed\n'
   exit 1

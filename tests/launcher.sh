@@ -1,0 +1,245 @@
+#!/usr/bin/env bash
+# Runs bin/rapidhash in small copies of the repository, where a script in the place of rt pretends to
+# prove and build: slowly, in vain, or while a source is edited. So no case has to prove anything. It
+# prints a line for each case, and at last how many passed.
+set -u
+
+top=$(cd "$(dirname "${BASH_SOURCE[0]}")/.." && pwd) || exit 1
+room=$(mktemp -d) || exit 1
+trap 'chmod -R u+rwx "$room"; rm -rf "$room"' EXIT
+chmod 755 "$room"
+cd "$room" || exit 1
+# shellcheck source=tests/launcher_room.sh
+. "$top/tests/launcher_room.sh"
+
+new_repository
+run word $'\xff'
+ended first_build 0 $'first\nword\n\xff' 1 "$first" "$built"
+
+PATH=/nowhere run word
+ended fresh_with_no_program_on_PATH 0 $'first\nword' 1
+
+new_build
+edit second
+run
+ended edited_source 0 second 1 "$changed" "$built"
+run
+ended fresh_after_an_edit 0 second 1
+
+new_build
+touch_sources
+PATH=$path run
+ended later_times_of_the_same_sources 0 first 0
+
+new_build
+echo more >repo/crates/rapidhash_portable/proofs/f/Invariants.antt
+run
+ended new_file 0 first 1 "$changed" "$built"
+rm repo/crates/rapidhash_portable/proofs/f/Invariants.antt
+run
+ended removed_file 0 first 2 "$changed" "$built"
+rm -r repo/crates/rapidhash_portable/proofs
+run
+ended removed_folder 0 first 3 "$changed" "$built"
+mkdir -p repo/crates/rapidhash_cli/specs
+run
+ended new_folder 0 first 4 "$changed" "$built"
+
+# A program that rt built by itself of another source, which then has its old text and time again.
+new_build
+cp -p repo/crates/rapidhash_portable/src/lib.rt old
+edit other
+(cd repo/crates/rapidhash_cli && rt)
+cp -p old repo/crates/rapidhash_portable/src/lib.rt
+run
+ended program_of_another_source 0 first 2 "$changed" "$built"
+
+# A copy of a checkout has the times of its copying, in any order.
+new_build
+cp -r repo copy && rm -rf repo && mv copy repo
+touch_sources
+PATH=$path run
+ended copied_checkout 0 first 0
+new_build
+edit second
+cp -r repo copy && rm -rf repo && mv copy repo
+touch_build
+run
+ended copied_checkout_of_an_old_build 0 second 1 "$changed" "$built"
+
+# Two builds at once, and edits while one runs.
+new_repository
+start_build
+(sleep 1; : >go) &
+run other
+ended second_of_two_builds 0 $'first\nother' 1 "$waiting"
+wait
+mv begun_out out
+mv begun_err err
+ended first_of_two_builds 0 $'first\nbegun' 1 "$first" 'rapidhash: proving rapidhash' "$built"
+
+new_build
+edit second
+start_build
+edit third
+(sleep 1; : >go) &
+run
+ended edit_during_the_build_of_another 0 third 2 "$waiting" "$changed" 'rapidhash: proving rapidhash' "$built"
+wait
+run
+ended fresh_after_two_builds 0 third 2
+
+new_repository
+start_build
+edit second
+: >go
+wait
+mv begun_err err
+mv begun_out out
+ended edit_during_a_build 0 $'first\nbegun' 1 "$first" 'rapidhash: proving rapidhash' 'rapidhash: built, but a source changed*'
+echo >how
+run
+ended build_after_an_edit_during_one 0 second 2 "$changed" "$built"
+
+# The text that the build took is there for its beginning alone.
+new_repository
+cp -p repo/crates/rapidhash_portable/src/lib.rt old
+edit other
+start_build
+cp -p old repo/crates/rapidhash_portable/src/lib.rt
+: >go
+wait
+echo >how
+run
+ended old_text_and_time_back_during_a_build 0 first 2 "$changed" "$built"
+
+new_build
+edit other
+start_build
+edit first
+: >go
+wait
+echo >how
+run
+ended text_of_the_last_build_back_during_a_build 0 first 2 "$changed" "$built"
+
+new_repository
+echo swap >how
+run
+ended source_swapped_while_it_is_taken 0 swapped 1 "$first" 'rapidhash: built, but a source changed*'
+echo >how
+run
+ended build_after_a_swap 0 first 2 "$changed" "$built"
+
+new_repository
+echo second >late
+run
+ended edit_after_a_build 0 first 1 "$first" "$built"
+run
+ended build_after_a_late_edit 0 second 2 "$changed" "$built"
+
+# Signals: nothing of the build is left, and the next call builds.
+for signal in TERM INT HUP; do
+  new_repository
+  end_a_build "$signal"
+  read -r -a processes <processes
+  if are_gone "${processes[@]}"; then
+    ended "end_by_SIG$signal" $((128 + $(kill -l "$signal"))) '' 1 "$first" 'rapidhash: proving rapidhash'
+  else
+    fail "end_by_SIG$signal" 'a process of the build is left'
+    kill "${processes[@]}" 2>/dev/null
+  fi
+  echo >how
+  run
+  ended "build_after_SIG$signal" 0 first 2 "$first" "$built"
+done
+
+# Builds that fail.
+new_repository
+echo error >how
+run <&-
+ended failed_build 2 '' 1 "$first" 'error: tail.rt:1: not proved' 'rapidhash: the build failed*rapidhash_cli.log'
+new_build
+edit second
+echo other >how
+run
+ended failed_build_with_no_cause 2 '' 1 "$changed" 'first line' 'no room on the device' 'rapidhash: the build failed*'
+run
+ended failed_build_again 2 '' 2 "$changed" 'first line' 'no room on the device' 'rapidhash: the build failed*'
+
+new_repository
+PATH=$path run
+ended no_rt 2 '' 0 'rapidhash: it has to be built, and rt, *'
+
+new_build
+chmod 644 repo/crates/rapidhash_cli/out/rapidhash_cli
+run
+ended program_without_its_permission 2 '' 0 'rapidhash: *out/rapidhash_cli may not be run: chmod +x it*'
+
+# A user who may not write, in a folder that may not be read.
+new_build
+mkdir closed
+(cd closed && chmod 000 . && as_another "$room/repo/bin/rapidhash" word >"$room/out" 2>"$room/err"; echo $? >"$room/status")
+ended folder_that_may_not_be_read 0 $'first\nword' 0
+chmod 755 closed
+
+new_build
+touch_sources
+chmod -R a-w repo
+as_another repo/bin/rapidhash >out 2>err
+echo $? >status
+ended fresh_and_read_only 0 first 0
+chmod -R u+w repo
+edit second
+chmod -R a-w repo
+as_another repo/bin/rapidhash >out 2>err
+echo $? >status
+ended old_and_read_only 2 '' 0 'rapidhash: it has to be built, and crates/*/out cannot be written'
+
+# The program's own name is a word too, and has to be UTF-8.
+new_repository
+echo shell >how
+odd=$'jos\xe9 \x81 (1)'
+mv repo "$odd"
+# shellcheck disable=SC2016
+tool=$odd/bin/rapidhash run -c 'echo "$0"'
+ended build_in_a_folder_that_is_not_utf8 0 rapidhash 1 "$first" "$built"
+# shellcheck disable=SC2016
+tool=$odd/bin/rapidhash run -c 'echo "$0"'
+ended fresh_in_a_folder_that_is_not_utf8 0 rapidhash 1
+# shellcheck disable=SC2016
+tool=$odd/bin/rapidhash run -c 'printf "%s\n" "$@"; exit 7' 0 'a  b' '' $'\xe9'
+ended words_and_status 7 $'a  b\n\n\xe9' 1
+# shellcheck disable=SC2016
+tool=$odd/bin/rapidhash run -c 'kill -s USR1 $$'
+ended signal_of_the_program 138 '' 1
+tool=$odd/bin/rapidhash run <<<'echo from standard input'
+ended standard_input 0 'from standard input' 1
+rm -rf "$odd"
+
+# By links: to the file, to a link, to the folder, and from PATH.
+new_build
+mkdir links 'links/a folder'
+ln -s ../../repo/bin/rapidhash 'links/a folder/relative'
+ln -s "$room/links/a folder/relative" links/chain
+ln -s ../repo/bin links/bin
+for tool in 'links/a folder/relative' links/chain links/bin/rapidhash repo/bin/../bin/rapidhash; do
+  CDPATH=/:links run word
+  ended "by_$tool" 0 $'first\nword' 0
+done
+PATH=$room/links:$PATH tool=chain run
+ended by_PATH 0 first 0
+PATH=/nowhere tool=links/chain run
+ended link_with_no_readlink 2 '' 0 '*readlink*' 'rapidhash: where the link links/chain leads cannot be read'
+mkdir -p lonely/bin
+cp repo/bin/rapidhash lonely/bin
+tool=lonely/bin/rapidhash run
+ended launcher_outside_of_the_repository 2 '' 0 'rapidhash: lonely/bin is not the folder bin of the repository*'
+if [ ! -e lonely/crates ]; then
+  ok nothing_made_outside_of_the_repository
+else
+  fail nothing_made_outside_of_the_repository "$(find lonely)"
+fi
+
+printf '%s passed, %s failed\n' "$passed" "$failed"
+[ "$failed" -eq 0 ]
