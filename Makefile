@@ -1,4 +1,4 @@
-# make             proves and builds the tool, which bin/rapidhash runs
+# make             proves and builds the tools and the library for C, where they are missing or old
 # make check       proves everything from nothing, and runs all tests: what a push has to pass
 # make quick       lays the sources out, checks the pages, and proves what has changed: before a commit
 # make test        proves and runs the tests of all crates, and runs the programs from end to end
@@ -6,7 +6,7 @@
 # make bench       measures the hashes, beside the Rust crate where RAPIDHASH_CRATE names its folder
 # make library     proves and builds the library for C, static and shared
 # make wasm        proves and builds the same library for WebAssembly, which bindings/javascript loads
-# make install     proves and builds the tools and the library for C, and puts them under PREFIX
+# make install     copies what make has built, with manual pages and completions, under PREFIX
 # make dist        puts all that a user without the kit needs into one archive in build/
 # make vendor      copies the library into another Rattle repository: make vendor INTO=FOLDER
 # make test-vendor runs the merge gate of such a repository, which proves all from nothing
@@ -20,35 +20,34 @@ INCLUDEDIR = $(PREFIX)/include
 DATADIR = $(PREFIX)/share
 DESTDIR =
 
-bash = $(DATADIR)/bash-completion/completions/rapidhash
-zsh = $(DATADIR)/zsh/site-functions/_rapidhash
-fish = $(DATADIR)/fish/vendor_completions.d/rapidhash.fish
-sum_bash = $(DATADIR)/bash-completion/completions/rapidsum
-sum_zsh = $(DATADIR)/zsh/site-functions/_rapidsum
-sum_fish = $(DATADIR)/fish/vendor_completions.d/rapidsum.fish
-config = $(LIBDIR)/pkgconfig/rapidhash_c.pc
-licences = $(DATADIR)/doc/rapidhash
 soname = librapidhash_c.so.1
 archive = crates/rapidhash_c/out/librapidhash_c.a
 shared = build/$(soname)
 name = yervound-1.0-x86_64-linux
-installed = $(BINDIR)/rapidhash $(LIBDIR)/librapidhash_c.a $(LIBDIR)/$(soname) \
-	$(LIBDIR)/librapidhash_c.so $(INCLUDEDIR)/rapidhash_c.h $(config) \
-	$(DATADIR)/man/man1/rapidhash.1 $(bash) $(zsh) $(fish) \
-	$(BINDIR)/rapidsum $(DATADIR)/man/man1/rapidsum.1 $(sum_bash) $(sum_zsh) $(sum_fish) \
-	$(addprefix $(licences)/,LICENSE-MIT LICENSE-APACHE NOTICE)
 
 # The linker of the kit, beside the page that rt names.
 linker = $(dir $(shell rt doc))toolchain/bin/ld.lld
 
-.PHONY: tool sums library wasm check quick test fmt bench install uninstall clean dist vendor
+.PHONY: all tool sums library wasm check quick test fmt bench install uninstall clean dist vendor always
+.DELETE_ON_ERROR:
 
-# The launcher builds what is missing or old. With no input the tool has little to do.
+all: tool sums library
+
+# bin/build goes by the sums of the sources, and says nothing where there is nothing to build. Its
+# second word is one at which the program ends at once.
 tool:
-	@bin/rapidhash --v1 </dev/null >/dev/null
+	@bin/build rapidhash_cli --help
 
-library:
-	@cd crates/rapidhash_c && rt lib
+sums:
+	@bin/build example_sums --version
+
+library: $(shared)
+
+$(archive): always
+	@bin/build rapidhash_c
+
+$(shared): $(archive) share/librapidhash_c.map
+	@command -v rt >/dev/null || { echo 'make: rt, whose kit has the linker, is not on PATH' >&2; exit 2; }
 	@mkdir -p build
 	@$(linker) -shared -soname $(soname) -z now -z relro -z noexecstack -z text --gc-sections \
 	  --version-script share/librapidhash_c.map --whole-archive $(archive) -o $(shared)
@@ -68,7 +67,7 @@ quick: fmt
 
 test:
 	@rt all test
-	@for script in tests/end_to_end.sh tests/example_*.sh; do echo $$script; $$script || exit 1; done
+	@for script in tests/end_to_end.sh tests/launcher.sh tests/example_*.sh; do echo $$script; $$script || exit 1; done
 
 bench:
 	@bench/slices default seeded
@@ -77,34 +76,23 @@ bench:
 	@bench/memory
 	@bench/tool
 
-# Builds rapidsum where it is missing or old. With --version it reads no file.
-sums:
-	@tests/build.sh example_sums --version >/dev/null
+# The folders go to bin/install as variables, so that no character of theirs is one of the shell's.
+install uninstall: export PREFIX := $(PREFIX)
+install uninstall: export BINDIR := $(BINDIR)
+install uninstall: export LIBDIR := $(LIBDIR)
+install uninstall: export INCLUDEDIR := $(INCLUDEDIR)
+install uninstall: export DATADIR := $(DATADIR)
+install uninstall: export DESTDIR := $(DESTDIR)
 
-install: tool sums library
-	install -D -m 755 crates/rapidhash_cli/out/rapidhash_cli $(DESTDIR)$(BINDIR)/rapidhash
-	install -D -m 644 $(archive) $(DESTDIR)$(LIBDIR)/librapidhash_c.a
-	install -D -m 755 $(shared) $(DESTDIR)$(LIBDIR)/$(soname)
-	ln -sf $(soname) $(DESTDIR)$(LIBDIR)/librapidhash_c.so
-	install -D -m 644 include/rapidhash_c.h $(DESTDIR)$(INCLUDEDIR)/rapidhash_c.h
-	install -D -m 644 share/rapidhash.1 $(DESTDIR)$(DATADIR)/man/man1/rapidhash.1
-	install -D -m 644 share/rapidhash.bash $(DESTDIR)$(bash)
-	install -D -m 644 share/rapidhash.zsh $(DESTDIR)$(zsh)
-	install -D -m 644 share/rapidhash.fish $(DESTDIR)$(fish)
-	install -D -m 755 crates/example_sums/out/example_sums $(DESTDIR)$(BINDIR)/rapidsum
-	install -D -m 644 share/rapidsum.1 $(DESTDIR)$(DATADIR)/man/man1/rapidsum.1
-	install -D -m 644 share/rapidsum.bash $(DESTDIR)$(sum_bash)
-	install -D -m 644 share/rapidsum.zsh $(DESTDIR)$(sum_zsh)
-	install -D -m 644 share/rapidsum.fish $(DESTDIR)$(sum_fish)
-	install -d $(DESTDIR)$(licences) $(DESTDIR)$(dir $(config))
-	install -m 644 LICENSE-MIT LICENSE-APACHE NOTICE $(DESTDIR)$(licences)
-	sed 's|@PREFIX@|$(PREFIX)|; s|@LIBDIR@|$(LIBDIR)|; s|@INCLUDEDIR@|$(INCLUDEDIR)|' \
-	  share/rapidhash_c.pc.in >$(DESTDIR)$(config)
-	chmod 644 $(DESTDIR)$(config)
+install:
+	@bin/install
 
-dist: wasm
+uninstall:
+	@bin/install --remove
+
+dist: all wasm
 	rm -rf build/$(name)
-	$(MAKE) -s install DESTDIR= PREFIX=$(CURDIR)/build/$(name)
+	$(MAKE) -s install DESTDIR= PREFIX='$(CURDIR)/build/$(name)'
 	sed 's|@PREFIX@|$${pcfiledir}/../..|; s|@LIBDIR@|$${prefix}/lib|; s|@INCLUDEDIR@|$${prefix}/include|' \
 	  share/rapidhash_c.pc.in >build/$(name)/lib/pkgconfig/rapidhash_c.pc
 	tar --exclude=__pycache__ --exclude=target --exclude=build.sh -cf - bindings | \
@@ -119,9 +107,6 @@ dist: wasm
 
 vendor:
 	@bin/vendor "$(INTO)"
-
-uninstall:
-	rm -f $(addprefix $(DESTDIR),$(installed))
 
 clean:
 	rm -rf crates/*/out build

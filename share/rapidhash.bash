@@ -1,11 +1,15 @@
-# Completion of rapidhash for bash.
+# Completion of rapidhash for bash. Where no option is asked for, bash completes files, variables and
+# the rest by itself. A word that begins with a hyphen names no file, and after the help none counts.
 _rapidhash() {
+  local options="--v1 --v2.0 --v2.1 --v2.2 --v3 --v3-micro --v3-nano --protected --help -h"
   local word=${COMP_WORDS[COMP_CWORD]}
-  if [[ $word == -* ]]; then
-    mapfile -t COMPREPLY < <(compgen -W '--v1 --v2.0 --v2.1 --v2.2 --v3 --v3-micro --v3-nano --protected --help -h' -- "$word")
-  else
-    compopt -o filenames 2>/dev/null
-    mapfile -t COMPREPLY < <(compgen -f -- "$word")
+  COMPREPLY=()
+  case " ${COMP_WORDS[*]:1:COMP_CWORD-1} " in
+    *" --help "* | *" -h "*) options= ;;
+  esac
+  if [[ $word == -* || -z $options ]]; then
+    compopt +o bashdefault +o default 2>/dev/null
+    mapfile -t COMPREPLY < <(compgen -W "$options" -- "$word")
   fi
 }
-complete -F _rapidhash rapidhash
+complete -o bashdefault -o default -F _rapidhash rapidhash

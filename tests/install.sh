@@ -1,6 +1,6 @@
 #!/usr/bin/env bash
-# Installs the tool and the library for C into a room of its own, uses each installed file, and
-# removes them again. The last line counts the cases.
+# Installs the programs and the library for C into a room of its own, uses each installed file, and
+# removes them again. Then come folders with names of other kinds. The last line counts the cases.
 set -u
 
 top=$(cd "$(dirname "${BASH_SOURCE[0]}")/.." && pwd) || exit 1
@@ -24,6 +24,20 @@ try() {
 
 prefix=$room/usr
 cd "$top" || exit 1
+
+# PATH without rt: an installation, which root may do, needs none.
+path=
+while IFS= read -r -d : folder; do
+  [ -x "$folder/rt" ] || path=$path${path:+:}$folder
+done <<<"$PATH:"
+
+builds_nothing_anew() {
+  [ -z "$(make -s -C "$top" 2>&1)" ] && [ -z "$(PATH=$path make -s -j3 -C "$top" 2>&1)" ]
+}
+
+installs() {
+  PATH=$path make -s -C "$top" install "$@"
+}
 
 prints_the_known_hash() {
   [ "$(echo something | "$prefix/bin/rapidhash" --v1)" = 15965596575264898037 ]
@@ -89,10 +103,63 @@ names_every_option() {
 }
 
 is_empty() {
-  [ -z "$(find "$prefix" ! -type d)" ]
+  [ -z "$(find "$1" ! -type d)" ]
 }
 
-try install make -s -C "$top" install PREFIX="$prefix"
+# What make install copies: names below the folder.
+listed() {
+  (cd "$1" && find . ! -type d | sort)
+}
+
+# A folder whose name has blanks and other characters gets the same files, which can be used, and
+# loses them again, and nothing else.
+serves_a_folder_of_any_name() {
+  local place="$room/a folder & |more"
+  installs PREFIX="$place" && diff <(listed "$prefix") <(listed "$place") &&
+    (prefix=$place && prints_the_known_hash) &&
+    links_by_words_of "$place" && echo mine >"$room/a" && echo mine >"$place/bin/mine" &&
+    make -s -C "$top" uninstall PREFIX="$place" && [ -e "$room/a" ] && [ "$(listed "$place")" = ./bin/mine ]
+}
+
+# pkg-config puts a backslash before each blank, as the shell reads it.
+links_by_words_of() {
+  local words
+  words=$(PKG_CONFIG_PATH=$1/lib/pkgconfig pkg-config --cflags --libs rapidhash_c) &&
+    eval "cc -O2 '$top/examples/known_values.c' $words -o '$room/known_values'" &&
+    LD_LIBRARY_PATH=$1/lib "$room/known_values"
+}
+
+# A folder that the file for pkg-config cannot name is refused in one line, before a file is copied.
+refuses() {
+  local said
+  ! said=$(installs DESTDIR="$room/refused" "$@" 2>&1) && [ ! -e "$room/refused" ] &&
+    [ "$(grep -vc '^make: ' <<<"$said")" -eq 1 ] && grep '^make install: ' <<<"$said" &&
+    ! make -s -C "$top" uninstall DESTDIR="$room/refused" "$@"
+}
+
+# Below DESTDIR, and with folders of its own for programs and libraries.
+serves_a_packager() {
+  local stage=$room/stage pc
+  installs DESTDIR="$stage" PREFIX=/usr BINDIR=/opt/bin LIBDIR=/usr/lib/here DATADIR=/opt/share || return 1
+  pc=$stage/usr/lib/here/pkgconfig/rapidhash_c.pc
+  grep -qx 'prefix=/usr' "$pc" && grep -qx 'libdir=/usr/lib/here' "$pc" &&
+    grep -qx 'includedir=/usr/include' "$pc" && [ -x "$stage/opt/bin/rapidsum" ] &&
+    [ -e "$stage/opt/share/man/man1/rapidhash.1" ] &&
+    make -s -C "$top" uninstall DESTDIR="$stage" PREFIX=/usr BINDIR=/opt/bin LIBDIR=/usr/lib/here \
+      DATADIR=/opt/share && is_empty "$stage"
+}
+
+# Where nothing is built, nothing is copied, and a line says what to run first.
+wants_a_build_first() {
+  local said
+  mkdir "$room/new" && git ls-files -z | xargs -0 cp --parents -t "$room/new" || return 1
+  ! said=$(PATH=$path make -s -C "$room/new" install PREFIX="$room/none" 2>&1) &&
+    [ ! -e "$room/none" ] && grep '^make install: .*: run make first$' <<<"$said"
+}
+
+try build make -s -C "$top"
+try build_again builds_nothing_anew
+try install installs PREFIX="$prefix"
 try program prints_the_known_hash
 try program_of_sums prints_and_checks_a_sum
 try shared_library links_by_pkg_config
@@ -108,8 +175,14 @@ for file in man/man1/NAME.1 bash-completion/completions/NAME zsh/site-functions/
     try "options_in_$(basename "$place")" names_every_option "$name" "$count" "$prefix/share/$place"
   done
 done
+try folder_of_any_name serves_a_folder_of_any_name
+try relative_folder refuses PREFIX=usr
+try relative_folder_of_libraries refuses PREFIX=/usr LIBDIR=lib
+try folder_with_a_quote refuses PREFIX='/usr/a"b'
+try folders_of_a_packager serves_a_packager
+try nothing_built wants_a_build_first
 try uninstall make -s -C "$top" uninstall PREFIX="$prefix"
-try nothing_left is_empty
+try nothing_left is_empty "$prefix"
 
 printf '%s passed, %s failed\n' "$passed" "$failed"
 [ "$failed" -eq 0 ]
