@@ -1,51 +1,12 @@
 #!/usr/bin/env bash
-# Runs the built tool as its users do, and compares what it prints and how it ends. It prints a line
-# for each case, and at last how many passed.
-#
-# The numbers are those of the Rust crate.
+# Runs the built tool as its users do, and compares what it prints and how it ends: the hashes of each
+# version, however the bytes come, the words, and the help. It prints a line for each case, and at last
+# how many passed.
 set -u
 
 top=$(cd "$(dirname "${BASH_SOURCE[0]}")/.." && pwd) || exit 1
-tool=$top/bin/rapidhash
-room=$(mktemp -d) || exit 1
-trap 'rm -rf "$room"' EXIT
-cd "$room" || exit 1
-
-passed=0
-failed=0
-
-ok() {
-  passed=$((passed + 1))
-  printf 'ok %s\n' "$1"
-}
-
-fail() {
-  failed=$((failed + 1))
-  printf 'FAILED %s: %s\n' "$1" "$2"
-}
-
-# ended NAME STATUS OUT ERR: compares the files status, out and err with what a run has to leave.
-ended() {
-  local name=$1
-  printf '%s' "$3" >wanted_out
-  printf '%s' "$4" >wanted_err
-  if [ "$(cat status)" != "$2" ]; then
-    fail "$name" "its status is $(cat status), and not $2"
-  elif ! cmp -s out wanted_out; then
-    fail "$name" "it printed: $(head -c 200 out)"
-  elif ! cmp -s err wanted_err; then
-    fail "$name" "standard error has: $(head -c 200 err)"
-  else
-    ok "$name"
-  fi
-  rm -f status out err
-}
-
-# Runs the tool with these words, and leaves its status and what it wrote.
-run() {
-  "$tool" "$@" >out 2>err
-  echo $? >status
-}
+# shellcheck source=tests/tool_room.sh
+. "$top/tests/tool_room.sh"
 
 # The bytes of a file in pieces, with a pause before each.
 slowly() {
@@ -121,32 +82,23 @@ three_ways() {
   ended "$name-of-a-file" 0 "$wanted"$'\n' ''
 }
 
-line=$'15965596575264898037\n'
-versions_fault=$'You must specify a single rapidhash version to use. See --help for more.\n'
-open_fault=$'Could not open file.\n'
-stdin_fault=$'Could not read from stdin.\n'
-memory_fault=$'Out of memory.\n'
-file_fault=$'Failed to hash file.\n'
-write_fault=$'Could not write to stdout.\n'
-
-# The first call builds the tool where it must, and says so on standard error.
-if ! "$tool" --v1 </dev/null >/dev/null; then
-  fail build 'the tool was not built'
-  printf '%s passed, %s failed\n' "$passed" "$failed"
-  exit 1
-fi
-
-seq 1 20000000 | head -c 100000000 >large
 for bytes in 0 60 65537 100000000; do
   every_version "$bytes"
 done
-head -c 10000000 large >ten_million
 
 echo something | run --v1
 ended stored_run 0 "$line" ''
 
 echo | run --v1 --v1 --strange -
 ended words_that_count_for_nothing 0 $'5006746792674864303\n' ''
+
+# What the manual says of words that are ignored: standard input is hashed by V3, with status 0.
+for word in --V1 --version -hx --protected=true - --; do
+  echo something | run "$word"
+  ended "ignored_$word" 0 "$line_of_v3" ''
+done
+echo something | run -- --no-file
+ended ignored_after_two_hyphens 0 "$line_of_v3" ''
 
 echo something >'a file with spaces'
 run --v1 'a file with spaces'
@@ -172,6 +124,26 @@ cat large >fifo &
 run --v3 fifo
 ended file_that_is_a_pipe 0 $'17274253787457370873\n' ''
 wait
+
+# What the manual says of files whose metadata says 0 bytes: V1 and V2 hash no byte of them.
+for version in --v1 --v2.0 --v2.1 --v2.2; do
+  run "$version" </dev/null
+  mv out of_no_bytes
+  for file in /dev/zero /proc/version; do
+    run "$version" "$file" </dev/null
+    ended "no_bytes_of_$file$version" 0 "$(cat of_no_bytes)"$'\n' ''
+  done
+  run "$version" <(echo something) </dev/null
+  ended "no_bytes_of_a_pipe$version" 0 "$(cat of_no_bytes)"$'\n' ''
+done
+run --v1 </proc/version
+mv out of_proc
+cat /proc/version | run --v1
+ended file_of_proc_on_standard_input 0 "$(cat of_proc)"$'\n' ''
+run --v3 /proc/version
+mv out of_proc
+run --v3 </proc/version
+ended file_of_proc_by_v3 0 "$(cat of_proc)"$'\n' ''
 
 # By a link, from another folder, by the name that the link has.
 ln -s "$tool" linked
@@ -219,100 +191,4 @@ echo $? >status
 : >out
 ended help_to_a_full_output 1 '' "$write_fault"
 
-# Words that are refused.
-run --v1 --v3 </dev/null
-ended two_versions 1 '' "$versions_fault"
-
-run missing --v3-micro --v3-nano
-ended two_versions_and_a_file 1 '' "$versions_fault"
-
-run missing
-ended missing_file 1 '' "$open_fault"
-
-run ''
-ended empty_name 1 '' "$open_fault"
-
-run $'\xff' </dev/null
-ended name_of_other_bytes 1 '' "$open_fault"
-
-# Reads and memory that fail: a folder cannot be read, and the limit is below the input's length.
-run --v1 <"$top"
-ended unreadable_input 1 '' "$stdin_fault"
-
-run <"$top"
-ended unreadable_input_by_v3 1 '' "$stdin_fault"
-
-run "$top"
-ended folder 1 '' "$file_fault"
-
-run --v1 <&-
-ended closed_input 1 '' "$stdin_fault"
-
-# in_little_memory WORDS..: the limit would stop a shell too, so the launcher is left out.
-in_little_memory() {
-  (
-    ulimit -v 8000
-    exec "$top/crates/rapidhash_cli/out/rapidhash_cli" "$@" >out 2>err
-  )
-  echo $? >status
-}
-
-in_little_memory --v1 <ten_million
-ended v1_in_little_memory 1 '' "$memory_fault"
-
-in_little_memory --v2.2 <ten_million
-ended v2_in_little_memory 1 '' "$memory_fault"
-
-in_little_memory --v1 ten_million
-ended file_by_v1_in_little_memory 0 "$("$tool" --v1 ten_million)"$'\n' ''
-
-in_little_memory <large
-ended v3_in_little_memory 0 $'17274253787457370873\n' ''
-
-# Words that there is no room for.
-word=-$(head -c 120000 /dev/zero | tr '\0' x)
-prlimit --as=4500000 "$top/crates/rapidhash_cli/out/rapidhash_cli" \
-  "$word" "$word" "$word" "$word" "$word" "$word" "$word" "$word" "$word" "$word" "$word" "$word" \
-  </dev/null >out 2>err
-echo $? >status
-ended no_room_for_the_words 1 '' "$memory_fault"
-
-# Writes that fail.
-echo something | "$tool" --v1 2>err >/dev/full
-echo $? >status
-: >out
-ended full_output 1 '' "$write_fault"
-
-"$tool" large 2>err >/dev/full
-echo $? >status
-: >out
-ended full_output_of_a_file 1 '' "$write_fault"
-
-echo something | "$tool" --v1 2>err >&-
-echo $? >status
-: >out
-ended closed_output 1 '' "$write_fault"
-
-# The reader of the output is gone before the tool has its input. The runtime ignores SIGPIPE, so
-# the write fails and the tool tells it, whatever the shell does with that signal.
-{
-  while [ ! -e gone ]; do sleep 0.02; done
-  echo something
-} | {
-  "$tool" --v1 2>err
-  echo $? >status
-} | {
-  exec 0<&-
-  : >gone
-}
-: >out
-ended reader_gone 1 '' "$write_fault"
-
-# Where standard error takes no text either, the status still tells.
-"$tool" --v1 --v3 </dev/null >out 2>/dev/full
-echo $? >status
-: >err
-ended full_error 1 '' ''
-
-printf '%s passed, %s failed\n' "$passed" "$failed"
-[ "$failed" -eq 0 ]
+finish

@@ -102,6 +102,21 @@ names_every_option() {
   done
 }
 
+# The manual page has no fault of form, and lines of at most 80 bytes.
+is_a_clean_manual() {
+  [ -z "$(mandoc -Tlint "$prefix/share/man/man1/$1.1" | tee /dev/stderr)" ]
+}
+
+# The manual's example that compares the files a and b is right, also where neither can be hashed.
+compares_by_the_manual() {
+  local example
+  example=$(sed -n 's/^\.B \(a=\$(.*\)/\1/p' "$prefix/share/man/man1/rapidhash.1" | sed 's/\\(dq/"/g')
+  mkdir "$room/compared" && cd "$room/compared" || return 1
+  compare() { PATH=$prefix/bin:$PATH bash -c "$example"; }
+  ! compare && mkdir a b && ! compare && rmdir a b && echo same >a && echo same >b && compare &&
+    echo other >b && ! compare && rm b && ! compare
+}
+
 is_empty() {
   [ -z "$(find "$1" ! -type d)" ]
 }
@@ -165,6 +180,10 @@ try program_of_sums prints_and_checks_a_sum
 try shared_library links_by_pkg_config
 try static_library links_the_archive
 try licences has_the_licences
+try manual is_a_clean_manual rapidhash
+try manual_of_sums is_a_clean_manual rapidsum
+try example_of_the_manual compares_by_the_manual
+cd "$top" || exit 1
 try bash_completion completes rapidhash --v3- '--v3-micro --v3-nano'
 try bash_completion_of_sums completes rapidsum --s '--status --strict'
 for file in man/man1/NAME.1 bash-completion/completions/NAME zsh/site-functions/_NAME \

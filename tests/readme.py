@@ -17,7 +17,7 @@ ROOM = Path(tempfile.mkdtemp())
 passed = failed = 0
 
 # Commands that other tests run: the gate itself, and tests/install.sh.
-ELSEWHERE = ('make install PREFIX="$HOME/.local"', "make check")
+ELSEWHERE = ('make && make install PREFIX="$HOME/.local"', "make check")
 
 # What a program of a user's own has around the blocks of README.md. It prints values that follow from
 # each line of theirs.
