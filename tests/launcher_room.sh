@@ -14,6 +14,11 @@ fail() {
   printf 'FAILED %s: %s\n' "$1" "$2"
 }
 
+# Counts a case, which passes where nothing was found: NAME FOUND.
+tell() {
+  if [ -z "$2" ]; then ok "$1"; else fail "$1" "$2"; fi
+}
+
 mkdir kit
 cp "$top/tests/fake_rt" kit/rt
 # Edits a source where the file `late` is there, before it takes the sum of the program.
