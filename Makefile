@@ -67,7 +67,7 @@ quick: fmt
 
 test:
 	@rt all test
-	@for script in tests/end_to_end*.sh tests/launcher.sh tests/example_*.sh; do \
+	@for script in tests/end_to_end*.sh tests/launcher.sh tests/launcher_paths.sh tests/example_*.sh; do \
 	  echo $$script; $$script || exit 1; \
 	done
 

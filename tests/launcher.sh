@@ -16,7 +16,7 @@ new_repository
 run word $'\xff'
 ended first_build 0 $'first\nword\n\xff' 1 "$first" "$built"
 
-run word
+PATH=$room/few run word
 ended fresh 0 $'first\nword' 1
 
 new_build
@@ -52,14 +52,13 @@ mkdir -p repo/crates/rapidhash_cli/specs
 run
 ended new_folder 0 first 4 "$changed" "$built"
 
-# A program that rt built by itself of another source, which then has its old text and time again.
 new_build
-cp -p repo/crates/rapidhash_portable/src/lib.rt old
-edit other
-(cd repo/crates/rapidhash_cli && rt)
-cp -p old repo/crates/rapidhash_portable/src/lib.rt
+echo '# A comment' >>repo/crates.txt
 run
-ended program_of_another_source 0 first 2 "$changed" "$built"
+ended edited_list_of_crates 0 first 1 "$changed" "$built"
+echo 'echo other' >repo/crates/rapidhash_cli/out/rapidhash_cli
+run
+ended overwritten_program 0 first 2 "$changed" "$built"
 
 # A copy of a checkout has the times of its copying, in any order.
 new_build
@@ -180,70 +179,6 @@ new_build
 chmod 644 repo/crates/rapidhash_cli/out/rapidhash_cli
 run
 ended program_without_its_permission 2 '' 0 'rapidhash: *out/rapidhash_cli has no permission to run: chmod +x it*'
-
-# A user who may not write, in a folder that may not be read.
-new_build
-mkdir closed
-(cd closed && chmod 000 . && as_another "$room/repo/bin/rapidhash" word >"$room/out" 2>"$room/err"; echo $? >"$room/status")
-ended folder_that_may_not_be_read 0 $'first\nword' 0
-chmod 755 closed
-
-new_build
-touch_sources
-chmod -R a-w repo
-as_another repo/bin/rapidhash >out 2>err
-echo $? >status
-ended fresh_and_read_only 0 first 0
-chmod -R u+w repo
-edit second
-chmod -R a-w repo
-as_another repo/bin/rapidhash >out 2>err
-echo $? >status
-ended old_and_read_only 2 '' 0 'rapidhash: it has to be built, and crates/*/out cannot be written'
-
-# The program's own name is a word too, and has to be UTF-8.
-new_repository
-echo shell >how
-odd=$'jos\xe9 \x81 (1)'
-mv repo "$odd"
-# shellcheck disable=SC2016
-tool=$odd/bin/rapidhash run -c 'echo "$0"'
-ended build_in_a_folder_that_is_not_utf8 0 rapidhash 1 "$first" "$built"
-# shellcheck disable=SC2016
-tool=$odd/bin/rapidhash run -c 'echo "$0"'
-ended fresh_in_a_folder_that_is_not_utf8 0 rapidhash 1
-# shellcheck disable=SC2016
-tool=$odd/bin/rapidhash run -c 'printf "%s\n" "$@"; exit 7' 0 'a  b' '' $'\xe9'
-ended words_and_status 7 $'a  b\n\n\xe9' 1
-# shellcheck disable=SC2016
-tool=$odd/bin/rapidhash run -c 'kill -s USR1 $$'
-ended signal_of_the_program 138 '' 1
-tool=$odd/bin/rapidhash run <<<'echo from standard input'
-ended standard_input 0 'from standard input' 1
-rm -rf "$odd"
-
-# By links: to the file, to a link, to the folder, and from PATH.
-new_build
-mkdir links 'links/a folder'
-ln -s ../../repo/bin/rapidhash 'links/a folder/relative'
-ln -s "$room/links/a folder/relative" links/chain
-ln -s ../repo/bin links/bin
-for tool in 'links/a folder/relative' links/chain links/bin/rapidhash repo/bin/../bin/rapidhash; do
-  touch_sources
-  PATH=$path run
-  ended "later_times_by_$tool" 0 first 0
-  CDPATH=/:links run word
-  ended "by_$tool" 0 $'first\nword' 0
-done
-PATH=$room/links:$PATH tool=chain run
-ended by_PATH 0 first 0
-PATH=/nowhere tool=links/chain run
-ended link_with_no_readlink 2 '' 0 '*readlink*' 'rapidhash: where the link links/chain leads cannot be read'
-mkdir -p lonely/bin
-cp repo/bin/rapidhash lonely/bin
-tool=lonely/bin/rapidhash run
-ended launcher_outside_of_the_repository 2 '' 0 'rapidhash: lonely/bin is not the folder bin of the repository*'
-tell nothing_made_outside_of_the_repository "$(find lonely/crates 2>/dev/null)"
 
 printf '%s passed, %s failed\n' "$passed" "$failed"
 [ "$failed" -eq 0 ]

@@ -31,6 +31,12 @@ esac
 PATH=${PATH#*:} exec sha256sum "$@"
 SUM
 chmod 755 kit/sha256sum
+# A folder for PATH with all that a call needs where nothing has changed.
+mkdir few
+for program in find readlink setpriv; do
+  ln -s "$(command -v "$program")" few
+done
+
 # PATH without rt.
 path=
 while IFS= read -r -d : folder; do
@@ -129,7 +135,7 @@ waiting='rapidhash: another build is running*'
 
 # Runs a command as a user who may write nothing here, and read no folder of another's.
 as_another() {
-  if [ "$(id -u)" -eq 0 ]; then
+  if [ "$EUID" -eq 0 ]; then
     setpriv --reuid=65534 --regid=65534 --clear-groups "$@"
   else
     "$@"
