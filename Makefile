@@ -101,6 +101,7 @@ dist: all wasm
 	  tar -C build/$(name) -xf -
 	install -D -m 644 build/rapidhash_c.wasm build/$(name)/build/rapidhash_c.wasm
 	install -m 644 LICENSE-MIT LICENSE-APACHE NOTICE docs/C.md docs/ALGORITHM.md build/$(name)
+	install -D -m 644 docs/images/lanes.svg build/$(name)/images/lanes.svg
 	install -m 644 share/dist.md build/$(name)/README.md
 	install -m 755 share/check_vectors.py build/$(name)
 	python3 share/vectors.py crates/rapidhash_replay/data >build/$(name)/rapidhash_vectors.tsv
