@@ -16,7 +16,8 @@ use std::hash::{Hash, Hasher};
 /// lends bytes: `&[u8]`, `Vec<u8>`, `bytes::Bytes`, `[u8; N]` or `&str`. Two keys are equal where
 /// their bytes are.
 ///
-/// A map of owned keys that is searched by borrowed slices takes `ByteKey<CowSlice<u8>>`:
+/// A map of owned keys that is searched by borrowed slices takes `ByteKey<CowSlice<u8>>`. The slices
+/// have the one lifetime that the map's type names, so they outlive the map:
 ///
 /// ```
 /// let mut sizes: RapidHashMap<ByteKey<CowSlice<u8>>, u64> = HashMapExt::new(alloc, state);

@@ -7,24 +7,26 @@ use std::borrow::CowSlice;
 use std::hash::{BuildHasher, Hasher};
 use std::test::Fail;
 
-/// Owned keys, searched by slices that are gone before the next search.
+/// A text of 50 bytes, all alike.
+const ALIKE: &[u8] = b"xxxxxxxxxxxxxxxxxxxxxxxxxxxxxxxxxxxxxxxxxxxxxxxxxx";
+
+/// Owned keys, searched by slices of another text.
 #[test]
 fn owned_keys_are_found_by_borrowed_bytes(rt: HostRuntime) -> Result<(), Fail> {
     let secrets = GlobalSecrets::new(1);
     let mut source = SeedSource::new(&secrets, 2);
     let state = fast::RandomState::new(&secrets, &mut source);
     let mut sizes: RapidHashMap<ByteKey<CowSlice<u8>>, u64> = HashMapExt::new(rt.alloc(), state);
-    for length in 0..100usize {
+    for length in 0..40usize {
         let mut name = Vec::new(rt.alloc());
         name.resize(length, b'x')?;
         let _ = sizes.insert(ByteKey(CowSlice::Owned(name)), length as u64)?;
     }
-    let text = [b'x'; 128];
-    for length in 0..128usize {
-        let size = sizes.get(&ByteKey(CowSlice::Borrowed(&text[..length])));
+    for length in 0..ALIKE.len() {
+        let size = sizes.get(&ByteKey(CowSlice::Borrowed(&ALIKE[..length])));
         assert_eq!(rt;
             size.copied(),
-            if length < 100 {
+            if length < 40 {
                 Some(length as u64)
             } else {
                 None
