@@ -1,19 +1,19 @@
-/* The rapidhash family of hashes, from a library whose every function is proved.
+/* The rapidhash family of hashes, from a library of which every function is proved.
  *
- * A call takes the bytes as a pointer and a length and gives their hash as a 64-bit number, the same
- * on every run. It takes no memory, keeps nothing, calls nothing but memmove, and may run in any
- * number of threads at once.
+ * A call takes the bytes as a pointer and a length and returns their hash as a 64-bit number, the
+ * same on every run. It allocates nothing, keeps no state, calls nothing but memmove, and may run in
+ * any number of threads at once.
  *
  * The archive and the shared library are for x86-64 Linux. The numbers are the same on every machine
  * that computes these hashes, whatever its byte order. To store a hash so that it reads the same
  * everywhere, write its 8 bytes in one fixed order, for example hash >> 56, hash >> 48 and so on.
  *
- * What each hash requires: `bytes` points to `len` readable bytes, `len` is below 2^63, and nothing
- * writes them during the call. For `len` 0 any pointer will do, NULL too. `secrets` points to a
- * seed and secrets that nothing writes during the call; it is not NULL.
+ * Preconditions of each hash: `bytes` points to `len` readable bytes, `len` is below 2^63, and
+ * nothing writes the bytes during the call. If `len` is 0, any pointer is allowed, also NULL.
+ * `secrets` points to a seed and secrets that nothing writes during the call; it is not NULL.
  *
  * Works with C89 to C23 and with C++98 to C++23. Link with -lrapidhash_c: pkg-config knows it as
- * rapidhash_c. The names live beside those of the C++ library's rapidhash.h.
+ * rapidhash_c. The names do not clash with those of the C++ library's rapidhash.h.
  */
 #ifndef RAPIDHASH_C_H
 #define RAPIDHASH_C_H
@@ -52,16 +52,16 @@ struct rapidhash_secrets {
     uint64_t secrets[7];
 };
 
-/* Secrets of one's own: a seed and secrets made of a number, each with bits set in its upper, its
- * middle and its lower part. The crate's RapidSecrets::seed. `secrets` points to a struct that may
- * hold anything before the call, and that nothing else reads or writes during it; it is not NULL.
- * Make them once and keep them: hashing with them costs no more than with the default ones. */
+/* Makes a seed and secrets from a number, each with bits set in its upper, its middle and its lower
+ * part: the crate's RapidSecrets::seed. `secrets` points to a struct that may hold anything before the
+ * call, and that nothing else reads or writes during it; it is not NULL. Make them once and keep
+ * them: hashing with them costs no more than with the default ones. */
 void rapidhash_v1_make_secrets(uint64_t number, struct rapidhash_v1_secrets *secrets);
 void rapidhash_make_secrets(uint64_t number, struct rapidhash_secrets *secrets);
 
-/* The default secrets, and a seed made of one seed word. The crate's RapidSecrets::seed_cpp, which by
- * the crate's word is how the C++ library takes its seed. The default seed is that of word 0, but in
- * V1 that of 0xbdd89aa982704029. The requirements are those above. */
+/* Makes the default secrets, and a seed from one seed word: the crate's RapidSecrets::seed_cpp. The
+ * crate says that the C++ library takes its seed in this way. The default seed is that of word 0, but
+ * in V1 that of 0xbdd89aa982704029. The preconditions are those above. */
 void rapidhash_v1_seed_secrets(uint64_t seed, struct rapidhash_v1_secrets *secrets);
 void rapidhash_seed_secrets(uint64_t seed, struct rapidhash_secrets *secrets);
 
@@ -84,7 +84,7 @@ uint64_t rapidhash_v3_with_seed(const void *bytes, size_t len, uint64_t seed);
 uint64_t rapidhash_v3_micro_with_seed(const void *bytes, size_t len, uint64_t seed);
 uint64_t rapidhash_v3_nano_with_seed(const void *bytes, size_t len, uint64_t seed);
 
-/* The hash with a seed and secrets of the caller's. */
+/* The hash with the caller's seed and secrets. */
 uint64_t rapidhash_v1_seeded(const void *bytes, size_t len, const struct rapidhash_v1_secrets *secrets);
 uint64_t rapidhash_v2_0_seeded(const void *bytes, size_t len, const struct rapidhash_secrets *secrets);
 uint64_t rapidhash_v2_1_seeded(const void *bytes, size_t len, const struct rapidhash_secrets *secrets);
@@ -93,13 +93,13 @@ uint64_t rapidhash_v3_seeded(const void *bytes, size_t len, const struct rapidha
 uint64_t rapidhash_v3_micro_seeded(const void *bytes, size_t len, const struct rapidhash_secrets *secrets);
 uint64_t rapidhash_v3_nano_seeded(const void *bytes, size_t len, const struct rapidhash_secrets *secrets);
 
-/* V3 with PROTECTED, which mixes each product with its factors: other numbers than V3's. */
+/* V3 with PROTECTED, which mixes each product with its factors. The hashes are not those of V3. */
 uint64_t rapidhash_v3_protected(const void *bytes, size_t len);
 uint64_t rapidhash_v3_protected_seeded(const void *bytes, size_t len, const struct rapidhash_secrets *secrets);
 
-/* A message in pieces, by V3, micro or nano. It may stand on the stack or in an array, and may be
- * copied with =. Its secrets are not copied: they stay where they are as long as the stream is in
- * use. Start it before any other call, and touch no field. */
+/* A message in pieces, for V3, micro or nano. It may live on the stack or in an array, and may be
+ * copied with =. Its secrets are not copied: they must stay in place as long as the stream is in use.
+ * Start it before any other call, and do not touch its fields. */
 struct rapidhash_stream {
     const struct rapidhash_secrets *secrets;
     uint64_t lane[7];
@@ -112,14 +112,14 @@ struct rapidhash_stream {
 /* Adds the next `len` bytes to the message. A stream is used by one thread at a time. */
 void rapidhash_stream_write(struct rapidhash_stream *stream, const void *bytes, size_t len);
 
-/* The hash of the message so far: the number of rapidhash_v3_seeded, of micro or of nano, for the
- * whole message. It changes nothing, and more pieces may follow. */
+/* The hash of the message so far: that of rapidhash_v3_seeded, or of micro or nano, for the whole
+ * message. It changes nothing, and more pieces may follow. */
 uint64_t rapidhash_stream_finish(const struct rapidhash_stream *stream);
 
-/* Forgets the message. The secrets and the version stay. */
+/* Forgets the message. The secrets and the version do not change. */
 void rapidhash_stream_reset(struct rapidhash_stream *stream);
 
-/* Starts a stream with 7, 5 or 3 lanes. The three calls below name them. */
+/* Starts a stream with 7, 5 or 3 lanes. Use one of the three functions below. */
 RAPIDHASH_C_INLINE void rapidhash_stream_start(
     struct rapidhash_stream *stream, size_t lanes, const struct rapidhash_secrets *secrets)
 {

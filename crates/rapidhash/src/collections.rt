@@ -9,11 +9,11 @@ use std::hash::Hash;
 
 /// The map of std over [`RandomState`].
 ///
-/// A key's bytes reach the hasher as std hands them over: a text by one write and a byte behind it,
-/// an integer as its bytes, but `[u8]` and `Vec<u8>` by one write a byte, which is slow for long
-/// keys: put those into a [`ByteKey`](crate::ByteKey).
+/// A key's bytes reach the hasher as std writes them: a text by one write and a further byte, an
+/// integer as its bytes, but `[u8]` and `Vec<u8>` by one write for each byte, which is slow for
+/// long keys: put those into a [`ByteKey`](crate::ByteKey).
 ///
-/// How often each word stands in a text. The two random words are the program's own, drawn once:
+/// How often each word occurs in a text. The program draws the two random words once:
 ///
 /// ```
 /// let secrets = GlobalSecrets::new(random_word);
@@ -29,7 +29,7 @@ pub type RapidHashMap<'s, K, V, A = Global> = HashMap<K, V, RandomState<'s>, A>;
 
 /// The set of std over [`RandomState`].
 ///
-/// Names without their doubles, each where it stands first:
+/// Names without duplicates, each at its first place:
 ///
 /// ```
 /// let mut seen: RapidHashSet<&str> = HashSetExt::new(alloc, state);
@@ -54,7 +54,7 @@ pub trait HashMapExt<A>: Sized {
     fn new(alloc: A, state: Self::State) -> Self
         ensures { is_empty result };
 
-    /// An empty map with room for `capacity` entries. It fails only where the allocation does, and
+    /// An empty map with room for `capacity` entries. It fails only if the allocation does, and
     /// then nothing was made.
     fn with_capacity(alloc: A, capacity: usize, state: Self::State) -> Result<Self, AllocError>
         ensures { IfOk result is_empty };
@@ -72,8 +72,8 @@ pub trait HashSetExt<A>: Sized {
     fn new(alloc: A, state: Self::State) -> Self
         ensures { is_empty result };
 
-    /// An empty set with room for `capacity` keys. It fails only where the allocation does, and
-    /// then nothing was made.
+    /// An empty set with room for `capacity` keys. It fails only if the allocation does, and then
+    /// nothing was made.
     fn with_capacity(alloc: A, capacity: usize, state: Self::State) -> Result<Self, AllocError>
         ensures { IfOk result is_empty };
 }

@@ -1,6 +1,6 @@
 //! The hasher and the states of [`crate::RapidHashMap`], without the avalanche: integers are packed
-//! (`SPONGE`), and neither a write of bytes nor the answer is mixed once more. How well the bits of
-//! an answer spread is neither proved nor measured here; `quality` mixes once more.
+//! (`SPONGE`), and neither a write of bytes nor the hash is mixed once more. How evenly the bits of
+//! a hash are distributed is neither proved nor measured here; `quality` mixes once more.
 //!
 //! ```
 //! let mut hasher = fast::RapidHasher::default();
@@ -23,7 +23,7 @@ pub type RapidHasher<'s> = inner::RapidHasher<'s, false, true, false, false>;
 /// Makes hashers of the next seed of a [`crate::inner::SeedSource`].
 pub type RandomState<'s> = inner::RandomState<'s, false, true, false, false>;
 
-/// Makes hashers of a seed of the caller's.
+/// Makes hashers of the caller's seed.
 pub type SeedableState<'s> = inner::SeedableState<'s, false, true, false, false>;
 
 /// Makes hashers of the seed that a program made once.

@@ -9,15 +9,15 @@ ghost use Rattle.rapidhash.specs.Keys.{one_write, one_write-Alike};
 use std::convert::AsSlice;
 use std::hash::{Hash, Hasher};
 
-/// A key that is made of bytes, and that reaches the hasher by one write.
+/// A key of bytes, which it passes to the hasher by one write.
 ///
-/// By std's law a `&[u8]` or a `Vec<u8>` writes its length and then each byte by a call of its own,
-/// which takes a hash step for each. This key writes all its bytes at once. It holds anything that
-/// lends bytes: `&[u8]`, `Vec<u8>`, `bytes::Bytes`, `[u8; N]` or `&str`. Two keys are equal where
+/// By std's contract a `&[u8]` or a `Vec<u8>` writes its length and then each byte by a separate
+/// call, each of which takes a hash step. This key writes all its bytes at once. It holds anything
+/// that lends bytes: `&[u8]`, `Vec<u8>`, `bytes::Bytes`, `[u8; N]` or `&str`. Two keys are equal if
 /// their bytes are.
 ///
-/// A map of owned keys that is searched by borrowed slices takes `ByteKey<CowSlice<u8>>`. The slices
-/// have the one lifetime that the map's type names, so they outlive the map:
+/// For a map of owned keys that is searched by borrowed slices use `ByteKey<CowSlice<u8>>`. The
+/// slices have the one lifetime that the map's type names, so they outlive the map:
 ///
 /// ```
 /// let mut sizes: RapidHashMap<ByteKey<CowSlice<u8>>, u64> = HashMapExt::new(alloc, state);

@@ -1,11 +1,11 @@
 //! Laws of the hashes, each as a call whose contract is the law.
 //!
 //! - [`same_words_v3`] and its like: nothing of a message is lost before it is mixed, and the hash
-//!   looks at nothing else.
+//!   depends on nothing else.
 //! - [`micro_is_v3`] and its like: two forms have one hash of a message of some lengths.
 //! - [`lane_after_its_secret`]: what `PROTECTED` keeps.
 //! - [`same_blocks`]: integers of equal widths are packed one to one.
-//! - [`join_u8`], [`turn_bytes`] and their like: writes that may be joined, or may change places.
+//! - [`join_u8`], [`turn_bytes`] and their like: writes that may be joined or swapped.
 //! - [`replay`]: a stream hasher returns the hash of what was written since the last reset.
 
 ghost use Rattle.std.specs.Prelude.{◌≡◌, IfOk};
@@ -27,7 +27,7 @@ use std::alloc::{AllocError, Allocator};
 pub use words::{same_words_micro, same_words_nano, same_words_v1, same_words_v2, same_words_v3};
 pub use writes::{join_u8, join_u16, join_u32, turn_bytes, turn_u128};
 
-/// A step of a run over a stream hasher.
+/// One operation of a run over a stream hasher.
 #[derive(Clone, Copy)]
 pub enum StreamOp<'d> {
     /// Adds a piece to the message.
@@ -38,8 +38,8 @@ pub enum StreamOp<'d> {
     Reset,
 }
 
-/// What V3's stream hasher returns for each `Finish` of a run, in order. It fails only where an
-/// allocation for the list of hashes does, and then it has freed what it had.
+/// What V3's stream hasher returns for each `Finish` of a run, in order. It fails only if an
+/// allocation for the list of hashes does, and then it has freed what it had allocated.
 ///
 /// ```
 /// let ops = [StreamOp::Write(b"hello"), StreamOp::Finish];

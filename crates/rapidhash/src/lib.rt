@@ -1,4 +1,4 @@
-//! rapidhash as users name it.
+//! The library rapidhash under the names of the Rust crate.
 //!
 //! - [`v1`], [`v2`], [`v3`]: the portable hashes, whose values never change.
 //! - [`reader`]: the reader with a mark that the hashes of a reader take.
@@ -8,7 +8,7 @@
 //! - [`inner`]: the hasher of maps, with every option.
 //! - [`rng`]: a small generator.
 //! - [`laws`]: laws of the hashes, each as a call.
-//! - [`util`]: the reads and the multiply that the hashes stand on.
+//! - [`util`]: the reads and the multiply that the hashes use.
 //!
 //! ```
 //! use rapidhash::v3::rapidhash_v3;

@@ -1,4 +1,4 @@
-//! The hasher and the states with the avalanche: as `fast`, and each write of bytes and each answer
+//! The hasher and the states with the avalanche: as `fast`, and each write of bytes and each hash
 //! is mixed once more.
 //!
 //! ```
@@ -7,7 +7,7 @@
 //! let hash = hasher.finish();
 //! ```
 //!
-//! A number that a program keeps makes the same state in each of its runs, so a user stays in one
+//! A number that a program stores makes the same state in each of its runs, so a user stays in one
 //! shard:
 //!
 //! ```
@@ -24,7 +24,7 @@ pub type RapidHasher<'s> = inner::RapidHasher<'s, true, true, false, false>;
 /// Makes hashers of the next seed of a [`crate::inner::SeedSource`].
 pub type RandomState<'s> = inner::RandomState<'s, true, true, false, false>;
 
-/// Makes hashers of a seed of the caller's.
+/// Makes hashers of the caller's seed.
 pub type SeedableState<'s> = inner::SeedableState<'s, true, true, false, false>;
 
 /// Makes hashers of the seed that a program made once.

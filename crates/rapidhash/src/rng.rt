@@ -14,7 +14,7 @@ use rapidhash_portable::util::rapid_mix;
 use rapidhash_portable::v3::DEFAULT_RAPID_SECRETS;
 use std::marker::Model;
 
-/// What a step adds to the state. It is odd, so the states go one cycle of 2^64.
+/// What a step adds to the state. It is odd, so all 2^64 states lie on one cycle.
 const STEP: u64 = DEFAULT_RAPID_SECRETS.secrets[0];
 
 /// The step's inverse: their product is 1 modulo 2^64.
@@ -23,10 +23,10 @@ const INVERSE: u64 = 0x32e2_5c49_d2be_af2d;
 /// What a word mixes its state with.
 const MASK: u64 = DEFAULT_RAPID_SECRETS.secrets[1];
 
-/// What a seed mixes its moment with.
+/// What a time is mixed with to seed the generator.
 const MOMENT_MASK: u64 = DEFAULT_RAPID_SECRETS.secrets[2];
 
-/// The seed that a generator made at a moment starts from.
+/// The seed that a generator seeded from a time starts with.
 const MOMENT_SEED: u64 = 0xbdd8_9aa9_8270_4029;
 
 /// Steps the state, and returns the word of the new one.
@@ -46,8 +46,8 @@ pub fn rapidrng_fast(state: &mut u64) -> u64
     rapid_mix::<false>(next, next ^ MASK)
 }
 
-/// Steps the state alike, and returns another word of the new one. It has the crate's name: there
-/// other machines may compute another word, here all compute the same.
+/// Steps the state in the same way, and returns another word of the new one. It has the crate's
+/// name: the crate may compute another word on other machines, here all compute the same.
 ///
 /// ```
 /// let mut state = 42;
@@ -63,9 +63,9 @@ pub fn rapidrng_fast_not_portable(state: &mut u64) -> u64
     rapid_mix::<false>(next, MASK)
 }
 
-/// Makes a new seed of the old one and a moment, and returns the new seed's word. The moment is
-/// handed in, as seconds and nanoseconds since a beginning of the caller's choice; of the seconds
-/// the low 32 bits count. Precondition: the nanoseconds are less than a second.
+/// Makes a new seed from the old one and a time, and returns the new seed's word. The caller passes
+/// the time, as seconds and nanoseconds since a start of its choice; only the low 32 bits of the
+/// seconds are used. Precondition: the nanoseconds are less than a second.
 ///
 /// ```
 /// let mut seed = 42;
@@ -83,7 +83,7 @@ pub fn rapidrng_time(seed: &mut u64, secs: u64, nanos: u32) -> u64
     rapid_mix::<false>(made, made ^ MASK)
 }
 
-/// A generator, which a contract sees as its state.
+/// A generator, which contracts describe by its state.
 ///
 /// ```
 /// let mut rng = RapidRng::new(42);
@@ -111,8 +111,8 @@ impl RapidRng {
         RapidRng { seed }
     }
 
-    /// A generator whose state is what [`rapidrng_time`] returns at a moment from a seed that is
-    /// always the same. Precondition: the nanoseconds are less than a second.
+    /// A generator whose state is what [`rapidrng_time`] returns for a time and a fixed seed.
+    /// Precondition: the nanoseconds are less than a second.
     pub fn from_moment(secs: u64, nanos: u32) -> RapidRng
         requires { nanos < 1000000000 }
         ensures { result ≡ word_at_moment v1_number secs nanos }
@@ -121,14 +121,14 @@ impl RapidRng {
         RapidRng::new(rapidrng_time(&mut seed, secs, nanos))
     }
 
-    /// The state as a number, from which a caller learns its range.
+    /// The state as a number, with its range in the contract.
     fn number(&self) -> u64
         ensures { result ≡ self.now }
     {
         self.seed
     }
 
-    /// The state as bytes, the lowest first. [`SeedableRng::from_seed`] makes the generator of them
+    /// The state as little-endian bytes. [`SeedableRng::from_seed`] makes the generator from them
     /// again.
     #[inline]
     pub fn state(&self) -> [u8; 8]
@@ -147,7 +147,7 @@ impl RapidRng {
     }
 
     /// How many steps lead from this state to the other's. There is always such a number below
-    /// 2^64, and any other number of steps that does it is the same modulo 2^64.
+    /// 2^64, and any other number of steps that leads there is equal to it modulo 2^64.
     ///
     /// ```
     /// let start = RapidRng::new(42);
@@ -223,8 +223,8 @@ impl Rng for RapidRng {
         self.next()
     }
 
-    /// The first bytes of the next words, each with its lowest byte first. A word is taken for each
-    /// 8 bytes begun; what is left of the last one is dropped.
+    /// The first bytes of the next words, each in little-endian order. One word is drawn per 8
+    /// bytes, rounded up; what is left of the last one is dropped.
     #[inline]
     fn fill_bytes(&mut self, dst: &mut [u8])
         ensures stream { (dst.new, generator_stream self.new)

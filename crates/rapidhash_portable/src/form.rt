@@ -1,4 +1,4 @@
-//! The forms of the portable hash, as the definition speaks of them.
+//! The forms of the portable hash, as the definition uses them.
 
 /// A portable hash.
 #[derive(Debug, Clone, Copy, PartialEq, Eq)]
@@ -22,7 +22,7 @@ pub struct Shape {
     pub threes: usize,
 }
 
-/// What a caller may choose beside the form, the seed and the secrets.
+/// What a caller may choose besides the form, the seed and the secrets.
 #[derive(Debug, Clone, Copy, PartialEq, Eq)]
 pub struct Options {
     /// Whether the two halves of the last product are mixed once more.

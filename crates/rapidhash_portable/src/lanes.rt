@@ -1,8 +1,9 @@
-//! The row kernel that every hash stands on: rows of 16-byte pairs folded into lanes, the lanes
-//! joined, the tail, the close. It is generic in the number of lanes and is proved once.
+//! The row kernel of every hash: rows of 16-byte pairs folded into lanes, the lanes joined, the
+//! tail, the close. It is generic in the number of lanes and is proved once.
 //!
 //! The callers are thin: a form is its row widths, its tail's table and what goes into its close.
-//! Touch the loops here with `objdump` at hand: they are what speed rests on.
+//! The speed of the hashes depends on the loops here: after a change look at the machine code with
+//! `objdump`.
 
 ghost use Rattle.std.specs.Prelude.{◌≡◌, ◌+◌, ◌*◌, ◌≤◌, ◌<◌, ℕ, List, length, replicate, take};
 ghost use Rattle.rapidhash_portable.specs.Folded.{AfterRows, HaveFolded, PrefixIsFolded};
@@ -35,7 +36,7 @@ pub(crate) fn fold_row<const LANES: usize, const WIDTH: usize, const PROTECTED: 
     }
 }
 
-/// Folds two rows of `WIDTH` pairs at the head of `rows` into the first `WIDTH` lanes: the turn of
+/// Folds two rows of `WIDTH` pairs at the head of `rows` into the first `WIDTH` lanes: the body of
 /// the unrolled loop.
 #[inline(always)]
 fn fold_two_rows<const LANES: usize, const WIDTH: usize, const PROTECTED: bool>(
@@ -53,9 +54,9 @@ fn fold_two_rows<const LANES: usize, const WIDTH: usize, const PROTECTED: bool>(
     fold_row::<LANES, WIDTH, PROTECTED>(lanes, &rows[16 * WIDTH..], secrets);
 }
 
-/// Folds all rows of `WIDTH` pairs into the first `WIDTH` lanes, and returns the bytes behind them,
-/// of which there are `KEPT` at the least. The lanes go on with whatever prefix of a message they
-/// have folded before. Without `COMPACT` the loop takes two rows a turn, and then at most one.
+/// Folds all rows of `WIDTH` pairs into the first `WIDTH` lanes, and returns the bytes after them,
+/// of which there are at least `KEPT`. The lanes may have folded a prefix of the message before.
+/// Without `COMPACT` the loop takes two rows at a time, and then at most one more.
 #[inline(always)]
 pub(crate) fn fold_rows<
     'x,
@@ -104,7 +105,7 @@ pub(crate) fn join<const LANES: usize, const WIDTH: usize>(lanes: &[u64; LANES])
     all
 }
 
-/// The seed after all rows of `LANES` pairs, and what is left.
+/// The seed after all rows of `LANES` pairs, and the bytes that are left.
 #[inline(always)]
 pub(crate) fn wide_lanes<
     'x,
@@ -125,8 +126,8 @@ pub(crate) fn wide_lanes<
     join_wide::<LANES, KEPT, COMPACT, PROTECTED>(&mut lanes, bytes, secrets)
 }
 
-/// The seed after all rows of seven pairs and, with the first three lanes going on, of three, and
-/// what is left.
+/// The seed after all rows of seven pairs and then of three, which the first three lanes fold, and
+/// the bytes that are left.
 #[inline(always)]
 pub(crate) fn mixed_lanes<'x, const COMPACT: bool, const PROTECTED: bool>(
     bytes: &'x [u8],
@@ -183,7 +184,7 @@ pub(crate) fn join_mixed<'x, const COMPACT: bool, const PROTECTED: bool>(
 }
 
 /// The seed after the pairs of a tail: pair j takes secret j of the table, and the last 1 to 16
-/// bytes are no pair.
+/// bytes form no pair.
 #[inline(always)]
 pub(crate) fn fold_tail<const COUNT: usize, const PROTECTED: bool>(
     tail: &[u8],
@@ -232,7 +233,7 @@ mod tests {
     use super::{fold_row, fold_two_rows};
     use crate::secrets::DEFAULT_SECRETS;
 
-    /// A turn of two rows leaves the lanes that two single rows leave.
+    /// Two rows at once leave the same lanes as two single rows.
     #[test]
     fn a_turn_is_two_rows(rt: HostRuntime) {
         let mut bytes = [0; 224];

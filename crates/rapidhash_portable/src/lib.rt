@@ -3,9 +3,9 @@
 //!
 //! - [`v1`], [`v2`] and [`v3`] hold the hashes: of a slice, of pieces, of a reader.
 //! - [`reader`] holds the reader with a mark that the hashes of a reader take.
-//! - [`seeding`] makes secrets and seeds of random words.
-//! - [`util`] holds the reads and the multiply that all of it stands on.
-//! - [`form`] holds the types that the definition speaks of.
+//! - [`seeding`] makes secrets and seeds from random words.
+//! - [`util`] holds the reads and the multiply that all of it uses.
+//! - [`form`] holds the types that the definition uses.
 //! - [`memory`] is the core of the in-memory hasher of the crate `rapidhash`.
 //!
 //! The row kernel (`lanes`), the words that a message ends in (`words`), the reads of a known

@@ -1,6 +1,6 @@
 //! The core of the in-memory hasher: one value of a byte list, a seed and secrets, over the same
 //! lanes and tails as the portable hashes. It is public because the crate `rapidhash` needs it, and
-//! no visibility reaches exactly one crate up; `rapidhash` does not re-export it.
+//! the language has no visibility for just one other crate; `rapidhash` does not re-export it.
 
 ghost use Rattle.std.specs.Prelude.{◌≡◌, ◌≤◌, ◌<◌, ℕ, length, drop};
 ghost use Rattle.rapidhash_portable.specs.declared.form.Form.TheVariants.{V3};
@@ -14,7 +14,7 @@ use crate::util::ALTERNATING_BITS;
 use crate::words::{last_16, words_to_3_v3, words_to_7_v3, words_to_16_v3};
 
 /// The value of `bytes` with a seed and secrets as they are. `AVALANCHE` mixes the last product
-/// once more, `PROTECTED` mixes each product with its factors, and `COMPACT` changes the code and
+/// once more, `PROTECTED` mixes each product with its factors, and `COMPACT` changes the code but
 /// no value.
 #[inline(always)]
 pub fn memory_hash<const AVALANCHE: bool, const COMPACT: bool, const PROTECTED: bool>(
@@ -28,8 +28,7 @@ pub fn memory_hash<const AVALANCHE: bool, const COMPACT: bool, const PROTECTED: 
     if n > 16 {
         return long::<AVALANCHE, COMPACT, PROTECTED>(bytes, seed, secrets);
     }
-    // Each class of lengths has a close of its own: a common one would stand behind a jump from
-    // each.
+    // Each class of lengths has its own close: sharing one would cost each class a jump.
     if n >= 8 {
         close_sum::<AVALANCHE, PROTECTED>(bytes, words_to_16_v3(bytes), seed, secrets)
     } else if n >= 4 {
@@ -41,9 +40,9 @@ pub fn memory_hash<const AVALANCHE: bool, const COMPACT: bool, const PROTECTED: 
     }
 }
 
-/// The value above 16 bytes. It stands out of line and counts as cold, so that the code of a short
-/// message, which goes into each caller, is straight and pays for none of it. The rows stand out of
-/// line too, so that a message of none pays for no lane.
+/// The value above 16 bytes. It is out of line and cold, so that the code for short messages, which
+/// is inlined into each caller, has no jump over it and saves no registers for it. The rows are out
+/// of line again, so that a message without a row sets up no lanes.
 #[cold]
 #[inline(never)]
 fn long<const AVALANCHE: bool, const COMPACT: bool, const PROTECTED: bool>(
@@ -60,7 +59,8 @@ fn long<const AVALANCHE: bool, const COMPACT: bool, const PROTECTED: bool>(
     close_tail::<AVALANCHE, PROTECTED>(bytes, bytes, seed, secrets)
 }
 
-/// The value above 48 bytes. Up to 400 bytes have eight rows at the most, too few for turns of two.
+/// The value above 48 bytes. Up to 400 bytes have at most eight rows, too few to take two at a
+/// time.
 #[inline(never)]
 fn with_rows<const AVALANCHE: bool, const COMPACT: bool, const PROTECTED: bool>(
     bytes: &[u8],

@@ -1,7 +1,8 @@
-//! A reader with a mark, which tells the reader's own errors from the others of a hash that reads.
+//! A reader with an error mark, which tells the reader's own errors from the other errors of a
+//! hash.
 //!
-//! The mark is on only where a read failed. Privacy keeps it so: [`read_once`] alone makes a
-//! [`FailedRead`], and [`Source`] alone turns its mark on, by a read or for a `FailedRead`.
+//! The mark is on only if a read failed. Privacy ensures this: only [`read_once`] makes a
+//! [`FailedRead`], and only [`Source`] turns its mark on, in `read` or for a `FailedRead`.
 
 ghost use Rattle.std.specs.Prelude.{◌≡◌, ◌||◌, false, true, is_err};
 ghost use Rattle.std.specs.Borrow.{follows, sem};
@@ -11,7 +12,7 @@ ghost use Rattle.std.specs.Io.KnownBytes.{ReadConsumes};
 use std::io;
 use std::io::{ErrorKind, Read};
 
-/// A reader, and a mark that is on where a read failed.
+/// A reader, and a mark that is on if a read failed.
 ///
 /// Each hash over a source begins by clearing the mark, so after it the mark says whether a read of
 /// that call failed.
@@ -42,8 +43,8 @@ impl<R: Read> Source<R> {
         }
     }
 
-    /// One read of the reader, with the reader's own answer. An error turns the mark on, also where
-    /// the read was interrupted.
+    /// One read of the reader, with the reader's own result. Any error turns the mark on, also that
+    /// of an interrupted read.
     pub fn read(&mut self, buf: &mut [u8]) -> io::Result<usize>
         ensures mark { is_marked self.new ≡ (is_marked self.old || is_err result) }
         ensures bound { ReadsAtMost result buf.new }
@@ -80,7 +81,7 @@ impl<R: Read> Source<R> {
         self.mark
     }
 
-    /// The reader, as it stands.
+    /// The reader, in its current state.
     pub fn into_inner(self) -> R
         ensures { result ≡ reader_of self }
     {
@@ -96,7 +97,8 @@ impl<R: Read> Source<R> {
         &mut self.reader
     }
 
-    /// The answer of a hash that read by itself. The mark comes on where a read failed.
+    /// The result of a hash that read from the reader itself. The mark is turned on if a read
+    /// failed.
     pub(crate) fn settle(&mut self, answer: Result<u64, Stop>) -> io::Result<u64>
         ensures reader { reader_of self.new ≡ reader_of self.old }
         ensures answer { Settles answer result (is_marked self.old) (is_marked self.new) }

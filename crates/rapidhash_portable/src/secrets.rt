@@ -1,4 +1,4 @@
-//! Secrets made of a seed: the arithmetic behind every `RapidSecrets`, and the type of V2 and V3.
+//! Secrets made from a seed: the arithmetic of every `RapidSecrets`, and the type of V2 and V3.
 
 ghost use Rattle.std.specs.Prelude.{◌≡◌, ◌<◌, ◌≤◌, ◌∷◌, All};
 ghost use Rattle.rapidhash_portable.specs.Secrets.{IsGood, chained_secrets, cpp_seeded, default_secrets, default_seed, global_seed, made_secrets, premixed, repaired, seeded, seeded_secrets, reseeded, with_bit};
@@ -40,8 +40,8 @@ impl RapidSecrets {
         &DEFAULT_RAPID_SECRETS
     }
 
-    /// A seed and secrets of its own, made of a number. Each has a set bit in its upper, its middle
-    /// and its lower part, so none is 0.
+    /// A seed and secrets made from a number. Each has a set bit in its upper, its middle and its
+    /// lower part, so none is 0.
     ///
     /// ```
     /// let secrets = RapidSecrets::seed(0x1234_5678);
@@ -59,7 +59,7 @@ impl RapidSecrets {
         }
     }
 
-    /// The same secrets beside a new seed, which is made of the old one with the last default
+    /// The same secrets with a new seed, which is made from the old one with the last default
     /// secret.
     pub fn reseed(&self) -> Self
         ensures seed { result.seed ≡ reseeded self.now.seed 6 }
@@ -72,9 +72,9 @@ impl RapidSecrets {
         }
     }
 
-    /// The default secrets beside a seed made of a number as the C++ library makes it. Whoever
-    /// knows the default secrets can find messages with one hash at every seed: see
-    /// [`RapidSecrets::seed`] where that matters.
+    /// The default secrets with a seed made from a number as the C++ library makes it. Whoever
+    /// knows the default secrets can find messages that have one hash for every seed: if that
+    /// matters, see [`RapidSecrets::seed`].
     pub fn seed_cpp(seed: u64) -> Self
         ensures seed { result.seed ≡ cpp_seeded seed 2 }
         ensures secrets { result.secrets ≡ default_secrets }
@@ -85,7 +85,7 @@ impl RapidSecrets {
         }
     }
 
-    /// The next seed of `source`, beside the secrets of `global`.
+    /// The next seed of `source`, with the secrets of `global`.
     ///
     /// ```
     /// let global = GlobalSecrets::new(random_word);
@@ -117,7 +117,7 @@ pub(crate) const DEFAULT_SECRETS: [u64; 7] = [
 /// What the global seed is mixed with.
 const GLOBAL_MASK: u64 = 0xbdd8_9aa9_8270_4029;
 
-/// The word, with `bit` set where it has no bit of `mask`.
+/// The word, with `bit` set if it has no bit of `mask`.
 #[tactic(auto, using(crate::proofs::Cases::tests), unfolding(crate::specs::Secrets::with_bit))]
 fn with_bit(word: u64, mask: u64, bit: u64) -> u64
     ensures { result ≡ with_bit word mask bit }

@@ -1,13 +1,13 @@
-//! Secrets and seeds made of random words. Nothing here is global: the caller hands the words in,
-//! keeps the values, and lends them to what hashes with them.
+//! Secrets and seeds made from random words. Nothing here is global: the caller passes the words,
+//! owns the values, and lends them to what hashes with them.
 
 ghost use Rattle.std.specs.Prelude.{◌≡◌, All};
 
 use crate::secrets::{DEFAULT_SECRETS, global_seed_of, made_secrets};
 use crate::util::rapid_mix;
 
-/// A seed and seven secrets, made of one random word: what a program makes once, and lends to every
-/// hasher.
+/// A seed and seven secrets, made from one random word: a program makes them once, and every hasher
+/// borrows them.
 ///
 /// ```
 /// let secrets = GlobalSecrets::new(random_word);
@@ -52,8 +52,8 @@ impl GlobalSecrets {
     }
 }
 
-/// A source of seeds: a counter, mixed with a second random word. Each call gives the next seed;
-/// that two seeds differ is not promised, and there are words for which they do not.
+/// A source of seeds: a counter, mixed with a second random word. Each call returns the next seed.
+/// Two seeds may be equal, and for some words they are.
 ///
 /// ```
 /// let mut source = SeedSource::new(&secrets, second_random_word);

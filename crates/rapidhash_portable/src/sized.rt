@@ -1,9 +1,10 @@
 //! Reads of a known length: what the hashes of V1 and V2 over a reader share.
 //!
-//! [`fill`] makes all their reads, and none once its buffer is full. A message of at most [`SHORT`]
-//! bytes is read whole and hashed as a slice. A longer one goes through one buffer of [`BUFFER`]
-//! bytes in pieces of whole rows; a piece is taken only while 16 bytes more are to come, so what is
-//! left in the end holds the message's last 16 bytes, and nothing is carried from piece to piece.
+//! [`fill`] makes all their reads, and none after its buffer is full. A message of at most
+//! [`SHORT`] bytes is read whole and hashed as a slice. A longer one goes through one buffer of
+//! [`BUFFER`] bytes in pieces of whole rows; a piece is read only while at least 16 more bytes
+//! follow, so the last piece holds the message's last 16 bytes, and nothing is carried from piece
+//! to piece.
 
 ghost use Rattle.std.specs.Prelude.{◌≡◌, ◌+◌, ◌*◌, ◌-◌, ◌≤◌, ◌<◌, IfErr, IfOk, OnOk, length, take};
 ghost use Rattle.std.specs.Io.KnownBytes.{Consumes};
@@ -39,8 +40,8 @@ pub(crate) fn fill<R: Read>(reader: &mut R, buf: &mut [u8]) -> Result<(), Stop>
     Ok(())
 }
 
-/// Reads `len` bytes and folds them into lanes that start from `seed`, but for the last 16 or more,
-/// which it leaves at the head of the buffer. It returns the lanes and how many these are.
+/// Reads `len` bytes and folds them into lanes that start from `seed`, except the last 16 or more,
+/// which it leaves at the head of the buffer. It returns the lanes and the number of bytes left.
 pub(crate) fn fold_front<R: Read, const LANES: usize, const PROTECTED: bool>(
     reader: &mut R,
     buffer: &mut [u8],

@@ -51,8 +51,8 @@ impl RapidSecrets {
         &DEFAULT_RAPID_SECRETS
     }
 
-    /// A seed and secrets of its own, made of a number. Each has a set bit in its upper, its middle
-    /// and its lower part, so none is 0.
+    /// A seed and secrets made from a number. Each has a set bit in its upper, its middle and its
+    /// lower part, so none is 0.
     ///
     /// ```
     /// let secrets = RapidSecrets::seed(0x1234_5678);
@@ -70,7 +70,7 @@ impl RapidSecrets {
         }
     }
 
-    /// The same secrets beside a new seed, which is made of the old one with the last default
+    /// The same secrets with a new seed, which is made from the old one with the last default
     /// secret of V1.
     pub fn reseed(&self) -> Self
         ensures seed { result.seed ≡ reseeded self.now.seed 2 }
@@ -83,9 +83,9 @@ impl RapidSecrets {
         }
     }
 
-    /// The default secrets beside a seed made of a number as the C++ library makes it. Whoever
-    /// knows the default secrets can find messages with one hash at every seed: see
-    /// [`RapidSecrets::seed`] where that matters.
+    /// The default secrets with a seed made from a number as the C++ library makes it. Whoever
+    /// knows the default secrets can find messages that have one hash for every seed: if that
+    /// matters, see [`RapidSecrets::seed`].
     pub fn seed_cpp(seed: u64) -> Self
         ensures seed { result.seed ≡ cpp_seeded seed 0 }
         ensures secrets { result.secrets ≡ default_secrets_v1 }
@@ -109,7 +109,7 @@ pub fn rapidhash_v1(bytes: &[u8]) -> u64
     rapidhash_v1_inline::<true, false, false, false>(bytes, RapidSecrets::default_ref())
 }
 
-/// The hash of `bytes` with a seed and secrets of the caller's.
+/// The hash of `bytes` with the caller's seed and secrets.
 #[inline]
 pub fn rapidhash_v1_seeded(bytes: &[u8], secrets: &RapidSecrets) -> u64
     ensures { result ≡ seeded_hash_v1 false (options true false) secrets.now bytes.now }
@@ -120,7 +120,7 @@ pub fn rapidhash_v1_seeded(bytes: &[u8], secrets: &RapidSecrets) -> u64
 /// The hash of `bytes` with every option.
 ///
 /// - `AVALANCHE` mixes the last product once more, as the C++ library does.
-/// - `COMPACT` goes row by row in place of two rows a turn: less code, the same value.
+/// - `COMPACT` takes rows one by one in place of two at a time: less code, the same value.
 /// - `PROTECTED` mixes each product with its factors.
 /// - `V1_BUG` folds a row at 48 bytes, as versions 1.x of the Rust crate did.
 #[inline(always)]
@@ -145,8 +145,8 @@ pub fn rapidhash_v1_inline<
     )
 }
 
-/// The hash above 16 bytes. It stands out of line, so that a short message pays for no saved
-/// register, and so do the rows, so that a message of none pays for no lane.
+/// The hash above 16 bytes. It is out of line, so that a message of up to 16 bytes saves no
+/// registers. The rows are out of line again, so that a message without a row sets up no lanes.
 #[inline(never)]
 fn long<const AVALANCHE: bool, const COMPACT: bool, const PROTECTED: bool, const V1_BUG: bool>(
     bytes: &[u8],
@@ -173,9 +173,9 @@ fn with_rows<const AVALANCHE: bool, const COMPACT: bool, const PROTECTED: bool, 
     above_16::<AVALANCHE, COMPACT, PROTECTED, V1_BUG>(bytes, secrets)
 }
 
-/// The hash above 16 bytes: the body of [`long`] and of [`with_rows`], which have both decided its
-/// test. After inlining the other branch is gone. With a body of its own for each, `long` took a
-/// register move more.
+/// The hash above 16 bytes: the shared body of [`long`] and [`with_rows`]. Each of them has already
+/// decided its test, and after inlining the other branch is gone. With separate bodies, `long` had
+/// one more register move.
 #[inline(always)]
 fn above_16<const AVALANCHE: bool, const COMPACT: bool, const PROTECTED: bool, const V1_BUG: bool>(
     bytes: &[u8],
@@ -221,7 +221,7 @@ fn close_tail<const AVALANCHE: bool, const PROTECTED: bool>(
     close::<AVALANCHE, PROTECTED>(last_16(ending), seed, s[1], (s[0] ^ len, s[1]))
 }
 
-/// The least length at which a row is folded.
+/// The smallest length at which a row is folded.
 #[inline(always)]
 #[tactic(auto, using(crate::proofs::Cases::tests))]
 fn least_row<const V1_BUG: bool>() -> usize

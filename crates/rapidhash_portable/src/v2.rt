@@ -27,7 +27,7 @@ pub fn rapidhash_v2_2(bytes: &[u8]) -> u64
     rapidhash_v2_inline::<2, true, false, false>(bytes, RapidSecrets::default_ref())
 }
 
-/// The hash of `bytes` by V2.2 with a seed and secrets of the caller's.
+/// The hash of `bytes` by V2.2 with the caller's seed and secrets.
 #[inline]
 pub fn rapidhash_v2_2_seeded(bytes: &[u8], secrets: &RapidSecrets) -> u64
     ensures { result ≡ seeded_hash (V2 2) (options true false) secrets.now bytes.now }
@@ -39,7 +39,7 @@ pub fn rapidhash_v2_2_seeded(bytes: &[u8], secrets: &RapidSecrets) -> u64
 ///
 /// - `MINOR` is 0, 1 or 2, for V2.0, V2.1 and V2.2; that it is at most 2 is a precondition.
 /// - `AVALANCHE` mixes the last product once more, as the C++ library does.
-/// - `COMPACT` goes row by row in place of two rows a turn: less code, the same value.
+/// - `COMPACT` takes rows one by one in place of two at a time: less code, the same value.
 /// - `PROTECTED` mixes each product with its factors.
 #[inline(always)]
 pub fn rapidhash_v2_inline<
@@ -64,8 +64,8 @@ pub fn rapidhash_v2_inline<
     )
 }
 
-/// The hash above 16 bytes. It stands out of line, so that a short message pays for no saved
-/// register, and so do the rows, so that a message of none pays for no lane.
+/// The hash above 16 bytes. It is out of line, so that a message of up to 16 bytes saves no
+/// registers. The rows are out of line again, so that a message without a row sets up no lanes.
 #[inline(never)]
 fn long<const MINOR: u8, const AVALANCHE: bool, const COMPACT: bool, const PROTECTED: bool>(
     bytes: &[u8],

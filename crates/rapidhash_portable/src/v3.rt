@@ -38,7 +38,7 @@ pub fn rapidhash_v3(bytes: &[u8]) -> u64
     rapidhash_v3_inline::<true, false, false>(bytes, RapidSecrets::default_ref())
 }
 
-/// The hash of `bytes` with a seed and secrets of the caller's.
+/// The hash of `bytes` with the caller's seed and secrets.
 ///
 /// ```
 /// let secrets = RapidSecrets::seed(0x1234_5678);
@@ -54,7 +54,7 @@ pub fn rapidhash_v3_seeded(bytes: &[u8], secrets: &RapidSecrets) -> u64
 /// The hash of `bytes` with every option.
 ///
 /// - `AVALANCHE` mixes the last product once more, as the C++ library does.
-/// - `COMPACT` goes row by row in place of two rows a turn: less code, the same value.
+/// - `COMPACT` takes rows one by one in place of two at a time: less code, the same value.
 /// - `PROTECTED` mixes each product with its factors.
 #[inline(always)]
 pub fn rapidhash_v3_inline<const AVALANCHE: bool, const COMPACT: bool, const PROTECTED: bool>(
@@ -115,9 +115,9 @@ pub(crate) fn hash<
     )
 }
 
-/// The hash above 16 bytes. It stands out of line, so that a short message pays for no registers,
-/// and so do the rows, so that a message of none pays for no lanes. That it is cold lays the short
-/// path straight ahead.
+/// The hash above 16 bytes. It is out of line, so that a message of up to 16 bytes saves no
+/// registers. The rows are out of line again, so that a message without a row sets up no lanes.
+/// `#[cold]` makes the short path run straight through.
 #[cold]
 #[inline(never)]
 fn long<const LANES: usize, const AVALANCHE: bool, const COMPACT: bool, const PROTECTED: bool>(

@@ -17,8 +17,8 @@ use std::hash::Hasher;
 /// A hasher of bytes and integers, with every option. Most programs name it by `fast::RapidHasher`
 /// or `quality::RapidHasher`.
 ///
-/// The calls of its own, as [`RapidHasher::write_u8`], pack integers. Code that is generic over
-/// `Hasher` has the provided calls of the trait, which hand the bytes of an integer to `write`.
+/// The inherent methods, such as [`RapidHasher::write_u8`], pack integers. Code that is generic
+/// over `Hasher` gets the trait's provided methods, which pass the bytes of an integer to `write`.
 ///
 /// ```
 /// let mut hasher = fast::RapidHasher::new(0);
@@ -46,7 +46,7 @@ impl<
     const COMPACT: bool,
     const PROTECTED: bool,
 > RapidHasher<'s, AVALANCHE, SPONGE, COMPACT, PROTECTED> {
-    /// The number that `default_const` and `Default` hand to `new`, for programs that name it.
+    /// The number that `default_const` and `Default` pass to `new`, for programs that name it.
     pub const DEFAULT_SEED: u64 = 0;
 
     /// A hasher of the default secrets, and of a seed made of `seed` as
@@ -132,7 +132,7 @@ impl<
 
     ghost finish = { answer_of };
 
-    /// Absorbs bytes in one step. What waits in the sponge stays there.
+    /// Absorbs bytes in one step. The integers that wait in the sponge stay there.
     #[inline(always)]
     fn write(&mut self, bytes: &[u8])
         ensures value { self.new ≡ written self.old bytes.now }

@@ -36,7 +36,7 @@ impl Sponge {
         }
     }
 
-    /// An integer behind what waits.
+    /// An integer after those that wait.
     #[inline(always)]
     pub(crate) fn with(self, value: u64, width: u8) -> Sponge
         requires room { self.width + width ≤ 128 }

@@ -32,8 +32,8 @@ impl Num {
 }
 
 /// Whether two lists of integers are packed into the same blocks, as a hasher with `SPONGE` packs
-/// what its own integer writes hand it; which is whether they are one list. Precondition: the lists
-/// are equally long, and their widths agree place by place.
+/// those of its own integer writes. They are exactly if the lists are equal. Precondition: the
+/// lists are equally long, and their widths agree in order.
 ///
 /// ```
 /// assert!(!same_blocks(&[Num::N8(1), Num::N16(2)], &[Num::N8(1), Num::N16(3)]));

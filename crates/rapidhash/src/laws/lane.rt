@@ -1,4 +1,4 @@
-//! What a lane keeps where a message holds the lane's secret.
+//! What a lane keeps if a message contains the lane's secret.
 
 ghost use Rattle.std.specs.Prelude.{◌≡◌, if◌then◌else◌, bit_xor};
 ghost use Rattle.rapidhash_portable.specs.Lanes.{step};
@@ -6,8 +6,8 @@ ghost use Rattle.rapidhash_portable.specs.Lanes.{step};
 use rapidhash_portable::util::rapid_mix;
 
 /// A lane after a pair whose first word is the lane's own secret. Without `PROTECTED` that is 0,
-/// whatever the lane was: all that it had folded is forgotten. With it the lane becomes its old
-/// value mixed with the pair's second word by XOR, so two lanes that differ still differ.
+/// whatever the lane was: all that it had folded is lost. With it the lane becomes the XOR of its
+/// old value and the pair's second word, so two lanes that differ still differ.
 ///
 /// ```
 /// assert_eq!(lane_after_its_secret::<false>(5, 7, 9), 0);

@@ -1,5 +1,5 @@
-//! Nothing of a message is lost in the words that a hash reads of it, and the hash looks at nothing
-//! but these words and the length.
+//! Nothing of a message is lost in the words that a hash reads from it, and the hash depends on
+//! nothing but these words and the length.
 
 ghost use Rattle.std.specs.Prelude.{◌≡◌, ◌≤◌, ◌↔◌, IsTrue};
 ghost use Rattle.rapidhash_portable.specs.declared.form.Form.{Form};
@@ -7,8 +7,8 @@ ghost use Rattle.rapidhash_portable.specs.declared.form.Form.TheVariants.{V1};
 ghost use Rattle.rapidhash_portable.specs.Form.{micro, nano, v2, v3};
 ghost use Rattle.rapidhash.specs.Laws.{HashIsOfWords, HashesAreOfWords, SameWords};
 
-/// Whether two messages are one, which every form tells by their lengths and the words that it
-/// reads.
+/// Whether two messages are equal, which they are exactly if their lengths and the words that a
+/// form reads are.
 fn same_words(x: &[u8], y: &[u8]) -> bool
     ensures words { (form : Form) → (IsTrue result ↔ SameWords form x.now y.now) }
     ensures bytes { IsTrue result ↔ (x.now ≡ y.now) }
@@ -18,8 +18,8 @@ fn same_words(x: &[u8], y: &[u8]) -> bool
     x == y
 }
 
-/// Whether two messages have one length and the words that V1 reads agree, which is whether they
-/// are one message. V1 of either is a formula over its length and these words, whatever the
+/// Whether two messages have one length and the words that V1 reads agree, which they do exactly if
+/// the messages are equal. V1 of either is a formula over its length and these words, whatever the
 /// options, the seed and the secrets.
 ///
 /// ```

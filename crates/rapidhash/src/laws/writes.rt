@@ -1,4 +1,4 @@
-//! Writes of a hasher with a sponge that may be joined, or may change places.
+//! Writes of a hasher with a sponge that may be joined or swapped.
 
 ghost use Rattle.std.specs.Prelude.{◌≡◌};
 ghost use Rattle.rapidhash.specs.Laws.{JoinsWrites, TurnsWrites, item_of};
@@ -9,8 +9,8 @@ use super::Num;
 use crate::inner::RapidHasher;
 use std::hash::Hasher;
 
-/// Absorbs two integers of 8 bits. Where the last block of the hasher has room for both, that is to
-/// absorb one integer of 16 bits, with `low` in its lower half.
+/// Absorbs two integers of 8 bits. If the last block of the hasher has room for both, this is the
+/// same as absorbing one integer of 16 bits, with `low` in its lower half.
 ///
 /// ```
 /// let mut hasher = fast::RapidHasher::default();
@@ -51,8 +51,8 @@ pub fn join_u32<const AVALANCHE: bool, const COMPACT: bool, const PROTECTED: boo
     hasher.write_u32(high);
 }
 
-/// Absorbs bytes and then an integer. Where the last block of the hasher has room for the integer,
-/// that is to absorb the integer first.
+/// Absorbs bytes and then an integer. If the last block of the hasher has room for the integer,
+/// this is the same as absorbing the integer first.
 ///
 /// ```
 /// let mut hasher = fast::RapidHasher::default();

@@ -15,13 +15,13 @@ use std::io;
 use std::io::{ErrorKind, Read};
 
 /// The hash of the next `len` bytes of the reader: that of [`rapidhash_v1_inline`] with `AVALANCHE`
-/// and without `V1_BUG`. No byte behind them is read, and with `len` 0 none at all.
+/// and without `V1_BUG`. No byte after them is read, and with `len` 0 none at all.
 ///
-/// An error is the reader's own where the source is marked after the call, and an interrupted read
-/// is one. Else it is `ErrorKind::UnexpectedEof`: the reader had fewer bytes, and all of them are
-/// gone.
+/// If the source is marked after the call, the error is the reader's own, also for an interrupted
+/// read. Otherwise it is `ErrorKind::UnexpectedEof`: the reader had fewer bytes, and all of them
+/// were read.
 ///
-/// It holds 8 KiB on the stack, and above 8192 bytes 64 KiB more.
+/// It uses 8 KiB of stack, and above 8192 bytes 64 KiB more.
 ///
 /// ```
 /// let mut source = Source::new(socket);
@@ -43,7 +43,7 @@ pub fn rapidhash_v1_source<R: Read, const PROTECTED: bool>(
 }
 
 /// The hash of the next `len` bytes of a reader, with the default seed and secrets. An error is the
-/// reader's own, or `ErrorKind::UnexpectedEof` where it had fewer bytes.
+/// reader's own, or `ErrorKind::UnexpectedEof` if it had fewer bytes.
 ///
 /// ```
 /// let mut text = b"something\nmore".as_slice();
@@ -57,8 +57,8 @@ pub fn rapidhash_v1_file<R: Read>(data: &mut R, len: u64) -> io::Result<u64>
     rapidhash_v1_file_inline::<R, false>(data, len, RapidSecrets::default_ref())
 }
 
-/// The hash of the next `len` bytes of a reader, with a seed and secrets of the caller's. Errors
-/// are those of [`rapidhash_v1_file`].
+/// The hash of the next `len` bytes of a reader, with the caller's seed and secrets. Errors are
+/// those of [`rapidhash_v1_file`].
 pub fn rapidhash_v1_file_seeded<R: Read>(
     data: &mut R,
     len: u64,
@@ -104,7 +104,7 @@ fn next_of<R: Read, const PROTECTED: bool>(
     Ok(rapidhash_v1_inline::<true, false, PROTECTED, false>(bytes, secrets))
 }
 
-/// The hash of more bytes than the short buffer holds. It stands out of line, for the sake of its
+/// The hash of more bytes than the short buffer holds. It is out of line because of its large
 /// buffer.
 #[inline(never)]
 fn long<R: Read, const PROTECTED: bool>(

@@ -15,14 +15,14 @@ use std::io;
 use std::io::{ErrorKind, Read};
 
 /// The hash of the next `len` bytes of the reader: that of [`rapidhash_v2_inline`] with
-/// `AVALANCHE`. No byte behind them is read, and with `len` 0 none at all. `MINOR` is 0, 1 or 2,
+/// `AVALANCHE`. No byte after them is read, and with `len` 0 none at all. `MINOR` is 0, 1 or 2,
 /// which is a precondition.
 ///
-/// An error is the reader's own where the source is marked after the call, and an interrupted read
-/// is one. Else it is `ErrorKind::UnexpectedEof`: the reader had fewer bytes, and all of them are
-/// gone.
+/// If the source is marked after the call, the error is the reader's own, also for an interrupted
+/// read. Otherwise it is `ErrorKind::UnexpectedEof`: the reader had fewer bytes, and all of them
+/// were read.
 ///
-/// It holds 8 KiB on the stack, and above 8192 bytes 64 KiB more.
+/// It uses 8 KiB of stack, and above 8192 bytes 64 KiB more.
 ///
 /// ```
 /// let mut source = Source::new(file);
@@ -45,7 +45,7 @@ pub fn rapidhash_v2_source<R: Read, const MINOR: u8, const PROTECTED: bool>(
 }
 
 /// The hash of the next `len` bytes of a reader by V2.2, with the default seed and secrets. An
-/// error is the reader's own, or `ErrorKind::UnexpectedEof` where it had fewer bytes.
+/// error is the reader's own, or `ErrorKind::UnexpectedEof` if it had fewer bytes.
 ///
 /// ```
 /// let hash = rapidhash_v2_2_file(&mut file, 4096)?;
@@ -57,8 +57,8 @@ pub fn rapidhash_v2_2_file<R: Read>(data: &mut R, len: u64) -> io::Result<u64>
     rapidhash_v2_file_inline::<R, 2, false>(data, len, RapidSecrets::default_ref())
 }
 
-/// The hash of the next `len` bytes of a reader by V2.2, with a seed and secrets of the caller's.
-/// Errors are those of [`rapidhash_v2_2_file`].
+/// The hash of the next `len` bytes of a reader by V2.2, with the caller's seed and secrets. Errors
+/// are those of [`rapidhash_v2_2_file`].
 pub fn rapidhash_v2_2_file_seeded<R: Read>(
     data: &mut R,
     len: u64,
@@ -106,7 +106,7 @@ fn next_of<R: Read, const MINOR: u8, const PROTECTED: bool>(
     Ok(rapidhash_v2_inline::<MINOR, true, false, PROTECTED>(bytes, secrets))
 }
 
-/// The hash of more bytes than the short buffer holds. It stands out of line, for the sake of its
+/// The hash of more bytes than the short buffer holds. It is out of line because of its large
 /// buffer.
 #[inline(never)]
 fn long<R: Read, const MINOR: u8, const PROTECTED: bool>(

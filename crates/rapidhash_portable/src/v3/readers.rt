@@ -1,6 +1,5 @@
-//! V3, micro and nano of all that a reader has. The bytes go through a fixed buffer into the stream
-//! hasher, whose contract is all that is rested on here. Nothing is allocated, and any length may
-//! come.
+//! V3, micro and nano of all bytes of a reader. The bytes go through a fixed buffer into the stream
+//! hasher; the proofs here use only its contract. Nothing is allocated, and any length is allowed.
 //!
 //! One loop makes all the reads, in `read_all`.
 
@@ -22,12 +21,12 @@ use crate::secrets::RapidSecrets;
 use std::io;
 use std::io::{ErrorKind, Read};
 
-/// The hash of all that the reader still has, up to the first read that returns 0. It reads by 8192
-/// bytes, on the stack.
+/// The hash of all that the reader still has, up to the first read that returns 0. It reads 8192
+/// bytes at a time, into a buffer on the stack.
 ///
-/// An error is the reader's own where the source is marked after the call, and an interrupted read
-/// is one. Else it is `ErrorKind::Other`: 2^64 - 1 reads returned bytes, and the hash has given up.
-/// After either, what was read is gone.
+/// If the source is marked after the call, the error is the reader's own, also for an interrupted
+/// read. Otherwise it is `ErrorKind::Other`: 2^64 - 1 reads returned bytes, and the hash gave up.
+/// After either error the bytes that were read are lost.
 pub fn rapidhash_v3_source<R: Read, const PROTECTED: bool>(
     source: &mut Source<R>,
     secrets: &RapidSecrets,
@@ -40,7 +39,7 @@ pub fn rapidhash_v3_source<R: Read, const PROTECTED: bool>(
     rapidhash_v3_source_sized::<R, 8192, PROTECTED>(source, secrets)
 }
 
-/// As [`rapidhash_v3_source`], by a buffer of `SIZE` bytes on the stack: no read asks for more.
+/// As [`rapidhash_v3_source`], with a buffer of `SIZE` bytes on the stack: no read asks for more.
 ///
 /// `SIZE` is at least 1, which is a precondition.
 pub fn rapidhash_v3_source_sized<R: Read, const SIZE: usize, const PROTECTED: bool>(
@@ -88,7 +87,7 @@ pub fn rapidhash_v3_source_lanes<
     }
 }
 
-/// The loop of every hash here. It stands out of line, for the sake of its buffer.
+/// The loop of every hash here. It is out of line because of its buffer.
 #[inline(never)]
 fn read_all<R: Read, const LANES: usize, const SIZE: usize, const PROTECTED: bool>(
     source: &mut Source<R>,
@@ -127,7 +126,7 @@ pub fn rapidhash_v3_file<R: Read + Drop>(data: R) -> io::Result<u64>
     rapidhash_v3_file_inline::<R, false>(data, RapidSecrets::default_ref())
 }
 
-/// The hash of all that a reader has, with a seed and secrets of the caller's. Errors are those of
+/// The hash of all that a reader has, with the caller's seed and secrets. Errors are those of
 /// [`rapidhash_v3_file`].
 pub fn rapidhash_v3_file_seeded<R: Read + Drop>(data: R, secrets: &RapidSecrets) -> io::Result<u64>
     ensures { HashesKnown (R.remaining «data») result
@@ -148,7 +147,7 @@ pub fn rapidhash_v3_file_inline<R: Read + Drop, const PROTECTED: bool>(
     rapidhash_v3_file_sized::<R, 8192, PROTECTED>(data, secrets)
 }
 
-/// As [`rapidhash_v3_file_inline`], by a buffer of `SIZE` bytes on the stack: no read asks for
+/// As [`rapidhash_v3_file_inline`], with a buffer of `SIZE` bytes on the stack: no read asks for
 /// more.
 ///
 /// `SIZE` is at least 1, which is a precondition.

@@ -14,7 +14,7 @@ impl<
     const PROTECTED: bool,
 > RapidHasher<'s, AVALANCHE, SPONGE, COMPACT, PROTECTED> {
     /// Absorbs an integer of 8 bits. With `SPONGE`, two integers of one width that share a block
-    /// count as the joined one: `write_u8(2)` and `write_u8(1)` as `write_u16(258)`.
+    /// hash as the joined one: `write_u8(2)` and `write_u8(1)` as `write_u16(258)`.
     ///
     /// ```
     /// let mut hasher = fast::RapidHasher::default();
@@ -100,7 +100,7 @@ impl<
         self.write_number(value.cast_unsigned() as u64, 64);
     }
 
-    /// Absorbs 128 bits in one step. What waits in the sponge stays there.
+    /// Absorbs 128 bits in one step. The integers that wait in the sponge stay there.
     #[inline(always)]
     pub fn write_u128(&mut self, value: u128)
         ensures { Absorbs self.old self.new (Wide value) }

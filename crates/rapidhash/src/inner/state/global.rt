@@ -10,8 +10,8 @@ use rapidhash_portable::seeding::GlobalSecrets;
 use std::fmt::{Debug, Formatter, Write};
 use std::hash::BuildHasher;
 
-/// Makes hashers of the seed and the secrets that a program made once: all maps that have one hash
-/// alike.
+/// Makes hashers of the seed and the secrets that a program made once: all its maps hash in the
+/// same way.
 ///
 /// ```
 /// let state = GlobalState::<false, true, false, false>::new(&secrets);

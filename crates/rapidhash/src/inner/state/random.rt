@@ -11,7 +11,7 @@ use std::fmt::{Debug, Formatter, Write};
 use std::hash::BuildHasher;
 
 /// Makes hashers of the next seed of a [`crate::inner::SeedSource`], and of the secrets that a
-/// program made once. That two seeds of a source differ is not promised.
+/// program made once. Two seeds of a source may be equal.
 ///
 /// ```
 /// let secrets = GlobalSecrets::new(random_word);

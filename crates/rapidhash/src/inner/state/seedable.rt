@@ -1,4 +1,4 @@
-//! A state of a seed of the caller's.
+//! A state of the caller's seed.
 
 ghost use Rattle.std.specs.Prelude.{◌≡◌, ◌↔◌, [], IsTrue};
 ghost use Rattle.std.specs.Cmp.Rules.{comparing};
@@ -12,7 +12,7 @@ use rapidhash_portable::v3::RapidSecrets;
 use std::fmt::{Debug, Formatter, Write};
 use std::hash::BuildHasher;
 
-/// Makes hashers of a seed of the caller's.
+/// Makes hashers of the caller's seed.
 ///
 /// ```
 /// let state = SeedableState::<false, true, false, false>::custom(1, &[2, 3, 5, 7, 11, 13, 17]);
@@ -21,7 +21,7 @@ use std::hash::BuildHasher;
 /// let hash = hasher.finish();
 /// ```
 ///
-/// Seed and secrets that are kept between runs are made anew of one number:
+/// A seed and secrets that stay the same between runs are made from one stored number:
 ///
 /// ```
 /// let secrets = RapidSecrets::seed(kept);

@@ -1,8 +1,8 @@
 //! The lanes of a stream hasher, and how many chunks they have folded.
 //!
-//! No other code can fold a chunk without counting it, or count one without folding it: both
-//! numbers are private here, and only a step and a clearing change them. The count takes no bytes
-//! and no time; contracts alone see it.
+//! No other code can fold a chunk without counting it, or count one without folding it: both are
+//! private here, and only `step` and `clear` change them. The count takes no memory and no time;
+//! only contracts see it.
 
 ghost use Rattle.std.specs.Prelude.{◌≡◌, ◌+◌, ◌*◌, ◌≤◌, ℕ, length, replicate, take};
 ghost use Rattle.std.specs.Borrow.{ftrue};

@@ -1,12 +1,12 @@
-//! The data of a stream hasher and all its code. What always holds of the data stands one level up,
-//! in `state`, and is a condition of each function here.
+//! The data of a stream hasher and all its code. The invariant of the data is stated one level up,
+//! in `state`, and is a precondition of each function here.
 //!
-//! The array `kept` holds 16 bytes that are folded already, then the new ones, so that the last 16
-//! bytes of any longer message lie in it side by side.
+//! The array `kept` holds 16 bytes that are already folded, and then the new ones, so that the last
+//! 16 bytes of any longer message are next to each other in it.
 //!
-//! The loop over the chunks of a large piece is what speed rests on: touch it with `objdump` at
-//! hand. Lanes that are taken out of `self` into a local are packed into vectors and out again,
-//! which takes half as long again.
+//! The speed depends on the loop over the chunks of a large piece: after a change look at the
+//! machine code with `objdump`. If the lanes are copied from `self` into local variables, the
+//! compiler packs them into vectors and unpacks them, which takes half as long again.
 
 ghost use Rattle.std.specs.Prelude.{◌≡◌, ◌+◌, ◌-◌, ◌*◌, ◌<◌, ◌≤◌, ◌++◌, ℕ, List, [], length, take, drop};
 ghost use Rattle.rapidhash_portable.specs.declared.form.Form.TheVariants.{V3};
@@ -84,7 +84,7 @@ impl<'a> Parts<'a> {
     }
 
     /// Adds a piece that doesn't fit: fills the buffer and folds it, then folds every whole chunk
-    /// with a byte behind it where it stands, and keeps the rest and the 16 bytes before it.
+    /// that a further byte follows in place, and keeps the rest and the 16 bytes before it.
     #[inline(never)]
     fn write_past<const LANES: usize, const PROTECTED: bool>(&mut self, piece: &[u8])
         requires lanes { IsLaneCount LANES }
@@ -120,8 +120,8 @@ impl<'a> Parts<'a> {
         self.len = tail.len();
     }
 
-    /// The hash of the message that was written. A message without a chunk stands whole in the
-    /// buffer.
+    /// The hash of the message that was written. A message without a folded chunk is in the buffer
+    /// as a whole.
     #[inline(always)]
     pub(crate) fn finish<const LANES: usize, const AVALANCHE: bool, const PROTECTED: bool>(
         &self,

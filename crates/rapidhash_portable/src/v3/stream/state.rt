@@ -1,6 +1,5 @@
-//! The data of a stream hasher, and what always holds of it. The checker takes no ghost field
-//! beside code that lends an array, so each method here is one line, and all code stands in
-//! `parts`.
+//! The data of a stream hasher, and their invariant. The checker accepts no ghost field beside code
+//! that lends an array, so each method here is one line, and all code is in `parts`.
 
 ghost use Rattle.std.specs.Prelude.{◌≡◌, ◌*◌, ◌≤◌, ◌++◌, ℕ, List, []};
 ghost use Rattle.rapidhash_portable.specs.declared.form.Form.TheVariants.{V3};
