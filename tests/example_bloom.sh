@@ -90,7 +90,7 @@ ended a-rate-of-1 2 'example_bloom: --one-in takes a number from 2 to 4294967295
 run --rate 5 fruit </dev/null
 ended an-unknown-option 2 'example_bloom: an option is unknown'
 run $'\377' </dev/null
-ended a-name-that-is-not-utf-8 1 'example_bloom: could not take the words, which must be UTF-8: invalid data'
+ended a-name-that-is-not-utf-8 1 'example_bloom: could not read the arguments as UTF-8: invalid data'
 run missing </dev/null
 ended a-missing-list 1 'example_bloom: could not read missing: No such file or directory (os error 2)'
 run "$room" </dev/null

@@ -31,7 +31,7 @@ tell() {
   fi
 }
 
-# A fault: NAME, the status and the line on standard error that are wanted, and the words.
+# An error: NAME, the expected status and line on standard error, and the command.
 fault() {
   local name=$1 status=$2 text=$3
   shift 3
@@ -88,13 +88,13 @@ else
   printf 'skipped the groups of fdupes: there is no fdupes\n'
 fi
 
-fault 'no words' 2 'no file or folder is named' "$program"
+fault 'no arguments' 2 'no file or folder is named' "$program"
 fault 'an unknown option' 2 'no option has the name --delete' "$program" --delete tree
-fault 'a word that is not UTF-8' 2 'a word is not UTF-8' "$program" $'\xff'
+fault 'an argument that is not UTF-8' 2 'an argument is not UTF-8' "$program" $'\xff'
 fault 'a name that is not there' 1 'nothing: No such file or directory (os error 2)' "$program" nothing
-fault 'a full disk' 1 'writing: No space left on device (os error 28)' \
+fault 'a full disk' 1 'could not write standard output: No space left on device (os error 28)' \
   bash -c '"$1" tree >/dev/full' - "$program"
-fault 'a closed pipe' 1 'writing: Broken pipe (os error 32)' \
+fault 'a closed pipe' 1 'could not write standard output: Broken pipe (os error 32)' \
   bash -c '(sleep 0.1; exec "$1" tree) > >(true)' - "$program"
 fault 'memory refused' 1 'out of memory' bash -c 'ulimit -v 5000; exec "$1" /usr' - "$program"
 

@@ -100,7 +100,7 @@ ended two-lists-are-named 2 'example_perfect: it takes the name of one list'
 run --size </dev/null
 ended a-list-with-the-name-of-an-option 1 'example_perfect: could not read --size: No such file or directory (os error 2)'
 run $'\377' </dev/null
-ended a-name-that-is-not-utf-8 1 'example_perfect: could not take the words, which must be UTF-8: invalid data'
+ended a-name-that-is-not-utf-8 1 'example_perfect: could not read the arguments as UTF-8: invalid data'
 run missing </dev/null
 ended a-missing-list 1 'example_perfect: could not read missing: No such file or directory (os error 2)'
 run "$room" </dev/null

@@ -129,10 +129,10 @@ tell known-line $?
 echo 'A1266B469390773A  first' | "$program" -c >log 2>&1
 tell upper-case $?
 
-# A word that is not UTF-8 is refused, and a name of a list that is not is a file that cannot be read.
+# An argument that is not UTF-8 is refused; a name in a list that is not is a file that cannot be read.
 "$program" $'x\xff' >out 2>log
 [ $? -eq 1 ] && [ ! -s out ] && grep -q 'UTF-8' log
-tell word-that-is-not-utf-8 $?
+tell argument-that-is-not-utf-8 $?
 printf 'a1266b469390773a  x\xff\n' | "$program" -c >out 2>log
 [ $? -eq 1 ] && grep -q 'UTF-8' log && grep -q 'FAILED open or read' out
 tell name-that-is-not-utf-8 $?

@@ -8,17 +8,17 @@ use crate::shape::Shape;
 use rapidhash::v3::rapidhash_v3;
 use std::alloc::{AllocError, Global};
 
-/// A set of keys that may hold more keys than were put in, and never fewer.
+/// A set of keys that may hold more keys than were inserted, and never fewer.
 ///
-/// A key has so many marks, each a bit of the words, at places that its hash tells. To put a key in
-/// sets its marks. A key is found where all of its marks are set.
+/// A key has a fixed number of marks. Each is a bit of the words, at a place that the key's hash
+/// determines. To insert a key sets its marks. A key is found if all of its marks are set.
 #[derive(Drop)]
 pub struct Filter {
     words: Vec<u64>,
     marks: u32,
 }
 
-// Where a key's mark number `i` lies is told by this number and the count of words.
+// The place of a key's mark number `i`, by this number and the count of words.
 #[tactic(auto, unfolding(crate::specs::Filter::step_of))]
 fn step(hash: u64, i: u32) -> u64
     ensures { result ≡ step_of hash i }
@@ -82,7 +82,7 @@ impl Filter {
         })
     }
 
-    /// Puts a key in. It allocates nothing.
+    /// Inserts a key. It allocates nothing.
     pub fn insert(&mut self, key: &[u8])
         requires { HasWords self.old }
         ensures { Adds self.old self.new key.now }
@@ -90,7 +90,7 @@ impl Filter {
         mark(&mut self.words, self.marks, rapidhash_v3(key));
     }
 
-    /// Whether the key may have been put in. `false` is certain, and `true` is a guess.
+    /// Whether the key may have been inserted. `false` is certain, and `true` is a guess.
     pub fn contains(&self, key: &[u8]) -> bool
         requires { HasWords self.now }
         ensures { result ≡ true ↔ Finds self.now key.now }
@@ -104,7 +104,7 @@ impl Filter {
         true
     }
 
-    /// Puts in what another filter of the same shape has.
+    /// Inserts what another filter of the same shape holds.
     pub fn unite(&mut self, other: &Filter)
         requires words { HasWords self.old }
         requires shape { HasSameShape self.old other.now }

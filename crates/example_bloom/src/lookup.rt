@@ -1,4 +1,4 @@
-//! What the program does with the bytes of its files: lists are put in, and lines are answered.
+//! What the program does with the bytes of its files: it inserts lists and looks lines up.
 
 ghost use Rattle.std.specs.Prelude.{IfOk};
 ghost use Rattle.example_bloom.specs.Filter.{HasWords, KeepsAll};
@@ -14,13 +14,13 @@ pub enum LookupError {
     /// There is no filter for so many keys at such a rate.
     #[error("{0}")]
     Shape(#[from] ShapeError),
-    /// Memory was refused.
+    /// An allocation failed.
     #[error("out of memory")]
     Memory(#[from] AllocError),
     /// A read failed.
     #[error("could not read standard input: {0}")]
     Read(io::Error),
-    /// A write failed, or took no byte.
+    /// A write failed, or accepted no byte.
     #[error("could not write standard output: {0}")]
     Write(io::Error),
 }
@@ -34,7 +34,7 @@ fn count_lines(list: &[u8]) -> u64 {
     }
 }
 
-// Puts each line of a list in.
+// Inserts each line of a list.
 fn insert_lines(filter: &mut Filter, list: &[u8])
     requires { HasWords filter.old }
     ensures { KeepsAll filter.old filter.new }
@@ -48,8 +48,8 @@ fn insert_lines(filter: &mut Filter, list: &[u8])
     }
 }
 
-/// The filter of all lines of the lists. Each list fills a filter of its own, as where lists come
-/// from different places, and these become one.
+/// The filter of all lines of the lists. Each list fills a separate filter, as if the lists came
+/// from different places, and these are united.
 pub fn filter_of(alloc: Global, lists: &[Vec<u8>], one_in: u32) -> Result<Filter, LookupError>
     ensures { IfOk result HasWords }
 {

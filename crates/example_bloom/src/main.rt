@@ -1,8 +1,8 @@
-//! Tells of each line of standard input whether it may be a line of a list, by a bloom filter:
-//! what was put in is always found, and few other lines are.
+//! Says of each line of standard input whether it may be a line of a list, with a bloom filter:
+//! what was inserted is always found, and few other lines are.
 //!
-//! The filter and what is proved of it stand in `filter`. A fault is one line on standard error,
-//! with status 1, or 2 where the words of the command line are at fault.
+//! The filter, and what is proved about it, are in `filter`. An error is one line on standard
+//! error, with status 1, or 2 for a wrong command line.
 #![tactic(auto)]
 
 pub mod filter;
@@ -32,7 +32,7 @@ fn look_up(rt: &HostRuntime, one_in: u32, names: &[String]) -> Result<()> {
 }
 
 fn run(rt: &HostRuntime) -> Result<ExitCode> {
-    let words = env::args(rt).context("could not take the words, which must be UTF-8")?;
+    let words = env::args(rt).context("could not read the arguments as UTF-8")?;
     let words: Vec<String> = words.skip(1).collect(rt.alloc())?;
     match parse_words(words.as_slice()) {
         Ok(Request::Help) => println!(rt; "{USAGE}").context("could not write standard output")?,
@@ -49,7 +49,7 @@ fn main(rt: HostRuntime) -> ExitCode {
     match run(&rt) {
         Ok(status) => status,
         Err(error) => {
-            // Where standard error takes no text, the status still tells the fault.
+            // If standard error cannot be written, the status still reports the error.
             let _ = eprintln!(rt; "example_bloom: {error:#}");
             ExitCode::FAILURE
         }

@@ -7,7 +7,7 @@ Tells of each line of standard input whether it may be a line of a LIST:
 'maybe LINE', or 'no LINE' where it certainly is none. About one in N lines
 that stand in no LIST, or fewer, are told as 'maybe'. N is 100 by default.";
 
-/// Why the words ask for nothing.
+/// Why the arguments are refused.
 #[derive(Debug, Clone, Copy, PartialEq, Eq, thiserror::Error, Drop)]
 pub enum OptionsError {
     /// No list is named.
@@ -21,24 +21,24 @@ pub enum OptionsError {
     Unknown,
 }
 
-/// What the words ask for.
+/// What the arguments ask for.
 #[derive(Debug, Clone, Copy, PartialEq, Eq)]
 pub enum Request<'a> {
     /// To print how the program is called.
     Help,
     /// To look lines up.
     LookUp {
-        /// At most one in so many other lines is to be told as `maybe`.
+        /// At most one in this many other lines should be reported as `maybe`.
         one_in: u32,
         /// The names of the lists.
         lists: &'a [String],
     },
 }
 
-// How rarely other lines are found where the words do not say.
+// How rarely other lines are found if the arguments do not say.
 const ONE_IN: u32 = 100;
 
-/// What the words behind the program's name ask for.
+/// What the arguments after the program's name ask for.
 pub fn parse_words<'a>(words: &'a [String]) -> Result<Request<'a>, OptionsError> {
     let mut lists = words;
     let mut one_in = ONE_IN;

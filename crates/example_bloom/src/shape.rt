@@ -2,7 +2,7 @@
 
 ghost use Rattle.std.specs.Prelude.{◌≡◌, ◌<◌, ◌≤◌, ◌^◌, IfOk};
 
-/// The most bits of a filter, 512 MiB of them: a place is told by halves of a hash, of 32 bits.
+/// The most bits of a filter, 512 MiB: places come from the 32-bit halves of a hash.
 pub const MOST_BITS: u64 = 4294967296;
 
 /// Why there is no filter for so many keys at such a rate.
@@ -23,8 +23,8 @@ pub struct Shape {
     marks: u32,
 }
 
-// The least count of marks at which half of the bits set find at most one in `one_in` other keys:
-// each mark halves the rate.
+// The smallest count of marks at which, with half of the bits set, at most one in `one_in` other
+// keys is found: each mark halves the rate.
 fn marks_for(one_in: u32) -> u32
     requires { 1 ≤ one_in }
     ensures few { result ≤ 32 }
@@ -38,11 +38,11 @@ fn marks_for(one_in: u32) -> u32
 }
 
 impl Shape {
-    /// The shape for `keys` keys, where at most one in `one_in` other keys is to be found.
+    /// The shape for `keys` keys, if at most one in `one_in` other keys should be found.
     ///
-    /// A key has the least number of marks whose power of two is `one_in` or more. The bits are
-    /// 1.4427 times all marks, at which about half of them come to be set. A part of a bit a key,
-    /// and a part of a word, count as a whole one.
+    /// A key has k marks, with the smallest k such that 2^k is at least `one_in`. The number of
+    /// bits is 1.4427 times that of all marks, at which about half of them are set in the end.
+    /// Fractions of a bit a key, and of a word, are rounded up.
     pub fn new(keys: u64, one_in: u32) -> Result<Shape, ShapeError> {
         if one_in < 2 {
             return Err(ShapeError::Rate);

@@ -43,7 +43,8 @@ fn lists(alloc: Global, texts: &[&[u8]]) -> Result<Vec<Vec<u8>>> {
     Ok(lists)
 }
 
-// A key that is not in the lists may be told as `maybe`: at one in 2^32 that is not to be expected.
+// A key that is not in the lists may be reported as `maybe`: at one in 2^32 that is not to be
+// expected.
 fn answered(rt: &(impl Abort + AllocGlobal), texts: &[&[u8]], input: &[u8], want: &[u8]) {
     let lists = lists(rt.alloc(), texts).expect(rt, "memory");
     let filter = filter_of(rt.alloc(), lists.as_slice(), u32::MAX).expect(rt, "a filter");
@@ -61,7 +62,7 @@ fn lines_are_answered(rt: HostRuntime) {
         b"pear\nfig\nplum\n",
         b"maybe pear\nno fig\nmaybe plum\n",
     );
-    // The last line may lack its newline, and an empty line is a key as any other.
+    // The last line may lack its newline, and an empty line is a key like any other.
     answered(
         &rt,
         &[b"pear\n", b"plum\n"],

@@ -29,7 +29,7 @@ fn fill<R: Read>(reader: &mut R, buf: &mut [u8]) -> io::Result<usize>
     Ok(at)
 }
 
-// Compares the next piece of each reader. Where it does not decide, both pieces were equal, and
+// Compares the next piece of each reader. If that does not decide, both pieces were equal, and
 // there may be more.
 fn compare_piece<A: Read, B: Read>(
     first: &mut A,

@@ -9,8 +9,8 @@ use thiserror::Error;
 /// Why the program stopped. A file that cannot be read does not stop it.
 #[derive(Debug, Drop, Error)]
 pub enum Fault {
-    /// `env::args` returns no word at all where one of them is not UTF-8.
-    #[error("a word is not UTF-8")]
+    /// `env::args` returns no argument at all if one of them is not UTF-8.
+    #[error("an argument is not UTF-8")]
     Words,
     #[error("no file or folder is named")]
     NoName,
@@ -18,15 +18,14 @@ pub enum Fault {
     Option(String),
     #[error("no random number: {0}")]
     Random(io::Error),
-    #[error("writing: {0}")]
+    #[error("could not write standard output: {0}")]
     Write(io::Error),
     #[error("out of memory")]
     Memory(#[from(alloc)] AllocError),
 }
 
 impl Fault {
-    /// The exit status: 2 for words that ask for nothing that can be done, and 1 for a run that
-    /// failed.
+    /// The exit status: 2 for wrong arguments, and 1 for a run that failed.
     pub fn status(&self) -> ExitCode {
         match self {
             Fault::Words | Fault::NoName | Fault::Option(_) => ExitCode::from(2),
@@ -34,7 +33,7 @@ impl Fault {
         }
     }
 
-    /// A failed write, or refused memory.
+    /// A failed write or allocation.
     pub fn of_write(error: io::Error) -> Fault {
         if error.kind() == ErrorKind::OutOfMemory {
             return Fault::Memory(AllocError);

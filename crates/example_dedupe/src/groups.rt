@@ -18,8 +18,8 @@ fn is_shared(sizes: &RapidHashMap<'_, u64, u64>, size: u64) -> bool
     sizes.get(&size).copied().unwrap_or(0) > 1
 }
 
-// What a file is looked up by: the fingerprint of its bytes, or where no other file has its size,
-// the size. Files of equal bytes have the same key.
+// The key by which a file is looked up: the fingerprint of its bytes, or if no other file has its
+// size, the size. Files of equal bytes have the same key.
 fn key<S: Store, F: Fingerprint>(
     store: &S,
     fingerprint: &F,
@@ -62,7 +62,7 @@ fn find_equal<S: Store>(store: &S, leaders: &[usize], file: usize) -> io::Result
     Ok(None)
 }
 
-// Looks the file up among the leaders of its key, and where none has its bytes, puts it there.
+// Looks the file up among the leaders of its key, and adds it there if none has its bytes.
 fn look_up<S: Store>(
     store: &S,
     by_key: &mut RapidHashMap<'_, u64, Vec<usize>>,
@@ -94,7 +94,7 @@ fn look_up<S: Store>(
     Ok(found)
 }
 
-// The leader of a file, itself where no file before it has its bytes, or the error of its reads.
+// The leader of a file, itself if no file before it has its bytes, or the error of its reads.
 fn place<S: Store, F: Fingerprint>(
     store: &S,
     fingerprint: &F,
@@ -124,9 +124,10 @@ fn place<S: Store, F: Fingerprint>(
 /// Finds equal files: each file's place is its leader, the first file of equal bytes, or the error
 /// that kept the file from being read or compared.
 ///
-/// Two files have one leader exactly where their bytes are equal, whatever the fingerprint. The
-/// theorem speaks of bytes that the store's readers tell. For files of the operating system, which
-/// tell nothing, that is: where each open of a name returns the same bytes, as many as its size.
+/// Two files have the same leader exactly when their bytes are equal, whatever the fingerprint. The
+/// theorem is about the bytes that the store's readers return. For files of the operating system,
+/// whose bytes no contract knows, it applies if each open of a name returns the same bytes, as many
+/// as its size.
 pub fn groups<S: Store, F: Fingerprint>(
     store: &S,
     fingerprint: &F,

@@ -1,8 +1,8 @@
 //! Prints groups of equal files, as `fdupes -r` does.
 //!
 //! `example_dedupe NAME..` takes files and folders, and all that is below the folders. It prints
-//! the names of each group of two and more files of equal bytes, a name a line, and an empty line
-//! behind each group.
+//! the names of each group of two or more files of equal bytes, a name a line, and an empty line
+//! after each group.
 #![tactic(auto)]
 
 mod compare;
@@ -48,7 +48,7 @@ fn random_word(rt: &HostRuntime) -> Result<u64, Fault> {
     Ok(u64::from_le_bytes(bytes))
 }
 
-// The names that the words give.
+// The names in the arguments.
 fn gather(rt: &HostRuntime) -> Result<Vec<String>, Fault> {
     let words = match env::args(rt) {
         Ok(words) => words,
@@ -70,7 +70,7 @@ fn gather(rt: &HostRuntime) -> Result<Vec<String>, Fault> {
     Ok(names)
 }
 
-// Whether all that was named could be read.
+// Whether everything that was named could be read.
 fn run(rt: &HostRuntime) -> Result<bool, Fault> {
     let names = gather(rt)?;
     let secrets = GlobalSecrets::new(random_word(rt)?);
@@ -94,7 +94,7 @@ fn main(rt: HostRuntime) -> ExitCode {
         Ok(true) => ExitCode::SUCCESS,
         Ok(false) => ExitCode::FAILURE,
         Err(fault) => {
-            // Where standard error takes no text, the status still tells the fault.
+            // If standard error cannot be written, the status still reports the error.
             let _ = eprintln!(rt; "example_dedupe: {fault}");
             fault.status()
         }

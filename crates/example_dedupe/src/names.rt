@@ -1,4 +1,4 @@
-//! The files below the names that the words give.
+//! The files below the names in the arguments.
 
 ghost use Rattle.std.specs.Prelude.{None};
 
@@ -50,13 +50,14 @@ impl Store for Names<'_> {
 pub struct Search<'s> {
     /// The files that were found.
     pub files: Vec<Named>,
-    /// How many names could not be read. Each was told on standard error.
+    /// How many names could not be read. Each was reported on standard error.
     pub failures: u64,
     folders: Vec<String>,
     seen: RapidHashSet<'s, (u64, u64)>,
 }
 
-/// Tells a failure in one line on standard error. Where that takes no text, the status still does.
+/// Reports a failure in one line on standard error. If that cannot be written, the status still
+/// reports it.
 pub fn tell(rt: &HostRuntime, name: &str, error: &io::Error) {
     let _ = eprintln!(rt; "example_dedupe: {name}: {error}");
 }
@@ -72,7 +73,7 @@ impl<'s> Search<'s> {
         }
     }
 
-    // A failure to read a name does not stop the search, but refused memory does.
+    // A failure to read a name does not stop the search, but a failed allocation does.
     fn fail(&mut self, rt: &HostRuntime, name: &str, error: io::Error) -> Result<(), Fault> {
         if error.kind() == ErrorKind::OutOfMemory {
             return Err(Fault::Memory(AllocError));
@@ -82,8 +83,8 @@ impl<'s> Search<'s> {
         Ok(())
     }
 
-    // A file is taken once, whatever the number of its names. What is neither a file nor a folder,
-    // as a symbolic link below a folder, is left out.
+    // A file is used once, however many names it has. What is neither a file nor a folder, such as
+    // a symbolic link below a folder, is left out.
     fn visit(&mut self, name: String, metadata: Metadata) -> Result<(), Fault> {
         if metadata.is_dir() {
             self.folders.push(name)?;

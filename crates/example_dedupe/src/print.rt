@@ -6,7 +6,7 @@ use std::alloc::{AllocError, Global};
 use std::io;
 use std::io::Write;
 
-// Each file behind its leader, group by group.
+// Each file after its leader, group by group.
 fn in_order(
     alloc: Global,
     places: &[io::Result<usize>],
@@ -21,7 +21,7 @@ fn in_order(
     Ok(pairs)
 }
 
-// The files of one group, and the empty line behind it.
+// The files of one group, and the empty line after it.
 fn print_group<W: Write>(
     out: &mut W,
     files: &[Named],
@@ -35,8 +35,9 @@ fn print_group<W: Write>(
     writeln!(out, "").map_err(Fault::of_write)
 }
 
-/// Prints each group of two and more files: a name a line, and an empty line behind the group. Each
-/// file that could not be read or compared is told on standard error, and their number is returned.
+/// Prints each group of two or more files: a name a line, and an empty line after the group. Each
+/// file that could not be read or compared is reported on standard error, and their number is
+/// returned.
 pub fn print_groups<W: Write>(
     rt: &HostRuntime,
     out: &mut W,

@@ -1,4 +1,4 @@
-//! Where files come from, and what they are told apart by.
+//! Where files come from, and how they are told apart.
 
 ghost use Rattle.std.specs.Prelude.{◌≡◌, ℕ, List, Option, IfOk, IfSome, length};
 
@@ -7,10 +7,10 @@ use std::io::Read;
 
 /// Files by their numbers.
 pub trait Store {
-    /// What a file is read by.
+    /// The reader of a file.
     type Reader: Read + Drop;
 
-    // The bytes of a file, where its readers tell them. Every reader tells the same ones.
+    // The bytes of a file, if its readers say them. Every reader of a file says the same.
     ghost bytes: { Self → ℕ → Option (List ℕ) };
 
     /// How many bytes a file has.
@@ -23,7 +23,8 @@ pub trait Store {
             Self.Reader.remaining reader ≡ bytes self.now file) };
 }
 
-/// A number made of a file's bytes. Nothing is asked of it but that equal bytes have equal numbers.
+/// A number computed from a file's bytes. The only requirement is that equal bytes have equal
+/// numbers.
 pub trait Fingerprint {
     // The number of some bytes.
     ghost number: { Self → List ℕ → ℕ };

@@ -13,7 +13,7 @@ use std::io;
 use std::io::{Error, ErrorKind, Read};
 use std::process::Abort;
 
-/// Texts in memory, whose readers tell their bytes.
+/// Texts in memory, whose bytes the contracts know.
 #[derive(Drop)]
 struct Texts {
     texts: Vec<&'static [u8]>,
@@ -51,7 +51,7 @@ impl Fingerprint for Collision {
     }
 }
 
-/// Takes one byte a read, and fails at one read by its number, from 1 on; 0 is none.
+/// Returns one byte a read, and fails at the read with this number, from 1 on; 0 is none.
 #[derive(Drop)]
 struct OneByte {
     text: &'static [u8],
@@ -160,7 +160,7 @@ fn a_text_that_fails_is_in_no_group(rt: HostRuntime) {
 
 static ZEROS: [u8; 40000] = [0; 40000];
 
-// Texts of zeros with another last byte, of which one comes a byte a read.
+// Texts of zeros with different last bytes, one of which is read byte by byte.
 fn same(rt: &(impl Abort + AllocGlobal), left: usize, right: usize, last: u8) -> bool {
     let zeros: &'static [u8] = &ZEROS;
     let first = zeros.get(..left).unwrap_or(b"");

@@ -1,6 +1,6 @@
 //! How a table is built: the keys of a bucket go to free places by one seed, the largest bucket
-//! first. Nothing is proved of it but that it is safe, ends and makes as many places as keys: what
-//! stands at them is checked afterwards.
+//! first. It is only proved that this is safe, ends and makes as many places as keys: what the
+//! places hold is checked afterwards.
 
 ghost use Rattle.std.specs.Prelude.{◌≡◌, ◌<◌, ◌≤◌, length, IfOk};
 ghost use Rattle.example_perfect.specs.Table.{HasPlaces};
@@ -15,7 +15,7 @@ pub(crate) struct Displaced {
     pub(crate) places: Vec<u32>,
 }
 
-// What stands at a place that has no key.
+// The content of a place that has no key.
 const FREE: u32 = u32::MAX;
 
 // A key with its bucket. The order is by bucket, then by key, then by index.
@@ -47,7 +47,7 @@ fn members<'k>(
     Ok(members)
 }
 
-// Fails where two neighbours are one key, and so, in the members' order, where any two are.
+// Fails if two neighbours are the same key, and so, since the members are sorted, if any two are.
 fn refuse_twins(members: &[Member<'_>]) -> Result<(), BuildError> {
     for pair in members.windows(2) {
         if let [first, second] = pair
@@ -77,7 +77,7 @@ fn front(members: &[Member<'_>]) -> usize
     members.len()
 }
 
-// The members of each bucket that has some, the most members first.
+// The members of each bucket that has any, the largest bucket first.
 fn groups<'m, 'k>(
     alloc: Global,
     members: &'m [Member<'k>],
@@ -104,7 +104,7 @@ fn leave(places: &mut [u32], group: &[Member<'_>], seed: u32)
     }
 }
 
-// Puts each member of a group at its place by the seed, or none where one is not free.
+// Puts each member of a group at its place by the seed, or none if a place is not free.
 fn settle(places: &mut [u32], group: &[Member<'_>], seed: u32) -> bool
     requires { 0 < length places.old }
     ensures { length places.new ≡ length places.old }
@@ -120,7 +120,7 @@ fn settle(places: &mut [u32], group: &[Member<'_>], seed: u32) -> bool
     true
 }
 
-// The first of so many seeds that settles the group.
+// The first of this many seeds that places the whole group.
 fn seed_of(places: &mut [u32], group: &[Member<'_>], tries: u32) -> Option<u32>
     requires { 0 < length places.old }
     ensures { length places.new ≡ length places.old }
@@ -133,7 +133,7 @@ fn seed_of(places: &mut [u32], group: &[Member<'_>], tries: u32) -> Option<u32>
     None
 }
 
-// Settles each group, and keeps its seed at its bucket.
+// Places each group, and stores its seed for its bucket.
 fn settle_groups(
     seeds: &mut [u32],
     places: &mut [u32],

@@ -1,4 +1,4 @@
-//! What the program does with the bytes of its files: a list becomes keys, and lines are answered.
+//! What the program does with the bytes of its files: it makes a list into keys and looks lines up.
 
 ghost use Rattle.example_perfect.specs.Table.{IsPerfect};
 
@@ -6,16 +6,16 @@ use crate::table::Table;
 use std::alloc::{AllocError, Global};
 use std::io::{self, BufRead, ErrorKind, Write};
 
-/// Why lines are not answered.
+/// Why looking lines up stops.
 #[derive(Debug, thiserror::Error, Drop)]
 pub enum LookupError {
-    /// Memory was refused.
+    /// An allocation failed.
     #[error("out of memory")]
     Memory,
     /// A read failed.
     #[error("could not read standard input: {0}")]
     Read(io::Error),
-    /// A write failed, or took no byte.
+    /// A write failed, or accepted no byte.
     #[error("could not write standard output: {0}")]
     Write(io::Error),
 }

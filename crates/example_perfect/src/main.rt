@@ -1,8 +1,8 @@
 //! Finds lines in a list, by a perfect hash table: each line of the list has a place of its own, so
-//! that one look tells the line's number, or that it is absent.
+//! that one look-up finds the line's number, or that it is absent.
 //!
-//! The table and what is proved of it stand in `table`. A fault is one line on standard error, with
-//! status 1, or 2 where the words of the command line are at fault.
+//! The table, and what is proved about it, are in `table`. An error is one line on standard error,
+//! with status 1, or 2 for a wrong command line.
 #![tactic(auto)]
 
 mod displace;
@@ -48,7 +48,7 @@ fn look_up(rt: &HostRuntime, name: &str) -> Result<()> {
 }
 
 fn run(rt: &HostRuntime) -> Result<ExitCode> {
-    let words = env::args(rt).context("could not take the words, which must be UTF-8")?;
+    let words = env::args(rt).context("could not read the arguments as UTF-8")?;
     let words: Vec<String> = words.skip(1).collect(rt.alloc())?;
     match words.as_slice() {
         [word] if word.as_str() == "--help" => {
@@ -67,7 +67,7 @@ fn main(rt: HostRuntime) -> ExitCode {
     match run(&rt) {
         Ok(status) => status,
         Err(error) => {
-            // Where standard error takes no text, the status still tells the fault.
+            // If standard error cannot be written, the status still reports the error.
             let _ = eprintln!(rt; "example_perfect: {error:#}");
             ExitCode::FAILURE
         }

@@ -15,24 +15,24 @@ pub enum BuildError {
     #[error("too many keys: more than 4294967294")]
     TooManyKeys,
     /// A key is given twice.
-    #[error("keys {first} and {second} are one and the same")]
+    #[error("keys {first} and {second} are equal")]
     Twice {
         /// The index of the key.
         first: u32,
         /// The index of the same key further on.
         second: u32,
     },
-    /// No seed was found that has a free place for each key of a bucket.
+    /// No seed was found that gives each key of a bucket a free place.
     #[error("no table was found")]
     GaveUp,
-    /// Memory was refused.
+    /// An allocation failed.
     #[error("out of memory")]
     Memory(#[from] AllocError),
 }
 
 /// A table of the keys of a fixed set, with no more places than keys.
 ///
-/// A key's hash gives its bucket. Each bucket has a seed, and the key's hash with that seed gives
+/// A key's hash selects its bucket. Each bucket has a seed, and the key's hash with that seed is
 /// its place, where the key's index is stored.
 #[derive(Drop)]
 pub struct Table<'k> {
@@ -63,7 +63,7 @@ pub(crate) fn place(key: &[u8], seed: u32, places: usize) -> usize
 }
 
 impl<'k> Table<'k> {
-    /// Builds a table, and checks it before it is returned. It may fail where no seed serves.
+    /// Builds a table, and checks it before it is returned. It fails if no seed works.
     pub fn build(alloc: Global, keys: &'k [&'k [u8]]) -> Result<Table<'k>, BuildError>
         ensures { IfOk result (λ table. IsPerfect table × (table.keys ≡ keys.entry)) }
     {
@@ -80,7 +80,7 @@ impl<'k> Table<'k> {
         }
     }
 
-    // Whether each key's index stands at its place.
+    // Whether each key's place holds its index.
     fn is_perfect(&self) -> bool
         requires { HasRoom self.now }
         ensures { result ≡ true ↔ IsPerfect self.now }
@@ -94,7 +94,7 @@ impl<'k> Table<'k> {
         true
     }
 
-    /// The place of a key, and of any other text. It is below the count of places.
+    /// The place of a key or of any other text. It is below the count of places.
     pub fn place(&self, key: &[u8]) -> usize
         requires { HasRoom self.now }
         ensures value { result ≡ place_in self.now key.now }
@@ -104,7 +104,7 @@ impl<'k> Table<'k> {
         place(key, seed, self.places.len())
     }
 
-    /// The index of a key, or `None` where it is no key of the set.
+    /// The index of a key, or `None` if it is no key of the set.
     pub fn find(&self, key: &[u8]) -> Option<usize>
         requires { IsPerfect self.now }
         ensures { (i : ℕ) → (result ≡ Some i ↔ IsKeyAt self.now i key.now) }

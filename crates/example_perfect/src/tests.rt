@@ -23,7 +23,7 @@ fn lines_are_answered(rt: HostRuntime) {
         b"plum\nfig\npear\n",
         b"2 plum\nabsent fig\n1 pear\n",
     );
-    // The last line may lack its newline, and an empty line is a key as any other.
+    // The last line may lack its newline, and an empty line is a key like any other.
     answered(&rt, b"pear\n\nplum\n", b"\nplum", b"2 \n3 plum\n");
     answered(&rt, b"pear\n", b"\npear\r\n", b"absent \nabsent pear\r\n");
     // Bytes need not be UTF-8.

@@ -9,8 +9,8 @@ use thiserror::Error;
 /// Why the program stopped.
 #[derive(Debug, Drop, Error)]
 pub enum Fault {
-    /// `env::args` returns no word at all where one of them is not UTF-8.
-    #[error("a word is not UTF-8")]
+    /// `env::args` returns no argument at all if one of them is not UTF-8.
+    #[error("an argument is not UTF-8")]
     Words,
     #[error("no option has the name {0}")]
     Option(String),
@@ -18,21 +18,20 @@ pub enum Fault {
     NoNode,
     #[error("the node {0} is named twice")]
     Twice(String),
-    #[error("--without: no node is named behind it")]
+    #[error("--without: no node follows")]
     Behind,
     #[error("--without {0}: no such node")]
     Without(String),
-    #[error("reading: {0}")]
+    #[error("could not read standard input: {0}")]
     Read(io::Error),
-    #[error("writing: {0}")]
+    #[error("could not write standard output: {0}")]
     Write(io::Error),
     #[error("out of memory")]
     Memory(#[from(alloc)] AllocError),
 }
 
 impl Fault {
-    /// The exit status: 2 for words that ask for nothing that can be done, and 1 for a run that
-    /// failed.
+    /// The exit status: 2 for wrong arguments, and 1 for a run that failed.
     pub fn status(&self) -> ExitCode {
         match self {
             Fault::Read(_) | Fault::Write(_) | Fault::Memory(_) => ExitCode::from(1),
@@ -40,7 +39,7 @@ impl Fault {
         }
     }
 
-    /// A failed read, or refused memory.
+    /// A failed read or allocation.
     pub fn of_read(error: io::Error) -> Fault {
         if error.kind() == ErrorKind::OutOfMemory {
             return Fault::Memory(AllocError);
@@ -48,7 +47,7 @@ impl Fault {
         Fault::Read(error)
     }
 
-    /// A failed write, or refused memory.
+    /// A failed write or allocation.
     pub fn of_write(error: io::Error) -> Fault {
         if error.kind() == ErrorKind::OutOfMemory {
             return Fault::Memory(AllocError);

@@ -1,9 +1,9 @@
-//! Spreads the lines of standard input over named nodes: each line goes to the node whose hash with
-//! the line is greatest. Where a node goes, only its own lines move; where one comes, lines move to
-//! it alone.
+//! Spreads the lines of standard input over named nodes: each line goes to the node whose hash of
+//! the line is greatest. When a node is removed, only its own lines move; when one is added, lines
+//! move only to it.
 //!
 //! `example_shards NODE..` prints `NODE<tab>LINE` for each line, and with `--counts` only how many
-//! lines each node has. `--without NODE` takes a node out that was named before it.
+//! lines each node has. `--without NODE` removes a node that was named before it.
 #![tactic(auto)]
 
 mod fault;
@@ -38,7 +38,7 @@ fn main(rt: HostRuntime) -> ExitCode {
     match run(&rt) {
         Ok(()) => ExitCode::SUCCESS,
         Err(fault) => {
-            // Where standard error takes no text, the status still tells the fault.
+            // If standard error cannot be written, the status still reports the error.
             let _ = eprintln!(rt; "example_shards: {fault}");
             fault.status()
         }

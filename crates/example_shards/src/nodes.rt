@@ -9,7 +9,7 @@ ghost use Rattle.rapidhash_portable.specs.Secrets.{seeded, seeded_secrets};
 
 use rapidhash::v3::{RapidSecrets, rapidhash_v3, rapidhash_v3_seeded};
 
-/// A node: its name, and the secrets that are made of the name.
+/// A node: its name, and the secrets that are made from the name.
 #[derive(Drop)]
 pub struct Node {
     pub name: String,

@@ -1,4 +1,4 @@
-//! Which node has a key, and what moves where a node comes or goes.
+//! Which node has a key, and what moves when a node is added or removed.
 
 ghost use Rattle.std.specs.Prelude.{◌≡◌, ◌≢◌, ◌⊎◌, ◌<◌, ◌≤◌, ℕ, Some, List, All, IfSome, OnOk, OnErr, length, insert, remove, slice_get};
 ghost use Rattle.example_shards.specs.Nodes.{node_of, score_of};
@@ -6,7 +6,7 @@ ghost use Rattle.example_shards.specs.Nodes.{node_of, score_of};
 use crate::nodes::Node;
 use std::alloc::AllocError;
 
-/// The place of a key's node: the one whose hash with the key is greatest, of equals the first.
+/// The place of a key's node: the one whose hash of the key is greatest, among equals the first.
 pub fn pick(nodes: &[Node], key: &[u8]) -> usize
     requires { 0 < length nodes.now }
     ensures inside { result < length nodes.now }
@@ -26,7 +26,7 @@ pub fn pick(nodes: &[Node], key: &[u8]) -> usize
     best
 }
 
-/// Puts a node in at a place. Keys move to it alone: each has the node that it had, or this one.
+/// Inserts a node at a place. Keys move only to it: each has the node that it had, or this one.
 pub fn put_in(nodes: &mut Vec<Node>, at: usize, node: Node) -> Result<(), AllocError>
     requires { at ≤ length nodes.old.items }
     ensures ok { OnOk result (nodes.new.items ≡ insert nodes.old.items at node) }
@@ -39,7 +39,7 @@ pub fn put_in(nodes: &mut Vec<Node>, at: usize, node: Node) -> Result<(), AllocE
     Ok(())
 }
 
-/// Takes the node at a place out. Its own keys move: each other key keeps its node.
+/// Removes the node at a place. Only its own keys move: each other key keeps its node.
 pub fn take_out(nodes: &mut Vec<Node>, at: usize) -> Node
     requires { at < length nodes.old.items }
     ensures gone { nodes.new.items ≡ remove nodes.old.items at }

@@ -5,7 +5,7 @@ use crate::nodes::Node;
 use crate::shards::pick;
 use std::io::{BufRead, Write};
 
-// The next line without its newline. No line is left where it returns false.
+// The next line without its newline. It returns false if no line is left.
 fn read_line<R: BufRead>(input: &mut R, line: &mut Vec<u8>) -> Result<bool, Fault> {
     line.clear();
     if input.read_until(b'\n', line).map_err(Fault::of_read)? == 0 {

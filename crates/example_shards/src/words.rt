@@ -1,4 +1,4 @@
-//! What the words ask for.
+//! What the arguments ask for.
 
 use crate::fault::Fault;
 use crate::nodes::Node;
@@ -8,7 +8,7 @@ use std::env;
 use std::io::ErrorKind;
 use std::rt::Env;
 
-/// What the words ask for.
+/// What the arguments ask for.
 #[derive(Drop)]
 pub struct Words {
     /// Whether only the count of each node's lines is printed.
@@ -17,12 +17,12 @@ pub struct Words {
     pub nodes: Vec<Node>,
 }
 
-// Where the node of this name stands.
+// The place of the node of this name.
 fn find(nodes: &[Node], name: &str) -> Option<usize> {
     nodes.iter().position(|node| node.name.as_str() == name)
 }
 
-// Adds a node behind the others, or says that the name is there already.
+// Adds a node after the others, or reports that the name is there already.
 fn add(nodes: &mut Vec<Node>, name: String) -> Result<(), Fault> {
     if find(nodes.as_slice(), name.as_str()).is_some() {
         return Err(Fault::Twice(name));
@@ -32,7 +32,7 @@ fn add(nodes: &mut Vec<Node>, name: String) -> Result<(), Fault> {
     Ok(())
 }
 
-// Takes the node of this name out.
+// Removes the node of this name.
 fn leave(nodes: &mut Vec<Node>, name: String) -> Result<(), Fault> {
     match find(nodes.as_slice(), name.as_str()) {
         Some(at) if at < nodes.len() => {
@@ -43,7 +43,7 @@ fn leave(nodes: &mut Vec<Node>, name: String) -> Result<(), Fault> {
     }
 }
 
-/// Reads the words: `[--counts] NODE.. [--without NODE]`.
+/// Parses the arguments: `[--counts] NODE.. [--without NODE]`.
 pub fn gather(rt: &(impl Env + AllocGlobal)) -> Result<Words, Fault> {
     let words = match env::args(rt) {
         Ok(words) => words,

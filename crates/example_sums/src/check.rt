@@ -11,12 +11,12 @@ use std::alloc::Allocator;
 use std::io;
 use std::io::ErrorKind;
 
-/// What was found of one line of a list.
+/// The result for one line of a list.
 #[derive(Debug, Clone, Copy, PartialEq, Eq)]
 pub enum Verdict {
     /// The file has the hash of the line.
     Same,
-    /// It has another one.
+    /// It has another hash.
     Different,
     /// There is no such file, and such lines are left out.
     Missing,
@@ -33,7 +33,7 @@ impl Verdict {
     }
 }
 
-/// What was found of all lines.
+/// The results for all lines.
 #[derive(Drop)]
 pub struct Checked<A: Allocator> {
     /// A verdict for each line, in their order.
@@ -52,7 +52,7 @@ impl<A: Allocator> Checked<A> {
     }
 }
 
-/// Who is told of each line as it is checked.
+/// What is informed of each line as it is checked.
 pub trait Report {
     /// A file was checked. The error is that of a file that could not be opened or read.
     fn tell(
@@ -82,10 +82,10 @@ fn judge<S: Store, A: Allocator>(
     }
 }
 
-/// Hashes the file of each line and tells the verdicts.
+/// Hashes the file of each line and returns the verdicts.
 ///
-/// Where the bytes of a file are known, its line has the verdict `Same` exactly where their V3 hash
-/// is the line's, unless it could not be opened or read. All pass exactly where each line has the
+/// If the bytes of a file are known, its line has the verdict `Same` exactly when their V3 hash is
+/// the line's, unless the file could not be opened or read. All pass exactly when each line has the
 /// verdict `Same`, or, with `ignore_missing`, `Missing`.
 pub fn check_entries<S: Store, P: Report, A: Allocator, B: Allocator>(
     alloc: B,

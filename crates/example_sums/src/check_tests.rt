@@ -1,4 +1,4 @@
-//! Verdicts and lines of files whose hash the Rust crate gives.
+//! Verdicts and lines of files whose hashes are those of the Rust crate.
 
 ghost use Rattle.std.specs.Prelude.{Some};
 
@@ -38,7 +38,7 @@ impl<'a> Store for Shelf<'a> {
     }
 }
 
-/// Keeps the verdicts and counts the errors that it is told.
+/// Keeps the verdicts and counts the errors that are reported to it.
 #[derive(Drop)]
 struct Told {
     verdicts: Vec<Verdict>,
@@ -164,7 +164,7 @@ fn sums_are_written(rt: HostRuntime) {
     assert!(rt; matches!(failed, Err(Problem::Write(_))));
 }
 
-// The line is gathered before it is written, so where memory is refused nothing is written.
+// The line is built before it is written, so if an allocation fails nothing is written.
 #[test]
 fn memory_that_is_refused(rt: HostRuntime) {
     let mut refused = 0u64;

@@ -1,4 +1,4 @@
-//! What the program says on standard output and standard error.
+//! What the program writes to standard output and standard error.
 
 use crate::check::{Checked, Report, Verdict};
 use crate::list::List;
@@ -9,7 +9,7 @@ use std::alloc::Global;
 use std::io;
 use std::io::Write;
 
-/// Standard output, standard error and the options that say what goes there.
+/// Standard output, standard error and the options that select what goes there.
 #[derive(Drop)]
 pub struct Console<'a> {
     /// The system.
@@ -18,7 +18,7 @@ pub struct Console<'a> {
     pub options: Options,
 }
 
-// A name as a line shows it, and a text behind it.
+// A name as a line shows it, and a text after it.
 fn with_name(alloc: Global, start: &str, name: &[u8], end: &str) -> Result<Vec<u8>, Problem> {
     let mut text = Vec::new(alloc);
     text.extend_from_slice(start.as_bytes())?;
@@ -48,7 +48,7 @@ impl Console<'_> {
         self.complain(name, why.as_str())
     }
 
-    /// Names each malformed line of a list, where that is asked for.
+    /// Names each malformed line of a list, if an option asks for it.
     pub fn warn_of_lines(&self, name: &[u8], list: &List) -> Result<(), Problem> {
         if !self.options.warn {
             return Ok(());
@@ -60,7 +60,7 @@ impl Console<'_> {
         Ok(())
     }
 
-    // Says how many lines or files are wrong, where there are any.
+    // Says how many lines or files are wrong, if there are any.
     fn warn(&self, count: usize, one: &str, several: &str) -> Result<(), Problem> {
         if count == 0 || self.options.status {
             return Ok(());
@@ -69,7 +69,7 @@ impl Console<'_> {
         eprintln!(self.rt; "rapidsum: WARNING: {count} {what}").map_err(Problem::Write)
     }
 
-    /// Says at the end of a list how much of it is wrong, but for the option that wants no word.
+    /// Says at the end of a list how much of it is wrong, unless the option `--status` is given.
     pub fn warn_of_verdicts(
         &self,
         name: &[u8],

@@ -1,4 +1,4 @@
-//! Files of the system, with a line of progress where standard error is a terminal.
+//! Files of the system, with a progress line if standard error is a terminal.
 
 ghost use Rattle.std.specs.Prelude.{None};
 
@@ -7,7 +7,7 @@ use std::fs::File;
 use std::io::{Error, ErrorKind, IsTerminal, Read, Result, Stdin, Write};
 use std::str;
 
-/// After so many bytes of a file the line of progress is written anew.
+/// After this many bytes of a file the progress line is written again.
 const STEP: u64 = 1 << 27;
 
 /// Files by their names; `-` is standard input.
@@ -18,7 +18,7 @@ pub struct Disk<'a> {
 }
 
 impl<'a> Disk<'a> {
-    /// Progress is shown where standard error is a terminal.
+    /// Progress is shown if standard error is a terminal.
     pub fn new(rt: &'a HostRuntime) -> Self {
         Disk {
             rt,
@@ -68,7 +68,7 @@ pub struct OpenFile<'a> {
 }
 
 impl OpenFile<'_> {
-    // Adds to the count of bytes, and shows it after each step. What cannot be shown is left out.
+    // Adds to the count of bytes, and shows it from time to time. If that fails, the run goes on.
     fn count(&mut self, bytes: usize) {
         self.read = self.read.saturating_add(bytes as u64);
         if !self.shows_progress {

@@ -39,8 +39,8 @@ pub enum Line<A: Allocator> {
     Malformed,
 }
 
-/// The line of a hash and a name, without its newline: a backslash where the name has an escape, 16
-/// hexadecimal digits, two blanks and the name. It fails only where memory is refused.
+/// The line of a hash and a name, without its newline: a backslash if the name has an escape, 16
+/// hexadecimal digits, two blanks and the name. It fails only if an allocation does.
 #[tactic(auto, unfolding(crate::specs::Line::plain_line))]
 pub fn line_of<A: Allocator>(alloc: A, hash: u64, name: &[u8]) -> Result<Vec<u8, A>, AllocError>
     ensures { IfOk result (λ line. line.items ≡ line_of hash name.now) }
@@ -77,7 +77,7 @@ fn hash_of_digits(digits: &[u8]) -> Option<u64>
     }
 }
 
-// The text without the carriage return at its end, where it has one.
+// The text without the carriage return at its end, if it has one.
 #[tactic(auto, using(crate::proofs::Lines::no_return_at))]
 fn without_return(text: &[u8]) -> &[u8]
     ensures { (name : List ℕ) → text.now ≡ escaped name → result.now ≡ text.now }
@@ -90,7 +90,7 @@ fn without_return(text: &[u8]) -> &[u8]
     }
 }
 
-// The text of the name behind the digits and two blanks, or a blank and a `*`.
+// The text of the name after the digits and two blanks, or a blank and a `*`.
 fn name_behind(rest: &[u8]) -> Option<&[u8]>
     ensures { (name : List ℕ) → rest.now ≡ 32 ∷ 32 ∷ escaped name →
         IsSomeAnd result (λ text. text.now ≡ escaped name) }
@@ -111,7 +111,7 @@ fn split_line(line: &[u8]) -> Option<(u64, &[u8])>
     Some((hash_of_digits(digits)?, name_behind(rest)?))
 }
 
-// The entry of a line that begins with the digits, where the name is escaped.
+// The entry of a line that begins with the digits, if the name is escaped.
 #[tactic(auto, using(crate::proofs::Lines::unescape_from_escaped))]
 fn escaped_entry<A: Allocator>(alloc: A, line: &[u8]) -> Result<Option<Entry<A>>, AllocError>
     ensures { (hash : ℕ) (name : List ℕ) → hash < 2 ^ 64 → line.now ≡ plain_line hash name →
@@ -126,7 +126,7 @@ fn escaped_entry<A: Allocator>(alloc: A, line: &[u8]) -> Result<Option<Entry<A>>
     Ok(Some(Entry { hash, name }))
 }
 
-// The entry of a line that begins with the digits, where the name is not escaped.
+// The entry of a line that begins with the digits, if the name is not escaped.
 fn plain_entry<A: Allocator>(alloc: A, line: &[u8]) -> Result<Option<Entry<A>>, AllocError>
     ensures { (hash : ℕ) (name : List ℕ) → hash < 2 ^ 64 → line.now ≡ plain_line hash name →
         escaped name ≡ name →
@@ -139,7 +139,7 @@ fn plain_entry<A: Allocator>(alloc: A, line: &[u8]) -> Result<Option<Entry<A>>, 
     Ok(Some(Entry { hash, name }))
 }
 
-// The entry of a line, where it is one.
+// The entry of a line, if it has one.
 #[tactic(auto, using(crate::proofs::Lines::behind_backslash, crate::proofs::Lines::no_backslash))]
 fn entry_of<A: Allocator>(alloc: A, line: &[u8]) -> Result<Option<Entry<A>>, AllocError>
     ensures { (hash : ℕ) (name : List ℕ) → hash < 2 ^ 64 → line.now ≡ line_of hash name →
@@ -161,10 +161,9 @@ fn without_blanks(line: &[u8]) -> &[u8] {
     line.get(blanks..).unwrap_or(&[])
 }
 
-/// Reads a line, given without its newline. Blanks at its start are left out, and so is a carriage
-/// return at its end; the name may stand behind a blank and a `*`, as behind two blanks.
-///
-/// It fails only where memory is refused.
+/// Reads a line, given without its newline. Blanks at its start are ignored, and so is a carriage
+/// return at its end. The name may follow two blanks, or a blank and a `*`. It fails only if an
+/// allocation does.
 pub fn read_line<A: Allocator + Copy>(alloc: A, line: &[u8]) -> Result<Line<A>, AllocError>
     ensures reads_back { (hash : ℕ) (name : List ℕ) → hash < 2 ^ 64 → line.now ≡ line_of hash name →
         IfOk result (λ read. IsEntry read hash name) }

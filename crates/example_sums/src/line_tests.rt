@@ -27,7 +27,8 @@ fn lines_are_printed(rt: HostRuntime) -> Result<(), Fail> {
     Ok(())
 }
 
-// The lines of other programs: upper case, a `*`, blanks before it, and a carriage return behind.
+// The lines of other programs: upper case, a `*`, blanks at the start, and a carriage return at the
+// end.
 #[test]
 fn other_forms_are_read(rt: HostRuntime) -> Result<(), Fail> {
     let lines: [&[u8]; 4] = [

@@ -9,7 +9,7 @@ use std::alloc::Global;
 pub struct List {
     /// Those that have a hash and a name.
     pub entries: Vec<Entry<Global>>,
-    /// The numbers of those that have none, from 1 on. Empty lines and comments are left out.
+    /// The numbers of those that have none, from 1 on, without empty lines and comments.
     pub malformed: Vec<u64>,
 }
 

@@ -1,4 +1,4 @@
-//! Prints the V3 hash of each file as a line, and checks such lines, as sha256sum does it with its
+//! Prints the V3 hash of each file as a line, and checks such lines, as sha256sum does with its
 //! hashes.
 #![tactic(auto)]
 
@@ -24,13 +24,13 @@ use std::io::{Error, ErrorKind};
 use std::process::ExitCode;
 use words::command;
 
-// All words, the program's name first.
+// All arguments, the program's name first.
 fn gather(rt: &HostRuntime) -> Result<Vec<String>, Problem> {
     let words = env::args(rt).map_err(Problem::Words)?;
     Ok(words.collect(rt.alloc())?)
 }
 
-// Does what the words ask for. The answer is whether all files could be read and all checks passed.
+// Does what the arguments ask for. Returns whether all files could be read and all checks passed.
 fn run(rt: &HostRuntime) -> Result<bool, Problem> {
     let words = gather(rt)?;
     let matches = match command(rt.alloc())?.try_get_matches_from(words.as_slice()) {
@@ -48,7 +48,7 @@ fn main(rt: HostRuntime) -> ExitCode {
         Ok(true) => ExitCode::SUCCESS,
         Ok(false) => ExitCode::FAILURE,
         Err(problem) => {
-            // Where standard error takes no text, the status still tells of the failure.
+            // If standard error cannot be written, the status still reports the failure.
             let _ = eprintln!(rt; "rapidsum: {problem}");
             ExitCode::FAILURE
         }

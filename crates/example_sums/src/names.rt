@@ -11,7 +11,7 @@ ghost use Rattle.example_sums.specs.Line.{
 
 use std::alloc::{AllocError, Allocator};
 
-// The letter that stands for a byte of a name behind a backslash.
+// The letter that represents a byte of a name after a backslash.
 fn letter_of(byte: u8) -> Option<u8>
     ensures { result ≡ letter_of byte }
 {
@@ -23,7 +23,7 @@ fn letter_of(byte: u8) -> Option<u8>
     }
 }
 
-// The byte that a letter behind a backslash stands for.
+// The byte that a letter after a backslash represents.
 fn byte_of(letter: u8) -> Option<u8>
     ensures { result ≡ byte_of letter }
 {
@@ -63,8 +63,8 @@ pub fn push_escaped<A: Allocator>(text: &mut Vec<u8, A>, name: &[u8]) -> Result<
     Ok(())
 }
 
-/// The name that an escaped text stands for. There is none where a backslash stands at the end, or
-/// before a byte that is no letter of an escape.
+/// The name that an escaped text represents. There is none if a backslash is at the end, or before
+/// a byte that is no letter of an escape.
 #[tactic(auto, unfolding(crate::specs::Line::unescape_from))]
 pub fn unescape<A: Allocator>(alloc: A, text: &[u8]) -> Result<Option<Vec<u8, A>>, AllocError>
     ensures { IfOk result (λ name.

@@ -7,9 +7,9 @@ use std::{fmt, io};
 /// Why a call failed.
 #[derive(Drop)]
 pub enum Problem {
-    /// Memory was refused.
+    /// An allocation failed.
     Memory,
-    /// The words of the command line are not UTF-8, or could not be had.
+    /// The arguments are not UTF-8, or could not be read.
     Words(io::Error),
     /// A file could not be opened or read.
     Read(io::Error),
@@ -34,7 +34,7 @@ impl fmt::Display for Problem {
         match self {
             Problem::Memory => write!(f, "out of memory"),
             Problem::Words(error) if error.kind() == ErrorKind::InvalidData => {
-                write!(f, "a word of the command line is not UTF-8")
+                write!(f, "an argument is not UTF-8")
             }
             Problem::Words(error) => write!(f, "the command line: {error}"),
             Problem::Read(error) => write!(f, "{error}"),

@@ -13,8 +13,8 @@ use std::alloc::Global;
 use std::io;
 use std::io::Read;
 
-/// Prints or checks the files that the words name, or standard input where they name none. The
-/// answer is whether all files could be read, and all checks passed.
+/// Prints or checks the files that the arguments name, or standard input if they name none. Returns
+/// whether all files could be read and all checks passed.
 pub fn run_files(rt: &HostRuntime, matches: &ArgMatches<'_>) -> Result<bool, Problem> {
     let options = Options::of(matches);
     let checks = matches.get_flag("check");
@@ -46,7 +46,7 @@ fn print_sum(console: &Console<'_>, name: &[u8]) -> Result<bool, Problem> {
     }
 }
 
-// The text of a list, whole.
+// The whole text of a list.
 fn read_whole(alloc: Global, disk: &Disk<'_>, name: &[u8]) -> io::Result<Vec<u8>> {
     let mut text = Vec::new(alloc);
     disk.open(name)?.read_to_end(&mut text)?;

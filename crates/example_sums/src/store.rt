@@ -8,7 +8,7 @@ use rapidhash::v3::{RapidSecrets, rapidhash_v3_file_lanes};
 use std::io;
 use std::io::Read;
 
-/// How many bytes are asked of a file at once. They stand on the stack.
+/// How many bytes are read from a file at once, into a buffer on the stack.
 const PIECE: usize = 65536;
 
 /// Where files come from: a disk, or a test.
@@ -16,7 +16,7 @@ pub trait Store {
     /// An open file.
     type Reader: Read + Drop;
 
-    // The bytes of the file of a name, where they are known.
+    // The bytes of the file of a name, if they are known.
     ghost told: { Self → List ℕ → Option (List ℕ) };
 
     /// Opens the file of a name.
@@ -24,7 +24,7 @@ pub trait Store {
         ensures { IfOk result (λ reader. Self.Reader.remaining reader ≡ told self.now name.now) };
 }
 
-/// The V3 hash of the file of a name. It fails where the file cannot be opened, or a read fails.
+/// The V3 hash of the file of a name. It fails if the file cannot be opened or a read fails.
 pub fn hash_named<S: Store>(store: &S, name: &[u8]) -> io::Result<u64>
     ensures { IfOk result (λ hash. IfSome (S.told store.now name.now) (λ bytes.
         hash ≡ hash_of bytes)) }

@@ -11,7 +11,7 @@ use crate::store::{Store, hash_named};
 use std::alloc::Allocator;
 use std::io::Write;
 
-/// Writes the line of a file, and its newline. It writes nothing where the file cannot be read.
+/// Writes the line of a file, and its newline. It writes nothing if the file cannot be read.
 pub fn write_sum<S: Store, A: Allocator, W: Write>(
     alloc: A,
     store: &S,

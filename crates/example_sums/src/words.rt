@@ -1,4 +1,4 @@
-//! The words of the command line.
+//! The arguments of the command line.
 
 use clap::{Arg, ArgAction, ArgMatches, Command};
 use std::alloc::{AllocError, Global};
@@ -10,16 +10,16 @@ pub struct Options {
     pub quiet: bool,
     /// Print nothing but errors.
     pub status: bool,
-    /// Leave out files that are missing.
+    /// Ignore files that are missing.
     pub ignore_missing: bool,
-    /// Fail where a line is malformed.
+    /// Fail if a line is malformed.
     pub strict: bool,
     /// Name each malformed line.
     pub warn: bool,
 }
 
 impl Options {
-    /// The options that the words name.
+    /// The options in the arguments.
     pub fn of(matches: &ArgMatches<'_>) -> Options {
         Options {
             quiet: matches.get_flag("quiet"),

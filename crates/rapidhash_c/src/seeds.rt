@@ -1,4 +1,4 @@
-//! The hashes by one seed word, as the C++ library takes it: default secrets, and a seed made of
+//! The hashes by one seed word, as the C++ library takes it: default secrets, and a seed made from
 //! the word.
 
 ghost use Rattle.std.specs.Prelude.{◌≡◌, true, false};

@@ -1,5 +1,5 @@
-//! The program: it gathers its words, does what they ask for, and tells a fault in one line on
-//! standard error, with status 1. All rules are in `rapidhash_tool`.
+//! The program: it collects its arguments, does what they ask for, and reports an error in one line
+//! on standard error, with status 1. All rules are in `rapidhash_tool`.
 #![tactic(auto)]
 
 use rapidhash_tool::{CliFault, Plan, RapidhashVersion, plan, run_file, run_help, run_stdin};
@@ -8,8 +8,9 @@ use std::fs::File;
 use std::io::{ErrorKind, Write};
 use std::process::ExitCode;
 
-// All words, the program's name first. Where one is not UTF-8, `env::args` fails and returns none.
-// The answer is that of a file that cannot be opened, which such a word nearly always names.
+// All arguments, the program's name first. If one is not UTF-8, `env::args` fails and returns none.
+// The error is that of a file that cannot be opened, since such an argument nearly always names a
+// file.
 fn gather(rt: &HostRuntime) -> Result<Vec<String>, CliFault> {
     let words = match env::args(rt) {
         Ok(words) => words,
@@ -22,7 +23,7 @@ fn gather(rt: &HostRuntime) -> Result<Vec<String>, CliFault> {
     Ok(words)
 }
 
-// How many bytes of the file are hashed, or 0 where the version reads it to its end.
+// How many bytes of the file are hashed, or 0 if the version reads it to its end.
 fn length(version: &RapidhashVersion, file: &File) -> Result<u64, CliFault> {
     if !version.needs_length() {
         return Ok(0);
@@ -69,7 +70,7 @@ fn main(rt: HostRuntime) -> ExitCode {
         Ok(()) => ExitCode::SUCCESS,
         Err(fault) => {
             let text = fault.text();
-            // Where standard error takes no text, the status still tells the fault.
+            // If standard error cannot be written, the status still reports the error.
             let _ = eprintln!(rt; "{text}");
             ExitCode::FAILURE
         }

@@ -1,7 +1,7 @@
 //! What fails on purpose, for tests: a reader and two writers.
 //!
-//! Each tells the bytes that it has left or holds, so a contract over readers and writers speaks of
-//! it. They fail at a place that the test chooses, and count what they were asked.
+//! The contract of each says which bytes it has left or holds, so contracts over readers and
+//! writers apply to it. They fail at a place that the test chooses, and count their calls.
 #![tactic(auto)]
 
 mod readers;

@@ -1,23 +1,23 @@
-//! A reader that counts what it is asked for, and fails.
+//! A reader that counts its reads, and fails.
 
 ghost use Rattle.std.specs.Prelude.{Some};
 
 use std::io::{Error, ErrorKind, Read, Result};
 
-/// Returns at most so many bytes a read, counts what it is asked for, and fails at one read by its
-/// number.
+/// Returns at most a given number of bytes a read, counts its reads, and fails at the read with a
+/// given number.
 #[derive(Drop)]
 pub struct CountingReader<'a> {
     /// The bytes that it still has.
     pub left: &'a [u8],
     /// The most bytes that a read returns. At 0 it returns one.
     pub most: usize,
-    /// How many reads it was asked for, the failing one and those at its end among them.
+    /// How many reads were made, with the failing one and those at its end.
     pub reads: u64,
-    /// The length of the longest buffer that it was to fill.
+    /// The length of the longest buffer that was passed to it.
     pub longest: usize,
-    /// The number of the read that fails, from 1 on, or 0 for none. A failing read takes no byte,
-    /// and the next one goes on.
+    /// The number of the read that fails, from 1 on, or 0 for none. A failing read consumes no
+    /// byte, and the next one goes on.
     pub fails_at: u64,
     /// How it fails.
     pub kind: ErrorKind,
@@ -26,14 +26,14 @@ pub struct CountingReader<'a> {
 impl<'a> CountingReader<'a> {
     ghost use Rattle.rapidhash_fakes.specs.Readers.{Starts};
 
-    /// A reader that was asked for nothing yet and never fails.
+    /// A reader without reads so far, which never fails.
     pub fn new(left: &'a [u8], most: usize) -> Self
         ensures { Starts result left.now most 0 ErrorKind.Other }
     {
         CountingReader::failing(left, most, 0, ErrorKind::Other)
     }
 
-    /// A reader that was asked for nothing yet and fails at one read.
+    /// A reader without reads so far, which fails at one read.
     pub fn failing(left: &'a [u8], most: usize, fails_at: u64, kind: ErrorKind) -> Self
         ensures { Starts result left.now most fails_at kind }
     {

@@ -4,17 +4,17 @@ ghost use Rattle.std.specs.Prelude.{[], Some};
 
 use std::io::{Error, ErrorKind, Result, Write};
 
-/// Takes one byte a write, and fails at one write by its number.
+/// Accepts one byte a write, and fails at the write with a given number.
 #[derive(Drop)]
 pub struct OneByteWriter {
-    /// The bytes that it took.
+    /// The bytes that it accepted.
     pub held: Vec<u8>,
-    /// How many writes it was asked for, the failing one among them.
+    /// How many writes were made, with the failing one.
     pub writes: u64,
-    /// The number of the write that fails, from 1 on, or 0 for none. A failing write takes no byte,
-    /// and the next one goes on.
+    /// The number of the write that fails, from 1 on, or 0 for none. A failing write accepts no
+    /// byte, and the next one goes on.
     pub fails_at: u64,
-    /// How many flushes it was asked for. Each of them fails.
+    /// How many flushes were made. Each of them fails.
     pub flushes: u64,
 }
 
@@ -39,7 +39,7 @@ impl Write for OneByteWriter {
     }
 }
 
-/// Takes no byte, and answers so without an error.
+/// Accepts no byte, and returns 0 without an error.
 #[derive(Debug, Clone, Copy, PartialEq, Eq)]
 pub struct FullWriter;
 
