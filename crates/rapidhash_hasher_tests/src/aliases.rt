@@ -11,7 +11,7 @@ use std::test::Fail;
 type Sponge<'s, const AVALANCHE: bool> = inner::RapidHasher<'s, AVALANCHE, true, false, false>;
 
 // Each of these functions takes a value by its short name and returns it by its full one, so it
-// stands only where the two are one type.
+// compiles only if the two are one type.
 
 fn fast_hasher(hasher: fast::RapidHasher<'_>) -> inner::RapidHasher<'_, false, true, false, false> {
     hasher

@@ -3,7 +3,7 @@
 use rapidhash::inner::SeedableState;
 use std::hash::{BuildHasher, Hasher};
 
-/// So many bytes of one value and one of 255, each an integer.
+/// A number of bytes of one value and one of 255, each an integer.
 fn by_bytes<const COMPACT: bool>(length: u32, value: u8) -> u64 {
     let state = SeedableState::<false, true, COMPACT, false>::fixed();
     let mut hasher = state.build_hasher();
@@ -14,8 +14,8 @@ fn by_bytes<const COMPACT: bool>(length: u32, value: u8) -> u64 {
     hasher.finish()
 }
 
-/// The same as the numbers of 128 bits that the blocks are: 16 bytes of one value are its product
-/// with 2^128 - 1 over 255.
+/// The same, written as the 128-bit numbers of the blocks: 16 bytes of one value are its product
+/// with (2^128 - 1) / 255.
 fn by_blocks(length: u32, value: u8) -> u64 {
     let state = SeedableState::<false, true, false, false>::fixed();
     let mut hasher = state.build_hasher();
@@ -29,7 +29,7 @@ fn by_blocks(length: u32, value: u8) -> u64 {
     hasher.finish()
 }
 
-/// The first value for which bytes answer otherwise when they are written again, in compact code,
+/// The first value for which bytes have another hash when they are written again, in compact code,
 /// or as blocks.
 fn first_unstable(length: u32) -> Option<u8> {
     for value in 0..=u8::MAX {

@@ -86,7 +86,7 @@ fn room_that_is_refused(rt: HostRuntime) -> Result<(), Fail> {
     Ok(())
 }
 
-/// Where every allocation fails, empty maps and sets are made and read, and only the first insert
+/// If every allocation fails, empty maps and sets are made and read, and only the first insert
 /// returns the error.
 #[test]
 fn new_asks_for_no_memory(rt: HostRuntime) -> Result<(), Fail> {
@@ -107,8 +107,8 @@ fn new_asks_for_no_memory(rt: HostRuntime) -> Result<(), Fail> {
     Ok(())
 }
 
-/// Empty maps and sets hold no byte of a heap that has room for them, and the first insert takes
-/// some.
+/// Empty maps and sets hold no byte of a heap that has room for them, and the first insert
+/// allocates some.
 #[test]
 fn new_leaves_free_memory_alone(rt: HostRuntime) -> Result<(), Fail> {
     let secrets = GlobalSecrets::new(1);

@@ -7,7 +7,7 @@ use std::alloc::{AllocError, Global};
 use std::hash::{BuildHasher, Hasher};
 use std::test::Fail;
 
-/// How often each word stands in a text.
+/// How often each word occurs in a text.
 fn counted<'s, 't>(
     alloc: Global,
     state: fast::RandomState<'s>,
@@ -21,7 +21,7 @@ fn counted<'s, 't>(
     Ok(counts)
 }
 
-/// The names, each where it stands first.
+/// The names, each at its first place.
 fn firsts<'t>(
     alloc: Global,
     state: fast::RandomState<'_>,
@@ -116,7 +116,7 @@ fn one_value_is_hashed(rt: HostRuntime) {
     assert_ne!(rt; hash, state.hash_one("user:4712"));
 }
 
-/// What any run answers for this number: the Rust crate's answers, of the same bytes.
+/// What any run returns for this number: the Rust crate's hashes of the same bytes.
 #[test]
 fn a_seed_that_is_kept(rt: HostRuntime) {
     let known = [

@@ -88,7 +88,7 @@ fn bytes_of_words(rt: HostRuntime) {
     assert_eq!(rt; RapidRng::new(0).steps_to(&rng), 2);
 }
 
-/// The answer of a moment, and the seed that it leaves.
+/// The word for a time, and the seed that it leaves.
 fn at_moment(seed: u64, secs: u64, nanos: u32) -> (u64, u64) {
     let mut seed = seed;
     let answer = rapidrng_time(&mut seed, secs, nanos % 1_000_000_000);
@@ -101,7 +101,7 @@ fn moments(rt: HostRuntime) {
         at_moment(0, 1795332324, 474401288),
         (7933760468208766339, 10894244195399012039)
     );
-    // This seed leaves nothing of the moment.
+    // For this seed the time has no effect.
     assert_eq!(rt; at_moment(S1, 0, 0), at_moment(S1, 1, 999_999_999));
     for seed in [0u64, 42, S0] {
         assert_eq!(rt; at_moment(seed, 0, 5), at_moment(seed, 4_294_967_296, 5));

@@ -107,8 +107,8 @@ fn integers_of_64_bits(rt: HostRuntime) {
     }
 }
 
-/// Worked out by hand, with seed 0: an answer is the low half of the block times the high half with
-/// bit 0 turned, folded. So 2^64 - 1 times 2^64 - 2, 3 times 1, 2 times 2^64 - 2, and 2^32 - 1
+/// Worked out by hand, with seed 0: a hash is the low half of the block times the high half with
+/// bit 0 flipped, folded. So 2^64 - 1 times 2^64 - 2, 3 times 1, 2 times 2^64 - 2, and 2^32 - 1
 /// times 1.
 #[test]
 fn known_answers_of_single_calls(rt: HostRuntime) {
@@ -128,7 +128,7 @@ fn known_answers_of_single_calls(rt: HostRuntime) {
     assert_eq!(rt; narrow.finish(), 0xFFFF_FFFF);
 }
 
-/// A hasher that has absorbed nothing answers its seed, which is the default one.
+/// A hasher that has absorbed nothing returns its seed, which is the default one.
 #[test]
 fn hashers_of_the_default_seed(rt: HostRuntime) {
     type Fresh<'s> = RapidHasher<'s, false, false, false, false>;
@@ -140,7 +140,7 @@ fn hashers_of_the_default_seed(rt: HostRuntime) {
     assert_ne!(rt; Fresh::new(1).finish(), seed);
 }
 
-/// What is asked between two writes changes neither the answer nor what follows.
+/// A hash that is taken between two writes changes neither the final hash nor what follows.
 fn asked<const SPONGE: bool, const COMPACT: bool>() -> [u64; 6] {
     let state = SeedableState::<false, SPONGE, COMPACT, false>::custom(0, &SECRETS);
     let mut asked = state.build_hasher();

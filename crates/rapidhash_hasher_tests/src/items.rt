@@ -1,4 +1,4 @@
-//! Known answers after lists of items.
+//! Known hashes after lists of items.
 
 use rapidhash::inner::{RapidHasher, SeedableState};
 use std::hash::{BuildHasher, Hasher};
@@ -22,7 +22,7 @@ fn mixing<'s, const COMPACT: bool>() -> Mixing<'s, COMPACT> {
     SeedableState::custom(0, &SECRETS).build_hasher()
 }
 
-/// What the hasher answers after fifteen bytes of 0, each an integer.
+/// What the hasher returns after fifteen bytes of 0, each an integer.
 fn fifteen<'s, const COMPACT: bool>() -> Packing<'s, COMPACT> {
     let mut hasher = packing::<COMPACT>();
     for _ in 0..15u8 {
@@ -31,7 +31,7 @@ fn fifteen<'s, const COMPACT: bool>() -> Packing<'s, COMPACT> {
     hasher
 }
 
-/// Integers that share a block are one number, and the answer leaves them there.
+/// Integers that share a block are one number, and `finish` leaves them there.
 fn sharing<const COMPACT: bool>() -> [u64; 4] {
     let none = packing::<COMPACT>();
     let mut pair = packing::<COMPACT>();
@@ -42,7 +42,7 @@ fn sharing<const COMPACT: bool>() -> [u64; 4] {
     [none.finish(), pair.finish(), pair.finish(), joined.finish()]
 }
 
-/// An integer opens a block where the one before has no room for it.
+/// An integer opens a block if the one before has no room for it.
 fn opening<const COMPACT: bool>() -> [u64; 3] {
     let mut words = packing::<COMPACT>();
     words.write_u64(3);
@@ -102,8 +102,8 @@ fn text(compact: bool) -> u64 {
     }
 }
 
-/// The answer of a hasher of seed 0 and secrets 0 after one write of the first `n` of 401 bytes,
-/// four of which are not 0.
+/// The hash of a hasher of seed 0 and secrets 0 after one write of the first `n` of 401 bytes, four
+/// of which are not 0.
 fn long<const COMPACT: bool>(n: usize) -> u64 {
     let mut bytes = [0; 401];
     bytes[288] = 1;

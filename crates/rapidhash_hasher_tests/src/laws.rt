@@ -1,4 +1,4 @@
-//! Each law once, on values that it tells apart and on values that it does not.
+//! Each law once, on values for which it returns true and on values for which it does not.
 
 mod blocks;
 mod forms;

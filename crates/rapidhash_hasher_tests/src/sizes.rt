@@ -9,7 +9,7 @@ use std::alloc::{AllocError, Global};
 use std::hash::Hasher;
 use std::test::Fail;
 
-/// What the definition answers of a hasher with the default seed, after one write.
+/// The definition's hash, for a hasher with the default seed after one write.
 fn defined(options: Options, bytes: &[u8]) -> u64 {
     let secrets = &DEFAULT_RAPID_SECRETS.secrets;
     let seed = memory_hash(options, bytes, cpp_seeded(0, 2), secrets);
@@ -20,14 +20,14 @@ fn defined(options: Options, bytes: &[u8]) -> u64 {
     }
 }
 
-/// What the hasher answers.
+/// The hasher's hash.
 fn answer<const AVALANCHE: bool, const COMPACT: bool, const PROTECTED: bool>(bytes: &[u8]) -> u64 {
     let mut hasher = RapidHasher::<AVALANCHE, true, COMPACT, PROTECTED>::default();
     hasher.write(bytes);
     hasher.finish()
 }
 
-/// Whether both bodies answer as the definition does.
+/// Whether both bodies return the definition's hash.
 fn agree<const AVALANCHE: bool, const PROTECTED: bool>(bytes: &[u8]) -> bool {
     let options = Options {
         avalanche: AVALANCHE,

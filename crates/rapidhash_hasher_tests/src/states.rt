@@ -5,7 +5,7 @@ use rapidhash::{fast, quality};
 use std::hash::{BuildHasher, Hasher};
 use std::test::Fail;
 
-/// The answer of a hasher that a state builds, after one integer.
+/// The hash of a hasher that a state builds, after one integer.
 fn answer<S: BuildHasher>(state: &S) -> u64 {
     let mut hasher = state.build_hasher();
     hasher.write_u64(4711);
@@ -69,8 +69,7 @@ fn states_take_their_seeds(rt: HostRuntime) {
     );
 }
 
-/// The answers of hashers that a state builds, twice each: after five bytes, and of a text as a
-/// key.
+/// The hashes of hashers that a state builds, twice each: after five bytes, and of a text as a key.
 fn of_hello<S: BuildHasher>(state: &S) -> [u64; 4] {
     let mut one = state.build_hasher();
     let mut other = state.build_hasher();
@@ -90,7 +89,7 @@ fn agree<S: BuildHasher>(one: &S, other: &S) -> bool {
     bytes == again && text == text_again && of_hello(one) == of_hello(other)
 }
 
-/// Whether two states build hashers that answer otherwise.
+/// Whether two states build hashers that return different hashes.
 fn differ<S: BuildHasher>(one: &S, other: &S) -> bool {
     let [bytes, _, text, _] = of_hello(one);
     let [other_bytes, _, other_text, _] = of_hello(other);

@@ -1,9 +1,9 @@
-//! The hasher, built anew for each item by a state. Each answer goes into a sum that is then taken
-//! three times. Texts are hashed in the loop (`strN`), and by a function that stands out of line
-//! (`callN`), so that no compiler takes a part of the hash out of the loop.
+//! The hasher, built anew for each item by a state. Each hash goes into a sum that is then
+//! multiplied by three. Texts are hashed in the loop (`strN`), and by a function that is out of
+//! line (`callN`), so that no compiler moves a part of the hash out of the loop.
 //!
-//! Each loop is compiled eight times, behind more and more code, so that it stands at eight places
-//! in memory: on some processors the place of a jump costs as much as the hash.
+//! Each loop is compiled eight times, after more and more code, so that it is at eight places in
+//! memory: on some processors the place of a jump costs as much as the hash.
 
 use anyhow::{Result, bail};
 use rapidhash::inner::SeedableState;
@@ -16,8 +16,8 @@ const ITEMS: u64 = 1 << 21;
 /// A state of `fast`, or with an avalanche of `quality`.
 type State<'s, const AVALANCHE: bool> = SeedableState<'s, AVALANCHE, true, false, false>;
 
-/// Hashes items by their name, in the loop at one of the eight places. The number makes the state's
-/// secrets and its seed; where it is unknown to the compiler, so are they.
+/// Hashes items by their name, in the loop at one of the eight places. The state's secrets and its
+/// seed are made from the number; if it is unknown to the compiler, so are they.
 pub fn hashed<const AVALANCHE: bool>(item: &str, number: u64, place: u64) -> Result<u64> {
     let mut rng = RapidRng::new(number);
     let mut secrets = [0u64; 7];
@@ -123,7 +123,7 @@ fn text_call<const AVALANCHE: bool, const PLACE: u64>(
     text(state, item) ^ PLACE
 }
 
-/// Texts of `len` bytes, which stand in a list, so that the compiler does not know their lengths.
+/// Texts of `len` bytes, in a list, so that the compiler does not know their lengths.
 #[inline(never)]
 fn texts<const AVALANCHE: bool, const PLACE: u64, const CALL: bool>(
     state: State<'_, AVALANCHE>,

@@ -10,7 +10,7 @@ use std::hash::{BuildHasher, BuildHasherDefault, FoldHasher, Hash};
 use std::rt::Clock;
 use std::time::Instant;
 
-/// How many keys a form puts in, or looks up.
+/// How many keys a form inserts or looks up.
 const KEYS: usize = 1 << 24;
 
 /// How many bytes a key of bytes has.
@@ -22,10 +22,10 @@ pub struct Taken {
     pub nanos: u128,
 }
 
-/// What is done with a map of so many keys.
+/// What is done with a map of a given number of keys.
 #[derive(Clone, Copy)]
 enum Work {
-    /// Puts each key into a new map, over and over.
+    /// Inserts each key into a new map, over and over.
     Insert(usize),
     /// Looks up keys that are there.
     Hit(usize),
@@ -112,8 +112,8 @@ fn found<K: Eq + Hash, S: BuildHasher, A: Allocator>(
     sum
 }
 
-/// Does the work with maps of one state: the first half of the keys is put in. A map that keys are
-/// looked up in is filled before the time begins.
+/// Does the work with maps of one state: the first half of the keys is inserted. If keys are looked
+/// up, the map is filled before the timing begins.
 fn measured<K: Eq + Hash + Copy, S: BuildHasher + Copy>(
     rt: &(impl Clock + AllocGlobal),
     state: S,
@@ -147,7 +147,7 @@ fn integers<A: Allocator>(alloc: A, count: usize) -> Result<Vec<u64, A>, AllocEr
     Ok(keys)
 }
 
-/// The bytes of `2 * count` keys, one key behind another.
+/// The bytes of `2 * count` keys, one key after another.
 fn key_bytes<A: Allocator>(alloc: A, count: usize) -> Result<Vec<u8, A>, AllocError> {
     let mut rng = RapidRng::new(0);
     let mut bytes = Vec::new(alloc);

@@ -34,7 +34,7 @@ pub(crate) fn value_of(number: Num) -> u64
     }
 }
 
-/// The block and the bit where an integer stands, behind integers that end at `end`.
+/// The block and the bit where an integer starts, after integers that end at `end`.
 fn place_of(end: (usize, usize), number: Num) -> (usize, usize)
     requires count { end.0 + 1 < 2 ^ 64 }
     requires inside { end.1 ≤ 128 }
@@ -49,7 +49,7 @@ fn place_of(end: (usize, usize), number: Num) -> (usize, usize)
     }
 }
 
-/// The block and the bit where the integers end after one item more.
+/// The block and the bit where the integers end after one more item.
 pub(crate) fn end_after(end: (usize, usize), item: Absorbed<'_>) -> (usize, usize)
     requires count { end.0 + 1 < 2 ^ 64 }
     requires inside { end.1 ≤ 128 }

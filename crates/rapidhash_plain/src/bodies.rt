@@ -18,7 +18,7 @@ use std::alloc::{AllocError, Global};
 #[derive(Clone, Copy)]
 pub enum Version {
     V1,
-    /// V1 with its fault at 48 bytes.
+    /// V1 with its historical fault at 48 bytes.
     V1Bug,
     V2Minor0,
     V2Minor1,
@@ -41,7 +41,7 @@ impl Version {
         Version::Nano,
     ];
 
-    /// What people call it.
+    /// Its common name.
     pub fn name(self) -> &'static str {
         match self {
             Version::V1 => "v1",

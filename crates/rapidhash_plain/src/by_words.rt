@@ -12,7 +12,7 @@ use crate::hashes::{close, mix};
 use crate::secrets::secret;
 use rapidhash_portable::form::{Form, Options, Shape};
 
-/// Pair `k` of a list, or zeros where there is none.
+/// Pair `k` of a list, or zeros if there is none.
 fn pair(words: &[(u64, u64)], k: usize) -> (u64, u64)
     ensures { result ≡ pair_in words.now k }
 {

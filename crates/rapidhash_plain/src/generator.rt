@@ -36,14 +36,14 @@ pub fn other_word_of(state: u64) -> u64
     mix(false, state, MASK)
 }
 
-/// A moment as one number.
+/// A time as one number.
 fn moment_of(secs: u64, nanos: u32) -> u64
     ensures { result ≡ moment_of secs nanos }
 {
     secs % 0x1_0000_0000 * 0x1_0000_0000 + u64::from(nanos)
 }
 
-/// The seed that a moment makes of another.
+/// The seed that a time makes from another.
 pub fn seed_at_moment(seed: u64, secs: u64, nanos: u32) -> u64
     ensures { result ≡ seed_at_moment seed secs nanos }
 {

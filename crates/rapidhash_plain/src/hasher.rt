@@ -1,4 +1,4 @@
-//! The hasher of maps as a plain program: the steps of a list of items, and the answer after them.
+//! The hasher of maps as a plain program: the steps of a list of items, and the hash after them.
 
 ghost use Rattle.std.specs.Prelude.{◌≡◌, ◌≤◌, ◌<◌, ◌+◌, ◌^◌, false, fold, map, true};
 ghost use Rattle.rapidhash.specs.Hasher.{closed, finished, seed_after, step, steps_of};
@@ -45,8 +45,8 @@ fn step(options: Options, secrets: &[u64], seed: u64, item: Absorbed<'_>) -> u64
     }
 }
 
-/// The seed after the steps that one item of a list brings with a sponge, behind integers that end
-/// at `end`: its own, or that of the block which an integer closes by opening the next.
+/// The seed after the steps that one item of a list adds with a sponge, after integers that end at
+/// `end`: its own step, or that of the block which an integer closes by opening the next.
 fn packed_step(
     options: Options,
     secrets: &[u64],
@@ -96,7 +96,7 @@ fn after_each(options: Options, secrets: &[u64], start: u64, items: &[Absorbed<'
     seed
 }
 
-/// The answer: the last block is a step where there is one, and the avalanche mixes once more.
+/// The hash: the last block is a step if there is one, and the avalanche mixes once more.
 fn close(options: Options, secrets: &[u64], seed: u64, pending: u128, width: usize) -> u64
     ensures { result ≡ closed options secrets.now seed pending width }
 {
@@ -112,7 +112,7 @@ fn close(options: Options, secrets: &[u64], seed: u64, pending: u128, width: usi
     }
 }
 
-/// The answer of a hasher that starts from a seed and absorbs the items in order. With a sponge it
+/// The hash of a hasher that starts from a seed and absorbs the items in order. With a sponge it
 /// packs integers into blocks of 128 bits.
 pub fn finished(
     options: Options,

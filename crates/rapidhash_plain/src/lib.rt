@@ -1,7 +1,7 @@
 //! The definitions as plain, slow programs.
 //!
 //! Each is computed as it is written: a hash lane after lane, each lane over its own column, and a
-//! hasher's answer by the steps of its whole list of items. The contracts are the definitions
+//! hasher's hash by the steps of its whole list of items. The contracts are the definitions
 //! themselves. Through them the definitions are run and compared with known values, and the fast
 //! bodies ([`bodies`]) with both.
 #![tactic(auto)]

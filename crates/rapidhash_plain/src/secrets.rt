@@ -16,14 +16,14 @@ const DEFAULT_SECRETS: [u64; 7] = [
     0x90ed_1765_281c_388c,
 ];
 
-/// Secret `k`, or 0 where there is none.
+/// Secret `k`, or 0 if there is none.
 pub(crate) fn secret(secrets: &[u64], k: usize) -> u64
     ensures { result ≡ slice_index secrets.now k }
 {
     if k < secrets.len() { secrets[k] } else { 0 }
 }
 
-/// A word, with a bit set where it has none of a mask's.
+/// A word, with a bit set if it has none of a mask's.
 #[tactic(auto, using(crate::proofs::Cases::tests), unfolding(crate::proofs::Cases::with_bit))]
 fn with_bit(word: u64, mask: u64, bit: u64) -> u64
     ensures { result ≡ with_bit word mask bit }
@@ -31,7 +31,7 @@ fn with_bit(word: u64, mask: u64, bit: u64) -> u64
     if word & mask == 0 { word | bit } else { word }
 }
 
-/// A word, made good.
+/// A word, repaired.
 #[tactic(auto, unfolding(rapidhash_portable::specs::Secrets::repaired))]
 fn repaired(word: u64) -> u64
     ensures { result ≡ repaired word }
@@ -69,7 +69,7 @@ pub fn seeded(number: u64) -> u64
     premixed(number, 0)
 }
 
-/// The seed that a number makes beside the default secrets.
+/// The seed that a number makes, with the default secrets.
 #[tactic(auto, unfolding(rapidhash_portable::specs::Secrets::cpp_seeded))]
 pub fn cpp_seeded(number: u64, place: usize) -> u64
     ensures { result ≡ cpp_seeded number place }
@@ -135,14 +135,14 @@ pub fn source_start(global: u64, random: u64) -> u64
     )
 }
 
-/// The counter of a seed source after one answer more.
+/// The counter of a seed source after one more seed.
 pub fn source_next(counter: u64) -> u64
     ensures { result ≡ source_next counter }
 {
     counter.wrapping_add(0x2d35_8dcc_aa6c_78a5)
 }
 
-/// What a seed source answers at a counter.
+/// The seed that a seed source returns at a counter.
 #[tactic(auto, unfolding(rapidhash_portable::specs::Secrets::source_answer))]
 pub fn source_answer(random: u64, counter: u64) -> u64
     ensures { result ≡ source_answer random counter }

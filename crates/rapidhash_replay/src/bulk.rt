@@ -79,7 +79,7 @@ pub fn replay(alloc: Global, line: &str) -> Result<Agreement> {
     })
 }
 
-/// Replays the in-memory core, as one write into a hasher and its answer.
+/// Replays the in-memory core, as one write into a hasher and its hash.
 pub fn replay_memory(alloc: Global, line: &str) -> Result<Agreement> {
     let fields: Vec<&str> = line.split("\t").collect(alloc)?;
     let [avalanche, protected, rule, length, secrets_rule, expected] = fields.as_slice() else {

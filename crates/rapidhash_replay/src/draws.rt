@@ -11,14 +11,13 @@ use std::alloc::{AllocError, Global};
 /// The columns of a file of words and states.
 pub const COLUMNS: &str = "seed\tcount\texpected";
 
-/// The columns of a file of moments.
+/// The columns of a file of times.
 pub const TIME_COLUMNS: &str = "seed\tsecs\tnanos\texpected";
 
 /// The columns of a file of distances on the cycle.
 pub const STEPS_COLUMNS: &str = "first\tsecond\texpected";
 
-/// The words that the definition gives, the state that is left, and the words that are not
-/// portable.
+/// The definition's words, the state that is left, and the words that are not portable.
 fn defined(alloc: Global, seed: u64, count: u64) -> Result<Vec<u64>, AllocError> {
     let mut all = Vec::new(alloc);
     for i in 0..count {
@@ -32,7 +31,7 @@ fn defined(alloc: Global, seed: u64, count: u64) -> Result<Vec<u64>, AllocError>
     Ok(all)
 }
 
-/// What the calls give.
+/// What the calls return.
 fn drawn(alloc: Global, seed: u64, count: u64) -> Result<Vec<u64>, AllocError> {
     let mut all = Vec::new(alloc);
     let mut state = seed;
@@ -60,7 +59,7 @@ pub fn replay(alloc: Global, line: &str) -> Result<Agreement> {
     Ok(agreement(expected.as_slice(), defined.as_slice(), drawn.as_slice()))
 }
 
-/// Replays the answer of a moment, and the seed that it leaves.
+/// Replays the word for a time, and the seed that it leaves.
 pub fn replay_time(alloc: Global, line: &str) -> Result<Agreement> {
     let fields: Vec<&str> = line.split("\t").collect(alloc)?;
     let [seed, secs, nanos, expected] = fields.as_slice() else {

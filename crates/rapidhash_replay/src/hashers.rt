@@ -1,4 +1,4 @@
-//! Cases of the hasher of maps: lists of items, and the answer after them.
+//! Cases of the hasher of maps: lists of items, and the hash after them.
 
 use crate::bulk::options_of;
 use crate::items::{Item, listed};
@@ -15,7 +15,7 @@ use std::hash::{BuildHasher, Hasher};
 /// The columns of a file of items.
 pub const COLUMNS: &str = "avalanche\tsponge\tprotected\tsecrets\titems\texpected";
 
-/// What the hasher of a seedable state answers.
+/// What the hasher of a seedable state returns.
 fn answer<const AVALANCHE: bool, const SPONGE: bool, const COMPACT: bool, const PROTECTED: bool>(
     start: &RapidSecrets,
     items: &[Item],
@@ -50,7 +50,7 @@ fn answered<const COMPACT: bool>(
     }
 }
 
-/// Compares the answers of the definition and of the hasher with the expected one.
+/// Compares the hashes of the definition and of the hasher with the expected one.
 pub fn compare(
     alloc: Global,
     options: Options,

@@ -1,4 +1,4 @@
-//! Compares versions with one another: the lengths at which they are one hash are known.
+//! Compares versions with one another: the lengths at which they have one hash are known.
 
 use crate::compare::OPTIONS;
 use anyhow::Result;
@@ -17,9 +17,9 @@ struct Known {
 }
 
 /// What is known. Of V3 and a relative, the one with fewer lanes folds its first chunk at the first
-/// length at which they differ, and V1's fault shows at 48 bytes alone. V2.0 begins its rows at 57
-/// bytes and not at 65, and V2.2 reads up to 3 bytes otherwise, and takes another secret for the
-/// third pair of a tail.
+/// length at which they differ, and V1's historical fault shows only at 48 bytes. V2.0 begins its
+/// rows at 57 bytes and not at 65, and V2.2 reads up to 3 bytes in another way and takes another
+/// secret for the third pair of a tail.
 const ALL: [Known; 5] = [
     Known {
         first: Version::V3,
@@ -82,8 +82,8 @@ impl Known {
     }
 }
 
-/// Prints on how many of the lengths 0 to 512 two versions agree or differ as is known; returns how
-/// many lengths are otherwise.
+/// Prints on how many of the lengths 0 to 512 two versions agree or differ as is known; returns at
+/// how many lengths they do not.
 pub fn print_lengths(rt: &impl Print, secrets: &Secrets, bytes: &[u8]) -> Result<u64> {
     let all = bytes.len() as u64;
     let mut otherwise = 0u64;

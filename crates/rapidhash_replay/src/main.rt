@@ -1,8 +1,8 @@
 //! Replays vector files: reads cases whose values come from elsewhere (see data/README.md), and
 //! compares the definitions and the fast bodies with each. It prints a line of counts for each file
-//! named in its words, the cases that differ on standard error, and ends with status 1 where one
-//! does. The word `--compare` compares bodies and definitions on bytes of the generator. Without
-//! words it prints how it is called, and ends with status 2.
+//! named in its arguments, the cases that differ on standard error, and ends with status 1 if one
+//! does. The argument `--compare` compares bodies and definitions on bytes of the generator.
+//! Without arguments it prints how it is called, and ends with status 2.
 #![tactic(auto)]
 
 mod bulk;
@@ -53,7 +53,7 @@ fn main(rt: HostRuntime) -> Result<ExitCode> {
     Ok(ExitCode::SUCCESS)
 }
 
-/// Replays one file, by the kind of cases that its column names tell.
+/// Replays one file, by the kind of cases that its column names say.
 fn replay(rt: &(impl Files + Print + Eprint + AllocGlobal), name: &str) -> Result<Tally> {
     let text = fs::read_to_string(rt, name).context(format_args!("reading {name}"))?;
     let mut lines = text.lines().filter(|line| !line.starts_with("#"));

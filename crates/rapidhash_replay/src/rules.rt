@@ -7,7 +7,7 @@ use rapidhash_portable::seeding::{GlobalSecrets, SeedSource};
 use rapidhash_portable::{v1, v3};
 use std::alloc::Global;
 
-/// How the bytes of a message are told by their places.
+/// How the bytes of a message are computed from their places.
 #[derive(Clone, Copy)]
 enum Bytes {
     /// (i * i + 7 * i + n) mod 251
@@ -86,7 +86,7 @@ pub fn message(alloc: Global, rule: &str, length: u64) -> Result<Vec<u8>> {
     Ok(bytes)
 }
 
-/// A text, in which `\\n` stands for a newline.
+/// A text, in which `\\n` is a newline.
 fn written(alloc: Global, text: &str, length: u64) -> Result<Vec<u8>> {
     let text = text.replace(alloc, "\\n", "\n")?;
     if text.len() as u64 != length {
@@ -95,7 +95,7 @@ fn written(alloc: Global, text: &str, length: u64) -> Result<Vec<u8>> {
     Ok(text.as_bytes().to_vec(alloc)?)
 }
 
-/// Bytes that are 0, but for those at the places named, as in `0=1,16=2`.
+/// Bytes that are 0, except those at the named places, as in `0=1,16=2`.
 fn placed(alloc: Global, places: &str, length: u64) -> Result<Vec<u8>> {
     let mut bytes = Vec::new(alloc);
     for _ in 0..length {
@@ -151,7 +151,7 @@ fn drawn(seed: u64) -> Secrets {
     of_words(words)
 }
 
-/// The made secrets of one random word, and the first answer of the seed source of both.
+/// The made secrets of one random word, and the first seed of the seed source of both.
 fn made(words: &str) -> Result<Secrets> {
     let Some((first, second)) = words.split_once(":") else {
         bail!("no two words in {words}");
@@ -162,7 +162,7 @@ fn made(words: &str) -> Result<Secrets> {
     Ok(of_words([source.next(), a, b, c, d, e, f, g]))
 }
 
-/// A seed, and secrets that are 0, but for the places named behind it, as in `1` or `0,1=1`.
+/// A seed, and secrets that are 0, except at the places named after it, as in `1` or `0,1=1`.
 fn bare(words: &str) -> Result<Secrets> {
     let mut all = [0; 8];
     for part in words.split(",") {

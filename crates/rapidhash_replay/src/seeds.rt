@@ -86,7 +86,7 @@ pub fn numbers(alloc: Global, field: &str) -> Result<Vec<u64>> {
     Ok(all)
 }
 
-/// Whether two lists are one, for the library's calls and for the definitions.
+/// Whether two lists are equal, for the library's calls and for the definitions.
 pub fn agreement(expected: &[u64], defined: &[u64], made: &[u64]) -> Agreement {
     Agreement::new(defined == expected, made == expected)
 }
@@ -129,7 +129,7 @@ pub fn replay_made(alloc: Global, line: &str) -> Result<Agreement> {
     Ok(agreement(expected.as_slice(), &defined, made.get()))
 }
 
-/// What the definitions give of two random words: a global seed, and four answers of a source.
+/// The definitions' values for two random words: a global seed, and four seeds of a source.
 fn defined_answers(random: u64, second: u64) -> [u64; 5] {
     let global = global_seed(random);
     let mut answers = [global; 5];
@@ -141,7 +141,7 @@ fn defined_answers(random: u64, second: u64) -> [u64; 5] {
     answers
 }
 
-/// Replays a global seed, and the answers of a seed source.
+/// Replays a global seed, and the seeds of a seed source.
 pub fn replay_source(alloc: Global, line: &str) -> Result<Agreement> {
     let fields: Vec<&str> = line.split("\t").collect(alloc)?;
     let [random, second, expected] = fields.as_slice() else {

@@ -20,7 +20,7 @@ pub const COLUMNS: &str = "avalanche\tprotected\tmessage\tlength\tsecrets\topera
 pub const LANES_COLUMNS: &str =
     "lanes\tavalanche\tprotected\tmessage\tlength\tsecrets\toperations\tsteps\texpected";
 
-/// A message, cut from its beginning on: `f` asks for a hash, `r` starts anew, a number is a size.
+/// A message, cut from its beginning on: `f` asks for a hash, `r` resets, a number is a size.
 fn cut<'d>(alloc: Global, bytes: &'d [u8], operations: &str) -> Result<Vec<StreamOp<'d>>> {
     let mut steps = Vec::new(alloc);
     let mut rest = bytes;
@@ -42,7 +42,7 @@ fn cut<'d>(alloc: Global, bytes: &'d [u8], operations: &str) -> Result<Vec<Strea
     Ok(steps)
 }
 
-/// What the stream hasher of `LANES` lanes answers.
+/// What the stream hasher of `LANES` lanes returns.
 fn answers<const LANES: usize>(
     alloc: Global,
     options: Options,
@@ -75,8 +75,8 @@ fn counts(alloc: Global, lanes: usize, steps: &[StreamOp<'_>]) -> Result<Vec<u64
     Ok(all)
 }
 
-/// Compares the answers of the definition and of the hasher of `LANES` lanes with the expected
-/// ones, and the counts of folded chunks where they are told.
+/// Compares the hashes of the definition and of the hasher of `LANES` lanes with the expected ones,
+/// and the counts of folded chunks if the file has them.
 fn compare<const LANES: usize>(
     alloc: Global,
     options: Options,

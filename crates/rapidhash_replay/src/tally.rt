@@ -2,7 +2,7 @@
 
 use std::fmt;
 
-/// Which of the values of one case agree with the expected one. There is none where the case has no
+/// Which of the values of one case agree with the expected one. There is none if the case has no
 /// such value.
 #[derive(Clone, Copy)]
 pub struct Agreement {
@@ -82,7 +82,7 @@ impl Tally {
         }
     }
 
-    /// Counts a case, and tells whether a value of it differs.
+    /// Counts a case, and returns whether a value of it differs.
     pub fn differs(&mut self, case: Agreement) -> bool {
         self.cases = self.cases.saturating_add(1);
         let definition = self.definition.differs(case.definition);

@@ -23,7 +23,7 @@ fn body(version: Version, x: &[u8], y: &[u8]) -> bool {
     }
 }
 
-/// Compares both with what is known of two messages: whether they are one.
+/// Compares both with what is known about two messages: whether they are equal.
 fn of_two(
     alloc: Global,
     version: Version,
@@ -37,8 +37,8 @@ fn of_two(
     Ok(Agreement::new(defined == one, body(version, x, y) == one))
 }
 
-/// Compares each beginning of the bytes with itself, with the one a byte longer, and with those
-/// that differ from it in one byte.
+/// Compares each prefix of the bytes with itself, with the one a byte longer, and with those that
+/// differ from it in one byte.
 fn words_tell(alloc: Global, version: Version, bytes: &[u8]) -> Result<Tally, AllocError> {
     let mut tally = Tally::new();
     for n in 0..bytes.len() {

@@ -33,7 +33,7 @@ impl Secrets {
     }
 }
 
-/// The hash by a form, as a program calls it that has secrets of its own, or none.
+/// The hash by a form, as a program with its own secrets calls it, or one without.
 #[inline(always)]
 pub fn hash<const FORM: u8, const SEEDED: bool>(text: &[u8], secrets: &Secrets) -> u64 {
     let three = if SEEDED {

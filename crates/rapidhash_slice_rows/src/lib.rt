@@ -15,9 +15,9 @@ use std::rt::{Clock, Env};
 use std::time::Instant;
 use texts::Row;
 
-/// Does the work of the words `FORM LENGTH PLACE NUMBER PASSES REPEATS`, and with one word more
-/// calls the hash as a function. It prints a sum that all answers went into, and the least
-/// nanoseconds that one repeat took.
+/// Does the work of the arguments `FORM LENGTH PLACE NUMBER PASSES REPEATS`, and with one more
+/// argument calls the hash as a function. It prints a sum that all hashes went into, and the
+/// nanoseconds of the fastest repeat.
 pub fn run<const SEEDED: bool>(rt: &(impl Clock + Env + Print + AllocGlobal)) -> Result<()> {
     let words: Vec<String> = env::args(rt)?.skip(1).collect(rt.alloc())?;
     let [form, length, place, number, passes, repeats, others @ ..] = words.as_slice() else {

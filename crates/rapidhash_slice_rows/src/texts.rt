@@ -1,4 +1,4 @@
-//! The loop over the texts, in eight copies, each behind more code. On some processors a jump that
+//! The loop over the texts, in eight copies, each after more code. On some processors a jump that
 //! lies across a 32-byte boundary costs extra, so a loop is measured at eight places in memory.
 
 use crate::hash::{MICRO, NANO, Secrets, V1, V2_0, V2_1, V2_2, V3, hash};
@@ -9,13 +9,13 @@ use anyhow::{Result, bail};
 pub struct Row<'x> {
     /// The texts.
     pub list: &'x [&'x [u8]],
-    /// The secrets, where the program has its own.
+    /// The secrets, if the program has its own.
     pub secrets: &'x Secrets,
     /// How often the list is hashed.
     pub passes: u64,
     /// Which copy of the loop, from 0 to 7.
     pub place: u64,
-    /// Whether the hash is a function of its own.
+    /// Whether the hash is a separate function.
     pub is_call: bool,
 }
 
@@ -70,7 +70,7 @@ fn start<const PLACE: u64>(sum: u64) -> u64 {
     sum
 }
 
-// The hash as a function of its own, once for each place.
+// The hash as a separate function, once for each place.
 #[inline(never)]
 fn call<const FORM: u8, const SEEDED: bool, const PLACE: u64>(
     text: &[u8],

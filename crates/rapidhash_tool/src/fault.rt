@@ -6,23 +6,23 @@ ghost use Rattle.rapidhash_tool.specs.Faults.{number_of, text_of};
 /// Why the tool stopped.
 #[derive(Debug, Clone, Copy, PartialEq, Eq)]
 pub enum CliFault {
-    /// The words name two versions.
+    /// The arguments name two versions.
     Versions,
     /// The file could not be opened.
     Open,
     /// A read of standard input failed, or its reads had no end.
     Stdin,
-    /// Memory was refused.
+    /// An allocation failed.
     Memory,
-    /// A read of the file failed, its reads had no end, its length was not told, or it ended before
+    /// A read of the file failed, its reads had no end, its length is unknown, or it ended before
     /// that length.
     File,
-    /// A write failed, or took no byte.
+    /// A write failed, or accepted no byte.
     Write,
 }
 
 impl CliFault {
-    /// The fault's number, which never changes and never comes to name another fault.
+    /// The error's number. It never changes, and no other error will have it.
     pub fn number(&self) -> u8
         ensures { result ≡ number_of self.now }
     {

@@ -55,13 +55,14 @@ impl RapidhashVersion {
         }
     }
 
-    /// The hash of a file's bytes, with the version's default seed and secrets. It takes no memory.
+    /// The hash of a file's bytes, with the version's default seed and secrets. It allocates
+    /// nothing.
     ///
-    /// V1 and V2 hash the first `len` bytes, and read no further. The others hash all bytes, and do
-    /// not look at `len`.
+    /// V1 and V2 hash the first `len` bytes, and read no further. The others hash all bytes and
+    /// ignore `len`.
     ///
-    /// The one fault is [`CliFault::File`]: a read failed, an interrupted one too; the reader had
-    /// fewer than `len` bytes; or, but for V1 and V2, it has no end.
+    /// The only error is [`CliFault::File`]: a read failed or was interrupted; for V1 and V2, the
+    /// reader had fewer than `len` bytes; for the others, it has no end.
     pub fn hash_file<R: Read + Drop>(&self, reader: R, len: u64) -> Result<u64, CliFault>
         ensures hash { IfOk result (λ hash. IfSome (R.remaining reader) (λ bytes.
             hash ≡ hash_of self.now (read_of self.now len bytes))) }

@@ -7,11 +7,11 @@ use crate::fault::CliFault;
 use std::alloc::{AllocError, Allocator};
 use std::io::Read;
 
-// How many bytes are asked of the reader at once: what a pipe of Linux holds.
+// How many bytes a read asks for: the capacity of a Linux pipe.
 pub(crate) const PIECE: usize = 65536;
 
-// Reads all that is left. Each piece is read before room for it is asked, and an interrupted read
-// is a fault as any other. It stands out of line, for the sake of its large array.
+// Reads all that is left. Each piece is read before memory for it is allocated, and an interrupted
+// read is an error like any other. It is out of line because of its large array.
 #[inline(never)]
 pub(crate) fn read_whole<A: Allocator, R: Read>(
     alloc: A,
@@ -38,7 +38,7 @@ pub(crate) fn read_whole<A: Allocator, R: Read>(
     Err(CliFault::Stdin)
 }
 
-// Adds a piece. The vector doubles its room; where that allocation fails, it allocates only what
+// Adds a piece. The vector doubles its capacity; if that allocation fails, it allocates only what
 // the piece needs.
 #[inline(always)]
 fn append<A: Allocator>(whole: &mut Vec<u8, A>, piece: &[u8]) -> Result<(), AllocError>

@@ -1,9 +1,9 @@
-//! The command line of rapidhash, but for the calls of the operating system: what the words ask
+//! The command line of rapidhash, without the calls to the operating system: what the arguments ask
 //! for, how the bytes are read and hashed, how the number is written, and what can go wrong.
 //!
-//! [`plan`] says what a line of words asks for, and [`run_help`], [`run_stdin`] and [`run_file`] do
-//! it: the last two print the decimal hash of what a reader has, and a newline. Every call ends
-//! with that line or with one [`CliFault`].
+//! [`plan`] says what the arguments ask for, and [`run_help`], [`run_stdin`] and [`run_file`] do
+//! it: the last two print the decimal hash of what a reader has, and a newline. Every run ends with
+//! that line or with one [`CliFault`].
 #![tactic(auto)]
 
 mod fault;

@@ -19,7 +19,7 @@ fn fill_line(number: u64, line: &mut [u8; LINE]) -> usize
     write_digits(number, line, LINE - 1)
 }
 
-// Writes all of `bytes`, or stops at a write that fails or takes no byte.
+// Writes all of `bytes`, or stops at a write that fails or accepts no byte.
 pub(crate) fn write_whole<W: Write>(out: &mut W, bytes: &[u8]) -> Result<(), CliFault>
     ensures { WritesWhole (W.contents out.old) (W.contents out.new) result bytes.now }
 {
@@ -33,7 +33,7 @@ pub(crate) fn write_whole<W: Write>(out: &mut W, bytes: &[u8]) -> Result<(), Cli
     Ok(())
 }
 
-// Writes the number's line. It takes no memory.
+// Writes the number's line. It allocates nothing.
 pub(crate) fn write_number<W: Write>(out: &mut W, number: u64) -> Result<(), CliFault>
     ensures { WritesWhole (W.contents out.old) (W.contents out.new) result (line_of number) }
 {

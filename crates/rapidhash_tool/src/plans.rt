@@ -1,4 +1,4 @@
-//! The plan that the words ask for.
+//! The plan that the arguments ask for.
 
 ghost use Rattle.std.specs.Prelude.{◌≡◌, map, string_bytes};
 ghost use Rattle.rapidhash_tool.specs.CommandLine.{plan_of};
@@ -6,11 +6,11 @@ ghost use Rattle.rapidhash_tool.specs.CommandLine.{plan_of};
 use crate::version::{Plan, RapidhashVersion};
 use crate::words::{first_plain, has};
 
-/// What a line of words asks for, the program's name being its first word.
+/// What the arguments ask for, of which the first is the program's name.
 ///
-/// It is the help where there are no words or one of them is `--help` or `-h`. Else the words after
-/// the name choose the version, and the first of them that does not begin with a hyphen names the
-/// file.
+/// It is the help if there are no arguments or one of them is `--help` or `-h`. Otherwise those
+/// after the name select the version, and the first of them that does not begin with a hyphen names
+/// the file.
 pub fn plan(words: &[String]) -> Plan
     ensures { result ≡ plan_of (map string_bytes words.now) }
 {

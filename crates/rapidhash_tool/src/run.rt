@@ -15,8 +15,8 @@ use std::io::{Read, Write};
 
 /// Prints the hash of all that a reader has left: its decimal digits and a newline.
 ///
-/// With [`CliFault::Write`] a beginning of that line was written, short of the whole, and with any
-/// other fault nothing was. It does not flush. The faults of reading are those of
+/// After [`CliFault::Write`] a beginning of that line was written, but not all of it; after any
+/// other error nothing was. It does not flush. The errors of reading are those of
 /// [`RapidhashVersion::hash_stdin`].
 pub fn run_stdin<A: Allocator, R: Read + Drop, W: Write>(
     alloc: A,
@@ -35,11 +35,11 @@ pub fn run_stdin<A: Allocator, R: Read + Drop, W: Write>(
     write_number(out, hash)
 }
 
-/// Prints the hash of a file's bytes: its decimal digits and a newline. It takes no memory.
+/// Prints the hash of a file's bytes: its decimal digits and a newline. It allocates nothing.
 ///
-/// V1 and V2 hash the first `len` bytes; the others all bytes, and do not look at `len`.
+/// V1 and V2 hash the first `len` bytes; the others hash all bytes and ignore `len`.
 ///
-/// With [`CliFault::Write`] a beginning of that line was written, short of the whole, and with
+/// After [`CliFault::Write`] a beginning of that line was written, but not all of it; after
 /// [`CliFault::File`] nothing was. It does not flush.
 pub fn run_file<R: Read + Drop, W: Write>(
     version: &RapidhashVersion,
@@ -58,8 +58,8 @@ pub fn run_file<R: Read + Drop, W: Write>(
     write_number(out, hash)
 }
 
-/// Prints the help. With the one fault, [`CliFault::Write`], a beginning of it was written, short
-/// of the whole. It does not flush.
+/// Prints the help. The only error is [`CliFault::Write`]: a beginning of it was written, but not
+/// all of it. It does not flush.
 pub fn run_help<W: Write>(out: &mut W) -> Result<(), CliFault>
     ensures { WritesWhole (W.contents out.old) (W.contents out.new) result help_text }
 {

@@ -1,4 +1,4 @@
-//! The versions that the tool hashes by, and the plans that its words can make.
+//! The versions that the tool hashes by, and the plans that its arguments can ask for.
 
 ghost use Rattle.std.specs.Prelude.{◌≡◌, ◌↔◌, map, string_bytes, IsTrue};
 ghost use Rattle.rapidhash_tool.specs.CommandLine.{version_of, versions, word_of};
@@ -17,7 +17,7 @@ pub enum Minor {
     M2,
 }
 
-/// A version of the portable hash, as the words choose it.
+/// A version of the portable hash, as the arguments select it.
 #[derive(Debug, Clone, Copy, PartialEq, Eq)]
 pub enum RapidhashVersion {
     /// V1, without its historical fault.
@@ -49,27 +49,27 @@ pub enum RapidhashVersion {
     },
 }
 
-/// What a line of words asks for.
+/// What the arguments ask for.
 #[derive(Debug, Clone, Copy, PartialEq, Eq)]
 pub enum Plan {
     /// To print the help.
     Help,
-    /// Nothing: the words name two versions.
+    /// Nothing: the arguments name two versions.
     Refused,
     /// To print a hash.
     Run {
         /// The version to hash by.
         version: RapidhashVersion,
-        /// The place of the file's word, the program's name being at place 0. With none, standard
-        /// input is hashed.
+        /// The index of the argument that names the file, with the program's name at index 0. If
+        /// there is none, standard input is hashed.
         file: Option<usize>,
     },
 }
 
 impl RapidhashVersion {
-    /// The version that the words name, which are those after the program's name: V3 where they
-    /// name none, and `None` where they name two. A version named twice is one, `--protected` may
-    /// stand in any place, and all other words count for nothing, `--help` too.
+    /// The version that the arguments after the program's name select: V3 if they name none, and
+    /// `None` if they name two. A version named twice counts once, `--protected` may be at any
+    /// place, and all other arguments are ignored, also `--help`.
     pub fn new(words: &[String]) -> Option<Self>
         ensures { result ≡ version_of (map string_bytes words.now) }
     {
@@ -86,8 +86,8 @@ impl RapidhashVersion {
         Some(chosen.unwrap_or(RapidhashVersion::V3 { protected }))
     }
 
-    /// Whether the version hashes no byte before it knows how many there are: V1 and V2 read
-    /// standard input to its end first, and ask a file's length.
+    /// Whether the version needs the number of bytes before it hashes the first: V1 and V2 read
+    /// standard input to its end, and use a file's length.
     pub fn needs_length(&self) -> bool
         ensures { IsTrue result ↔ NeedsLength self.now }
     {
@@ -121,7 +121,7 @@ impl RapidhashVersion {
         ]
     }
 
-    // The word that names the version.
+    // The argument that names the version.
     fn word(&self) -> &'static str
         ensures { result.now ≡ word_of self.now }
     {

@@ -1,4 +1,5 @@
-//! What a run asks of its two ends: no read behind what it hashes or behind the end, and no flush.
+//! What a run asks of its reader and its writer: no read past what it hashes or past the end, and
+//! no flush.
 
 use crate::ends::{SOMETHING, counted, versions, whole, writer};
 use rapidhash_tool::{run_file, run_help, run_stdin};
@@ -25,7 +26,7 @@ fn reads_up_to_a_length(rt: HostRuntime) {
     }
 }
 
-// Where the input is read to its end, a read for each byte is followed by one that finds the end.
+// If the input is read to its end, a read for each byte is followed by one that finds the end.
 #[test]
 fn reads_up_to_the_end(rt: HostRuntime) {
     let bytes = counted();

@@ -1,4 +1,4 @@
-//! The Rust crate's own tests of its command line, by their names: the words of a line, and what is
+//! The Rust crate's own tests of its command line, by their names: the arguments, and what is
 //! printed for a text. The numbers are those of the Rust crate.
 
 use crate::ends::{of_file, of_stdin, whole, writer};
@@ -12,7 +12,7 @@ const TEXT: &[u8] = b"test input\n";
 // The line that V3 prints for it.
 const LINE: &[u8] = b"10591916791569766038\n";
 
-// A line that names no file prints this line for the text on standard input.
+// Arguments that name no file print this line for the text on standard input.
 fn prints(rt: &(impl Abort + AllocGlobal), words: &[&str], line: &[u8]) -> Result<(), Fail> {
     let words = gathered(rt, words)?;
     let Plan::Run {

@@ -1,14 +1,14 @@
-//! A run of the tool between two ends that may fail.
+//! A run of the tool between a reader and a writer that may fail.
 
 use rapidhash_fakes::{CountingReader, OneByteWriter};
 use rapidhash_tool::{CliFault, Minor, RapidhashVersion, run_file, run_stdin};
 use std::alloc::Allocator;
 use std::io::ErrorKind;
 
-/// V1 as `--v1` chooses it.
+/// V1 as `--v1` selects it.
 pub const V1: RapidhashVersion = RapidhashVersion::V1 { protected: false };
 
-/// V3 as no word chooses it.
+/// V3 as it is without arguments.
 pub const V3: RapidhashVersion = RapidhashVersion::V3 { protected: false };
 
 /// The bytes that most tests hash.
@@ -74,12 +74,12 @@ pub fn writer(held: Vec<u8>, fails_at: u64) -> OneByteWriter {
     }
 }
 
-/// What a run answered, and what it left written.
+/// What a run returned, and what it wrote.
 #[derive(Drop)]
 pub struct Ended {
-    /// The run's answer.
+    /// The run's result.
     pub result: Result<(), CliFault>,
-    /// The bytes that its writer took.
+    /// The bytes that its writer accepted.
     pub written: Vec<u8>,
 }
 

@@ -15,7 +15,7 @@ use std::process::Abort;
 // Forty bytes: a vector that takes them one by one grows four times.
 const FORTY: &[u8] = b"a line of forty bytes, not one byte more";
 
-// Each byte of the line is a write of its own, and each of them fails in turn.
+// Each byte of the line is a separate write, and each of them fails in turn.
 fn each_write_fails(rt: &(impl Abort + AllocGlobal), version: RapidhashVersion, line: &[u8]) {
     let mut fails_at = 1u64;
     for kept in 0..line.len() {
@@ -59,7 +59,7 @@ fn writes_of_the_help_that_fail(rt: HostRuntime) {
     assert!(rt; out.held.as_slice().starts_with(b"Usage: rapidhash "));
 }
 
-// Ten reads give a byte each, and the eleventh finds the end. No read follows one that failed.
+// Ten reads return a byte each, and the eleventh finds the end. No read follows one that failed.
 #[test]
 fn reads_that_fail(rt: HostRuntime) {
     for version in versions(true) {
@@ -99,8 +99,8 @@ fn reads_of_a_file_that_fail(rt: HostRuntime) {
     }
 }
 
-// A run over a heap with room for so many blocks of 16 bytes, and how many reads it made. It frees
-// what it allocated.
+// A run over a heap with room for a given number of blocks of 16 bytes, and how many reads it made.
+// It frees what it allocated.
 fn in_a_heap(
     rt: &(impl Abort + AllocGlobal),
     version: RapidhashVersion,
@@ -176,8 +176,8 @@ fn less_than_twice_the_room(rt: HostRuntime) {
     }
 }
 
-// A piece is read before memory for it is asked for. So without any memory an empty input has its
-// hash, and a first read that fails is told and not the memory.
+// A piece is read before memory for it is allocated. So without any memory an empty input has its
+// hash, and if the first read fails, that is the error and not the memory.
 #[test]
 fn reads_before_memory(rt: HostRuntime) {
     for version in versions(false) {
@@ -198,7 +198,7 @@ fn reads_before_memory(rt: HostRuntime) {
     }
 }
 
-// Where nothing is written, the input is still read first.
+// If nothing can be written, the input is still read first.
 #[test]
 fn a_read_that_fails_before_a_write(rt: HostRuntime) {
     let input = failing(SOMETHING, 3, ErrorKind::Other);

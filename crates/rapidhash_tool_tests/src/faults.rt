@@ -1,4 +1,4 @@
-//! The faults' numbers and texts.
+//! The errors' numbers and texts.
 
 use rapidhash_tool::CliFault;
 

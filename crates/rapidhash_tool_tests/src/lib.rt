@@ -1,5 +1,5 @@
 //! The tests of the command line: what no contract says. The hashes are those of the Rust crate,
-//! and the numbers and texts of the faults are written out.
+//! and the numbers and texts of the errors are written out.
 #![tactic(auto)]
 
 #[cfg(test)]

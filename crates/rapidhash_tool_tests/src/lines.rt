@@ -138,7 +138,7 @@ fn short_inputs(rt: HostRuntime) {
     }
 }
 
-// V1 and V2 hash as many bytes as the length tells, and the others all.
+// V1 and V2 hash as many bytes as the length says, and the others all.
 #[test]
 fn lengths_of_files(rt: HostRuntime) {
     for version in versions(false) {
@@ -161,7 +161,7 @@ fn lengths_of_files(rt: HostRuntime) {
     assert_eq!(rt; first.written.as_slice(), SOMETHING_LINE);
 }
 
-// V3, micro and nano hash all bytes, whatever length they are told.
+// V3, micro and nano hash all bytes, whatever the length is.
 #[test]
 fn lengths_that_are_not_looked_at(rt: HostRuntime) {
     let bytes = counted();

@@ -1,10 +1,10 @@
-//! What a line of words asks for.
+//! What the arguments ask for.
 
 use rapidhash_tool::{Minor, Plan, RapidhashVersion, plan};
 use std::alloc::AllocError;
 use std::test::Fail;
 
-/// The words of a line.
+/// The arguments.
 pub fn gathered(rt: &impl AllocGlobal, line: &[&str]) -> Result<Vec<String>, AllocError> {
     let mut words = Vec::new(rt.alloc());
     for word in line {
@@ -89,7 +89,7 @@ fn plans_of_lines(rt: HostRuntime) -> Result<(), Fail> {
     Ok(())
 }
 
-// The words after the program's name; a help word counts for nothing.
+// The arguments after the program's name; a help option is ignored.
 #[test]
 fn versions_of_words(rt: HostRuntime) -> Result<(), Fail> {
     let micro = RapidhashVersion::V3Micro { protected: false };

@@ -1,5 +1,5 @@
 //! How many chunk steps a stream hasher makes: each table of lengths is the contract of a function
-//! that makes the calls and hands the hasher back.
+//! that makes the calls and returns the hasher.
 
 ghost use Rattle.std.specs.Prelude.{◌≡◌, ◌+◌, ◌++◌, false, length};
 ghost use Rattle.rapidhash_portable.specs.Lanes.{IsLaneCount};
@@ -79,7 +79,7 @@ pub fn counts_of_seven<'a>(
     after_one_piece::<7>(secrets, bytes)
 }
 
-/// The same where the bytes come one by one.
+/// The same if the bytes come one by one.
 #[tactic(auto, unfolding(rapidhash_portable::specs::Stream::chunk_count))]
 pub fn counts_of_seven_by_bytes<'a>(
     secrets: &'a RapidSecrets,
@@ -96,7 +96,7 @@ pub fn counts_of_seven_by_bytes<'a>(
     after_single_bytes::<7>(secrets, bytes)
 }
 
-/// The same where 113 bytes come as one byte and a chunk, or as a chunk and one byte.
+/// The same if 113 bytes come as one byte and a chunk, or as a chunk and one byte.
 #[tactic(auto, unfolding(rapidhash_portable::specs::Stream::chunk_count))]
 pub fn counts_of_seven_by_two<'a>(
     secrets: &'a RapidSecrets,

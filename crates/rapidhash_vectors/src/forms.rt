@@ -1,4 +1,4 @@
-//! The lengths at which two forms agree. They are those of the Rust crate, for bytes at random.
+//! The lengths at which two forms agree. They are those of the Rust crate, for random bytes.
 
 use rapidhash::rng::RapidRng;
 use rapidhash_portable::v1::rapidhash_v1_inline;
@@ -49,7 +49,7 @@ fn the_minors_differ_at_few_lengths(rt: HostRuntime) {
     }
 }
 
-/// V1 with its fault is another hash at 48 bytes alone.
+/// V1 with its historical fault differs only at 48 bytes.
 #[test]
 fn the_fault_of_v1_shows_at_48_bytes(rt: HostRuntime) {
     let bytes = drawn();

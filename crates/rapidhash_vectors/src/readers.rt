@@ -1,4 +1,4 @@
-//! The hashes over a reader: known values, ends and faults, and that a reader's hash is that of its
+//! The hashes over a reader: known values, ends and errors, and that a reader's hash is that of its
 //! bytes.
 
 mod asked;

@@ -82,7 +82,7 @@ fn without_a_part_of_seven(secrets: v3::RapidSecrets) -> [v3::RapidSecrets; 8] {
     all
 }
 
-/// Seed and secrets are equal, and one key of a map, where each of their parts is.
+/// Secrets are equal, and the same key of a map, exactly if all of their parts are.
 #[test]
 fn secrets_are_equal_by_each_part(rt: HostRuntime) {
     let three = v1::RapidSecrets::seed(4711);
@@ -114,7 +114,7 @@ fn made_secrets_are_equal_by_their_word(rt: HostRuntime) {
 }
 
 /// A counter that is 0 goes on like any other. This second random word makes the counter start
-/// there, whatever the seed. The answers are worked out by an independent program.
+/// there, whatever the seed. The expected values come from an independent program.
 #[test]
 fn a_seed_source_goes_on_from_0(rt: HostRuntime) {
     for word in WORDS {

@@ -120,7 +120,7 @@ fn hashes_with_default_secrets(rt: HostRuntime) {
     );
 }
 
-/// The functions whose contracts are the counts of chunk steps hand back hashers that hash.
+/// The functions whose contracts are the counts of chunk steps return hashers that hash.
 #[test]
 fn counted_hashers_hash(rt: HostRuntime) {
     let secrets = v3::DEFAULT_RAPID_SECRETS;

@@ -5,7 +5,7 @@ use rapidhash::laws::{
 };
 use rapidhash::{v1, v2, v3};
 
-/// What the laws answer of a message.
+/// What the laws return for a message.
 fn answers(x: &[u8]) -> [bool; 5] {
     [
         micro_is_v3(x),
@@ -36,8 +36,8 @@ fn agreements(x: &[u8]) -> [bool; 5] {
     ]
 }
 
-// The law says that the hashes agree where it answers true. On this message they also differ
-// wherever it answers false, so no law leaves out a length at which the forms do agree.
+// The law says that the hashes agree if it returns true. On this message they also differ whenever
+// it returns false, so no law leaves out a length at which the forms do agree.
 #[test]
 fn forms_agree_at_the_lengths_of_the_laws(rt: HostRuntime) {
     let bytes = [0x5au8; 130];

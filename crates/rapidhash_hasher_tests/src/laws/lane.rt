@@ -1,4 +1,4 @@
-//! What a lane becomes of a pair that begins with its own secret.
+//! The value of a lane after a pair that begins with its own secret.
 
 use rapidhash::laws::lane_after_its_secret;
 

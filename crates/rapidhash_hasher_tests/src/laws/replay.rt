@@ -16,8 +16,8 @@ const ZEROS: RapidSecrets = RapidSecrets {
 /// The hash of one byte 0 with these and an avalanche. That of no byte is 0.
 const OF_ONE: u64 = 12297829382473034410;
 
-/// How many allocations the vector of the answers makes here: it has room for four of them, then
-/// for eight, and so on.
+/// How many allocations the vector of the hashes makes here: it has room for four of them, then for
+/// eight, and so on.
 const ALLOCATIONS: u32 = 18;
 
 /// A replay with seven lanes or with five, which agree up to 80 bytes.
@@ -33,7 +33,7 @@ fn replayed<A: Allocator>(
     }
 }
 
-/// So many times: the hash of no byte, and the hash of one byte.
+/// A number of times: the hash of no byte, and the hash of one byte.
 fn pairs(rt: &impl AllocGlobal, count: usize) -> Result<Vec<StreamOp<'static>>, AllocError> {
     let mut ops = Vec::new(rt.alloc());
     for _ in 0..count {
@@ -55,8 +55,8 @@ fn alternate(answers: &[u64], count: usize) -> bool {
     answers.len() == count
 }
 
-/// Replays the steps in a heap with so many free bytes, a multiple of 16. Returns whether there was
-/// room for the answers, which are then the right ones. Either way each block is free again.
+/// Replays the steps in a heap with this many free bytes, a multiple of 16. Returns whether there
+/// was room for the hashes, which are then the right ones. Either way each block is free again.
 fn has_room(
     rt: &(impl Abort + AllocGlobal),
     bytes: usize,
@@ -78,8 +78,8 @@ fn has_room(
     Ok(has_room)
 }
 
-/// Each allocation in turn fails, in a heap that has room for the ones before it alone: the replay
-/// returns the error, while one with no more answers than these allocations hold succeeds in the
+/// Each allocation in turn fails, in a heap that has room only for the ones before it: the replay
+/// returns the error, while one with no more hashes than these allocations hold succeeds in the
 /// same heap. The first heap with room for all of them is enough for the whole list.
 fn each_allocation_fails(
     rt: &(impl Abort + AllocGlobal),
@@ -98,13 +98,13 @@ fn each_allocation_fails(
     Ok(())
 }
 
-/// How many bytes the vector's blocks take until it has room for so many answers. A block is freed
+/// How many bytes the vector's blocks take until it has room for this many hashes. A block is freed
 /// only once the next one is there, and all freed blocks together are too small for the one after.
 fn held_by(answers: usize) -> usize {
     answers.saturating_sub(2).saturating_mul(16)
 }
 
-/// Eighteen allocations of each call, for half a million answers.
+/// Eighteen allocations of each call, for half a million hashes.
 #[test]
 fn a_replay_tells_that_memory_was_refused(rt: HostRuntime) -> Result<(), Fail> {
     each_allocation_fails(&rt, false)?;
@@ -112,7 +112,7 @@ fn a_replay_tells_that_memory_was_refused(rt: HostRuntime) -> Result<(), Fail> {
     Ok(())
 }
 
-/// The answers of both calls are worked out by hand, with seed 1, secrets 0 and no avalanche.
+/// The hashes of both calls are worked out by hand, with seed 1, secrets 0 and no avalanche.
 #[test]
 fn a_run_of_writes_and_resets(rt: HostRuntime) -> Result<(), Fail> {
     let secrets = RapidSecrets {

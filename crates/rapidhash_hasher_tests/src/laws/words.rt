@@ -4,7 +4,7 @@ use rapidhash::laws::{
     same_words_micro, same_words_nano, same_words_v1, same_words_v2, same_words_v3,
 };
 
-/// What the calls answer, one of each form.
+/// What the calls return, one of each form.
 fn answers(x: &[u8], y: &[u8]) -> [bool; 5] {
     [
         same_words_v1::<false>(x, y),
@@ -34,7 +34,7 @@ fn a_byte_of_seventeen(rt: HostRuntime) {
     assert_eq!(rt; answers(&x, &[7u8; 17]), [true; 5]);
 }
 
-// With V1's fault 48 bytes are a row of three lanes, without it they are a tail.
+// With V1's historical fault 48 bytes are a row of three lanes, without it they are a tail.
 #[test]
 fn a_byte_of_forty_eight(rt: HostRuntime) {
     let x = [7u8; 48];

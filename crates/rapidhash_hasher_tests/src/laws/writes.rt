@@ -1,4 +1,4 @@
-//! Writes that leave the hasher of other writes.
+//! Writes that leave the same hasher as other writes.
 
 use rapidhash::fast::RapidHasher;
 use rapidhash::laws::{Num, join_u8, join_u16, join_u32, turn_bytes, turn_u128};

@@ -1,4 +1,4 @@
-//! What a call over a reader answers, and what it leaves.
+//! What a call over a reader returns, and what it leaves unread.
 
 ghost use Rattle.std.specs.Prelude.{◌≤◌};
 
@@ -9,7 +9,7 @@ use rapidhash_portable::{v1, v2};
 use std::io;
 use std::io::ErrorKind;
 
-/// The answer of a call, whether the mark was on after it, and how many bytes were left.
+/// The result of a call, whether the mark was on after it, and how many bytes were left.
 #[derive(Debug, Clone, Copy, PartialEq, Eq)]
 pub(crate) struct Asked {
     answer: Result<u64, ErrorKind>,
@@ -35,7 +35,7 @@ pub(crate) fn fell_short() -> Asked {
     }
 }
 
-/// A fault of the reader.
+/// An error of the reader.
 pub(crate) fn failed(kind: ErrorKind, left: usize) -> Asked {
     Asked {
         answer: Err(kind),
@@ -74,7 +74,7 @@ pub(crate) fn v1_of(reader: CountingReader<'_>, len: u64) -> Asked {
     told(answer, marked, source.into_inner().left.len())
 }
 
-/// V1 of `len` bytes of a slice as a reader, which gives all that it is asked for.
+/// V1 of `len` bytes of a slice as a reader, which returns all that it is asked for.
 pub(crate) fn v1_of_slice(bytes: &[u8], len: u64) -> Asked {
     let mut source = Source::new(bytes);
     let answer = v1::rapidhash_v1_source::<&[u8], false>(
@@ -117,7 +117,7 @@ pub(crate) fn v2_of<const MINOR: u8>(reader: CountingReader<'_>, len: u64) -> As
     told(answer, marked, source.into_inner().left.len())
 }
 
-/// V2 of `len` bytes of a slice as a reader, which gives all that it is asked for.
+/// V2 of `len` bytes of a slice as a reader, which returns all that it is asked for.
 pub(crate) fn v2_of_slice<const MINOR: u8>(bytes: &[u8], len: u64) -> Asked
     requires { MINOR ≤ 2 }
 {

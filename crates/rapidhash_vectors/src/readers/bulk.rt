@@ -23,8 +23,8 @@ fn random_bytes<A: Allocator>(alloc: A) -> Result<Vec<u8, A>, AllocError> {
     Ok(bytes)
 }
 
-/// Whether V1 of the first `n` bytes is one number by a reader of one byte a read, by one that
-/// gives all it is asked for, and of the slice.
+/// Whether V1 of the first `n` bytes is the same number from a reader of one byte a read, from one
+/// that returns all it is asked for, and of the slice.
 fn v1_agrees(bytes: &[u8], n: usize) -> bool {
     let bytes = &bytes[..n.min(bytes.len())];
     let len = bytes.len() as u64;
@@ -101,7 +101,7 @@ fn v2_file_forms(rt: HostRuntime) -> Result<(), Fail> {
     Ok(())
 }
 
-// The seed is the source's answer, and the next secrets have the next one.
+// The seed is the source's next one, and the next secrets have the one after it.
 #[test]
 fn random_secrets(rt: HostRuntime) {
     let global = GlobalSecrets::new(11);

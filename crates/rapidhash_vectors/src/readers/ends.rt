@@ -1,4 +1,4 @@
-//! Bytes behind the length, and readers that end before it.
+//! Bytes after the length, and readers that end before it.
 
 use crate::readers::asked::{
     fell_short, gave, sound, v1_of, v1_of_files, v1_of_slice, v2_of, v2_of_slice,
@@ -8,7 +8,7 @@ use rapidhash_portable::v1::rapidhash_v1;
 use rapidhash_portable::v2::{DEFAULT_RAPID_SECRETS, rapidhash_v2_inline};
 use std::io::ErrorKind;
 
-// What is behind the length is left, and of fewer bytes all are read.
+// Bytes after the length are left unread, and if there are fewer all are read.
 #[test]
 fn v1_takes_its_length_and_no_more(rt: HostRuntime) {
     for (bytes, len, want) in [
@@ -26,7 +26,7 @@ fn v1_takes_its_length_and_no_more(rt: HostRuntime) {
     }
 }
 
-/// The file forms of V1 with default secrets, of one text: four bytes are left behind its length,
+/// The file forms of V1 with default secrets, of one text: four bytes are left after its length,
 /// the text is too short, and its third read fails.
 #[test]
 fn v1_files_of_a_known_text(rt: HostRuntime) {

@@ -10,7 +10,7 @@ use std::test::Fail;
 
 const SOMETHING: &[u8] = b"something\n";
 
-// Ten reads give a byte each, and there is no eleventh. An interrupted read keeps its own kind.
+// Ten reads return a byte each, and there is no eleventh. An interrupted read keeps its own kind.
 #[test]
 fn each_read_may_fail(rt: HostRuntime) {
     for kind in [ErrorKind::BrokenPipe, ErrorKind::Interrupted] {
@@ -28,7 +28,7 @@ fn each_read_may_fail(rt: HostRuntime) {
     }
 }
 
-// The third read fails and takes no byte: two are gone, and the mark comes off at the next call.
+// The third read fails and consumes no byte: two are gone, and the next call clears the mark.
 #[test]
 fn the_next_call_goes_on_behind_a_fault(rt: HostRuntime) -> Result<(), Fail> {
     let secrets = &DEFAULT_RAPID_SECRETS;

@@ -1,5 +1,5 @@
 //! The hashes of a number of bytes of a reader, V1 and V2: what each asks its reader for, and what
-//! is returned where a read fails.
+//! is returned if a read fails.
 
 mod form;
 
@@ -24,7 +24,7 @@ fn each_of_ten_reads_fails(rt: &impl Abort, form: Form, kind: ErrorKind) {
     }
 }
 
-/// A failed read is not tried again, also where it was only interrupted.
+/// A failed read is not retried, even if it was only interrupted.
 #[test]
 fn a_failed_read_is_returned_at_once(rt: HostRuntime) {
     for form in FORMS {
@@ -55,7 +55,7 @@ fn a_failed_read_of_a_long_message(rt: HostRuntime) {
     }
 }
 
-/// A reader that returns all it is asked for, with two bytes behind the length. At most 8192 bytes
+/// A reader that returns all it is asked for, with two bytes after the length. At most 8192 bytes
 /// are read at once, and more in pieces of 65520 bytes and a last one of at most 65535.
 fn reads_of_lengths(rt: &impl Abort, form: Form, bytes: &[u8]) {
     for (n, reads, longest) in [
@@ -79,7 +79,7 @@ fn reads_of_lengths(rt: &impl Abort, form: Form, bytes: &[u8]) {
     }
 }
 
-/// No read comes once all bytes are in, and none at all for no byte.
+/// There is no read after all bytes were read, and none at all for no byte.
 #[test]
 fn few_reads(rt: HostRuntime) {
     let bytes = [3; 140002];
@@ -88,7 +88,7 @@ fn few_reads(rt: HostRuntime) {
     }
 }
 
-/// A reader of one byte a read takes one read for each byte. Where it ends one byte early, the read
+/// A reader of one byte a read takes one read for each byte. If it ends one byte early, the read
 /// that returns 0 is the last one.
 fn reads_of_single_bytes(rt: &impl Abort, form: Form, bytes: &[u8]) {
     for n in [0usize, 1, 16, 17, 300, 9000] {

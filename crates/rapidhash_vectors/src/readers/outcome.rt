@@ -15,7 +15,7 @@ pub(crate) struct Outcome {
 }
 
 impl Outcome {
-    /// The outcome of a call, of what it returned and the reader as it stands after the call.
+    /// The outcome of a call, from what it returned and the reader after the call.
     pub(crate) fn new(returned: io::Result<u64>, reader: &CountingReader<'_>) -> Self {
         Outcome {
             returned: returned.map_err(|error| error.kind()),

@@ -12,8 +12,8 @@ use std::io;
 use std::io::ErrorKind;
 use std::test::Fail;
 
-/// At how many lengths up to the bytes' own, but for the last, both sized forms return the hash of
-/// the bytes and ask for `SIZE` bytes a read.
+/// At how many lengths below that of the bytes both sized forms return the hash of the bytes and
+/// ask for `SIZE` bytes a read.
 fn lengths_agreed<const SIZE: usize>(bytes: &[u8], secrets: &RapidSecrets) -> io::Result<usize>
     requires { 0 < SIZE }
 {
@@ -58,7 +58,7 @@ fn the_size_changes_no_hash(rt: HostRuntime) -> Result<(), Fail> {
     Ok(())
 }
 
-/// An interrupted read is handed out as it is, whether it is the first, or one in the middle.
+/// The error of an interrupted read is returned as it is, at the first read and at a later one.
 #[test]
 fn an_interrupted_read_keeps_its_kind(rt: HostRuntime) {
     let secrets = RapidSecrets::seed(3);

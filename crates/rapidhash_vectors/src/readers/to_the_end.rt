@@ -1,5 +1,5 @@
 //! The hashes of all that a reader has, V3, micro and nano: what each asks its reader for, and what
-//! is returned where a read fails.
+//! is returned if a read fails.
 
 mod form;
 
@@ -26,7 +26,7 @@ fn each_read_fails(rt: &impl Abort, form: Form, kind: ErrorKind) {
     }
 }
 
-/// A failed read is not tried again, also where it was only interrupted.
+/// A failed read is not retried, even if it was only interrupted.
 #[test]
 fn a_failed_read_is_returned_at_once(rt: HostRuntime) {
     for form in FORMS {
@@ -35,8 +35,8 @@ fn a_failed_read_is_returned_at_once(rt: HostRuntime) {
     }
 }
 
-/// A reader that returns all it is asked for takes a read for each buffer begun and one for the
-/// end, and each asks for the call's own number of bytes.
+/// A reader that returns all it is asked for takes one read for each buffer, the last one partly
+/// filled, and one for the end, and each asks for the call's own number of bytes.
 fn reads_of_buffers(rt: &impl Abort, form: Form, bytes: &[u8]) {
     let size = form.size();
     for n in [0usize, 1, 112, 113, 8191, 8192, 8193, 25000] {

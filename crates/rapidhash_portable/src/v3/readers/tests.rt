@@ -10,8 +10,8 @@ const ZEROS: RapidSecrets = RapidSecrets {
     secrets: [0; 7],
 };
 
-/// Gives one byte a read, fails at read number `fault`, and keeps the longest length that it was
-/// asked for.
+/// Returns one byte a read, fails at read number `fault`, and records the longest length that it
+/// was asked for.
 #[derive(Drop)]
 struct Drip<'a> {
     rest: &'a [u8],
@@ -76,7 +76,7 @@ fn lengths_make_the_difference(rt: HostRuntime) -> Result<(), Fail> {
     Ok(())
 }
 
-// Every read but the last gives one byte. Each in turn fails, and its own error is returned.
+// Every read but the last returns one byte. Each in turn fails, and its own error is returned.
 #[test]
 fn a_fault_is_the_answer(rt: HostRuntime) {
     let text = b"something\n";
@@ -95,7 +95,7 @@ fn a_fault_is_the_answer(rt: HostRuntime) {
     }
 }
 
-// The buffer's size changes no answer, and is the longest length asked for.
+// The buffer's size changes no hash, and is the longest length asked for.
 #[test]
 fn no_read_asks_for_more_than_the_buffer(rt: HostRuntime) -> Result<(), Fail> {
     let bytes: Vec<u8> = (0..300u32).map(|i| (i % 251) as u8).collect(rt.alloc())?;

@@ -22,7 +22,7 @@ fn keeps_the_bytes_before_the_buffered_ones(rt: HostRuntime) -> Result<(), Fail>
     Ok(())
 }
 
-// A large piece is hashed where it stands: behind the buffered bytes lie those of the first chunk.
+// A large piece is hashed in place: the bytes of its first chunk follow the buffered ones.
 #[test]
 fn hashes_large_pieces_in_place(rt: HostRuntime) -> Result<(), Fail> {
     let bytes: Vec<u8> = (0..338u32).map(|i| (i % 251) as u8).collect(rt.alloc())?;
@@ -52,7 +52,8 @@ fn is_as_large_as_its_arrays(rt: HostRuntime) -> Result<(), Fail> {
     Ok(())
 }
 
-// Each of the three hashers, by each cut in two, is its hash in one call; and again after a reset.
+// Each of the three hashers, for each cut in two, returns its hash in one call; and again after a
+// reset.
 #[test]
 fn cuts_change_nothing(rt: HostRuntime) -> Result<(), Fail> {
     let bytes: Vec<u8> = (0..338u32).map(|i| (i % 251) as u8).collect(rt.alloc())?;

@@ -113,7 +113,7 @@ impl Form {
         }
     }
 
-    /// How many bytes a read asks for: 8192 where the call names no size.
+    /// How many bytes a read asks for: 8192 if the call names no size.
     pub(crate) fn size(self) -> usize
         ensures { 0 < result }
     {
