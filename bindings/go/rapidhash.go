@@ -5,7 +5,7 @@
 //
 // A hash is the same on every run and on every machine. cgo finds the library by pkg-config, and
 // go mod edit -replace yervound.example/rapidhash=FOLDER finds this package in its folder. A call may
-// run beside any other; a Stream is used by one goroutine at a time.
+// run at the same time as any other; a Stream is used by one goroutine at a time.
 package rapidhash
 
 /*
@@ -37,14 +37,14 @@ func (secrets *SecretsV1) inner() *C.struct_rapidhash_v1_secrets {
 	return (*C.struct_rapidhash_v1_secrets)(unsafe.Pointer(&secrets.Seed))
 }
 
-// MakeSecrets makes a seed and secrets of a number. Make them once and keep them.
+// MakeSecrets makes a seed and secrets from a number. Make them once and keep them.
 func MakeSecrets(number uint64) *Secrets {
 	secrets := new(Secrets)
 	C.rapidhash_make_secrets(C.uint64_t(number), secrets.inner())
 	return secrets
 }
 
-// SeedSecrets are the default secrets, and a seed made of one word as the C++ library takes it.
+// SeedSecrets are the default secrets, and a seed made from one word as the C++ library takes it.
 func SeedSecrets(word uint64) *Secrets {
 	secrets := new(Secrets)
 	C.rapidhash_seed_secrets(C.uint64_t(word), secrets.inner())
@@ -65,11 +65,11 @@ func SeedSecretsV1(word uint64) *SecretsV1 {
 	return secrets
 }
 
-// A byte to point to where there is none to hash.
+// A byte to point to if there is none to hash.
 var none [1]byte
 
 // The bytes to point to, and their number. What calls C writes &data[0] in the call itself: then cgo
-// looks for pointers in these bytes alone, and not in what they are a part of.
+// looks for pointers only in these bytes, and not in what they are a part of.
 func piece(data []byte) ([]byte, C.size_t) {
 	if len(data) == 0 {
 		return none[:], 0
@@ -89,7 +89,7 @@ func V1WithSeed(data []byte, seed uint64) uint64 {
 	return uint64(C.rapidhash_v1_with_seed(unsafe.Pointer(&bytes[0]), size, C.uint64_t(seed)))
 }
 
-// V1Seeded is the V1 hash with a seed and secrets of the caller's, which are not nil.
+// V1Seeded is the V1 hash with the caller's seed and secrets, which are not nil.
 func V1Seeded(data []byte, secrets *SecretsV1) uint64 {
 	bytes, size := piece(data)
 	return uint64(C.rapidhash_v1_seeded(unsafe.Pointer(&bytes[0]), size, secrets.inner()))
@@ -107,7 +107,7 @@ func V2_0WithSeed(data []byte, seed uint64) uint64 {
 	return uint64(C.rapidhash_v2_0_with_seed(unsafe.Pointer(&bytes[0]), size, C.uint64_t(seed)))
 }
 
-// V2_0Seeded is the V2.0 hash with a seed and secrets of the caller's, which are not nil.
+// V2_0Seeded is the V2.0 hash with the caller's seed and secrets, which are not nil.
 func V2_0Seeded(data []byte, secrets *Secrets) uint64 {
 	bytes, size := piece(data)
 	return uint64(C.rapidhash_v2_0_seeded(unsafe.Pointer(&bytes[0]), size, secrets.inner()))
@@ -125,7 +125,7 @@ func V2_1WithSeed(data []byte, seed uint64) uint64 {
 	return uint64(C.rapidhash_v2_1_with_seed(unsafe.Pointer(&bytes[0]), size, C.uint64_t(seed)))
 }
 
-// V2_1Seeded is the V2.1 hash with a seed and secrets of the caller's, which are not nil.
+// V2_1Seeded is the V2.1 hash with the caller's seed and secrets, which are not nil.
 func V2_1Seeded(data []byte, secrets *Secrets) uint64 {
 	bytes, size := piece(data)
 	return uint64(C.rapidhash_v2_1_seeded(unsafe.Pointer(&bytes[0]), size, secrets.inner()))
@@ -143,7 +143,7 @@ func V2_2WithSeed(data []byte, seed uint64) uint64 {
 	return uint64(C.rapidhash_v2_2_with_seed(unsafe.Pointer(&bytes[0]), size, C.uint64_t(seed)))
 }
 
-// V2_2Seeded is the V2.2 hash with a seed and secrets of the caller's, which are not nil.
+// V2_2Seeded is the V2.2 hash with the caller's seed and secrets, which are not nil.
 func V2_2Seeded(data []byte, secrets *Secrets) uint64 {
 	bytes, size := piece(data)
 	return uint64(C.rapidhash_v2_2_seeded(unsafe.Pointer(&bytes[0]), size, secrets.inner()))
@@ -161,7 +161,7 @@ func V3WithSeed(data []byte, seed uint64) uint64 {
 	return uint64(C.rapidhash_v3_with_seed(unsafe.Pointer(&bytes[0]), size, C.uint64_t(seed)))
 }
 
-// V3Seeded is the V3 hash with a seed and secrets of the caller's, which are not nil.
+// V3Seeded is the V3 hash with the caller's seed and secrets, which are not nil.
 func V3Seeded(data []byte, secrets *Secrets) uint64 {
 	bytes, size := piece(data)
 	return uint64(C.rapidhash_v3_seeded(unsafe.Pointer(&bytes[0]), size, secrets.inner()))
@@ -179,7 +179,7 @@ func V3MicroWithSeed(data []byte, seed uint64) uint64 {
 	return uint64(C.rapidhash_v3_micro_with_seed(unsafe.Pointer(&bytes[0]), size, C.uint64_t(seed)))
 }
 
-// V3MicroSeeded is the V3 micro hash with a seed and secrets of the caller's, which are not nil.
+// V3MicroSeeded is the V3 micro hash with the caller's seed and secrets, which are not nil.
 func V3MicroSeeded(data []byte, secrets *Secrets) uint64 {
 	bytes, size := piece(data)
 	return uint64(C.rapidhash_v3_micro_seeded(unsafe.Pointer(&bytes[0]), size, secrets.inner()))
@@ -197,7 +197,7 @@ func V3NanoWithSeed(data []byte, seed uint64) uint64 {
 	return uint64(C.rapidhash_v3_nano_with_seed(unsafe.Pointer(&bytes[0]), size, C.uint64_t(seed)))
 }
 
-// V3NanoSeeded is the V3 nano hash with a seed and secrets of the caller's, which are not nil.
+// V3NanoSeeded is the V3 nano hash with the caller's seed and secrets, which are not nil.
 func V3NanoSeeded(data []byte, secrets *Secrets) uint64 {
 	bytes, size := piece(data)
 	return uint64(C.rapidhash_v3_nano_seeded(unsafe.Pointer(&bytes[0]), size, secrets.inner()))
@@ -209,7 +209,7 @@ func V3Protected(data []byte) uint64 {
 	return uint64(C.rapidhash_v3_protected(unsafe.Pointer(&bytes[0]), size))
 }
 
-// V3ProtectedSeeded is the protected V3 hash with a seed and secrets of the caller's, which are not nil.
+// V3ProtectedSeeded is the protected V3 hash with the caller's seed and secrets, which are not nil.
 func V3ProtectedSeeded(data []byte, secrets *Secrets) uint64 {
 	bytes, size := piece(data)
 	return uint64(C.rapidhash_v3_protected_seeded(unsafe.Pointer(&bytes[0]), size, secrets.inner()))

@@ -124,7 +124,7 @@ func TestTakesWhatWritersTake(t *testing.T) {
 	}
 }
 
-// Bytes, secrets and a stream beside pointers of Go's, at which cgo stops where it is given them all.
+// Bytes, secrets and a stream next to Go pointers; cgo stops if it sees those.
 func TestBesidePointers(t *testing.T) {
 	type mixed struct {
 		before  *int

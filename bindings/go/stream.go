@@ -42,9 +42,9 @@ import (
 	"unsafe"
 )
 
-// A Stream is a message in pieces, by V3, micro or nano. It is a hash.Hash64 and so an io.Writer.
-// NewV3, NewV3Micro or NewV3Nano starts it. It keeps a copy of its secrets, and a copy of it by = goes
-// on alone.
+// A Stream is a message in pieces, for V3, micro or nano. It is a hash.Hash64 and so an io.Writer.
+// NewV3, NewV3Micro or NewV3Nano starts it. It keeps a copy of its secrets, and a copy of it by = is
+// independent of it.
 type Stream struct {
 	inner   C.struct_rapidhash_stream
 	secrets Secrets
@@ -53,17 +53,17 @@ type Stream struct {
 
 var _ hash.Hash64 = (*Stream)(nil)
 
-// NewV3 starts a stream by V3. Where secrets is nil, the default ones are taken.
+// NewV3 starts a stream for V3. If secrets is nil, the default ones are used.
 func NewV3(secrets *Secrets) *Stream {
 	return start(7, secrets)
 }
 
-// NewV3Micro starts a stream by micro.
+// NewV3Micro starts a stream for micro.
 func NewV3Micro(secrets *Secrets) *Stream {
 	return start(5, secrets)
 }
 
-// NewV3Nano starts a stream by nano.
+// NewV3Nano starts a stream for nano.
 func NewV3Nano(secrets *Secrets) *Stream {
 	return start(3, secrets)
 }
@@ -77,7 +77,7 @@ func start(lanes int, secrets *Secrets) *Stream {
 	return stream
 }
 
-// Write adds a piece to the message. It takes all of it, and the error is nil.
+// Write adds a whole piece to the message, and the error is nil.
 func (stream *Stream) Write(data []byte) (int, error) {
 	bytes, size := piece(data)
 	C.go_write(&stream.inner, stream.secrets.inner(), unsafe.Pointer(&bytes[0]), size)
@@ -104,7 +104,7 @@ func (stream *Stream) Size() int {
 	return 8
 }
 
-// BlockSize is how many bytes one turn of the hash takes.
+// BlockSize is how many bytes the hash folds at a time.
 func (stream *Stream) BlockSize() int {
 	return stream.block
 }

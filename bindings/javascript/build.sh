@@ -1,7 +1,7 @@
 #!/usr/bin/env bash
 # Proves and builds the C library for WebAssembly with 64-bit memory, as build/rapidhash_c.wasm. It
-# works on a copy of the crates, where the library's row names the other target. The copy stands
-# outside of the repository, for the gate refuses a second crates.txt. What was proved is kept in
+# works on a copy of the crates, in which the library's row names the other target. The copy is
+# outside the repository, since the gate refuses a second crates.txt. What was proved is kept in
 # build/wasm.tar, about 1 GB: the first time takes minutes, and the next one seconds.
 set -eu
 

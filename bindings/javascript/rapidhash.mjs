@@ -4,7 +4,7 @@
 //     const hash = (await load()).v3(new TextEncoder().encode("hello"));
 //
 // A hash is a BigInt below 2n ** 64n, the same on every machine. `data` is an ArrayBuffer or a view of
-// one. Needs WebAssembly with 64-bit memory: Node 20 has it behind --experimental-wasm-memory64. No
+// one. Needs WebAssembly with 64-bit memory: Node 20 has it with --experimental-wasm-memory64. No
 // other Node and no browser was tried.
 
 /** The bytes of an ArrayBuffer or of a view of one. */
@@ -21,14 +21,14 @@ function word(number) {
   return big;
 }
 
-/** Refuses two seeds at once. */
+/** Refuses a seed together with secrets. */
 function choose({ seed, secrets } = {}) {
   if (seed !== undefined && secrets !== undefined)
     throw new TypeError("secrets have a seed of their own: give one of the two");
   return { seed, secrets };
 }
 
-/** What WebAssembly.instantiate takes: bytes stay, and a path or a URL is read. */
+/** What WebAssembly.instantiate accepts: bytes are passed on, and a path or a URL is read. */
 async function read(source) {
   if (source instanceof ArrayBuffer || ArrayBuffer.isView(source)) return source;
   if (!globalThis.process?.versions?.node) return (await fetch(source)).arrayBuffer();
@@ -43,8 +43,8 @@ export async function load(source = new URL("../../build/rapidhash_c.wasm", impo
 
 const streamSize = 216;
 
-/** The exports, and their memory. It never grows: above the library's own part stand secrets, a
- * stream, and room for the bytes of one call. */
+/** The exports, and their memory. It never grows: after the library's own part it has secrets,
+ * a stream, and room for the bytes of one call. */
 class Library {
   constructor(exports) {
     this.exports = exports;
@@ -61,7 +61,7 @@ class Library {
     return result === undefined ? undefined : BigInt.asUintN(64, result);
   }
 
-  /** Puts bytes that fit into the room, and returns where they stand. */
+  /** Copies bytes that fit into the memory, and returns where they are. */
   put(bytes) {
     this.memory.set(bytes, this.atBytes);
     return [this.atBytes, bytes.length];
@@ -71,7 +71,7 @@ class Library {
     return new BigUint64Array(this.memory.buffer, this.atSecrets, count);
   }
 
-  /** Puts secrets into the memory, and returns where they stand. */
+  /** Copies secrets into the memory, and returns where they are. */
   give(secrets, count) {
     if (!(secrets instanceof BigUint64Array) || secrets.length !== count)
       throw new TypeError(`these secrets are a BigUint64Array of ${count} words, the seed first`);
@@ -79,14 +79,14 @@ class Library {
     return this.atSecrets;
   }
 
-  /** Secrets that an export makes of a number. */
+  /** Secrets that an export makes from a number. */
   take(name, count, number) {
     this.call(name, word(number), this.atSecrets);
     return this.words(count).slice();
   }
 }
 
-/** A message in pieces. Its state stays in an array of its own, and visits the memory for a call. */
+/** A message in pieces. Its state is a separate array, which is copied into the memory for a call. */
 class Stream {
   #library;
   #secrets;
@@ -136,7 +136,7 @@ class Stream {
 }
 
 /** The call of a version with `count` words of secrets. A message that is longer than the room goes
- * through a stream of `lanes` lanes, where the version has one. */
+ * through a stream of `lanes` lanes, if the version has one. */
 function form(library, name, count, lanes) {
   return (data, options) => {
     const { seed, secrets } = choose(options);
@@ -156,7 +156,7 @@ function form(library, name, count, lanes) {
   };
 }
 
-/** What load gives: each call takes data and, where wanted, { seed } or { secrets }. `room` is the
+/** What load returns: each call takes data and, optionally, { seed } or { secrets }. `room` is the
  * longest message of V1, V2 and protected V3 in bytes. */
 function calls(library) {
   const stream = (lanes) => class extends Stream {

@@ -2,7 +2,7 @@
 //
 //     make wasm && node --experimental-wasm-memory64 bindings/javascript/test.mjs
 //
-// Where this runtime has no 64-bit memory it says so, and ends with status 77.
+// If this runtime has no 64-bit memory, it says so and ends with status 77.
 import assert from "node:assert/strict";
 import { test } from "node:test";
 

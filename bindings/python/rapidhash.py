@@ -5,11 +5,11 @@
     True
 
 A hash is an integer below 2**64, the same on every machine. `data` is anything with a buffer that is
-laid out in one piece: bytes, bytearray, memoryview, array.array. A call lets other threads run only
-where ctypes does.
+laid out in one piece: bytes, bytearray, memoryview, array.array. Other threads run during a call as
+far as ctypes lets them.
 
-The library is looked for where the environment variable RAPIDHASH_LIBRARY says, else where the
-system's loader finds it.
+The library is the file that the environment variable RAPIDHASH_LIBRARY names, or else the one that
+the system's loader finds.
 """
 
 import ctypes
@@ -62,7 +62,7 @@ def _buffer(data):
 
 
 def _word(number):
-    """A seed word, which ctypes would cut to its low 64 bits unsaid."""
+    """A seed word, which ctypes would silently cut to its low 64 bits."""
     if not 0 <= number < 1 << 64:
         raise OverflowError("a seed is an integer from 0 to 2**64 - 1")
     return number
@@ -116,7 +116,7 @@ _finish = _call("rapidhash_stream_finish", ctypes.c_uint64, ctypes.POINTER(_Stre
 
 
 def make_secrets(number, version=3):
-    """A seed and secrets of one's own, made of a number from 0 to 2**64 - 1, for V1 (`version` 1) or
+    """A seed and secrets made from a number from 0 to 2**64 - 1, for V1 (`version` 1) or
     for all others."""
     secrets = _SecretsV1() if version == 1 else _Secrets()
     (_make_v1 if version == 1 else _make)(_word(number), ctypes.byref(secrets))
@@ -124,7 +124,7 @@ def make_secrets(number, version=3):
 
 
 class V3:
-    """A message that is hashed piece by piece, with the habits of hashlib's objects."""
+    """A message that is hashed piece by piece, with the methods of hashlib's objects."""
 
     name = "rapidhash_v3"
     digest_size = 8
@@ -172,7 +172,7 @@ class V3:
 
 
 class V3Micro(V3):
-    """As V3, by five lanes: the hash is V3's up to 80 bytes."""
+    """As V3, with five lanes: the hash is V3's up to 80 bytes."""
 
     name = "rapidhash_v3_micro"
     block_size = 80
@@ -180,7 +180,7 @@ class V3Micro(V3):
 
 
 class V3Nano(V3):
-    """As V3, by three lanes: the hash is V3's up to 48 bytes."""
+    """As V3, with three lanes: the hash is V3's up to 48 bytes."""
 
     name = "rapidhash_v3_nano"
     block_size = 48

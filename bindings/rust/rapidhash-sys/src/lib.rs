@@ -1,5 +1,5 @@
-//! Declarations of the C library rapidhash_c, as its header `rapidhash_c.h` has them. The crate
-//! `yervound-rapidhash` puts safe calls over them:
+//! Declarations of the C library rapidhash_c, as in its header `rapidhash_c.h`. The crate
+//! `yervound-rapidhash` has safe calls over them:
 //!
 //! ```
 //! let bytes = b"hello";
@@ -33,7 +33,7 @@ pub struct rapidhash_secrets {
     pub secrets: [u64; 7],
 }
 
-/// A message in pieces. Its fields are the library's own: start it, and touch none.
+/// A message in pieces. Its fields belong to the library: start it, and do not touch them.
 #[repr(C)]
 #[derive(Clone, Copy, Debug)]
 pub struct rapidhash_stream {
@@ -53,7 +53,7 @@ macro_rules! version {
             pub fn $plain(bytes: *const c_void, len: usize) -> u64;
             /// The hash with the default secrets and one seed word.
             pub fn $with_seed(bytes: *const c_void, len: usize, seed: u64) -> u64;
-            /// The hash with a seed and secrets of the caller's.
+            /// The hash with the caller's seed and secrets.
             pub fn $seeded(bytes: *const c_void, len: usize, secrets: *const $secrets) -> u64;
         }
     };
@@ -105,37 +105,37 @@ version!(
 unsafe extern "C" {
     /// V3 with PROTECTED, with the default seed and secrets.
     pub fn rapidhash_v3_protected(bytes: *const c_void, len: usize) -> u64;
-    /// V3 with PROTECTED, with a seed and secrets of the caller's.
+    /// V3 with PROTECTED, with the caller's seed and secrets.
     pub fn rapidhash_v3_protected_seeded(
         bytes: *const c_void,
         len: usize,
         secrets: *const rapidhash_secrets,
     ) -> u64;
 
-    /// A seed and secrets of V1, made of a number.
+    /// A seed and secrets of V1, made from a number.
     pub fn rapidhash_v1_make_secrets(number: u64, secrets: *mut rapidhash_v1_secrets);
-    /// A seed and secrets of all other versions, made of a number.
+    /// A seed and secrets of all other versions, made from a number.
     pub fn rapidhash_make_secrets(number: u64, secrets: *mut rapidhash_secrets);
-    /// The default secrets of V1, and a seed made of one seed word.
+    /// The default secrets of V1, and a seed made from one seed word.
     pub fn rapidhash_v1_seed_secrets(seed: u64, secrets: *mut rapidhash_v1_secrets);
-    /// The default secrets of all other versions, and a seed made of one seed word.
+    /// The default secrets of all other versions, and a seed made from one seed word.
     pub fn rapidhash_seed_secrets(seed: u64, secrets: *mut rapidhash_secrets);
 
     /// Adds the next `len` bytes to the message.
     pub fn rapidhash_stream_write(stream: *mut rapidhash_stream, bytes: *const c_void, len: usize);
     /// The hash of the message so far. It changes nothing.
     pub fn rapidhash_stream_finish(stream: *const rapidhash_stream) -> u64;
-    /// Forgets the message. The secrets and the version stay.
+    /// Forgets the message. The secrets and the version do not change.
     pub fn rapidhash_stream_reset(stream: *mut rapidhash_stream);
 }
 
-/// A started stream with 7, 5 or 3 lanes, as the header's inline function makes it. The three
-/// functions below name them.
+/// A started stream with 7, 5 or 3 lanes, as the header's inline function makes it. Use one of
+/// the three functions below.
 ///
 /// # Safety
 ///
-/// `lanes` is 7, 5 or 3. `secrets` points to secrets that stay where they are, and that nothing
-/// writes, for as long as the stream or a copy of it is in use.
+/// `lanes` is 7, 5 or 3. `secrets` points to secrets that stay in place, and that nothing writes,
+/// as long as the stream or a copy of it is in use.
 pub unsafe fn rapidhash_stream_start(
     lanes: usize,
     secrets: *const rapidhash_secrets,
@@ -148,38 +148,38 @@ pub unsafe fn rapidhash_stream_start(
         len: 0,
         lanes,
     };
-    // SAFETY: every field of the stream is set, and its secrets are readable by the caller's word.
+    // SAFETY: every field is set, and the caller promises that the secrets are readable.
     unsafe { rapidhash_stream_reset(&mut stream) };
     stream
 }
 
-/// Starts a stream by V3.
+/// Starts a stream for V3.
 ///
 /// # Safety
 ///
-/// As `rapidhash_stream_start` wants its secrets.
+/// The requirements on `secrets` are those of `rapidhash_stream_start`.
 pub unsafe fn rapidhash_v3_start(secrets: *const rapidhash_secrets) -> rapidhash_stream {
-    // SAFETY: the caller's word.
+    // SAFETY: the caller meets the requirements.
     unsafe { rapidhash_stream_start(7, secrets) }
 }
 
-/// Starts a stream by micro.
+/// Starts a stream for micro.
 ///
 /// # Safety
 ///
-/// As `rapidhash_stream_start` wants its secrets.
+/// The requirements on `secrets` are those of `rapidhash_stream_start`.
 pub unsafe fn rapidhash_v3_micro_start(secrets: *const rapidhash_secrets) -> rapidhash_stream {
-    // SAFETY: the caller's word.
+    // SAFETY: the caller meets the requirements.
     unsafe { rapidhash_stream_start(5, secrets) }
 }
 
-/// Starts a stream by nano.
+/// Starts a stream for nano.
 ///
 /// # Safety
 ///
-/// As `rapidhash_stream_start` wants its secrets.
+/// The requirements on `secrets` are those of `rapidhash_stream_start`.
 pub unsafe fn rapidhash_v3_nano_start(secrets: *const rapidhash_secrets) -> rapidhash_stream {
-    // SAFETY: the caller's word.
+    // SAFETY: the caller meets the requirements.
     unsafe { rapidhash_stream_start(3, secrets) }
 }
 

@@ -1,4 +1,4 @@
-//! The rapidhash family of hashes, over a C library whose every function is proved.
+//! The rapidhash family of hashes, over a C library of which every function is proved.
 //!
 //! ```
 //! use yervound_rapidhash::v3;
@@ -7,7 +7,7 @@
 //! ```
 //!
 //! `cargo` finds the library by pkg-config, or in the folder that RAPIDHASH_LIB_DIR names. A hash
-//! is the same on every run. A message that comes in pieces goes through a [`Stream`].
+//! is the same on every run. Use a [`Stream`] for a message in pieces.
 #![deny(missing_docs)]
 
 use std::io;
@@ -24,8 +24,8 @@ macro_rules! secrets {
         pub struct $name($inner);
 
         impl $name {
-            /// A seed and secrets made of a number, each with bits set in its upper, its middle and
-            /// its lower part. Make them once and keep them.
+            /// A seed and secrets made from a number, each with bits set in its upper, its middle
+            /// and its lower part. Make them once and keep them.
             pub fn make(number: u64) -> Self {
                 let mut made = Self::from_words(0, [0; $count]);
                 // SAFETY: the struct is this function's own, and laid out as C lays it out.
@@ -33,7 +33,7 @@ macro_rules! secrets {
                 made
             }
 
-            /// The default secrets, and a seed made of one word as the C++ library takes it.
+            /// The default secrets, and a seed made from one word as the C++ library takes it.
             pub fn with_seed(word: u64) -> Self {
                 let mut made = Self::from_words(0, [0; $count]);
                 // SAFETY: as in `make`.
@@ -41,7 +41,7 @@ macro_rules! secrets {
                 made
             }
 
-            /// The seed and the secrets that the caller has, as they are.
+            /// The given seed and secrets, as they are.
             pub const fn from_words(seed: u64, secrets: [u64; $count]) -> Self {
                 type Inner = $inner;
                 Self(Inner { seed, secrets })
@@ -103,7 +103,7 @@ macro_rules! call {
         }
     };
     ($name:ident, $inner:path, $of:literal, $secrets:ty) => {
-        #[doc = concat!("The ", $of, " hash of `bytes`, with a seed and secrets of the caller's.")]
+        #[doc = concat!("The ", $of, " hash of `bytes`, with the caller's seed and secrets.")]
         pub fn $name(bytes: &[u8], secrets: &$secrets) -> u64 {
             // SAFETY: as above, and nothing writes the secrets while they are borrowed.
             unsafe { $inner(bytes.as_ptr().cast(), bytes.len(), &secrets.0) }
@@ -160,7 +160,7 @@ call!(
     Secrets
 );
 
-/// A message in pieces, by V3, micro or nano. It borrows its secrets, and a clone of it goes on alone.
+/// A message in pieces, for V3, micro or nano. It borrows its secrets, and a clone is independent.
 ///
 /// ```
 /// use yervound_rapidhash::{Secrets, Stream, v3_seeded};
@@ -177,20 +177,20 @@ pub struct Stream<'s> {
 
 // SAFETY: the stream's one pointer is to secrets that it shares and never writes, as `&Secrets` does.
 unsafe impl Send for Stream<'_> {}
-// SAFETY: as above; what takes a shared stream writes nothing.
+// SAFETY: as above; a shared stream is never written.
 unsafe impl Sync for Stream<'_> {}
 
 impl<'s> Stream<'s> {
-    /// A stream by V3.
+    /// A stream for V3.
     pub fn v3(secrets: &'s Secrets) -> Self {
-        // SAFETY: the secrets stay where they are, unwritten, while the stream borrows them.
+        // SAFETY: the secrets stay in place and are not written while the stream borrows them.
         Self {
             inner: unsafe { c::rapidhash_v3_start(&secrets.0) },
             secrets: PhantomData,
         }
     }
 
-    /// A stream by micro.
+    /// A stream for micro.
     pub fn micro(secrets: &'s Secrets) -> Self {
         // SAFETY: as in `v3`.
         Self {
@@ -199,7 +199,7 @@ impl<'s> Stream<'s> {
         }
     }
 
-    /// A stream by nano.
+    /// A stream for nano.
     pub fn nano(secrets: &'s Secrets) -> Self {
         // SAFETY: as in `v3`.
         Self {
@@ -228,7 +228,7 @@ impl<'s> Stream<'s> {
     }
 }
 
-/// A piece is taken whole, and no write fails.
+/// A write accepts the whole piece, and never fails.
 impl io::Write for Stream<'_> {
     fn write(&mut self, bytes: &[u8]) -> io::Result<usize> {
         Stream::write(self, bytes);
