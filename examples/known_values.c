@@ -1,5 +1,5 @@
 /* Hashes from C: every call of the library. Prints a line for each value, and ends with status 1
- * where a value is not the known one. The known values are those of the Rust crate rapidhash 4.5.1. */
+ * if a value is not the known one. The known values are those of the Rust crate rapidhash 4.5.1. */
 #include <inttypes.h>
 #include <stdio.h>
 
