@@ -11,7 +11,7 @@ use std::io::{self, BufRead, ErrorKind, Write};
 /// Why the program stops between its files.
 #[derive(Debug, thiserror::Error, Drop)]
 pub enum LookupError {
-    /// There is no filter for so many keys at such a rate.
+    /// There is no filter for this many keys at this rate.
     #[error("{0}")]
     Shape(#[from] ShapeError),
     /// An allocation failed.

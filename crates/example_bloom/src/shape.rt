@@ -5,7 +5,7 @@ ghost use Rattle.std.specs.Prelude.{◌≡◌, ◌<◌, ◌≤◌, ◌^◌, IfOk
 /// The most bits of a filter, 512 MiB: places come from the 32-bit halves of a hash.
 pub const MOST_BITS: u64 = 4294967296;
 
-/// Why there is no filter for so many keys at such a rate.
+/// Why there is no filter for this many keys at this rate.
 #[derive(Debug, Clone, Copy, PartialEq, Eq, thiserror::Error, Drop)]
 pub enum ShapeError {
     /// A filter that finds one in one other key finds them all.

@@ -1,5 +1,6 @@
-//! Times the generator, the stream hasher, the hasher of maps, and maps: `rapidhash_memory_bench FORM NUMBER PLACE`,
-//! for `bench/memory`. It prints a number that all its work goes into, and the nanoseconds it took.
+//! Times the generator, the stream hasher, the hasher of maps, and maps:
+//! `rapidhash_memory_bench FORM NUMBER PLACE`, for `bench/memory`. It prints a number that all its
+//! work goes into, and the nanoseconds that it took.
 #![tactic(auto)]
 
 mod draws;

@@ -34,7 +34,7 @@ fn streamed(message: &[u8], size: usize, secrets: &RapidSecrets) -> u64 {
     hasher.finish()
 }
 
-/// The hashes of a message by pieces of `size` bytes, or in one call where `size` is 0, joined. Each
+/// The hashes of a message by pieces of `size` bytes, or in one call if `size` is 0, joined. Each
 /// pass leaves out one byte more.
 fn joined(message: &[u8], size: usize, number: u64) -> u64 {
     let secrets = RapidSecrets::seed(number);

@@ -45,7 +45,7 @@ fn pairs(rt: &impl AllocGlobal, count: usize) -> Result<Vec<StreamOp<'static>>, 
     Ok(ops)
 }
 
-/// Whether these are so many hashes, of no byte and of one byte by turns.
+/// Whether these are this many hashes, of no byte and of one byte by turns.
 fn alternate(answers: &[u64], count: usize) -> bool {
     for i in 0..answers.len() {
         if answers[i] != i as u64 % 2 * OF_ONE {
