@@ -24,7 +24,7 @@ items_of (Some leaders) = leaders.items
 abbrev pub leaders_of : {S Z : Type 0} → HashMap ℕ (Vec ℕ Z) S → ℕ → List ℕ
 leaders_of by_key key = items_of (get nat_eq by_key key)
 
--- the leaders behind a look-up, to which a file is added that is equal to none of them
+-- the leaders after a look-up: a file that is equal to none of them is added
 abbrev pub leaders_after : Result (Option ℕ) Error → ℕ → List ℕ → List ℕ
 leaders_after (Ok None) file leaders = leaders ++ file ∷ []
 leaders_after (Ok (Some leader)) file leaders = leaders

@@ -1,4 +1,4 @@
--- What a check answers.
+-- What a check reports.
 use Rattle.std.specs.Prelude.{ℕ, ◌≡◌, ◌≢◌, ⊤, Bool, true, false, List, [], ◌∷◌, Option, IfSome}
 use Rattle.rapidhash.specs.Form.{v3}
 use Rattle.rapidhash.specs.Options.{options}

@@ -4,11 +4,11 @@ use Rattle.std.specs.Int.{to_be_bytes, w64}
 use Rattle.std.specs.List.{list_any}
 use Rattle.hex.specs.Hex.{encode_lower}
 
--- the letter that stands behind a backslash for a byte of a name: a backslash, n for a newline, r for a carriage return
+-- the letter that represents a byte of a name after a backslash: a backslash, n for a newline, r for a carriage return
 abbrev pub letter_of : ℕ → Option ℕ
 letter_of c = cond (nat_eq c 92) (Some 92) (cond (nat_eq c 10) (Some 110) (cond (nat_eq c 13) (Some 114) None))
 
--- the byte that a letter behind a backslash represents
+-- the byte that a letter after a backslash represents
 abbrev pub byte_of : ℕ → Option ℕ
 byte_of c = cond (nat_eq c 92) (Some 92) (cond (nat_eq c 110) (Some 10) (cond (nat_eq c 114) (Some 13) None))
 
@@ -38,7 +38,7 @@ plain_line hash name = digits_of hash ++ 32 ∷ 32 ∷ escaped name
 abbrev pub line_of : ℕ → List ℕ → List ℕ
 line_of hash name = cond (needs_escape name) (92 ∷ plain_line hash name) (plain_line hash name)
 
--- the name that an escaped text stands for, behind the bytes that were read already; none where a backslash stands before another byte
+-- the name that an escaped text represents, after the bytes that were read already; none if a backslash comes before another byte
 unfoldable pub unescape_from : List ℕ → Bool → List ℕ → Option (List ℕ)
 unescape_from name false [] = Some name
 unescape_from name true [] = None

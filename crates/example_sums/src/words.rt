@@ -46,9 +46,9 @@ pub fn command<'a>(alloc: Global) -> Result<Command<'a>, AllocError> {
         "Read lines from the files, and check the files that they name",
     );
     let quiet = flag(alloc, "quiet", "Print no line for a file that has its hash");
-    let status = flag(alloc, "status", "Print nothing, the status tells");
+    let status = flag(alloc, "status", "Print nothing but errors");
     let missing = flag(alloc, "ignore-missing", "Leave out files that are missing");
-    let strict = flag(alloc, "strict", "Fail where a line is malformed");
+    let strict = flag(alloc, "strict", "Fail if a line is malformed");
     let warn = flag(alloc, "warn", "Name each malformed line");
     Command::new(alloc, "rapidsum")
         .version("1.0")

@@ -1,4 +1,4 @@
--- The small generator: its states go one cycle by steps of an odd number, and each gives a word.
+-- The small generator: its states form one cycle, by steps of an odd number, and each state has a word.
 use Rattle.std.specs.Prelude.{ℕ, zero, suc, ◌+◌, ◌*◌, ◌/◌, ◌%◌, ◌^◌, false, bit_xor, List, [], ◌++◌, take}
 use Rattle.std.specs.Int.{w64, to_le_bytes}
 use Rattle.rand_core.specs.Steps.{steps_u64_low, stream_of}
@@ -10,7 +10,7 @@ use Rattle.rapidhash_portable.specs.Secrets.{s0, s1, s2}
 abbrev pub state_after : ℕ → ℕ → ℕ
 state_after seed count = (seed + count * s0) % 2 ^ 64
 
--- the word that a state gives
+-- the word of a state
 abbrev pub word_of : ℕ → ℕ
 word_of state = mix false state (bit_xor state s1)
 
@@ -18,11 +18,11 @@ word_of state = mix false state (bit_xor state s1)
 abbrev pub word_at : ℕ → ℕ → ℕ
 word_at seed count = word_of (state_after seed count)
 
--- the next word, and the state that gives it
+-- the next word, and the state that it comes from
 abbrev pub next_word : ℕ → ℕ × ℕ
 next_word seed = (word_at seed 1, state_after seed 1)
 
--- what all calls answer from a state on: half a word is its low half, and bytes are those of whole words
+-- what all calls return from a state on: half a word is its low half, and bytes are those of whole words
 abbrev pub generator_stream : ℕ → Stream
 generator_stream state = stream_of (steps_u64_low next_word) state
 
@@ -39,16 +39,16 @@ words_for size = (size + 7) / 8
 abbrev pub first_bytes_of : ℕ → ℕ → List ℕ
 first_bytes_of seed size = take size (bytes_of_words seed (words_for size))
 
--- a moment as one number: the low half of its seconds above its nanoseconds
+-- a time as one number: the low half of its seconds above its nanoseconds
 abbrev pub moment_of : ℕ → ℕ → ℕ
 moment_of secs nanos = secs % 2 ^ 32 * 2 ^ 32 + nanos
 
--- the seed that a moment makes of another
+-- the seed that a time makes of another seed
 abbrev pub seed_at_moment : ℕ → ℕ → ℕ → ℕ
 seed_at_moment seed secs nanos =
     let moment = mix false (bit_xor (moment_of secs nanos) s0) (bit_xor seed s1) in
     mix false (bit_xor moment s0) s2
 
--- the word that a moment gives: that of the seed it makes
+-- the word of a time: that of the seed it makes
 abbrev pub word_at_moment : ℕ → ℕ → ℕ → ℕ
 word_at_moment seed secs nanos = word_of (seed_at_moment seed secs nanos)

@@ -1,4 +1,4 @@
--- The seed of a hasher after a list of items, and its answer.
+-- The seed of a hasher after a list of items, and the hash that it returns.
 use Rattle.std.specs.Prelude.{ℕ, ◌≡◌, ◌+◌, ◌/◌, ◌%◌, ◌^◌, ◌<◌, Bool, true, false, if◌then◌else◌, nat_le, nat_lt, List, [], ◌∷◌, ◌++◌, All, fold, slice_index, bit_xor}
 use Rattle.rapidhash_portable.specs.declared.form.Options.{Options}
 use Rattle.rapidhash_portable.specs.Memory.{memory_hash}
@@ -6,7 +6,7 @@ use Rattle.rapidhash_portable.specs.Multiply.{mix}
 use Rattle.rapidhash_portable.specs.Secrets.{default_secrets}
 use Rattle.rapidhash.specs.Sponge.{Item, Bytes, Wide, Num, IsItem, end_after, end_of, block}
 
--- the steps that an item brings with a sponge, behind integers that end at `end`: its own, or that of the block which an integer closes by opening the next
+-- the steps that an item adds with a sponge, after integers that end at `end`: its own, or that of the block which an integer closes by opening the next
 abbrev pub steps_of : (ℕ → ℕ) → ℕ × ℕ → Item → List Item
 steps_of blocks end (Bytes bytes) = Bytes bytes ∷ []
 steps_of blocks end (Wide value) = Wide value ∷ []
@@ -42,13 +42,13 @@ unfoldable pub width : Bool → List Item → ℕ
 width true items = (end_of items).1
 width false items = 0
 
--- the answer from a seed and a last block: the block is a step where there is one, and the avalanche mixes with the default secret
+-- the hash from a seed and a last block: the block is a step where there is one, and the avalanche mixes with the default secret
 abbrev pub closed : Options → List ℕ → ℕ → ℕ → ℕ → ℕ
 closed options secrets seed pending width =
     let last = if nat_lt 0 width then step options secrets seed (Wide pending) else seed in
     if options.avalanche then mix options.protected last (slice_index default_secrets 1) else last
 
--- the answer after a start and a list of items
+-- the hash after a start and a list of items
 unfoldable pub finished : Options → Bool → List ℕ → ℕ → List Item → ℕ
 finished options sponge secrets start items = closed options secrets (seed_after options sponge secrets start items) (pending sponge items) (width sponge items)
 

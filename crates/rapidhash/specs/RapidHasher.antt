@@ -1,4 +1,4 @@
--- What contracts see of `RapidHasher`: whose numbers represent a start and a list of items, and what a write and an answer are.
+-- What contracts see of `RapidHasher`: whose numbers represent a start and a list of items, and what a write does and `finish` returns.
 use Rattle.std.specs.Prelude.{ℕ, ◌≡◌, Bool, not, nat_eq, List, [], ◌∷◌, ◌++◌}
 use Rattle.std.specs.Borrow.{Bor}
 use Rattle.rapidhash_portable.specs.declared.form.Options.{Options}
@@ -33,7 +33,7 @@ pub record Absorbs {avalanche sponge compact protected : ℕ} (old new : RapidHa
   pub secrets : secrets_of new ≡ secrets_of old
   pub stands : (start : ℕ) (items : List Item) → Stands old start items → Stands new start (items ++ item ∷ [])
 
--- for every start and list that the hasher represents, the answer is theirs
+-- for every start and list that the hasher represents, the result is their hash
 abbrev pub Answers : {avalanche sponge compact protected : ℕ} → RapidHasher avalanche sponge compact protected → ℕ → Type 0
 Answers hasher answer =
     (start : ℕ) (items : List Item) → Stands hasher start items → answer ≡ finished (options_of hasher) (has_sponge hasher) hasher.secrets.now start items
@@ -47,7 +47,7 @@ abbrev pub written : {avalanche sponge compact protected : ℕ} → RapidHasher 
 written hasher bytes =
     record hasher { seed = memory_hash (options_of hasher) bytes hasher.seed hasher.secrets.now }
 
--- the answer of a hasher
+-- the hash that a hasher returns
 abbrev pub answer_of : {avalanche sponge compact protected : ℕ} → RapidHasher avalanche sponge compact protected → ℕ
 answer_of hasher =
     closed (options_of hasher) hasher.secrets.now hasher.seed hasher.sponge.bits hasher.sponge.width

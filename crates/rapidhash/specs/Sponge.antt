@@ -23,7 +23,7 @@ IsItem (Bytes bytes) = All (λ byte. byte < 2 ^ 8) bytes
 IsItem (Wide value) = value < 2 ^ 128
 IsItem (Num width value) = IsWidth width × (value < 2 ^ width)
 
--- the block and the bit where an integer stands: behind the one before it, which ends at `end`, where the block has room, else at bit 0 of the next block
+-- the block and the bit where an integer is placed: after the one before it, which ends at `end`, where the block has room, else at bit 0 of the next block
 abbrev pub place_of : ℕ × ℕ → ℕ → ℕ × ℕ
 place_of end width = if nat_le (end.1 + width) 128 then end else (end.0 + 1, 0)
 

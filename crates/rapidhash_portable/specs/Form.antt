@@ -52,7 +52,7 @@ tail_seed (V1 bug) secrets t seed = if nat_lt 16 t then bit_xor seed (slice_inde
 tail_seed (V2 minor) secrets t seed = seed
 tail_seed (V3 lanes) secrets t seed = seed
 
--- which secrets the pairs of a tail of V2 use: behind rows, and where there are none
+-- which secrets the pairs of a tail of V2 use: after rows, and if there are none
 abbrev pub v2_row_places : List ℕ
 v2_row_places = 2 ∷ 2 ∷ []
 

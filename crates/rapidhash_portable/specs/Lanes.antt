@@ -5,7 +5,7 @@ use Rattle.rapidhash_portable.specs.declared.form.Shape.{Shape}
 use Rattle.rapidhash_portable.specs.Bytes.{word64}
 use Rattle.rapidhash_portable.specs.Multiply.{mix}
 
--- how many rows of `width` pairs stand in `bytes`, of which the last `kept` bytes at the least are in no row
+-- how many rows of `width` pairs `bytes` bytes have, of which at least the last `kept` are in no row
 abbrev pub rows_in : ℕ → ℕ → ℕ → ℕ
 rows_in width kept bytes = (bytes - kept) / (16 * width)
 

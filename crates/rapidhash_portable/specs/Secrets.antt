@@ -88,7 +88,7 @@ default_seed = cpp_seeded 0 2
 unfoldable pub reseeded : ℕ → ℕ → ℕ
 reseeded seed place = premixed seed place
 
--- the global seed that a random word gives
+-- the global seed that is made of a random word
 unfoldable pub global_seed : ℕ → ℕ
 global_seed random = mix false (bit_xor random s0) v1_number
 
@@ -106,10 +106,10 @@ made_secrets random = map (λ place. made_state random (place + 1)) (range_with_
 unfoldable pub source_start : ℕ → ℕ → ℕ
 source_start global random = mix false (bit_xor ((1 + random) % 2 ^ 64) s3) (bit_xor global s4)
 
--- the counter after one answer more
+-- the counter after one more seed
 abbrev pub source_next : ℕ → ℕ
 source_next counter = (counter + s0) % 2 ^ 64
 
--- what a seed source answers at a counter
+-- the seed that a source returns at a counter
 unfoldable pub source_answer : ℕ → ℕ → ℕ
 source_answer random counter = bit_xor counter (mix false (bit_xor counter s2) (bit_xor random s1))

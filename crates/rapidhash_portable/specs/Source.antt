@@ -24,7 +24,7 @@ abbrev pub is_failed : Stop → Bool
 is_failed (Failed read) = true
 is_failed Ended = false
 
--- what becomes of a hash's answer and of the mark: a failed read turns the mark on, and an early end has its own kind
+-- what becomes of a hash's result and of the mark: a failed read turns the mark on, and an early end has its own kind
 abbrev pub Settles : Result ℕ Stop → Result ℕ Error → Bool → Bool → Type 0
 Settles (Ok hash) result old new = (result ≡ Ok hash) × (new ≡ old)
 Settles (Err (Failed read)) result old new = IsErr result × (new ≡ true)

@@ -15,7 +15,7 @@ chunk_count lanes n = rows_in lanes 1 n
 abbrev pub folded_bytes : ℕ → ℕ → ℕ
 folded_bytes lanes n = 16 * (lanes * chunk_count lanes n)
 
--- the data are what the message `x` leaves: its chunks in the lanes, their count, whether there is one, the bytes behind them, and where there is one the 16 bytes before these
+-- the data are what the message `x` leaves: its chunks in the lanes, their count, whether there is one, the bytes after them, and if there is one the 16 bytes before these
 pub record PartsStandFor (protected : Bool) (lanes : ℕ) (parts : Parts) (x : List ℕ) : Type 0 where
   pub folded :
       HaveFolded protected parts.secrets.now.secrets x lanes (replicate 7 parts.secrets.now.seed) parts.folded.lanes (chunk_count lanes (length x))

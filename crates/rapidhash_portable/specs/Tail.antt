@@ -1,4 +1,4 @@
--- The tail: the pairs behind the rows, folded into the seed one after another.
+-- The tail: the pairs after the rows, folded into the seed one after another.
 use Rattle.std.specs.Prelude.{ℕ, ◌+◌, ◌-◌, ◌/◌, Bool, List, [], ◌∷◌, take, map, slice_index}
 use Rattle.rapidhash_portable.specs.Lanes.{step}
 

@@ -1,4 +1,4 @@
--- What a line of words asks for.
+-- What the arguments of a call ask for.
 use Rattle.std.specs.Prelude.{ℕ, ◌+◌, Bool, true, false, not, ◌||◌, bytes_eq, codes, cond, nat_eq, List, [], ◌∷◌, drop, position, filter, Option, None, Some, option_map}
 use Rattle.std.specs.List.{list_any}
 use Rattle.rapidhash_tool.specs.declared.version.Minor.TheVariants.{M0, M1, M2}
@@ -7,16 +7,16 @@ use Rattle.rapidhash_tool.specs.declared.version.Plan.TheVariants.{Help, Refused
 use Rattle.rapidhash_tool.specs.declared.version.RapidhashVersion.{RapidhashVersion}
 use Rattle.rapidhash_tool.specs.declared.version.RapidhashVersion.TheVariants.{V1, V2, V3, V3Micro, V3Nano}
 
--- whether a word is among the words
+-- whether an argument is among the arguments
 abbrev pub occurs : List ℕ → List (List ℕ) → Bool
 occurs word words = list_any (λ w. bytes_eq w word) words
 
--- whether a word begins with a hyphen
+-- whether an argument begins with a hyphen
 abbrev pub is_option : List ℕ → Bool
 is_option [] = false
 is_option (c ∷ cs) = nat_eq c 45
 
--- the word that names a version
+-- the argument that names a version
 abbrev pub word_of : RapidhashVersion → List ℕ
 word_of (V1 protected) = codes "--v1"
 word_of (V2 protected M0) = codes "--v2.0"
@@ -30,7 +30,7 @@ word_of (V3Nano protected) = codes "--v3-nano"
 abbrev pub versions : Bool → List RapidhashVersion
 versions protected = V1 protected ∷ V2 protected M0 ∷ V2 protected M1 ∷ V2 protected M2 ∷ V3 protected ∷ V3Micro protected ∷ V3Nano protected ∷ []
 
--- those of the versions whose word is among the words
+-- those of the versions whose argument is among the arguments
 abbrev pub named : List (List ℕ) → List RapidhashVersion → List RapidhashVersion
 named words = filter (λ version. occurs (word_of version) words)
 
@@ -40,18 +40,18 @@ the_only other [] = Some other
 the_only other (version ∷ []) = Some version
 the_only other (version ∷ second ∷ others) = None
 
--- the version that the words after the program's name choose, and none where two different ones are named
+-- the version that the arguments after the program's name choose, or none if they name two different ones
 abbrev pub version_of : List (List ℕ) → Option RapidhashVersion
 version_of words =
     let protected = occurs (codes "--protected") words in
     the_only (V3 protected) (named words (versions protected))
 
--- whether there are no words, or a help word is among them, the program's name included
+-- whether there are no arguments, or one of them, the program's name included, asks for help
 abbrev pub wants_help : List (List ℕ) → Bool
 wants_help [] = true
 wants_help (name ∷ others) = occurs (codes "--help") (name ∷ others) || occurs (codes "-h") (name ∷ others)
 
--- the least place from 1 on whose word does not begin with a hyphen
+-- the least place from 1 on whose argument does not begin with a hyphen
 abbrev pub file_of : List (List ℕ) → Option ℕ
 file_of words = option_map (λ place. place + 1) (position (λ w. not (is_option w)) (drop 1 words))
 
@@ -60,6 +60,6 @@ abbrev pub run_of : Option RapidhashVersion → Option ℕ → Plan
 run_of None file = Refused
 run_of (Some version) file = Run version file
 
--- the plan of all words, the program's name first
+-- the plan of all arguments, the program's name first
 abbrev pub plan_of : List (List ℕ) → Plan
 plan_of words = cond (wants_help words) Help (run_of (version_of (drop 1 words)) (file_of words))

@@ -1,11 +1,11 @@
--- The faults: their numbers, their texts, and which of them a call may answer.
+-- The errors: their numbers, their texts, and which of them a call may return.
 use Rattle.std.specs.Prelude.{ℕ, ◌<◌, codes, List}
 use Rattle.rapidhash_tool.specs.declared.fault.CliFault.{CliFault}
 use Rattle.rapidhash_tool.specs.declared.fault.CliFault.TheVariants.{File, Memory, Open, Stdin, Versions, Write}
 use Rattle.rapidhash_tool.specs.declared.version.RapidhashVersion.{RapidhashVersion}
 use Rattle.rapidhash_tool.specs.declared.version.RapidhashVersion.TheVariants.{V1, V2, V3, V3Micro, V3Nano}
 
--- each fault's number
+-- each error's number
 abbrev pub number_of : CliFault → ℕ
 number_of Versions = 1
 number_of Open = 2
@@ -14,7 +14,7 @@ number_of Memory = 4
 number_of File = 5
 number_of Write = 6
 
--- each fault's line on standard error, without its newline
+-- each error's line on standard error, without its newline
 abbrev pub text_of : CliFault → List ℕ
 text_of Versions = codes "You must specify a single rapidhash version to use. See --help for more."
 text_of Open = codes "Could not open file."
