@@ -102,6 +102,28 @@ def edits():
         yield f"there are {count} must-fail edits, and docs/PROVED.md says another number"
 
 
+def cases():
+    """Compares what the page on the vector files says of each file and of each table with the files."""
+    data = TOP / "crates" / "rapidhash_replay" / "data"
+    listed, promised, found = set(), 0, 0
+    for line in (data / "README.md").read_text().splitlines() + ["0 cases"]:
+        row, head = re.match(r"\| (`.*?) \| (\d+)", line), re.match(r"([\d,]+) cases", line)
+        if head:
+            if found != promised:
+                yield f"the files of a table have {found} cases, and its heading says {promised}"
+            promised, found = int(head[1].replace(",", "")), 0
+        for name in re.findall(r"`(\w+\.tsv)`", row[1]) if row else []:
+            lines = (data / name).read_text().splitlines()
+            # The first line without a # has the names of the columns.
+            count = sum(1 for text in lines if not text.startswith("#")) - 1
+            listed.add(name)
+            found += count
+            if count != int(row[2]):
+                yield f"{name} has {count} cases, and the page says {row[2]}"
+    for name in {file.name for file in data.glob("*.tsv")} - listed:
+        yield f"no table has {name}"
+
+
 def made_by(*command):
     """What a script that makes a page of the sources tells where the page is not current."""
     done = subprocess.run(command, cwd=TOP, stdout=subprocess.PIPE, stderr=subprocess.STDOUT, text=True)
@@ -160,7 +182,7 @@ def version():
 
 
 for name, check in [("links", links), ("paths", paths), ("limits", limits), ("names", names),
-                    ("edits", edits), ("lines of the programs", program_lines), ("version", version),
+                    ("edits", edits), ("cases", cases), ("lines of the programs", program_lines), ("version", version),
                     ("calls", calls), ("picture of the crates", picture_of_the_crates),
                     ("plot of the speed", plot_of_the_speed)]:
     tell(name, list(check()))
