@@ -39,6 +39,15 @@ PATH=$path run
 ended later_times_of_the_same_sources 0 first 0
 
 new_build
+rm repo/crates/rapidhash_cli/out/rapidhash_cli.built*
+repo/bin/build --adopt rapidhash_cli
+PATH=$path run
+ended adopted_program 0 first 0
+edit second
+run
+ended edit_after_an_adoption 0 second 1 "$changed" "$built"
+
+new_build
 echo more >repo/crates/rapidhash_portable/proofs/f/Invariants.antt
 run
 ended new_file 0 first 1 "$changed" "$built"
