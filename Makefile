@@ -73,7 +73,7 @@ test:
 
 bench:
 	@bench/slices default seeded
-	@bench/run
+	@bench/bulk
 	@bench/files
 	@bench/memory
 	@bench/tool

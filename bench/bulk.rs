@@ -1,11 +1,11 @@
 //! Measures the bulk hashes against the Rust crate and XXH3, in one run: each length's measurements
-//! are interleaved, and the least of many counts. `bench/run` builds and runs it.
+//! are interleaved, and the least of many counts. `bench/bulk` builds and runs it.
 
 use std::hint::black_box;
 use std::time::Instant;
 
 #[cfg(with_crate)]
-mod theirs;
+mod their_bulk;
 
 /// A hash of bytes, called as C calls it: all that are measured are called alike.
 type Hash = unsafe extern "C" fn(*const u8, usize) -> u64;
@@ -132,7 +132,7 @@ fn forms() -> Vec<(&'static str, Hash, Option<Hash>)> {
         ("nano", ours::rapidhash_v3_nano, None),
     ];
     #[cfg(with_crate)]
-    for (form, theirs) in all.iter_mut().zip(theirs::FORMS) {
+    for (form, theirs) in all.iter_mut().zip(their_bulk::FORMS) {
         form.2 = Some(theirs);
     }
     all.retain(|(name, _, _)| std::env::args().len() < 2 || std::env::args().any(|it| it == *name));
@@ -145,7 +145,7 @@ fn pieces() -> Vec<(usize, Hash, Option<Hash>)> {
         ($($size:literal)*) => {
             vec![$({
                 #[cfg(with_crate)]
-                let theirs: Option<Hash> = Some(theirs::v3_in_pieces::<$size>);
+                let theirs: Option<Hash> = Some(their_bulk::v3_in_pieces::<$size>);
                 #[cfg(not(with_crate))]
                 let theirs: Option<Hash> = None;
                 ($size, ours::v3_in_pieces::<$size> as Hash, theirs)
