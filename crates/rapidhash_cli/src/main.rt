@@ -54,10 +54,7 @@ fn run(rt: &HostRuntime) -> Result<(), CliFault> {
         Plan::Run {
             version,
             file: Some(place),
-        } => match words.as_slice().get(place) {
-            Some(path) => hash_named(rt, &version, path.as_str())?,
-            None => return Err(CliFault::Open),
-        },
+        } => hash_named(rt, &version, words.as_slice()[place].as_str())?,
     }
     if rt.stdout().flush().is_err() {
         return Err(CliFault::Write);

@@ -1,5 +1,5 @@
 -- What the arguments of a call ask for.
-use Rattle.std.specs.Prelude.{ℕ, ◌+◌, Bool, true, false, not, ◌||◌, bytes_eq, codes, cond, nat_eq, List, [], ◌∷◌, drop, position, filter, Option, None, Some, option_map}
+use Rattle.std.specs.Prelude.{ℕ, ◌+◌, ◌<◌, Bool, true, false, not, ◌||◌, bytes_eq, codes, cond, nat_eq, List, [], ◌∷◌, drop, position, filter, Option, None, Some, option_map}
 use Rattle.std.specs.List.{list_any}
 use Rattle.rapidhash_tool.specs.declared.version.Minor.TheVariants.{M0, M1, M2}
 use Rattle.rapidhash_tool.specs.declared.version.Plan.{Plan}
@@ -63,3 +63,10 @@ run_of (Some version) file = Run version file
 -- the plan of all arguments, the program's name first
 abbrev pub plan_of : List (List ℕ) → Plan
 plan_of words = cond (wants_help words) Help (run_of (version_of (drop 1 words)) (file_of words))
+
+-- the file that a plan names, if any, is at a place below `count`
+abbrev pub NamesFileBelow : ℕ → Plan → Type 0
+NamesFileBelow count Help = Unit {0}
+NamesFileBelow count Refused = Unit {0}
+NamesFileBelow count (Run version None) = Unit {0}
+NamesFileBelow count (Run version (Some place)) = place < count

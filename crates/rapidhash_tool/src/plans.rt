@@ -1,7 +1,7 @@
 //! The plan that the arguments ask for.
 
-ghost use Rattle.std.specs.Prelude.{◌≡◌, map, string_bytes};
-ghost use Rattle.rapidhash_tool.specs.CommandLine.{plan_of};
+ghost use Rattle.std.specs.Prelude.{◌≡◌, length, map, string_bytes};
+ghost use Rattle.rapidhash_tool.specs.CommandLine.{NamesFileBelow, plan_of};
 
 use crate::version::{Plan, RapidhashVersion};
 use crate::words::{first_plain, has};
@@ -12,7 +12,8 @@ use crate::words::{first_plain, has};
 /// after the name select the version, and the first of them that does not begin with a hyphen names
 /// the file.
 pub fn plan(words: &[String]) -> Plan
-    ensures { result ≡ plan_of (map string_bytes words.now) }
+    ensures is { result ≡ plan_of (map string_bytes words.now) }
+    ensures file { NamesFileBelow (length words.now) result }
 {
     if words.is_empty() || has(words, "--help") || has(words, "-h") {
         return Plan::Help;
