@@ -7,26 +7,26 @@ use Rattle.rapidhash_portable.specs.Tail.{after_tail, picked}
 use Rattle.rapidhash_portable.specs.declared.form.Form.TheVariants.{V3}
 use Rattle.rapidhash_portable.specs.Form.{alternating_bits}
 use Rattle.rapidhash_portable.specs.Words.{last_words}
-use Rattle.rapidhash_portable.specs.Memory.{after_pairs, core_tail_places, memory_hash, memory_shape}
+use Rattle.rapidhash_portable.specs.Memory.{after_pairs, core_tail_places, longest_narrow, longest_rowless, memory_hash, memory_shape}
 use Rattle.rapidhash_portable.specs.declared.form.Options.{Options}
 use Rattle.rapidhash_portable.specs.Hash.{close}
 use Rattle.rapidhash_portable.proofs.FoldedLemmas.{AfterRows-none}
 use Rattle.rapidhash_portable.proofs.TailLemmas.{after_tail-rest, after_tail-short}
 
--- the core up to 48 bytes has no row
-pub memory_shape-none : (n : ℕ) → n ≤ 48 → memory_shape n ≡ no_rows 3
+-- the core's shortest messages have no row
+pub memory_shape-none : (n : ℕ) → n ≤ longest_rowless → memory_shape n ≡ no_rows 3
 unfolding memory_shape
-memory_shape-none n h = rw (le-ltb 400 n (omega arith), le-ltb 48 n h) refl
+memory_shape-none n h = rw (le-ltb longest_narrow n (omega arith), le-ltb longest_rowless n h) refl
 
--- the core up to 400 bytes has rows of three
-pub memory_shape-wide : (n : ℕ) → 48 < n → n ≤ 400 → memory_shape n ≡ wide_shape 3 0 n
+-- the next longer ones have rows of three
+pub memory_shape-wide : (n : ℕ) → longest_rowless < n → n ≤ longest_narrow → memory_shape n ≡ wide_shape 3 0 n
 unfolding memory_shape
-memory_shape-wide n h k = rw (le-ltb 400 n k, lt-ltb 48 n h) refl
+memory_shape-wide n h k = rw (le-ltb longest_narrow n k, lt-ltb longest_rowless n h) refl
 
--- the core above 400 bytes has rows of seven and of three
-pub memory_shape-mixed : (n : ℕ) → 400 < n → memory_shape n ≡ mixed_shape 7 n
+-- all longer ones have rows of seven and of three
+pub memory_shape-mixed : (n : ℕ) → longest_narrow < n → memory_shape n ≡ mixed_shape 7 n
 unfolding memory_shape
-memory_shape-mixed n h = rw (lt-ltb 400 n h) refl
+memory_shape-mixed n h = rw (lt-ltb longest_narrow n h) refl
 
 -- the seed of the memory core, made piece by piece
 pub after_pairs-is : (protected : Bool) (seed : ℕ) (secrets x rest : List ℕ) (joined all : ℕ)
@@ -37,8 +37,8 @@ unfolding after_pairs
 after_pairs-is protected seed secrets x rest joined all rows g =
     cc (rows.joined, g, after_tail-rest protected (picked secrets core_tail_places) x rest (row_pairs (memory_shape (length x))) joined rows.rest)
 
--- up to 48 bytes the tail is the message, and the joined lanes are the seed
-pub memory_rows-none : (protected : Bool) (seed : ℕ) (secrets x : List ℕ) → length x ≤ 48
+-- with no row the tail is the message, and the joined lanes are the seed
+pub memory_rows-none : (protected : Bool) (seed : ℕ) (secrets x : List ℕ) → length x ≤ longest_rowless
     → AfterRows protected secrets x (memory_shape (length x)) seed seed x
 memory_rows-none protected seed secrets x h = rw (memory_shape-none (length x) h) (AfterRows-none protected secrets x 3 seed (omega arith))
 

@@ -9,11 +9,18 @@ use Rattle.rapidhash_portable.specs.Form.{alternating_bits}
 use Rattle.rapidhash_portable.specs.Words.{last_words}
 use Rattle.rapidhash_portable.specs.Hash.{close}
 
--- how the core cuts a message of `n` bytes: no row up to 48, rows of three up to 400, above them rows of seven and then of three
+-- the longest message that the core takes with no row, and the longest that it takes by rows of three alone: the limits of the Rust crate's hasher
+abbrev pub longest_rowless : ℕ
+longest_rowless = 48
+
+abbrev pub longest_narrow : ℕ
+longest_narrow = 400
+
+-- how the core cuts a message of `n` bytes: above the second limit into rows of seven and then of three
 unfoldable pub memory_shape : ℕ → Shape
 memory_shape n =
-    if nat_lt 400 n then mixed_shape 7 n else
-    if nat_lt 48 n then wide_shape 3 0 n else
+    if nat_lt longest_narrow n then mixed_shape 7 n else
+    if nat_lt longest_rowless n then wide_shape 3 0 n else
     no_rows 3
 
 -- which secrets the pairs of the core's tail use

@@ -5,13 +5,19 @@
 ghost use Rattle.std.specs.Prelude.{◌≡◌, ◌≤◌, ◌<◌, ℕ, length, drop};
 ghost use Rattle.rapidhash_portable.specs.declared.form.Form.TheVariants.{V3};
 ghost use Rattle.rapidhash_portable.specs.Folded.{AfterRows};
-ghost use Rattle.rapidhash_portable.specs.Memory.{after_pairs, memory_hash, memory_shape};
+ghost use Rattle.rapidhash_portable.specs.Memory.{after_pairs, longest_narrow, longest_rowless, memory_hash, memory_shape};
 ghost use Rattle.rapidhash_portable.specs.Options.{options};
 ghost use Rattle.rapidhash_portable.specs.Words.{last_words, short_words};
 
 use crate::lanes::{close, fold_tail, mixed_lanes, wide_lanes};
 use crate::util::ALTERNATING_BITS;
 use crate::words::{last_16, words_to_3_v3, words_to_7_v3, words_to_16_v3};
+
+/// The longest message that is hashed with no row.
+const LONGEST_ROWLESS: usize = 48;
+
+/// The longest message that is hashed by rows of three pairs alone.
+const LONGEST_NARROW: usize = 400;
 
 /// The value of `bytes` with a seed and secrets as they are. `AVALANCHE` mixes the last product
 /// once more, `PROTECTED` mixes each product with its factors, and `COMPACT` changes the code but
@@ -53,38 +59,38 @@ fn long<const AVALANCHE: bool, const COMPACT: bool, const PROTECTED: bool>(
     requires { 16 < length bytes.now }
     ensures { result ≡ memory_hash (options AVALANCHE PROTECTED) bytes.now seed secrets.now }
 {
-    if bytes.len() > 48 {
+    if bytes.len() > LONGEST_ROWLESS {
         return with_rows::<AVALANCHE, COMPACT, PROTECTED>(bytes, seed, secrets);
     }
     close_tail::<AVALANCHE, PROTECTED>(bytes, bytes, seed, secrets)
 }
 
-/// The value above 48 bytes. Up to 400 bytes have at most eight rows, too few to take two at a
-/// time.
+/// The value of a message with a row. Rows of three pairs alone are at most eight, too few to take
+/// two at a time.
 #[inline(never)]
 fn with_rows<const AVALANCHE: bool, const COMPACT: bool, const PROTECTED: bool>(
     bytes: &[u8],
     seed: u64,
     secrets: &[u64; 7],
 ) -> u64
-    requires { 48 < length bytes.now }
+    requires { longest_rowless < length bytes.now }
     ensures { result ≡ memory_hash (options AVALANCHE PROTECTED) bytes.now seed secrets.now }
 {
-    if bytes.len() > 400 {
+    if bytes.len() > LONGEST_NARROW {
         return with_wide_rows::<AVALANCHE, COMPACT, PROTECTED>(bytes, seed, secrets);
     }
     let (joined, tail) = wide_lanes::<3, 0, true, PROTECTED>(bytes, seed, secrets);
     close_tail::<AVALANCHE, PROTECTED>(tail, bytes, joined, secrets)
 }
 
-/// The value above 400 bytes, by rows of seven pairs and then of three.
+/// The value of a longer message, by rows of seven pairs and then of three.
 #[inline(never)]
 fn with_wide_rows<const AVALANCHE: bool, const COMPACT: bool, const PROTECTED: bool>(
     bytes: &[u8],
     seed: u64,
     secrets: &[u64; 7],
 ) -> u64
-    requires { 400 < length bytes.now }
+    requires { longest_narrow < length bytes.now }
     ensures { result ≡ memory_hash (options AVALANCHE PROTECTED) bytes.now seed secrets.now }
 {
     let (joined, tail) = mixed_lanes::<COMPACT, PROTECTED>(bytes, seed, secrets);

@@ -4,5 +4,5 @@ use Rattle.rapidhash_portable.proofs.memory.with_rows.Goals as goal
 
 pub returns : goal.returns
 returns g c =
-    let shape = memory_shape-wide (length c.args.bytes.now) c.requires c.if-bytes-gt400.false in
+    let shape = memory_shape-wide (length c.args.bytes.now) c.requires c.if-bytes-gt-LONGEST_NARROW.false in
     c.close_tail.ensures c.args.seed (rw shape c.wide_lanes-joined.ensures)
