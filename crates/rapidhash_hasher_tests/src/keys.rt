@@ -4,6 +4,7 @@ use bytes::Bytes;
 use rapidhash::inner::{GlobalSecrets, SeedSource, SeedableState};
 use rapidhash::{ByteKey, HashMapExt, HashSetExt, RapidHashMap, RapidHashSet, fast};
 use std::borrow::CowSlice;
+use std::convert::AsSlice;
 use std::hash::{BuildHasher, Hasher};
 use std::test::Fail;
 
@@ -58,7 +59,7 @@ fn keys_of_each_kind(rt: HostRuntime) -> Result<(), Fail> {
     Ok(())
 }
 
-/// The hash of a key is that of one write of its bytes, whatever holds them.
+/// The hash of a key is that of one write of its bytes, whatever holds them, and it lends them all.
 #[test]
 fn a_key_is_one_write(rt: HostRuntime) -> Result<(), Fail> {
     let secrets = [1u64, 2, 3, 4, 5, 6, 7];
@@ -68,6 +69,7 @@ fn a_key_is_one_write(rt: HostRuntime) -> Result<(), Fail> {
         let bytes = &text[..length];
         let mut hasher = state.build_hasher();
         hasher.write(bytes);
+        assert_eq!(rt; ByteKey(bytes).as_slice(), bytes);
         assert_eq!(rt; state.hash_one(ByteKey(bytes)), hasher.finish());
         let owned = Vec::from_clones(rt.alloc(), bytes)?;
         assert_eq!(rt; state.hash_one(ByteKey(owned)), hasher.finish());
