@@ -9,7 +9,7 @@ use Rattle.std.proofs.lemmas.Nat.{div-mul-add}
 use Rattle.std.proofs.lemmas.Slice.{take-put_mid}
 use Rattle.rapidhash_portable.specs.declared.form.Form.TheVariants.{V3}
 use Rattle.rapidhash_portable.specs.declared.v3.stream.parts.Parts.{Parts}
-use Rattle.rapidhash_portable.specs.Folded.{AfterRows, HaveFolded, PrefixIsFolded}
+use Rattle.rapidhash_portable.specs.Folded.{AfterRows, HaveFolded, PrefixIsFolded, Running}
 use Rattle.rapidhash_portable.specs.Form.{shape_of}
 use Rattle.rapidhash_portable.specs.Lanes.{IsLaneCount, joined}
 use Rattle.rapidhash_portable.specs.Stream.{PartsStandFor, chunk_count, folded_bytes}
@@ -45,18 +45,6 @@ pub mul_some : (lanes rows : ℕ) → 0 < rows → lanes ≤ lanes * rows
 mul_some lanes zero some = absurd (omega arith)
 mul_some lanes (suc rows) some = omega arith
 
--- a chunk before the last one ends before it
-pub chunk_below : (size i count n : ℕ) → i < count → size * count ≤ n → size * i + size ≤ n
-chunk_below size i count n less low =
-    let split : count ≡ i + 1 + (count - (i + 1)) = omega arith in
-    let parts : size * count ≡ size * i + size + size * (count - (i + 1)) = ap (λ k. size * k) split ∙ omega arith in
-    omega (arith, parts)
-
--- a place before byte 16 is in the first chunk
-pub no_chunk : (count size at : ℕ) → 16 ≤ size → size * count ≤ at → at < 16 → count ≡ 0
-no_chunk zero size at wide low few = refl
-no_chunk (suc count) size at wide low few = absurd (omega arith)
-
 -- ---- a message
 
 -- no bytes
@@ -75,20 +63,15 @@ PartsStandFor-none protected lanes s held steps any len =
 
 -- ---- amid a piece
 
--- lanes and count amid a piece, of which `rest` is still to come
-pub record Running (protected : Bool) (secrets y : List ℕ) (lanes seed : ℕ) (held : List ℕ) (steps : ℕ) (rest : List ℕ) : Type 0 where
-  pub prefix : PrefixIsFolded protected secrets y lanes 1 (replicate 7 seed) held rest
-  pub counted : steps ≡ prefix.rows
-
--- one chunk more, which stands at the head of the rest
-pub Running-more : {protected : Bool} {secrets y : List ℕ} {lanes seed : ℕ} {held : List ℕ} {steps : ℕ} {rest : List ℕ} →
-    Running protected secrets y lanes seed held steps rest → (chunk held' rest' : List ℕ) (steps' : ℕ) →
-    HaveFolded protected secrets chunk lanes held held' 1 → steps' ≡ steps + 1 → chunk ≡ take (16 * lanes) rest → 16 * lanes < length rest →
-    rest' ≡ drop (16 * lanes) rest → Running protected secrets y lanes seed held' steps' rest'
+-- `more` chunks of `n` bytes, which stand at the head of the rest
+pub Running-more : {protected : Bool} {secrets x : List ℕ} {lanes seed : ℕ} {held : List ℕ} {steps : ℕ} {rest : List ℕ} →
+    Running protected secrets x lanes seed held steps rest → (held' rest' : List ℕ) (steps' more n : ℕ) →
+    HaveFolded protected secrets rest lanes held held' more → steps' ≡ steps + more → n ≡ 16 * (lanes * more) → n < length rest →
+    rest' ≡ drop n rest → Running protected secrets x lanes seed held' steps' rest'
 unfolding PrefixIsFolded-more
-Running-more {lanes = lanes} {rest = rest} r chunk held' rest' steps' folded one is room next = record {
-  prefix = PrefixIsFolded-more r.prefix held' rest' 1 (16 * lanes) (HaveFolded-take (16 * lanes) rest (rw is at folded) (omega arith) (omega arith)) (omega arith) (omega arith) next;
-  counted = one ∙ ap (λ n. n + 1) r.counted;
+Running-more r held' rest' steps' more n folded counted size room next = record {
+  prefix = PrefixIsFolded-more r.prefix held' rest' more n folded size (omega arith) next;
+  counted = counted ∙ ap (λ k. k + more) r.counted;
 }
 
 -- what is left behind the last whole chunk is buffered
@@ -183,7 +166,8 @@ module _ {protected : Bool} {lanes : ℕ} {s : Parts} {x : List ℕ}
         prefix = record { rows = chunk_count lanes (length x); lanes = HaveFolded-append h.folded d (omega arith); rest_is = buffered-append d; left = omega arith };
         counted = h.steps;
       } in
-      Running-more start chunk held' (drop (16 * lanes - s.len) d) steps' folded one (is ∙ filled_chunk d kept' j enough e) (omega arith)
+      let head = HaveFolded-take (16 * lanes) (old ++ d) (rw (is ∙ filled_chunk d kept' j enough e) at folded) (omega arith) (omega arith) in
+      Running-more start held' (drop (16 * lanes - s.len) d) steps' 1 (16 * lanes) head one (omega arith) (omega arith)
       (sym (drop-behind old d (16 * lanes) (16 * lanes - s.len) (omega arith)))
 
   -- with a chunk the message is longer than that

@@ -1,5 +1,5 @@
 -- Lanes that have folded a prefix of a message.
-use Rattle.std.specs.Prelude.{◌≡◌, ◌≤◌, ◌<◌, ℕ, ◌+◌, ◌*◌, Bool, List, drop, length, slice_index}
+use Rattle.std.specs.Prelude.{◌≡◌, ◌≤◌, ◌<◌, ℕ, ◌+◌, ◌*◌, Bool, List, drop, length, replicate, slice_index}
 use Rattle.rapidhash_portable.specs.declared.form.Shape.{Shape}
 use Rattle.rapidhash_portable.specs.Lanes.{after_lanes, lane_of, pair_of, pairs_of, row_bytes}
 
@@ -16,6 +16,11 @@ pub record PrefixIsFolded (protected : Bool) (secrets x : List ℕ) (width least
   pub lanes : HaveFolded protected secrets x width starts held rows
   pub rest_is : rest ≡ drop (16 * (width * rows)) x
   pub left : 16 * (width * rows) + least ≤ length x
+
+-- a stream's lanes and its count of folded chunks amid a message, of which `rest` is still to come and has a byte at the least
+pub record Running (protected : Bool) (secrets x : List ℕ) (lanes seed : ℕ) (held : List ℕ) (steps : ℕ) (rest : List ℕ) : Type 0 where
+  pub prefix : PrefixIsFolded protected secrets x lanes 1 (replicate 7 seed) held rest
+  pub counted : steps ≡ prefix.rows
 
 -- the seed after all rows of a shape, and what follows them
 pub record AfterRows (protected : Bool) (secrets x : List ℕ) (shape : Shape) (start seed : ℕ) (tail : List ℕ) : Type 0 where

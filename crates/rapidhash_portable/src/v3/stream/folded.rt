@@ -4,10 +4,10 @@
 //! private here, and only `step` and `clear` change them. The count takes no memory and no time;
 //! only contracts see it.
 
-ghost use Rattle.std.specs.Prelude.{◌≡◌, ◌+◌, ◌*◌, ◌≤◌, ℕ, length, replicate, take};
+ghost use Rattle.std.specs.Prelude.{◌≡◌, ◌+◌, ◌*◌, ◌≤◌, ℕ, List, length, replicate, take};
 ghost use Rattle.std.specs.Borrow.{ftrue};
-ghost use Rattle.rapidhash_portable.specs.Folded.{HaveFolded};
-ghost use Rattle.rapidhash_portable.specs.Lanes.{joined};
+ghost use Rattle.rapidhash_portable.specs.Folded.{HaveFolded, Running};
+ghost use Rattle.rapidhash_portable.specs.Lanes.{IsLaneCount, joined};
 
 use crate::lanes::{fold_row, join};
 use std::marker::Model;
@@ -76,6 +76,52 @@ impl Folded {
     {
         fold_row::<7, LANES, PROTECTED>(&mut self.lanes, bytes, secrets);
         self.count = Count::after(&self.count);
+    }
+
+    /// Folds the two chunks at the head of `bytes`.
+    #[inline(always)]
+    fn step_twice<const LANES: usize, const PROTECTED: bool>(
+        &mut self,
+        bytes: &[u8],
+        secrets: &[u64; 7],
+    )
+        requires enough { 32 * LANES ≤ length bytes.now }
+        requires few { LANES ≤ 7 }
+        ensures folded { HaveFolded PROTECTED secrets.now bytes.now LANES
+            self.old.lanes self.new.lanes 2 }
+        ensures two { self.new.count.steps ≡ self.old.count.steps + 2 }
+    {
+        self.step::<LANES, PROTECTED>(bytes, secrets);
+        self.step::<LANES, PROTECTED>(&bytes[16 * LANES..], secrets);
+    }
+
+    /// Folds every whole chunk of `bytes` that a further byte follows, and returns the bytes after
+    /// them. A turn of the loop takes two chunks, as in the hash of a slice.
+    #[inline(always)]
+    pub(crate) fn fold_chunks<'x, const LANES: usize, const PROTECTED: bool>(
+        &mut self,
+        bytes: &'x [u8],
+        secrets: &[u64; 7],
+    ) -> &'x [u8]
+        requires { IsLaneCount LANES }
+        ensures on { (x : List ℕ) (seed : ℕ) →
+            Running PROTECTED secrets.now x LANES seed
+            self.old.lanes self.old.count.steps bytes.now →
+            Running PROTECTED secrets.now x LANES seed
+            self.new.lanes self.new.count.steps result.now }
+        ensures all { length result.now ≤ 16 * LANES }
+        ensures fewer { length result.now ≤ length bytes.now }
+    {
+        let mut rest = bytes;
+        'turns: while rest.len() > 32 * LANES {
+            self.step_twice::<LANES, PROTECTED>(rest, secrets);
+            rest = &rest[32 * LANES..];
+        }
+        if rest.len() > 16 * LANES {
+            self.step::<LANES, PROTECTED>(rest, secrets);
+            rest = &rest[16 * LANES..];
+        }
+        rest
     }
 
     /// Starts again.

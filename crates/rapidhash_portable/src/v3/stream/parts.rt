@@ -43,6 +43,22 @@ fn sixteen(bytes: &[u8], from: usize) -> [u8; 16]
     out
 }
 
+/// Copies a piece over as many bytes. A piece of 8 to 16 bytes is copied as two words, which may
+/// overlap: a copy of a length that the compiler does not know is a call.
+#[inline(always)]
+fn copy_piece(room: &mut [u8], piece: &[u8])
+    requires { length room.old ≡ length piece.now }
+    ensures { room.new ≡ piece.now }
+{
+    if piece.len() >= 8 && piece.len() <= 16 {
+        let last = piece.len() - 8;
+        room[..8].copy_from_slice(&piece[..8]);
+        room[last..].copy_from_slice(&piece[last..]);
+    } else {
+        room.copy_from_slice(piece);
+    }
+}
+
 impl<'a> Parts<'a> {
     ghost use Rattle.rapidhash_portable.specs.Stream.{PartsStandFor};
 
@@ -76,7 +92,7 @@ impl<'a> Parts<'a> {
         if piece.len() <= 16 * LANES - self.len {
             let start = 16 + self.len;
             let end = start + piece.len();
-            self.kept[start..end].copy_from_slice(piece);
+            copy_piece(&mut self.kept[start..end], piece);
             self.len += piece.len();
         } else {
             self.write_past::<LANES, PROTECTED>(piece);
@@ -102,22 +118,18 @@ impl<'a> Parts<'a> {
         self.folded
             .step::<LANES, PROTECTED>(&kept[16..16 + 16 * LANES], &self.secrets.secrets);
         self.any = true;
-        let count = (piece.len() - room - 1) / (16 * LANES);
-        'chunks: for i in 0..count {
-            let at = room + 16 * LANES * i;
-            self.folded
-                .step::<LANES, PROTECTED>(&piece[at..at + 16 * LANES], &self.secrets.secrets);
-        }
-        let end = room + 16 * LANES * count;
+        let rest = self
+            .folded
+            .fold_chunks::<LANES, PROTECTED>(&piece[room..], &self.secrets.secrets);
+        let end = piece.len() - rest.len();
         let carried = if end >= 16 {
             sixteen(piece, end - 16)
         } else {
             sixteen(&self.kept, 16 * LANES)
         };
         self.kept[..16].copy_from_slice(&carried);
-        let tail = &piece[end..];
-        self.kept[16..16 + tail.len()].copy_from_slice(tail);
-        self.len = tail.len();
+        self.kept[16..16 + rest.len()].copy_from_slice(rest);
+        self.len = rest.len();
     }
 
     /// The hash of the message that was written. A message without a folded chunk is in the buffer

@@ -8,5 +8,5 @@ returns-then-piece-self-clause-adds g c = λ x h.
     let s = c.args.self.now in
     let d = c.args.piece.now in
     let j : ℕ = 16 + s.len + length d - (16 + s.len) in
-    let after = ap (λ (l : List ℕ). put_mid (16 + s.len) j s.kept l) c.copy_from_slice.ensures.after in
+    let after = ap (λ (l : List ℕ). put_mid (16 + s.len) j s.kept l) c.copy_piece.ensures in
     PartsStandFor-fits c.requires.lanes h (omega arith) c.requires.fits d _ j (omega arith) after
