@@ -43,19 +43,32 @@ fn sixteen(bytes: &[u8], from: usize) -> [u8; 16]
     out
 }
 
-/// Copies a piece over as many bytes. A piece of 8 to 16 bytes is copied as two words, which may
-/// overlap: a copy of a length that the compiler does not know is a call.
+/// Copies a piece over as many bytes, as its first `COUNT` and its last `COUNT`, which may overlap.
+#[inline(always)]
+fn copy_ends<const COUNT: usize>(room: &mut [u8], piece: &[u8])
+    requires alike { length room.old ≡ length piece.now }
+    requires least { COUNT ≤ length piece.now }
+    requires most { length piece.now ≤ 2 * COUNT }
+    ensures { room.new ≡ piece.now }
+{
+    let last = piece.len() - COUNT;
+    room[..COUNT].copy_from_slice(&piece[..COUNT]);
+    room[last..].copy_from_slice(&piece[last..]);
+}
+
+/// Copies a piece over as many bytes. One of 8 to 32 bytes is copied by moves of 8 or 16 bytes: a
+/// copy of a length that the compiler does not know is a call.
 #[inline(always)]
 fn copy_piece(room: &mut [u8], piece: &[u8])
     requires { length room.old ≡ length piece.now }
     ensures { room.new ≡ piece.now }
 {
-    if piece.len() >= 8 && piece.len() <= 16 {
-        let last = piece.len() - 8;
-        room[..8].copy_from_slice(&piece[..8]);
-        room[last..].copy_from_slice(&piece[last..]);
-    } else {
+    if piece.len() < 8 || piece.len() > 32 {
         room.copy_from_slice(piece);
+    } else if piece.len() <= 16 {
+        copy_ends::<8>(room, piece);
+    } else {
+        copy_ends::<16>(room, piece);
     }
 }
 
