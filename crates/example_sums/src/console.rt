@@ -48,14 +48,19 @@ impl Console<'_> {
         self.complain(name, why.as_str())
     }
 
+    // Names one malformed line of a list.
+    fn warn_of_line(&self, name: &[u8], number: u64) -> Result<(), Problem> {
+        let why = format!(in self.rt.alloc(); "{number}: improperly formatted checksum line")?;
+        self.complain(name, why.as_str())
+    }
+
     /// Names each malformed line of a list, if an option asks for it.
     pub fn warn_of_lines(&self, name: &[u8], list: &List) -> Result<(), Problem> {
         if !self.options.warn {
             return Ok(());
         }
         for number in &list.malformed {
-            let why = format!(in self.rt.alloc(); "{number}: improperly formatted checksum line")?;
-            self.complain(name, why.as_str())?;
+            self.warn_of_line(name, *number)?;
         }
         Ok(())
     }
