@@ -3,10 +3,6 @@
 //!
 //! The array `kept` holds 16 bytes that are already folded, and then the new ones, so that the last
 //! 16 bytes of any longer message are next to each other in it.
-//!
-//! The speed depends on the loop over the chunks of a large piece: after a change look at the
-//! machine code with `objdump`. If the lanes are copied from `self` into local variables, the
-//! compiler packs them into vectors and unpacks them, which takes half as long again.
 
 ghost use Rattle.std.specs.Prelude.{◌≡◌, ◌+◌, ◌-◌, ◌*◌, ◌<◌, ◌≤◌, ◌++◌, ℕ, List, [], length, take, drop};
 ghost use Rattle.rapidhash_portable.specs.declared.form.Form.TheVariants.{V3};
