@@ -38,30 +38,31 @@ fn flag<'a>(alloc: Global, name: &'a str, help: &'a str) -> Arg<'a> {
         .help(help)
 }
 
+// The flags of a check, and what the help says of each.
+const CHECK_FLAGS: [(&str, &str); 5] = [
+    ("quiet", "Print no line for a file that has its hash"),
+    ("status", "Print nothing but errors"),
+    ("ignore-missing", "Leave out files that are missing"),
+    ("strict", "Fail if a line is malformed"),
+    ("warn", "Name each malformed line"),
+];
+
+// A flag that only a check reads.
+fn check_flag<'a>(alloc: Global, name: &'a str, help: &'a str) -> Result<Arg<'a>, AllocError> {
+    let it = flag(alloc, name, help).requires_arg("check")?;
+    Ok(if name == "warn" { it.short('w') } else { it })
+}
+
 /// The command line.
 pub fn command<'a>(alloc: Global) -> Result<Command<'a>, AllocError> {
-    let check = flag(
-        alloc,
-        "check",
-        "Read lines from the files, and check the files that they name",
-    );
-    let quiet = flag(alloc, "quiet", "Print no line for a file that has its hash");
-    let status = flag(alloc, "status", "Print nothing but errors");
-    let missing = flag(alloc, "ignore-missing", "Leave out files that are missing");
-    let strict = flag(alloc, "strict", "Fail if a line is malformed");
-    let warn = flag(alloc, "warn", "Name each malformed line");
-    Command::new(alloc, "rapidsum")
+    let about_check = "Read lines from the files, and check the files that they name";
+    let mut command = Command::new(alloc, "rapidsum")
         .version("1.0")
         .about("Prints or checks the V3 hashes of files")
-        .arg(check.short('c'))?
-        .arg(quiet.requires_arg("check")?)?
-        .arg(status.requires_arg("check")?)?
-        .arg(missing.requires_arg("check")?)?
-        .arg(strict.requires_arg("check")?)?
-        .arg(warn.short('w').requires_arg("check")?)?
-        .arg(
-            Arg::new(alloc, "FILE")
-                .num_args(0..)
-                .help("Files; - is standard input"),
-        )
+        .arg(flag(alloc, "check", about_check).short('c'))?;
+    for (name, help) in CHECK_FLAGS {
+        command = command.arg(check_flag(alloc, name, help)?)?;
+    }
+    let files = Arg::new(alloc, "FILE").num_args(0..);
+    command.arg(files.help("Files; - is standard input"))
 }

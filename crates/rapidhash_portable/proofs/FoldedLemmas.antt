@@ -17,20 +17,43 @@ HaveFolded-none protected secrets x width starts = record {
   kept = λ _ _. refl;
 }
 
+-- a lane after the first row
+lane_of-one : (protected : Bool) (secret : ℕ) (x : List ℕ) (width i start : ℕ) →
+    lane_of protected secret (pairs_of (pair_of x) 0 width 1 i) start ≡ step protected secret start (pair_at x (16 * i))
+lane_of-one protected secret x width i start =
+    let at : 16 * (0 + (width * 0 + i)) ≡ 16 * i = omega arith in
+    lane_of-pairs_more protected secret x 0 width 0 i start
+    ∙ ap (λ v. step protected secret v (pair_at x (16 * (0 + (width * 0 + i))))) (lane_of-pairs_none protected secret x 0 width i start)
+    ∙ ap (λ k. step protected secret start (pair_at x k)) at
+
+-- a lane after the first two rows
+lane_of-two : (protected : Bool) (secret : ℕ) (x : List ℕ) (width i start : ℕ) →
+    lane_of protected secret (pairs_of (pair_of x) 0 width 2 i) start
+    ≡ step protected secret (step protected secret start (pair_at x (16 * i))) (pair_at x (16 * (width + i)))
+lane_of-two protected secret x width i start =
+    let at : 16 * (0 + (width * 1 + i)) ≡ 16 * (width + i) = omega arith in
+    lane_of-pairs_more protected secret x 0 width 1 i start
+    ∙ ap (λ v. step protected secret v (pair_at x (16 * (0 + (width * 1 + i))))) (lane_of-one protected secret x width i start)
+    ∙ ap (λ k. step protected secret (step protected secret start (pair_at x (16 * i))) (pair_at x k)) at
+
 -- after the first row
 pub HaveFolded-one : (protected : Bool) (secrets x : List ℕ) (width : ℕ) (starts held : List ℕ) → length held ≡ length starts →
     ((i : ℕ) → i < width → get_or held i 0 ≡ step protected (get_or secrets i 0) (get_or starts i 0) (pair_at x (16 * i))) →
     ((i : ℕ) → width ≤ i → get_or held i 0 ≡ get_or starts i 0) → HaveFolded protected secrets x width starts held 1
 HaveFolded-one protected secrets x width starts held size stepped kept = record {
   whole = size;
-  folded = λ i l.
-      let at : 16 * (0 + (width * 0 + i)) ≡ 16 * i = omega arith in
-      let secret = get_or secrets i 0 in
-      let start = get_or starts i 0 in
-      stepped i l
-      ∙ sym (lane_of-pairs_more protected secret x 0 width 0 i start
-      ∙ ap (λ v. step protected secret v (pair_at x (16 * (0 + (width * 0 + i))))) (lane_of-pairs_none protected secret x 0 width i start)
-      ∙ ap (λ k. step protected secret start (pair_at x k)) at);
+  folded = λ i l. stepped i l ∙ sym (lane_of-one protected (get_or secrets i 0) x width i (get_or starts i 0));
+  kept = kept;
+}
+
+-- after the first two rows
+pub HaveFolded-two : (protected : Bool) (secrets x : List ℕ) (width : ℕ) (starts held : List ℕ) → length held ≡ length starts →
+    ((i : ℕ) → i < width → get_or held i 0
+    ≡ step protected (get_or secrets i 0) (step protected (get_or secrets i 0) (get_or starts i 0) (pair_at x (16 * i))) (pair_at x (16 * (width + i)))) →
+    ((i : ℕ) → width ≤ i → get_or held i 0 ≡ get_or starts i 0) → HaveFolded protected secrets x width starts held 2
+HaveFolded-two protected secrets x width starts held size stepped kept = record {
+  whole = size;
+  folded = λ i l. stepped i l ∙ sym (lane_of-two protected (get_or secrets i 0) x width i (get_or starts i 0));
   kept = kept;
 }
 

@@ -40,9 +40,10 @@ pub(crate) fn fold_row<const LANES: usize, const WIDTH: usize, const PROTECTED: 
 }
 
 /// Folds two rows of `WIDTH` pairs at the head of `rows` into the first `WIDTH` lanes: the body of
-/// the unrolled loop.
+/// the unrolled loops. It goes lane by lane, so that each lane is stored once.
 #[inline(always)]
-fn fold_two_rows<const LANES: usize, const WIDTH: usize, const PROTECTED: bool>(
+#[tactic(auto, unfolding(crate::specs::Lanes::step))]
+pub(crate) fn fold_two_rows<const LANES: usize, const WIDTH: usize, const PROTECTED: bool>(
     lanes: &mut [u64; LANES],
     rows: &[u8],
     secrets: &[u64],
@@ -53,8 +54,16 @@ fn fold_two_rows<const LANES: usize, const WIDTH: usize, const PROTECTED: bool>(
     requires small { WIDTH ≤ 7 }
     ensures { HaveFolded PROTECTED secrets.now rows.now WIDTH lanes.old lanes.new 2 }
 {
-    fold_row::<LANES, WIDTH, PROTECTED>(lanes, rows, secrets);
-    fold_row::<LANES, WIDTH, PROTECTED>(lanes, &rows[16 * WIDTH..], secrets);
+    for i in 0..WIDTH {
+        let first = rapid_mix::<PROTECTED>(
+            read_u64(rows, 16 * i) ^ secrets[i],
+            read_u64(rows, 16 * i + 8) ^ lanes[i],
+        );
+        lanes[i] = rapid_mix::<PROTECTED>(
+            read_u64(rows, 16 * (WIDTH + i)) ^ secrets[i],
+            read_u64(rows, 16 * (WIDTH + i) + 8) ^ first,
+        );
+    }
 }
 
 /// Folds all rows of `WIDTH` pairs into the first `WIDTH` lanes, and returns the bytes after them,

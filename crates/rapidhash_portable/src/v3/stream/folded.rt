@@ -1,7 +1,7 @@
 //! The lanes of a stream hasher, and how many chunks they have folded.
 //!
 //! No other code can fold a chunk without counting it, or count one without folding it: both are
-//! private here, and only `step` and `clear` change them. The count takes no memory and no time;
+//! private here, and only `step`, `step_twice` and `clear` change them. The count takes no memory and no time;
 //! only contracts see it.
 //!
 //! The speed of large pieces depends on the loop of `fold_chunks`: after a change look at the
@@ -13,7 +13,7 @@ ghost use Rattle.std.specs.Borrow.{ftrue};
 ghost use Rattle.rapidhash_portable.specs.Folded.{HaveFolded, Running};
 ghost use Rattle.rapidhash_portable.specs.Lanes.{IsLaneCount, joined};
 
-use crate::lanes::{fold_row, join};
+use crate::lanes::{fold_row, fold_two_rows, join};
 use std::marker::Model;
 
 /// How many chunks were folded.
@@ -95,8 +95,8 @@ impl Folded {
             self.old.lanes self.new.lanes 2 }
         ensures two { self.new.count.steps ≡ self.old.count.steps + 2 }
     {
-        self.step::<LANES, PROTECTED>(bytes, secrets);
-        self.step::<LANES, PROTECTED>(&bytes[16 * LANES..], secrets);
+        fold_two_rows::<7, LANES, PROTECTED>(&mut self.lanes, bytes, secrets);
+        self.count = Count::after(&Count::after(&self.count));
     }
 
     /// Folds every whole chunk of `bytes` that a further byte follows, and returns the bytes after
