@@ -145,6 +145,7 @@ int main(void)
 
     for (i = 0; i < 120; i++)
         bytes[i] = (uint8_t)i;
+    compare("version", rapidhash_c_version(), RAPIDHASH_C_VERSION_NUMBER);
     default_secrets();
     own_secrets();
     seed_words();

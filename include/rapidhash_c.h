@@ -27,6 +27,7 @@
 #define RAPIDHASH_C_VERSION_MAJOR 1
 #define RAPIDHASH_C_VERSION_MINOR 0
 #define RAPIDHASH_C_VERSION_STRING "1.0"
+#define RAPIDHASH_C_VERSION_NUMBER (100 * RAPIDHASH_C_VERSION_MAJOR + RAPIDHASH_C_VERSION_MINOR)
 
 #if defined(__cplusplus) || (defined(__STDC_VERSION__) && __STDC_VERSION__ >= 199901L)
 #define RAPIDHASH_C_INLINE static inline
@@ -39,6 +40,10 @@
 #ifdef __cplusplus
 extern "C" {
 #endif
+
+/* The version number of the library that the program runs with. A shared library may be another
+ * version than this header: then this is not RAPIDHASH_C_VERSION_NUMBER. */
+uint32_t rapidhash_c_version(void);
 
 /* A seed and the secrets of V1. */
 struct rapidhash_v1_secrets {

@@ -179,6 +179,10 @@ def version():
         wanted = wanted or (found and found[1])
         if found is None or found[1] != wanted:
             yield f"{name} has {found and found[1]}, and CHANGELOG.md {wanted}"
+    major, minor = wanted.split(".")
+    clause = f"ensures {{ result ≡ {100 * int(major) + int(minor)} }}"
+    if clause not in (TOP / "crates/rapidhash_c/src/lib.rt").read_text():
+        yield f"rapidhash_c_version has no clause {clause}"
 
 
 for name, check in [("links", links), ("paths", paths), ("limits", limits), ("names", names),

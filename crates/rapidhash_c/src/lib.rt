@@ -13,6 +13,14 @@ mod streams;
 
 use rapidhash::{v1, v2, v3};
 
+/// The version number of the library: 100 times the major number, and the minor number.
+#[unsafe(no_mangle)]
+pub extern "C" fn rapidhash_c_version() -> u32
+    ensures { result ≡ 100 }
+{
+    100
+}
+
 /// The hash of `bytes` by V1, with the default seed and secrets.
 #[unsafe(no_mangle)]
 pub extern "C" fn rapidhash_v1(bytes: &[u8]) -> u64
