@@ -40,10 +40,28 @@ pub(crate) fn fold_row<const LANES: usize, const WIDTH: usize, const PROTECTED: 
 }
 
 /// Folds two rows of `WIDTH` pairs at the head of `rows` into the first `WIDTH` lanes: the body of
-/// the unrolled loops. It goes lane by lane, so that each lane is stored once.
+/// the unrolled loop.
+#[inline(always)]
+fn fold_two_rows<const LANES: usize, const WIDTH: usize, const PROTECTED: bool>(
+    lanes: &mut [u64; LANES],
+    rows: &[u8],
+    secrets: &[u64],
+)
+    requires enough { 32 * WIDTH ≤ length rows.now }
+    requires secrets { WIDTH ≤ length secrets.now }
+    requires narrow { WIDTH ≤ LANES }
+    requires small { WIDTH ≤ 7 }
+    ensures { HaveFolded PROTECTED secrets.now rows.now WIDTH lanes.old lanes.new 2 }
+{
+    fold_row::<LANES, WIDTH, PROTECTED>(lanes, rows, secrets);
+    fold_row::<LANES, WIDTH, PROTECTED>(lanes, &rows[16 * WIDTH..], secrets);
+}
+
+/// Folds two rows as [`fold_two_rows`] does, but lane by lane: lanes that are in memory are then
+/// loaded and stored once. For lanes in registers it needs one register more.
 #[inline(always)]
 #[tactic(auto, unfolding(crate::specs::Lanes::step))]
-pub(crate) fn fold_two_rows<const LANES: usize, const WIDTH: usize, const PROTECTED: bool>(
+pub(crate) fn fold_two_rows_by_lane<const LANES: usize, const WIDTH: usize, const PROTECTED: bool>(
     lanes: &mut [u64; LANES],
     rows: &[u8],
     secrets: &[u64],

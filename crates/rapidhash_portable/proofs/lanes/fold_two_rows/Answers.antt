@@ -1,9 +1,10 @@
-use Rattle.std.proofs.Common.{not, nat_eq, arith}
-use Rattle.rapidhash_portable.proofs.FoldedLemmas.{HaveFolded-two}
+use Rattle.std.proofs.Common.{◌≡◌, ◌*◌, ap, drop, ◌∙◌, arith}
+use Rattle.std.proofs.lemmas.List.{take_rest}
+use Rattle.rapidhash_portable.proofs.FoldedLemmas.{HaveFolded-more}
 use Rattle.rapidhash_portable.proofs.lanes.fold_two_rows.Goals as goal
 
 pub returns : goal.returns
 returns g c =
-    let l = c.loop-i.invariant in
-    HaveFolded-two (not (nat_eq g.row.PROTECTED 0)) c.args.secrets.now c.args.rows.now g.row.WIDTH c.args.lanes.now c.loop-i.lanes (cc)
-    (λ i k. l.done i (omega arith)) (λ i k. l.ahead i (omega arith))
+    let x = c.args.rows.now in
+    let at : 16 * g.row.WIDTH ≡ 16 * (g.row.WIDTH * 1) = omega arith in
+    HaveFolded-more c.fold_row.ensures _ c.fold_row-2.new.lanes 1 (take_rest x (16 * g.row.WIDTH) ∙ ap (λ n. drop n x) at) c.fold_row-2.ensures

@@ -13,7 +13,7 @@ ghost use Rattle.std.specs.Borrow.{ftrue};
 ghost use Rattle.rapidhash_portable.specs.Folded.{HaveFolded, Running};
 ghost use Rattle.rapidhash_portable.specs.Lanes.{IsLaneCount, joined};
 
-use crate::lanes::{fold_row, fold_two_rows, join};
+use crate::lanes::{fold_row, fold_two_rows_by_lane, join};
 use std::marker::Model;
 
 /// How many chunks were folded.
@@ -95,7 +95,7 @@ impl Folded {
             self.old.lanes self.new.lanes 2 }
         ensures two { self.new.count.steps ≡ self.old.count.steps + 2 }
     {
-        fold_two_rows::<7, LANES, PROTECTED>(&mut self.lanes, bytes, secrets);
+        fold_two_rows_by_lane::<7, LANES, PROTECTED>(&mut self.lanes, bytes, secrets);
         self.count = Count::after(&Count::after(&self.count));
     }
 

@@ -1,6 +1,6 @@
 use Rattle.std.proofs.Common.{◌≡◌, ◌+◌, ◌*◌, ◌≤◌, ◌<◌, ℕ, length, get_or, not, nat_eq}
 use Rattle.rapidhash_portable.specs.Lanes.{pair_at, step}
-use Rattle.rapidhash_portable.proofs.lanes.fold_two_rows.Given as goal
+use Rattle.rapidhash_portable.proofs.lanes.fold_two_rows_by_lane.Given as goal
 
 abbrev pub invariant-loop-i : goal.invariant-loop-i
 invariant-loop-i g l = record {
