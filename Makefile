@@ -52,7 +52,7 @@ $(shared): $(archive) share/librapidhash_c.map
 	@$(linker) -shared -soname $(soname) -z now -z relro -z noexecstack -z text --gc-sections \
 	  --version-script share/librapidhash_c.map --whole-archive $(archive) -o $(shared)
 
-wasm:
+wasm: library
 	@bindings/javascript/build.sh
 
 check:

@@ -103,6 +103,14 @@ version!(
 );
 
 unsafe extern "C" {
+    /// The version number of the library: 100 times the major number, and the minor number.
+    ///
+    /// ```
+    /// // SAFETY: the call takes and changes nothing.
+    /// assert_eq!(unsafe { rapidhash_sys::rapidhash_c_version() } / 100, 1);
+    /// ```
+    pub fn rapidhash_c_version() -> u32;
+
     /// V3 with PROTECTED, with the default seed and secrets.
     pub fn rapidhash_v3_protected(bytes: *const c_void, len: usize) -> u64;
     /// V3 with PROTECTED, with the caller's seed and secrets.
