@@ -29,6 +29,8 @@ grep -q "^rapidhash_c $words:" "$copy/crates.txt" || {
 }
 
 (cd "$copy/crates/rapidhash_c" && rt lib)
-(cd "$copy/crates" && tar -cf "$kept.new" rapidhash_c/out)
-mv "$kept.new" "$kept"
-cp "$copy/crates/rapidhash_c/out/rapidhash_c.wasm" "$top/build/rapidhash_c.wasm"
+# Each is put in its place at once, so that two builds at a time leave both files whole.
+(cd "$copy/crates" && tar -cf "$kept.$$" rapidhash_c/out)
+mv "$kept.$$" "$kept"
+cp "$copy/crates/rapidhash_c/out/rapidhash_c.wasm" "$top/build/rapidhash_c.wasm.$$"
+mv "$top/build/rapidhash_c.wasm.$$" "$top/build/rapidhash_c.wasm"
