@@ -172,6 +172,25 @@ wants_a_build_first() {
     [ ! -e "$room/none" ] && grep '^make install: .*: run make first$' <<<"$said"
 }
 
+# Where the shared library is older than the archive that it is linked from, nothing is copied either.
+wants_a_new_shared_library() {
+  local stale=$room/stale said
+  mkdir -p "$stale"/{bin,build,crates/rapidhash_c/out} && cp "$top/bin/install" "$stale/bin" &&
+    printf '#!/bin/sh\n' >"$stale/bin/build" && chmod +x "$stale/bin/build" &&
+    : >"$stale/crates/rapidhash_c/out/librapidhash_c.a" &&
+    touch -d 2020-01-01 "$stale/build/librapidhash_c.so.1" &&
+    ! said=$(PREFIX=$room/none BINDIR=$room/none LIBDIR=$room/none INCLUDEDIR=$room/none \
+      DATADIR=$room/none "$stale/bin/install" 2>&1) && [ ! -e "$room/none" ] &&
+    [ "$said" = 'make install: the shared library is not linked: run make first' ]
+}
+
+# Programs and the shared library may be run by all, and every other file may be read by all.
+has_the_modes() {
+  [ -z "$(find "$prefix" -type f ! -perm 644 ! -perm 755)" ] &&
+    diff <(find "$prefix" -type f -perm 755 -printf '%f\n' | sort) \
+      <(printf '%s\n' librapidhash_c.so.1 rapidhash rapidsum)
+}
+
 try build make -s -C "$top"
 try build_again builds_nothing_anew
 try install installs PREFIX="$prefix"
@@ -180,6 +199,7 @@ try program_of_sums prints_and_checks_a_sum
 try shared_library links_by_pkg_config
 try static_library links_the_archive
 try licences has_the_licences
+try modes has_the_modes
 try manual is_a_clean_manual rapidhash
 try manual_of_sums is_a_clean_manual rapidsum
 try example_of_the_manual compares_by_the_manual
@@ -200,6 +220,7 @@ try relative_folder_of_libraries refuses PREFIX=/usr LIBDIR=lib
 try folder_with_a_quote refuses PREFIX='/usr/a"b'
 try folders_of_a_packager serves_a_packager
 try nothing_built wants_a_build_first
+try old_shared_library wants_a_new_shared_library
 try uninstall make -s -C "$top" uninstall PREFIX="$prefix"
 try nothing_left is_empty "$prefix"
 
