@@ -31,7 +31,7 @@ fn read_alone(file: File, len: u64, piece: &mut [u8]) -> io::Result<u64> {
     Ok(total)
 }
 
-/// Hashes one piece over and over, up to `len` bytes, and returns how many bytes there were.
+/// Hashes one piece over and over, at least `len` bytes, and returns how many bytes there were.
 fn hash_alone(len: u64, piece: &[u8]) -> u64 {
     let mut hasher = RapidStreamHasherV3::new(&DEFAULT_RAPID_SECRETS);
     let mut total = 0u64;
