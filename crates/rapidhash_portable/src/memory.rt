@@ -11,7 +11,7 @@ ghost use Rattle.rapidhash_portable.specs.Words.{last_words, short_words};
 
 use crate::lanes::{close, fold_tail, mixed_lanes, wide_lanes};
 use crate::util::ALTERNATING_BITS;
-use crate::words::{last_16, words_to_3_v3, words_to_7_v3, words_to_16_v3};
+use crate::words::{last_16, words_to_3_v3, words_to_7, words_to_16};
 
 /// The longest message that is hashed with no row.
 const LONGEST_ROWLESS: usize = 48;
@@ -36,9 +36,9 @@ pub fn memory_hash<const AVALANCHE: bool, const COMPACT: bool, const PROTECTED: 
     }
     // Each class of lengths has its own close: sharing one would cost each class a jump.
     if n >= 8 {
-        close_sum::<AVALANCHE, PROTECTED>(bytes, words_to_16_v3(bytes), seed, secrets)
+        close_sum::<AVALANCHE, PROTECTED>(bytes, words_to_16(bytes), seed, secrets)
     } else if n >= 4 {
-        close_sum::<AVALANCHE, PROTECTED>(bytes, words_to_7_v3(bytes), seed, secrets)
+        close_sum::<AVALANCHE, PROTECTED>(bytes, words_to_7(bytes), seed, secrets)
     } else if n > 0 {
         close_sum::<AVALANCHE, PROTECTED>(bytes, words_to_3_v3(bytes), seed, secrets)
     } else {

@@ -8,13 +8,13 @@ ghost use Rattle.rapidhash_portable.specs.Hash.{portable_hash};
 ghost use Rattle.rapidhash_portable.specs.Options.{options};
 ghost use Rattle.rapidhash_portable.specs.Secrets.{IsGood, cpp_seeded, default_secrets_v1, default_seed_v1, reseeded, seeded, seeded_secrets};
 ghost use Rattle.rapidhash_portable.specs.Seeded.{default_hash, seeded_hash_v1};
-ghost use Rattle.rapidhash_portable.specs.Words.{last_16};
+ghost use Rattle.rapidhash_portable.specs.Words.{last_16, short_words};
 
 mod readers;
 
 use crate::lanes::{close, fold_tail, wide_lanes};
 use crate::secrets::{DEFAULT_SECRETS, chain, cpp_seed_of, reseed_of, seed_of};
-use crate::words::{last_16, short_words_v1};
+use crate::words::{last_16, words_to_3_v1, words_to_7_v1, words_to_16_v1};
 pub use readers::{
     rapidhash_v1_file, rapidhash_v1_file_inline, rapidhash_v1_file_seeded, rapidhash_v1_source,
 };
@@ -132,17 +132,36 @@ pub fn rapidhash_v1_inline<
 >(bytes: &[u8], secrets: &RapidSecrets) -> u64
     ensures { result ≡ seeded_hash_v1 V1_BUG (options AVALANCHE PROTECTED) secrets.now bytes.now }
 {
-    if bytes.len() > 16 {
+    let n = bytes.len();
+    if n > 16 {
         return long::<AVALANCHE, COMPACT, PROTECTED, V1_BUG>(bytes, secrets);
     }
+    // With one close for all lengths, a caller's loop loads the default secrets for each message.
+    if n >= 8 {
+        close_short::<AVALANCHE, PROTECTED>(bytes, words_to_16_v1(bytes), secrets)
+    } else if n >= 4 {
+        close_short::<AVALANCHE, PROTECTED>(bytes, words_to_7_v1(bytes), secrets)
+    } else if n > 0 {
+        close_short::<AVALANCHE, PROTECTED>(bytes, words_to_3_v1(bytes), secrets)
+    } else {
+        close_short::<AVALANCHE, PROTECTED>(bytes, (0, 0), secrets)
+    }
+}
+
+/// The hash of at most 16 bytes, made of their two words.
+#[inline(always)]
+fn close_short<const AVALANCHE: bool, const PROTECTED: bool>(
+    bytes: &[u8],
+    words: (u64, u64),
+    secrets: &RapidSecrets,
+) -> u64
+    requires { length bytes.now ≤ 16 }
+    ensures { (bug : Bool) → words ≡ short_words (V1 bug) bytes.now →
+        result ≡ seeded_hash_v1 bug (options AVALANCHE PROTECTED) secrets.now bytes.now }
+{
     let len = bytes.len() as u64;
     let [first, second, _] = secrets.secrets;
-    close::<AVALANCHE, PROTECTED>(
-        short_words_v1(bytes),
-        secrets.seed ^ len,
-        second,
-        (first ^ len, second),
-    )
+    close::<AVALANCHE, PROTECTED>(words, secrets.seed ^ len, second, (first ^ len, second))
 }
 
 /// The hash above 16 bytes. It is out of line, so that a message of up to 16 bytes saves no
@@ -173,9 +192,8 @@ fn with_rows<const AVALANCHE: bool, const COMPACT: bool, const PROTECTED: bool, 
     above_16::<AVALANCHE, COMPACT, PROTECTED, V1_BUG>(bytes, secrets)
 }
 
-/// The hash above 16 bytes: the shared body of [`long`] and [`with_rows`]. Each of them has already
-/// decided its test, and after inlining the other branch is gone. With separate bodies, `long` had
-/// one more register move.
+/// The shared body of [`long`] and [`with_rows`]. Each has decided its test, so after inlining the
+/// other branch is gone. With separate bodies, `long` had one more register move.
 #[inline(always)]
 fn above_16<const AVALANCHE: bool, const COMPACT: bool, const PROTECTED: bool, const V1_BUG: bool>(
     bytes: &[u8],

@@ -7,14 +7,14 @@ ghost use Rattle.rapidhash_portable.specs.Form.{masks, shape_of, start_seed, v2_
 ghost use Rattle.rapidhash_portable.specs.Hash.{close, portable_hash};
 ghost use Rattle.rapidhash_portable.specs.Options.{options};
 ghost use Rattle.rapidhash_portable.specs.Seeded.{default_hash, seeded_hash};
-ghost use Rattle.rapidhash_portable.specs.Words.{last_16};
+ghost use Rattle.rapidhash_portable.specs.Words.{last_16, short_words};
 
 mod readers;
 
 use crate::lanes::{close, fold_tail, mixed_lanes};
 pub use crate::secrets::{DEFAULT_RAPID_SECRETS, RapidSecrets};
 use crate::util::ALTERNATING_BITS;
-use crate::words::{last_16, short_words_v2};
+use crate::words::{last_16, words_to_3_v2, words_to_7, words_to_16};
 pub use readers::{
     rapidhash_v2_2_file, rapidhash_v2_2_file_seeded, rapidhash_v2_file_inline, rapidhash_v2_source,
 };
@@ -51,13 +51,37 @@ pub fn rapidhash_v2_inline<
     requires { MINOR ≤ 2 }
     ensures { result ≡ seeded_hash (V2 MINOR) (options AVALANCHE PROTECTED) secrets.now bytes.now }
 {
-    if bytes.len() > 16 {
+    let n = bytes.len();
+    if n > 16 {
         return long::<MINOR, AVALANCHE, COMPACT, PROTECTED>(bytes, secrets);
     }
+    // With one close for all lengths, a caller's loop loads the default secrets for each message.
+    if n >= 8 {
+        close_short::<AVALANCHE, PROTECTED>(bytes, words_to_16(bytes), secrets)
+    } else if n >= 4 {
+        close_short::<AVALANCHE, PROTECTED>(bytes, words_to_7(bytes), secrets)
+    } else if n > 0 {
+        close_short::<AVALANCHE, PROTECTED>(bytes, words_to_3_v2::<MINOR>(bytes), secrets)
+    } else {
+        close_short::<AVALANCHE, PROTECTED>(bytes, (0, 0), secrets)
+    }
+}
+
+/// The hash of at most 16 bytes, made of their two words.
+#[inline(always)]
+fn close_short<const AVALANCHE: bool, const PROTECTED: bool>(
+    bytes: &[u8],
+    words: (u64, u64),
+    secrets: &RapidSecrets,
+) -> u64
+    requires { length bytes.now ≤ 16 }
+    ensures { (minor : ℕ) → words ≡ short_words (V2 minor) bytes.now →
+        result ≡ seeded_hash (V2 minor) (options AVALANCHE PROTECTED) secrets.now bytes.now }
+{
     let len = bytes.len() as u64;
     let second = secrets.secrets[1];
     close::<AVALANCHE, PROTECTED>(
-        short_words_v2::<MINOR>(bytes),
+        words,
         secrets.seed ^ len,
         second,
         (ALTERNATING_BITS ^ len, second),

@@ -1,16 +1,9 @@
-use Rattle.std.proofs.Common.{not, nat_eq, length, arith}
+use Rattle.std.proofs.Common.{not, nat_eq, sym, arith}
 use Rattle.rapidhash_portable.specs.declared.form.Form.TheVariants.{V1}
-use Rattle.rapidhash_portable.specs.Form.{start_seed, masks}
-use Rattle.rapidhash_portable.specs.declared.form.Options.{Options}
-use Rattle.rapidhash_portable.proofs.FormLemmas.{shape_of-v1-few}
-use Rattle.rapidhash_portable.proofs.HashLemmas.{hash-short}
+use Rattle.rapidhash_portable.proofs.WordsLemmas.{short_words-none}
 use Rattle.rapidhash_portable.proofs.v1.rapidhash_v1_inline.Goals as goal
 
-pub returns : goal.returns
-unfolding start_seed masks
-returns g c =
-    let x = c.args.bytes.now in
-    let B = not (nat_eq g.row.V1_BUG 0) in
-    let options : Options = record { avalanche = not (nat_eq g.row.AVALANCHE 0); protected = not (nat_eq g.row.PROTECTED 0) } in
-    hash-short (V1 B) options 3 c.args.secrets.now.seed c.args.secrets.now.secrets x (omega arith) (shape_of-v1-few B (length x) (omega arith)) c.if-bytes-gt16.false c.close.result
-    (cc (c.close.ensures, c.short_words_v1.ensures B))
+pub returns-else-n-gt0 : goal.returns-else-n-gt0
+returns-else-n-gt0 g c =
+    let bug = not (nat_eq g.row.V1_BUG 0) in
+    c.close_short-else-n-gt0.ensures bug (sym (short_words-none (V1 bug) c.args.bytes.now (omega arith)))

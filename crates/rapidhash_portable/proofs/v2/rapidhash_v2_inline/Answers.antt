@@ -1,15 +1,9 @@
-use Rattle.std.proofs.Common.{not, nat_eq, length, arith}
+use Rattle.std.proofs.Common.{sym, arith}
 use Rattle.rapidhash_portable.specs.declared.form.Form.TheVariants.{V2}
-use Rattle.rapidhash_portable.specs.Form.{start_seed, masks}
-use Rattle.rapidhash_portable.specs.declared.form.Options.{Options}
-use Rattle.rapidhash_portable.proofs.FormLemmas.{shape_of-v2-few}
-use Rattle.rapidhash_portable.proofs.HashLemmas.{hash-short}
+use Rattle.rapidhash_portable.proofs.WordsLemmas.{short_words-none}
 use Rattle.rapidhash_portable.proofs.v2.rapidhash_v2_inline.Goals as goal
 
-pub returns : goal.returns
-unfolding start_seed masks
-returns g c =
-    let x = c.args.bytes.now in
-    let options : Options = record { avalanche = not (nat_eq g.row.AVALANCHE 0); protected = not (nat_eq g.row.PROTECTED 0) } in
-    hash-short (V2 g.row.MINOR) options 7 c.args.secrets.now.seed c.args.secrets.now.secrets x (omega arith) (shape_of-v2-few g.row.MINOR (length x) (omega arith)) c.if-bytes-gt16.false c.close.result
-    (cc (c.close.ensures, c.short_words_v2.ensures))
+pub returns-else-n-gt0 : goal.returns-else-n-gt0
+returns-else-n-gt0 g c =
+    let minor = g.row.MINOR in
+    c.close_short-else-n-gt0.ensures minor (sym (short_words-none (V2 minor) c.args.bytes.now (omega arith)))
