@@ -2,17 +2,14 @@
 //! goes into, and the nanoseconds it took. As there, what is timed is not inlined, so that what stands
 //! beside it changes nothing.
 
+mod maps;
+
 use rapidhash::v3::{RapidSecrets, RapidStreamHasherV3, rapidhash_v3_seeded};
 use rapidhash::{fast, quality, rng::RapidRng};
-use std::collections::HashMap;
-use std::hash::{BuildHasher, Hash, Hasher};
+use std::hash::{BuildHasher, Hasher};
 use std::time::Instant;
 
 const ITEMS: u64 = 1 << 21;
-
-const KEYS: usize = 1 << 24;
-
-const WIDTH: usize = 20;
 
 #[inline(never)]
 fn next() -> u64 {
@@ -148,76 +145,9 @@ fn streams(size: &str, number: u64) -> (u64, Instant) {
     (sum, start)
 }
 
-fn filled<K: Eq + Hash + Copy, S: BuildHasher>(state: S, keys: &[K]) -> HashMap<K, u64, S> {
-    let mut map = HashMap::with_hasher(state);
-    for (place, key) in keys.iter().enumerate() {
-        map.insert(*key, place as u64);
-    }
-    map
-}
-
-#[inline(never)]
-fn fill<K: Eq + Hash + Copy, S: BuildHasher + Clone>(state: S, keys: &[K]) -> u64 {
-    (0..KEYS / keys.len()).fold(0, |sum, _| sum + filled(state.clone(), keys).len() as u64)
-}
-
-#[inline(never)]
-fn found<K: Eq + Hash, S: BuildHasher>(map: &HashMap<K, u64, S>, keys: &[K]) -> u64 {
-    let mut sum = 0;
-    for _ in 0..KEYS / keys.len() {
-        for key in keys {
-            sum += map.contains_key(key) as u64;
-        }
-    }
-    sum
-}
-
-/// What is done, and with how many keys.
-fn named(name: &str) -> (&str, usize) {
-    let (work, count) = name.split_at(name.find(|c: char| c.is_ascii_digit()).unwrap());
-    (work, count.parse().unwrap())
-}
-
-/// The sum, and when the time began: a map that keys are looked up in is filled before.
-fn table<K: Eq + Hash + Copy, S: BuildHasher + Clone>(
-    state: S,
-    work: &str,
-    keys: &[K],
-) -> (u64, Instant) {
-    let (there, missing) = keys.split_at(keys.len() / 2);
-    if work == "insert" {
-        let start = Instant::now();
-        return (fill(state, there), start);
-    }
-    let asked = if work == "hit" { there } else { missing };
-    let map = filled(state, there);
-    let start = Instant::now();
-    (found(&map, asked), start)
-}
-
-/// Maps from integers.
-fn integers<S: BuildHasher + Clone>(state: S, name: &str) -> (u64, Instant) {
-    let (work, count) = named(name);
-    table(state, work, &(0..2 * count as u64).collect::<Vec<_>>())
-}
-
-/// Maps from keys of bytes.
-fn byte_keys<S: BuildHasher + Clone>(state: S, name: &str) -> (u64, Instant) {
-    let (work, count) = named(name);
-    let mut rng = RapidRng::new(0);
-    let bytes: Vec<u8> = (0..2 * count * WIDTH).map(|_| (rng.next() % 256) as u8).collect();
-    table(state, work, &bytes.chunks_exact(WIDTH).collect::<Vec<_>>())
-}
-
 fn work(form: &str, number: u64, place: u64) -> (u64, Instant) {
-    if let Some(name) = form.strip_prefix("map_") {
-        return integers(fast::RandomState::new(), name);
-    }
-    if let Some(name) = form.strip_prefix("keys_") {
-        return byte_keys(fast::RandomState::new(), name);
-    }
-    if let Some(name) = form.strip_prefix("std_") {
-        return integers(std::hash::RandomState::new(), name);
+    if let Some(measured) = maps::measured(form) {
+        return measured;
     }
     if let Some(size) = form.strip_prefix("stream") {
         return streams(size, number);

@@ -5,6 +5,15 @@ use rapidhash::rng::RapidRng;
 use rapidhash::{v1, v2, v3};
 use std::time::Instant;
 
+// 16 bytes in front of all functions, for a program whose functions lie 16 bytes further on.
+#[cfg(feature = "further")]
+std::arch::global_asm!(
+    ".section .text.padding, \"axR\", @progbits",
+    ".p2align 4",
+    ".skip 16, 0xcc",
+    ".text"
+);
+
 const V1: u8 = 0;
 const V2_0: u8 = 1;
 const V2_1: u8 = 2;

@@ -5,6 +5,8 @@
 
 mod draws;
 mod hashers;
+mod keys;
+mod nothing;
 mod streams;
 mod tables;
 
@@ -41,6 +43,12 @@ fn measured(rt: &(impl Clock + AllocGlobal), form: &str, number: u64, place: u64
     }
     if let Some(table) = form.strip_prefix("keys_") {
         return tables::rapid_bytes(rt, table);
+    }
+    if let Some(table) = form.strip_prefix("drawn_") {
+        return tables::rapid_drawn(rt, table);
+    }
+    if let Some(table) = form.strip_prefix("none_") {
+        return tables::unhashed(rt, table);
     }
     if let Some(size) = form.strip_prefix("stream") {
         return streams::measured(rt, size, number);

@@ -1,9 +1,10 @@
 //! Maps from integers, and from keys of 20 bytes, to integers.
 
+use crate::keys;
+use crate::nothing::Nothing;
 use anyhow::{Result, bail};
+use rapidhash::fast;
 use rapidhash::inner::{GlobalSecrets, SeedSource};
-use rapidhash::rng::RapidRng;
-use rapidhash::{ByteKey, fast};
 use std::alloc::{AllocError, Allocator};
 use std::collections::HashMap;
 use std::hash::{BuildHasher, BuildHasherDefault, FoldHasher, Hash};
@@ -12,9 +13,6 @@ use std::time::Instant;
 
 /// How many keys a form inserts or looks up.
 const KEYS: usize = 1 << 24;
-
-/// How many bytes a key of bytes has.
-const WIDTH: usize = 20;
 
 /// A number that all work went into, and the nanoseconds it took.
 pub struct Taken {
@@ -138,37 +136,6 @@ fn measured<K: Eq + Hash + Copy, S: BuildHasher + Copy>(
     Ok(Taken { sum, nanos })
 }
 
-/// The first `2 * count` integers.
-fn integers<A: Allocator>(alloc: A, count: usize) -> Result<Vec<u64, A>, AllocError> {
-    let mut keys = Vec::new(alloc);
-    for key in 0..count.saturating_mul(2) as u64 {
-        keys.push(key)?;
-    }
-    Ok(keys)
-}
-
-/// The bytes of `2 * count` keys, one key after another.
-fn key_bytes<A: Allocator>(alloc: A, count: usize) -> Result<Vec<u8, A>, AllocError> {
-    let mut rng = RapidRng::new(0);
-    let mut bytes = Vec::new(alloc);
-    for _ in 0..count.saturating_mul(2 * WIDTH) {
-        bytes.push((rng.next() % 256) as u8)?;
-    }
-    Ok(bytes)
-}
-
-/// Keys of bytes, cut out of their bytes.
-fn byte_keys<'b, A: Allocator>(
-    alloc: A,
-    bytes: &'b [u8],
-) -> Result<Vec<ByteKey<&'b [u8]>, A>, AllocError> {
-    let mut keys = Vec::new(alloc);
-    for key in bytes.chunks_exact(WIDTH) {
-        keys.push(ByteKey(key))?;
-    }
-    Ok(keys)
-}
-
 /// A random state, whose words the compiler does not know.
 fn random_state<'s>(secrets: &'s GlobalSecrets, word: u64) -> fast::RandomState<'s> {
     let mut source = SeedSource::new(secrets, word);
@@ -180,7 +147,26 @@ pub fn rapid(rt: &(impl Clock + AllocGlobal), name: &str) -> Result<Taken> {
     let work = Work::named(name)?;
     let secrets = GlobalSecrets::new(name.len() as u64);
     let state = random_state(&secrets, name.len() as u64);
-    measured(rt, state, work, &integers(rt.alloc(), work.count())?)
+    measured(rt, state, work, &keys::integers(rt.alloc(), work.count())?)
+}
+
+/// Maps from random integers over a random state.
+pub fn rapid_drawn(rt: &(impl Clock + AllocGlobal), name: &str) -> Result<Taken> {
+    let work = Work::named(name)?;
+    let secrets = GlobalSecrets::new(name.len() as u64);
+    let state = random_state(&secrets, name.len() as u64);
+    measured(rt, state, work, &keys::drawn(rt.alloc(), work.count())?)
+}
+
+/// Maps from random integers over a hasher that does nothing.
+pub fn unhashed(rt: &(impl Clock + AllocGlobal), name: &str) -> Result<Taken> {
+    let work = Work::named(name)?;
+    measured(
+        rt,
+        Nothing::new(),
+        work,
+        &keys::drawn(rt.alloc(), work.count())?,
+    )
 }
 
 /// Maps from keys of bytes over a random state.
@@ -188,13 +174,13 @@ pub fn rapid_bytes(rt: &(impl Clock + AllocGlobal), name: &str) -> Result<Taken>
     let work = Work::named(name)?;
     let secrets = GlobalSecrets::new(name.len() as u64);
     let state = random_state(&secrets, name.len() as u64);
-    let bytes = key_bytes(rt.alloc(), work.count())?;
-    measured(rt, state, work, &byte_keys(rt.alloc(), &bytes)?)
+    let bytes = keys::key_bytes(rt.alloc(), work.count())?;
+    measured(rt, state, work, &keys::byte_keys(rt.alloc(), &bytes)?)
 }
 
 /// Maps from integers over the state that std's maps have by default.
 pub fn standard(rt: &(impl Clock + AllocGlobal), name: &str) -> Result<Taken> {
     let work = Work::named(name)?;
     let state: BuildHasherDefault<FoldHasher> = BuildHasherDefault::new();
-    measured(rt, state, work, &integers(rt.alloc(), work.count())?)
+    measured(rt, state, work, &keys::integers(rt.alloc(), work.count())?)
 }
