@@ -3,11 +3,11 @@
 ghost use Rattle.std.specs.Prelude.{◌≡◌, ◌<◌, ◌≤◌, ◌%◌, ℕ, List, true, false, length, drop};
 ghost use Rattle.rapidhash_portable.specs.declared.form.Form.TheVariants.{V3};
 ghost use Rattle.rapidhash_portable.specs.Folded.{AfterRows};
-ghost use Rattle.rapidhash_portable.specs.Form.{v3, micro, nano, shape_of};
+ghost use Rattle.rapidhash_portable.specs.Form.{v3, micro, nano, shape_of, start_seed};
 ghost use Rattle.rapidhash_portable.specs.Hash.{portable_hash};
 ghost use Rattle.rapidhash_portable.specs.Options.{options};
 ghost use Rattle.rapidhash_portable.specs.Seeded.{default_hash, seeded_hash};
-ghost use Rattle.rapidhash_portable.specs.Words.{last_16};
+ghost use Rattle.rapidhash_portable.specs.Words.{last_16, short_words};
 
 mod readers;
 mod stream;
@@ -15,7 +15,7 @@ mod stream;
 use crate::lanes::{close, fold_tail, wide_lanes};
 pub use crate::secrets::{DEFAULT_RAPID_SECRETS, RapidSecrets};
 use crate::util::ALTERNATING_BITS;
-use crate::words::{last_16, short_start_v3};
+use crate::words::{last_16, words_to_3_v3, words_to_7, words_to_16};
 pub use readers::{
     rapidhash_v3_file, rapidhash_v3_file_inline, rapidhash_v3_file_lanes, rapidhash_v3_file_seeded,
     rapidhash_v3_file_sized, rapidhash_v3_source, rapidhash_v3_source_lanes,
@@ -92,6 +92,7 @@ pub fn rapidhash_v3_nano_inline<const AVALANCHE: bool, const PROTECTED: bool>(
 
 /// The hash of `bytes` with an odd number of lanes.
 #[inline(always)]
+#[tactic(auto, using(crate::proofs::Cases::tests), unfolding(crate::specs::Form::start_seed))]
 pub(crate) fn hash<
     const LANES: usize,
     const AVALANCHE: bool,
@@ -102,17 +103,41 @@ pub(crate) fn hash<
     requires odd { LANES % 2 ≡ 1 }
     ensures { result ≡ seeded_hash (V3 LANES) (options AVALANCHE PROTECTED) secrets.now bytes.now }
 {
-    if bytes.len() > 16 {
+    let (n, seed) = (bytes.len(), secrets.seed);
+    if n > 16 {
         return long::<LANES, AVALANCHE, COMPACT, PROTECTED>(bytes, secrets);
     }
+    // With one close for all lengths, a caller's loop loads the default secrets for each message.
+    if n >= 8 {
+        let words = words_to_16(bytes);
+        close_short::<LANES, AVALANCHE, PROTECTED>(bytes, words, seed ^ n as u64, secrets)
+    } else if n >= 4 {
+        let words = words_to_7(bytes);
+        close_short::<LANES, AVALANCHE, PROTECTED>(bytes, words, seed ^ n as u64, secrets)
+    } else if n > 0 {
+        close_short::<LANES, AVALANCHE, PROTECTED>(bytes, words_to_3_v3(bytes), seed, secrets)
+    } else {
+        close_short::<LANES, AVALANCHE, PROTECTED>(bytes, (0, 0), seed, secrets)
+    }
+}
+
+/// The hash of at most 16 bytes, made of their two words and the seed that they start from.
+#[inline(always)]
+fn close_short<const LANES: usize, const AVALANCHE: bool, const PROTECTED: bool>(
+    bytes: &[u8],
+    words: (u64, u64),
+    seed: u64,
+    secrets: &RapidSecrets,
+) -> u64
+    requires few { length bytes.now ≤ 16 }
+    requires odd { LANES % 2 ≡ 1 }
+    ensures { words ≡ short_words (V3 LANES) bytes.now →
+        seed ≡ start_seed (V3 LANES) (length bytes.now) secrets.now.seed →
+        result ≡ seeded_hash (V3 LANES) (options AVALANCHE PROTECTED) secrets.now bytes.now }
+{
     let second = secrets.secrets[1];
-    let (words, seed) = short_start_v3(bytes, secrets.seed);
-    close::<AVALANCHE, PROTECTED>(
-        words,
-        seed,
-        second,
-        (ALTERNATING_BITS, second ^ bytes.len() as u64),
-    )
+    let masks = (ALTERNATING_BITS, second ^ bytes.len() as u64);
+    close::<AVALANCHE, PROTECTED>(words, seed, second, masks)
 }
 
 /// The hash above 16 bytes. It is out of line, so that a message of up to 16 bytes saves no

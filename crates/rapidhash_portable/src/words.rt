@@ -2,7 +2,6 @@
 
 ghost use Rattle.std.specs.Prelude.{◌≡◌, ◌≤◌, ◌<◌, Bool, ℕ, length};
 ghost use Rattle.rapidhash_portable.specs.declared.form.Form.TheVariants.{V1, V2, V3};
-ghost use Rattle.rapidhash_portable.specs.Form.{start_seed};
 ghost use Rattle.rapidhash_portable.specs.Words.{last_16, short_words, three_bytes};
 
 use crate::util::{read_u32, read_u32_combined, read_u64};
@@ -118,25 +117,4 @@ pub(crate) fn words_to_3_v3(bytes: &[u8]) -> (u64, u64)
     let n = bytes.len();
     let (first, middle, last) = (bytes[0], bytes[n / 2], bytes[n - 1]);
     ((first as u64) << 45 | last as u64, middle as u64)
-}
-
-/// The two words of V3, micro and nano, of at most 16 bytes, and the seed they start from: up to 3
-/// bytes the length is not mixed in. Both hang on the same tests, so they are made at once.
-#[inline(always)]
-#[tactic(auto, using(crate::proofs::Cases::tests), unfolding(crate::specs::Form::start_seed))]
-pub(crate) fn short_start_v3(bytes: &[u8], seed: u64) -> ((u64, u64), u64)
-    requires { length bytes.now ≤ 16 }
-    ensures words { (lanes : ℕ) → result.0 ≡ short_words (V3 lanes) bytes.now }
-    ensures seed { (lanes : ℕ) → result.1 ≡ start_seed (V3 lanes) (length bytes.now) seed }
-{
-    let n = bytes.len();
-    if n >= 8 {
-        (words_to_16(bytes), seed ^ n as u64)
-    } else if n >= 4 {
-        (words_to_7(bytes), seed ^ n as u64)
-    } else if n > 0 {
-        (words_to_3_v3(bytes), seed)
-    } else {
-        ((0, 0), seed)
-    }
 }

@@ -1,16 +1,12 @@
-use Rattle.std.proofs.Common.{not, nat_eq, length, arith}
+use Rattle.std.proofs.Common.{sym, arith}
 use Rattle.rapidhash_portable.specs.declared.form.Form.TheVariants.{V3}
-use Rattle.rapidhash_portable.specs.Form.{masks}
-use Rattle.rapidhash_portable.specs.declared.form.Options.{Options}
-use Rattle.rapidhash_portable.proofs.FormLemmas.{shape_of-v3-none}
-use Rattle.rapidhash_portable.proofs.HashLemmas.{hash-short}
+use Rattle.rapidhash_portable.specs.Form.{start_seed}
+use Rattle.rapidhash_portable.proofs.WordsLemmas.{short_words-none}
+use Rattle.rapidhash_portable.proofs.Cases.{tests}
 use Rattle.rapidhash_portable.proofs.v3.hash.Goals as goal
 
-pub returns : goal.returns
-unfolding masks
-returns g c =
-    let x = c.args.bytes.now in
-    let options : Options = record { avalanche = not (nat_eq g.row.AVALANCHE 0); protected = not (nat_eq g.row.PROTECTED 0) } in
-    let none = shape_of-v3-none g.row.LANES (length x) (omega arith) (omega arith) in
-    hash-short (V3 g.row.LANES) options g.row.LANES c.args.secrets.now.seed c.args.secrets.now.secrets x c.requires.odd none c.if-bytes-gt16.false c.close.result
-    (cc (c.close.ensures, c.short_start_v3-seed.ensures.words g.row.LANES, c.short_start_v3-seed.ensures.seed g.row.LANES))
+pub returns-else-n-gt0 : goal.returns-else-n-gt0
+unfolding start_seed
+returns-else-n-gt0 g c =
+    let none = sym (short_words-none (V3 g.row.LANES) c.args.bytes.now (omega arith)) in
+    c.close_short-else-n-gt0.ensures none (grind (arith, tests))
