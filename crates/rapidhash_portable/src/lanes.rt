@@ -1,21 +1,18 @@
-//! The row kernel of every hash: rows of 16-byte pairs folded into lanes, the lanes joined, the
-//! tail, the close. It is generic in the number of lanes and is proved once.
+//! The row kernel of every hash: rows of 16-byte pairs folded into lanes, and the lanes joined. It
+//! is generic in the number of lanes and is proved once.
 //!
-//! The callers are thin: a form is its row widths, its tail's table and what goes into its close.
-//! The speed of the hashes depends on the loops here: after a change look at the machine code with
-//! `objdump`.
+//! The callers are thin: a form is its row widths, its tail's table and what goes into its close
+//! (module `tail`). The speed of the hashes depends on the loops here: after a change look at the
+//! machine code with `objdump`.
 
 ghost use Rattle.std.specs.Prelude.{◌≡◌, ◌+◌, ◌*◌, ◌≤◌, ◌<◌, ℕ, List, length, replicate, take};
 ghost use Rattle.rapidhash_portable.specs.Folded.{AfterRows, HaveFolded, PrefixIsFolded};
-ghost use Rattle.rapidhash_portable.specs.Hash.{close};
-ghost use Rattle.rapidhash_portable.specs.Lanes.{joined, mixed_shape, pair_of, wide_shape};
-ghost use Rattle.rapidhash_portable.specs.Options.{options};
-ghost use Rattle.rapidhash_portable.specs.Tail.{after_tail};
+ghost use Rattle.rapidhash_portable.specs.Lanes.{joined, mixed_shape, wide_shape};
 
 #[cfg(test)]
 mod tests;
 
-use crate::util::{rapid_mix, rapid_mum, read_u64};
+use crate::util::{rapid_mix, read_u64};
 
 /// Folds a row of `WIDTH` pairs at the head of `row` into the first `WIDTH` lanes.
 #[inline(always)]
@@ -211,49 +208,4 @@ pub(crate) fn join_mixed<'x, const COMPACT: bool, const PROTECTED: bool>(
     let wide = fold_rows::<7, 7, 0, COMPACT, PROTECTED>(lanes, bytes, secrets);
     let rest = fold_rows::<7, 3, 0, COMPACT, PROTECTED>(lanes, wide, secrets);
     (join::<7, 7>(lanes), rest)
-}
-
-/// The seed after the pairs of a tail: pair j takes secret j of the table, and the last 1 to 16
-/// bytes form no pair.
-#[inline(always)]
-pub(crate) fn fold_tail<const COUNT: usize, const PROTECTED: bool>(
-    tail: &[u8],
-    table: &[u64; COUNT],
-    start: u64,
-) -> u64
-    requires { COUNT ≤ 6 }
-    ensures { result ≡ after_tail PROTECTED table.now (pair_of tail.now) 0 (length tail.now) start }
-{
-    let mut seed = start;
-    // Where pair j ends. It is counted beside j: a sum in the test compiles to a longer one.
-    let mut end = 16;
-    for j in 0..COUNT {
-        if tail.len() > end {
-            seed = rapid_mix::<PROTECTED>(
-                read_u64(tail, 16 * j) ^ table[j],
-                read_u64(tail, 16 * j + 8) ^ seed,
-            );
-        }
-        end += 16;
-    }
-    seed
-}
-
-/// The value of the last two words and the seed.
-#[inline(always)]
-#[tactic(auto, unfolding(crate::specs::Hash::close))]
-pub(crate) fn close<const AVALANCHE: bool, const PROTECTED: bool>(
-    words: (u64, u64),
-    seed: u64,
-    secret: u64,
-    masks: (u64, u64),
-) -> u64
-    ensures { result ≡ close (options AVALANCHE PROTECTED) words seed secret masks }
-{
-    let (a, b) = rapid_mum::<PROTECTED>(words.0 ^ secret, words.1 ^ seed);
-    if AVALANCHE {
-        rapid_mix::<PROTECTED>(a ^ masks.0, b ^ masks.1)
-    } else {
-        a ^ b
-    }
 }

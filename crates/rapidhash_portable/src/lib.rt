@@ -8,8 +8,9 @@
 //! - [`form`] holds the types that the definition uses.
 //! - [`memory`] is the core of the in-memory hasher of the crate `rapidhash`.
 //!
-//! The row kernel (`lanes`), the words that a message ends in (`words`), the reads of a known
-//! length (`sized`) and the arithmetic of secrets (`secrets`) are private.
+//! The row kernel (`lanes`), what follows the rows (`tail`), the words that a message ends in
+//! (`words`), the reads of a known length (`sized`) and the arithmetic of secrets (`secrets`) are
+//! private.
 #![tactic(auto)]
 
 pub mod form;
@@ -19,6 +20,7 @@ pub mod reader;
 mod secrets;
 pub mod seeding;
 mod sized;
+mod tail;
 pub mod util;
 pub mod v1;
 pub mod v2;

@@ -9,7 +9,8 @@ ghost use Rattle.rapidhash_portable.specs.Memory.{after_pairs, longest_narrow, l
 ghost use Rattle.rapidhash_portable.specs.Options.{options};
 ghost use Rattle.rapidhash_portable.specs.Words.{last_words, short_words};
 
-use crate::lanes::{close, fold_tail, mixed_lanes, wide_lanes};
+use crate::lanes::{mixed_lanes, wide_lanes};
+use crate::tail::{close, fold_tail};
 use crate::util::ALTERNATING_BITS;
 use crate::words::{last_16, words_to_3_v3, words_to_7, words_to_16};
 

@@ -12,8 +12,9 @@ ghost use Rattle.rapidhash_portable.specs.Words.{last_16, short_words};
 
 mod readers;
 
-use crate::lanes::{close, fold_tail, wide_lanes};
+use crate::lanes::wide_lanes;
 use crate::secrets::{DEFAULT_SECRETS, chain, cpp_seed_of, reseed_of, seed_of};
+use crate::tail::{close, fold_tail};
 use crate::words::{last_16, words_to_3_v1, words_to_7_v1, words_to_16_v1};
 pub use readers::{
     rapidhash_v1_file, rapidhash_v1_file_inline, rapidhash_v1_file_seeded, rapidhash_v1_source,
@@ -223,8 +224,7 @@ fn close_tail<const AVALANCHE: bool, const PROTECTED: bool>(
     secrets: &[u64; 3],
 ) -> u64
     requires { 16 ≤ length ending.now }
-    ensures { (bug : Bool) (seed : ℕ) (x : List ℕ) → 16 < length x →
-        length x ≡ len →
+    ensures { (bug : Bool) (seed : ℕ) (x : List ℕ) → 16 < length x → length x ≡ len →
         last_16 ending.now ≡ last_16 x →
         AfterRows PROTECTED secrets.now x (shape_of (V1 bug) (length x))
         (start_seed (V1 bug) (length x) seed) joined tail.now →

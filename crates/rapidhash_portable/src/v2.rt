@@ -11,8 +11,9 @@ ghost use Rattle.rapidhash_portable.specs.Words.{last_16, short_words};
 
 mod readers;
 
-use crate::lanes::{close, fold_tail, mixed_lanes};
+use crate::lanes::mixed_lanes;
 pub use crate::secrets::{DEFAULT_RAPID_SECRETS, RapidSecrets};
+use crate::tail::{close, fold_tail};
 use crate::util::ALTERNATING_BITS;
 use crate::words::{last_16, words_to_3_v2, words_to_7, words_to_16};
 pub use readers::{

@@ -12,8 +12,9 @@ ghost use Rattle.rapidhash_portable.specs.Words.{last_16, short_words};
 mod readers;
 mod stream;
 
-use crate::lanes::{close, fold_tail, wide_lanes};
+use crate::lanes::wide_lanes;
 pub use crate::secrets::{DEFAULT_RAPID_SECRETS, RapidSecrets};
+use crate::tail::{close, fold_tail};
 use crate::util::ALTERNATING_BITS;
 use crate::words::{last_16, words_to_3_v3, words_to_7, words_to_16};
 pub use readers::{

@@ -1,7 +1,7 @@
 use Rattle.std.proofs.Common.{◌≡◌, ◌+◌, ◌*◌, length, take, not, nat_eq}
 use Rattle.rapidhash_portable.specs.Lanes.{pair_of}
 use Rattle.rapidhash_portable.specs.Tail.{after_tail}
-use Rattle.rapidhash_portable.proofs.lanes.fold_tail.Given as goal
+use Rattle.rapidhash_portable.proofs.tail.fold_tail.Given as goal
 
 abbrev pub invariant-loop-j : goal.invariant-loop-j
 invariant-loop-j g l = record {

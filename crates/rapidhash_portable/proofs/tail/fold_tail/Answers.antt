@@ -1,8 +1,8 @@
 use Rattle.std.proofs.Common.{not, nat_eq, length, sym, ◌∙◌, arith, refl}
 use Rattle.rapidhash_portable.specs.Lanes.{step, pair_of}
 use Rattle.rapidhash_portable.proofs.TailLemmas.{after_tail-none, after_tail-more, after_tail-same, after_tail-whole}
-use Rattle.rapidhash_portable.proofs.lanes.fold_tail.Goals as goal
-use Rattle.rapidhash_portable.proofs.lanes.fold_tail.Goals.{then-tail-end, else-tail-end}
+use Rattle.rapidhash_portable.proofs.tail.fold_tail.Goals as goal
+use Rattle.rapidhash_portable.proofs.tail.fold_tail.Goals.{then-tail-end, else-tail-end}
 
 pub loop-j-init : goal.loop-j-init
 loop-j-init g c = record {
