@@ -122,8 +122,15 @@ impl Row<'_> {
     }
 }
 
-/// 64 texts of one length, or for `1-300` 8,192 of 1 to 300 bytes.
+/// 64 texts of one length, for `1-300` 8,192 of 1 to 300 bytes, for `5,3,9` one of each of these lengths.
 fn texts<'x>(bytes: &'x [u8], length: &str, rng: &mut RapidRng) -> Vec<&'x [u8]> {
+    if length.contains(',') {
+        let cut = |length: &str| {
+            let first = (rng.next() % 4096) as usize;
+            &bytes[first..first + length.parse::<usize>().unwrap()]
+        };
+        return length.split(',').map(cut).collect();
+    }
     let Some(most) = length.strip_prefix("1-") else {
         let length = length.parse::<usize>().unwrap();
         return (0..64).map(|first| &bytes[first..first + length]).collect();

@@ -16,7 +16,8 @@ pub fn random_bytes(alloc: Global, rng: &mut RapidRng) -> Result<Vec<u8>, AllocE
     Ok(bytes)
 }
 
-/// The texts of a row: 64 of one length, side by side, or for `1-300` 8,192 of 1 to 300 bytes.
+/// The texts of a row: 64 of one length, side by side; for `1-300` 8,192 of 1 to 300 bytes; for
+/// `5,3,9` one of each of these lengths.
 pub fn texts<'x>(
     alloc: Global,
     length: &str,
@@ -24,9 +25,12 @@ pub fn texts<'x>(
     rng: &mut RapidRng,
 ) -> Result<Vec<&'x [u8]>> {
     let mut list = Vec::new(alloc);
-    match length.strip_prefix("1-") {
-        Some(most) => add_mixed(&mut list, bytes, most.parse::<u64>()?, rng)?,
-        None => add_alike(&mut list, bytes, length.parse::<usize>()?)?,
+    if let Some(most) = length.strip_prefix("1-") {
+        add_mixed(&mut list, bytes, most.parse::<u64>()?, rng)?;
+    } else if length.contains(',') {
+        add_each(&mut list, bytes, length, rng)?;
+    } else {
+        add_alike(&mut list, bytes, length.parse::<usize>()?)?;
     }
     Ok(list)
 }
@@ -54,6 +58,22 @@ fn add_mixed<'x>(
         let first = (rng.next() % 4096) as usize;
         let length = (1 + rng.next() % most.max(1) % 65536) as usize;
         if let Some(text) = bytes.get(first..first + length) {
+            list.push(text)?;
+        }
+    }
+    Ok(())
+}
+
+fn add_each<'x>(
+    list: &mut Vec<&'x [u8]>,
+    bytes: &'x [u8],
+    lengths: &str,
+    rng: &mut RapidRng,
+) -> Result<()> {
+    for length in lengths.split(',') {
+        let first = (rng.next() % 4096) as usize;
+        let length = length.parse::<usize>()?;
+        if let Some(text) = bytes.get(first..first.wrapping_add(length)) {
             list.push(text)?;
         }
     }
