@@ -1,8 +1,8 @@
 #!/usr/bin/env bash
 # Builds the library for C, static and shared, and tests what stands over it: the header alone by each
-# standard of C and C++, the names that the two files define, and the bindings for Python, Rust,
-# JavaScript and Go. A language that is not on this machine is skipped and not counted. The last line
-# counts the cases.
+# standard of C and C++, the names that the two files define, what a stream copies of a large piece, and
+# the bindings for Python, Rust, JavaScript and Go. A language that is not on this machine is skipped and
+# not counted. The last line counts the cases.
 set -u
 
 top=$(cd "$(dirname "${BASH_SOURCE[0]}")/.." && pwd) || exit 1
@@ -79,6 +79,12 @@ defines_the_header() {
   awk 'NF > 1 { print $1 }' "$room/nm" | sort | diff "$room/declared" -
 }
 
+# Of a large piece a stream copies only what fills its buffer. No contract says so.
+large_pieces() {
+  cc -O2 -Wall -Wextra -Werror "-I$top/include" "$top/tests/large_pieces.c" "$archive" \
+    -o "$room/large_pieces" && "$room/large_pieces"
+}
+
 python_tests() {
   RAPIDHASH_LIBRARY=$shared python3 -B "$top/bindings/python/test_rapidhash.py"
 }
@@ -131,6 +137,7 @@ for standard in c++98 c++11 c++17 c++20 c++23; do
 done
 try names_of_the_archive defines_the_header "$archive"
 try names_of_the_shared_library defines_the_header -D "$shared"
+try large_pieces large_pieces
 
 try_with python python3 python_tests
 try_with rust_by_folder cargo rust_tests RAPIDHASH_LIB_DIR="$room/both/lib"

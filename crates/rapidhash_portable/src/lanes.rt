@@ -9,9 +9,6 @@ ghost use Rattle.std.specs.Prelude.{◌≡◌, ◌+◌, ◌*◌, ◌≤◌, ◌<
 ghost use Rattle.rapidhash_portable.specs.Folded.{AfterRows, HaveFolded, PrefixIsFolded};
 ghost use Rattle.rapidhash_portable.specs.Lanes.{joined, mixed_shape, wide_shape};
 
-#[cfg(test)]
-mod tests;
-
 use crate::util::{rapid_mix, read_u64};
 
 /// Folds a row of `WIDTH` pairs at the head of `row` into the first `WIDTH` lanes.

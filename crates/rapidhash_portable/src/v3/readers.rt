@@ -12,9 +12,6 @@ ghost use Rattle.rapidhash_portable.specs.Reading.{HashesAll, HashesKnown, Marks
 ghost use Rattle.rapidhash_portable.specs.Seeded.{default_hash, seeded_hash};
 ghost use Rattle.rapidhash_portable.specs.Source.{is_marked, reader_of};
 
-#[cfg(test)]
-mod tests;
-
 use super::stream::RapidStreamHasherLanes;
 use crate::reader::Source;
 use crate::secrets::RapidSecrets;

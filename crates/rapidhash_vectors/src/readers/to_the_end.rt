@@ -7,6 +7,8 @@ use crate::readers::outcome::Outcome;
 use form::{FORMS, Form};
 use rapidhash::rng::RapidRng;
 use rapidhash_fakes::CountingReader;
+use rapidhash_portable::reader::Source;
+use rapidhash_portable::v3;
 use std::io::ErrorKind;
 use std::process::Abort;
 use std::test::Fail;
@@ -105,6 +107,32 @@ fn compare_rapidhash_file(rt: HostRuntime) -> Result<(), Fail> {
         .collect(rt.alloc())?;
     for form in FORMS {
         assert_eq!(rt; first_difference(form, &bytes), None, "{form:?}");
+    }
+    Ok(())
+}
+
+/// With a seed and secrets of 0 the hash of zeros is made of the length alone: the two halves of
+/// the length times 0xaaaa_aaaa_aaaa_aaaa, by `^`.
+#[test]
+fn lengths_make_the_difference(rt: HostRuntime) -> Result<(), Fail> {
+    let secrets = v3::RapidSecrets {
+        seed: 0,
+        secrets: [0; 7],
+    };
+    for (bytes, want) in [
+        (&[0u8; 0][..], 0),
+        (&[0; 1][..], 12297829382473034410),
+        (&[0; 2][..], 6148914691236517205u64),
+    ] {
+        let mut source = Source::new(bytes);
+        assert_eq!(rt;
+            v3::rapidhash_v3_source::<&[u8], false>(&mut source, &secrets)?,
+            want
+        );
+        assert_eq!(rt;
+            v3::rapidhash_v3_file_seeded::<&[u8]>(bytes, &secrets)?,
+            want
+        );
     }
     Ok(())
 }
