@@ -22,6 +22,6 @@ int main(void)
     for (i = 18; i < 128; i++)
         differing += stream.kept[i] != piece[i - 16];
     if (differing != 0)
-        fprintf(stderr, "%u bytes of the buffer are others\n", (unsigned)differing);
+        fprintf(stderr, "%u bytes of the buffer differ\n", (unsigned)differing);
     return differing != 0;
 }
