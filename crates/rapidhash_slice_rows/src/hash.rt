@@ -1,21 +1,8 @@
-//! The hashes by their forms.
+//! The hashes, each by a type of its own. With one function that chooses among them, the compiler
+//! would count the code of all forms, find it too large and drop `inline(always)`.
 
 use rapidhash::rng::RapidRng;
 use rapidhash::{v1, v2, v3};
-
-pub const V1: u8 = 0;
-
-pub const V2_0: u8 = 1;
-
-pub const V2_1: u8 = 2;
-
-pub const V2_2: u8 = 3;
-
-pub const V3: u8 = 4;
-
-pub const MICRO: u8 = 5;
-
-pub const NANO: u8 = 6;
 
 /// Secrets of all forms that the compiler does not know.
 #[derive(Drop)]
@@ -31,34 +18,91 @@ impl Secrets {
         let seven = v3::RapidSecrets::seed(rng.next());
         Secrets { three, seven }
     }
+
+    #[inline(always)]
+    fn three<const SEEDED: bool>(&self) -> &v1::RapidSecrets {
+        if SEEDED {
+            &self.three
+        } else {
+            v1::RapidSecrets::default_ref()
+        }
+    }
+
+    #[inline(always)]
+    fn seven<const SEEDED: bool>(&self) -> &v3::RapidSecrets {
+        if SEEDED {
+            &self.seven
+        } else {
+            v3::RapidSecrets::default_ref()
+        }
+    }
 }
 
-/// The hash by a form, as a program with its own secrets calls it, or one without.
-#[inline(always)]
-pub fn hash<const FORM: u8, const SEEDED: bool>(text: &[u8], secrets: &Secrets) -> u64 {
-    let three = if SEEDED {
-        &secrets.three
-    } else {
-        v1::RapidSecrets::default_ref()
-    };
-    let seven = if SEEDED {
-        &secrets.seven
-    } else {
-        v3::RapidSecrets::default_ref()
-    };
-    if FORM == V1 {
-        v1::rapidhash_v1_seeded(text, three)
-    } else if FORM == V2_0 {
-        v2::rapidhash_v2_inline::<0, true, false, false>(text, seven)
-    } else if FORM == V2_1 {
-        v2::rapidhash_v2_inline::<1, true, false, false>(text, seven)
-    } else if FORM == V2_2 {
-        v2::rapidhash_v2_2_seeded(text, seven)
-    } else if FORM == V3 {
-        v3::rapidhash_v3_seeded(text, seven)
-    } else if FORM == MICRO {
-        v3::rapidhash_v3_micro_inline::<true, false>(text, seven)
-    } else {
-        v3::rapidhash_v3_nano_inline::<true, false>(text, seven)
+/// A form of the hash, as a program with its own secrets calls it, or one without.
+pub trait Form {
+    fn hash(text: &[u8], secrets: &Secrets) -> u64;
+}
+
+/// V1.
+pub struct V1<const SEEDED: bool>;
+
+impl<const SEEDED: bool> Form for V1<SEEDED> {
+    #[inline(always)]
+    fn hash(text: &[u8], secrets: &Secrets) -> u64 {
+        v1::rapidhash_v1_seeded(text, secrets.three::<SEEDED>())
+    }
+}
+
+/// V2, by its minor.
+pub struct V2<const MINOR: u8, const SEEDED: bool>;
+
+impl<const SEEDED: bool> Form for V2<0, SEEDED> {
+    #[inline(always)]
+    fn hash(text: &[u8], secrets: &Secrets) -> u64 {
+        v2::rapidhash_v2_inline::<0, true, false, false>(text, secrets.seven::<SEEDED>())
+    }
+}
+
+impl<const SEEDED: bool> Form for V2<1, SEEDED> {
+    #[inline(always)]
+    fn hash(text: &[u8], secrets: &Secrets) -> u64 {
+        v2::rapidhash_v2_inline::<1, true, false, false>(text, secrets.seven::<SEEDED>())
+    }
+}
+
+impl<const SEEDED: bool> Form for V2<2, SEEDED> {
+    #[inline(always)]
+    fn hash(text: &[u8], secrets: &Secrets) -> u64 {
+        v2::rapidhash_v2_2_seeded(text, secrets.seven::<SEEDED>())
+    }
+}
+
+/// V3.
+pub struct V3<const SEEDED: bool>;
+
+impl<const SEEDED: bool> Form for V3<SEEDED> {
+    #[inline(always)]
+    fn hash(text: &[u8], secrets: &Secrets) -> u64 {
+        v3::rapidhash_v3_seeded(text, secrets.seven::<SEEDED>())
+    }
+}
+
+/// V3 micro.
+pub struct Micro<const SEEDED: bool>;
+
+impl<const SEEDED: bool> Form for Micro<SEEDED> {
+    #[inline(always)]
+    fn hash(text: &[u8], secrets: &Secrets) -> u64 {
+        v3::rapidhash_v3_micro_inline::<true, false>(text, secrets.seven::<SEEDED>())
+    }
+}
+
+/// V3 nano.
+pub struct Nano<const SEEDED: bool>;
+
+impl<const SEEDED: bool> Form for Nano<SEEDED> {
+    #[inline(always)]
+    fn hash(text: &[u8], secrets: &Secrets) -> u64 {
+        v3::rapidhash_v3_nano_inline::<true, false>(text, secrets.seven::<SEEDED>())
     }
 }

@@ -1,7 +1,7 @@
 //! The loop over the texts, in eight copies, each after more code. On some processors a jump that
 //! lies across a 32-byte boundary costs extra, so a loop is measured at eight places in memory.
 
-use crate::hash::{MICRO, NANO, Secrets, V1, V2_0, V2_1, V2_2, V3, hash};
+use crate::hash::{Form, Micro, Nano, Secrets, V1, V2, V3};
 use anyhow::{Result, bail};
 
 /// What is hashed, and how often.
@@ -23,38 +23,35 @@ impl Row<'_> {
     /// Hashes the texts by a form, and returns the sum that all hashes went into.
     pub fn work<const SEEDED: bool>(&self, form: &str, sum: u64) -> Result<u64> {
         match form {
-            "v1" => self.by_form::<V1, SEEDED>(sum),
-            "v2.0" => self.by_form::<V2_0, SEEDED>(sum),
-            "v2.1" => self.by_form::<V2_1, SEEDED>(sum),
-            "v2.2" => self.by_form::<V2_2, SEEDED>(sum),
-            "v3" => self.by_form::<V3, SEEDED>(sum),
-            "micro" => self.by_form::<MICRO, SEEDED>(sum),
-            "nano" => self.by_form::<NANO, SEEDED>(sum),
+            "v1" => self.by_form::<V1<SEEDED>>(sum),
+            "v2.0" => self.by_form::<V2<0, SEEDED>>(sum),
+            "v2.1" => self.by_form::<V2<1, SEEDED>>(sum),
+            "v2.2" => self.by_form::<V2<2, SEEDED>>(sum),
+            "v3" => self.by_form::<V3<SEEDED>>(sum),
+            "micro" => self.by_form::<Micro<SEEDED>>(sum),
+            "nano" => self.by_form::<Nano<SEEDED>>(sum),
             _ => bail!("no form {form}"),
         }
     }
 
-    fn by_form<const FORM: u8, const SEEDED: bool>(&self, sum: u64) -> Result<u64> {
+    fn by_form<F: Form>(&self, sum: u64) -> Result<u64> {
         if self.is_call {
-            self.at_place::<FORM, SEEDED, true>(sum)
+            self.at_place::<F, true>(sum)
         } else {
-            self.at_place::<FORM, SEEDED, false>(sum)
+            self.at_place::<F, false>(sum)
         }
     }
 
-    fn at_place<const FORM: u8, const SEEDED: bool, const CALL: bool>(
-        &self,
-        sum: u64,
-    ) -> Result<u64> {
+    fn at_place<F: Form, const CALL: bool>(&self, sum: u64) -> Result<u64> {
         Ok(match self.place {
-            0 => hash_all::<FORM, SEEDED, CALL, 0>(self.list, self.secrets, self.passes, sum),
-            1 => hash_all::<FORM, SEEDED, CALL, 1>(self.list, self.secrets, self.passes, sum),
-            2 => hash_all::<FORM, SEEDED, CALL, 2>(self.list, self.secrets, self.passes, sum),
-            3 => hash_all::<FORM, SEEDED, CALL, 3>(self.list, self.secrets, self.passes, sum),
-            4 => hash_all::<FORM, SEEDED, CALL, 4>(self.list, self.secrets, self.passes, sum),
-            5 => hash_all::<FORM, SEEDED, CALL, 5>(self.list, self.secrets, self.passes, sum),
-            6 => hash_all::<FORM, SEEDED, CALL, 6>(self.list, self.secrets, self.passes, sum),
-            7 => hash_all::<FORM, SEEDED, CALL, 7>(self.list, self.secrets, self.passes, sum),
+            0 => hash_all::<F, CALL, 0>(self.list, self.secrets, self.passes, sum),
+            1 => hash_all::<F, CALL, 1>(self.list, self.secrets, self.passes, sum),
+            2 => hash_all::<F, CALL, 2>(self.list, self.secrets, self.passes, sum),
+            3 => hash_all::<F, CALL, 3>(self.list, self.secrets, self.passes, sum),
+            4 => hash_all::<F, CALL, 4>(self.list, self.secrets, self.passes, sum),
+            5 => hash_all::<F, CALL, 5>(self.list, self.secrets, self.passes, sum),
+            6 => hash_all::<F, CALL, 6>(self.list, self.secrets, self.passes, sum),
+            7 => hash_all::<F, CALL, 7>(self.list, self.secrets, self.passes, sum),
             place => bail!("no place {place}"),
         })
     }
@@ -72,15 +69,12 @@ fn start<const PLACE: u64>(sum: u64) -> u64 {
 
 // The hash as a separate function, once for each place.
 #[inline(never)]
-fn call<const FORM: u8, const SEEDED: bool, const PLACE: u64>(
-    text: &[u8],
-    secrets: &Secrets,
-) -> u64 {
-    hash::<FORM, SEEDED>(text, secrets) ^ PLACE
+fn call<F: Form, const PLACE: u64>(text: &[u8], secrets: &Secrets) -> u64 {
+    F::hash(text, secrets) ^ PLACE
 }
 
 #[inline(never)]
-fn hash_all<const FORM: u8, const SEEDED: bool, const CALL: bool, const PLACE: u64>(
+fn hash_all<F: Form, const CALL: bool, const PLACE: u64>(
     list: &[&[u8]],
     secrets: &Secrets,
     passes: u64,
@@ -90,9 +84,9 @@ fn hash_all<const FORM: u8, const SEEDED: bool, const CALL: bool, const PLACE: u
     for _ in 0..passes {
         for text in list.iter() {
             let hash = if CALL {
-                call::<FORM, SEEDED, PLACE>(text, secrets)
+                call::<F, PLACE>(text, secrets)
             } else {
-                hash::<FORM, SEEDED>(text, secrets)
+                F::hash(text, secrets)
             };
             sum = (sum ^ hash).wrapping_mul(3);
         }
