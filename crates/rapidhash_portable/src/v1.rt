@@ -15,7 +15,7 @@ mod readers;
 use crate::lanes::wide_lanes;
 use crate::secrets::{DEFAULT_SECRETS, chain, cpp_seed_of, reseed_of, seed_of};
 use crate::tail::{close, fold_tail};
-use crate::words::{last_16, words_to_3_v1, words_to_7_v1, words_to_16_v1};
+use crate::words::{last_16, words_to_3_v1, words_to_16_v1};
 pub use readers::{
     rapidhash_v1_file, rapidhash_v1_file_inline, rapidhash_v1_file_seeded, rapidhash_v1_source,
 };
@@ -103,7 +103,7 @@ impl RapidSecrets {
 /// ```
 /// assert_eq!(rapidhash_v1(b"something\n"), 15965596575264898037);
 /// ```
-#[inline]
+#[inline(always)]
 pub fn rapidhash_v1(bytes: &[u8]) -> u64
     ensures { result ≡ default_hash (V1 false) (options true false) bytes.now }
 {
@@ -111,7 +111,7 @@ pub fn rapidhash_v1(bytes: &[u8]) -> u64
 }
 
 /// The hash of `bytes` with the caller's seed and secrets.
-#[inline]
+#[inline(always)]
 pub fn rapidhash_v1_seeded(bytes: &[u8], secrets: &RapidSecrets) -> u64
     ensures { result ≡ seeded_hash_v1 false (options true false) secrets.now bytes.now }
 {
@@ -134,18 +134,18 @@ pub fn rapidhash_v1_inline<
     ensures { result ≡ seeded_hash_v1 V1_BUG (options AVALANCHE PROTECTED) secrets.now bytes.now }
 {
     let n = bytes.len();
-    if n > 16 {
-        return long::<AVALANCHE, COMPACT, PROTECTED, V1_BUG>(bytes, secrets);
-    }
-    // With one close for all lengths, a caller's loop loads the default secrets for each message.
-    if n >= 8 {
-        close_short::<AVALANCHE, PROTECTED>(bytes, words_to_16_v1(bytes), secrets)
-    } else if n >= 4 {
-        close_short::<AVALANCHE, PROTECTED>(bytes, words_to_7_v1(bytes), secrets)
-    } else if n > 0 {
-        close_short::<AVALANCHE, PROTECTED>(bytes, words_to_3_v1(bytes), secrets)
+    // Short messages come first, since the compiler lays out the code in this order. With one close
+    // for all lengths a caller's loop would load the default secrets for each message.
+    if n <= 16 {
+        if n >= 4 {
+            close_short::<AVALANCHE, PROTECTED>(bytes, words_to_16_v1(bytes), secrets)
+        } else if n > 0 {
+            close_short::<AVALANCHE, PROTECTED>(bytes, words_to_3_v1(bytes), secrets)
+        } else {
+            close_short::<AVALANCHE, PROTECTED>(bytes, (0, 0), secrets)
+        }
     } else {
-        close_short::<AVALANCHE, PROTECTED>(bytes, (0, 0), secrets)
+        long::<AVALANCHE, COMPACT, PROTECTED, V1_BUG>(bytes, secrets)
     }
 }
 
@@ -165,9 +165,9 @@ fn close_short<const AVALANCHE: bool, const PROTECTED: bool>(
     close::<AVALANCHE, PROTECTED>(words, secrets.seed ^ len, second, (first ^ len, second))
 }
 
-/// The hash above 16 bytes. It is out of line, so that a message of up to 16 bytes saves no
-/// registers. The rows are out of line again, so that a message without a row sets up no lanes.
-#[inline(never)]
+/// The hash above 16 bytes. It is inlined as far as messages without a row go, so that these make
+/// no call. The rows are out of line, so that the caller's code stays short.
+#[inline(always)]
 fn long<const AVALANCHE: bool, const COMPACT: bool, const PROTECTED: bool, const V1_BUG: bool>(
     bytes: &[u8],
     secrets: &RapidSecrets,

@@ -21,7 +21,7 @@ pub use readers::{
 };
 
 /// The hash of `bytes` by V2.2 with the default seed and secrets.
-#[inline]
+#[inline(always)]
 pub fn rapidhash_v2_2(bytes: &[u8]) -> u64
     ensures { result ≡ default_hash (V2 2) (options true false) bytes.now }
 {
@@ -29,7 +29,7 @@ pub fn rapidhash_v2_2(bytes: &[u8]) -> u64
 }
 
 /// The hash of `bytes` by V2.2 with the caller's seed and secrets.
-#[inline]
+#[inline(always)]
 pub fn rapidhash_v2_2_seeded(bytes: &[u8], secrets: &RapidSecrets) -> u64
     ensures { result ≡ seeded_hash (V2 2) (options true false) secrets.now bytes.now }
 {
@@ -53,18 +53,20 @@ pub fn rapidhash_v2_inline<
     ensures { result ≡ seeded_hash (V2 MINOR) (options AVALANCHE PROTECTED) secrets.now bytes.now }
 {
     let n = bytes.len();
-    if n > 16 {
-        return long::<MINOR, AVALANCHE, COMPACT, PROTECTED>(bytes, secrets);
-    }
-    // With one close for all lengths, a caller's loop loads the default secrets for each message.
-    if n >= 8 {
-        close_short::<AVALANCHE, PROTECTED>(bytes, words_to_16(bytes), secrets)
-    } else if n >= 4 {
-        close_short::<AVALANCHE, PROTECTED>(bytes, words_to_7(bytes), secrets)
-    } else if n > 0 {
-        close_short::<AVALANCHE, PROTECTED>(bytes, words_to_3_v2::<MINOR>(bytes), secrets)
+    // Short messages come first, since the compiler lays out the code in this order. With one close
+    // for all lengths a caller's loop would load the default secrets for each message.
+    if n <= 16 {
+        if n >= 8 {
+            close_short::<AVALANCHE, PROTECTED>(bytes, words_to_16(bytes), secrets)
+        } else if n >= 4 {
+            close_short::<AVALANCHE, PROTECTED>(bytes, words_to_7(bytes), secrets)
+        } else if n > 0 {
+            close_short::<AVALANCHE, PROTECTED>(bytes, words_to_3_v2::<MINOR>(bytes), secrets)
+        } else {
+            close_short::<AVALANCHE, PROTECTED>(bytes, (0, 0), secrets)
+        }
     } else {
-        close_short::<AVALANCHE, PROTECTED>(bytes, (0, 0), secrets)
+        long::<MINOR, AVALANCHE, COMPACT, PROTECTED>(bytes, secrets)
     }
 }
 
@@ -89,9 +91,9 @@ fn close_short<const AVALANCHE: bool, const PROTECTED: bool>(
     )
 }
 
-/// The hash above 16 bytes. It is out of line, so that a message of up to 16 bytes saves no
-/// registers. The rows are out of line again, so that a message without a row sets up no lanes.
-#[inline(never)]
+/// The hash above 16 bytes. It is inlined as far as messages without a row go, so that these make
+/// no call. The rows are out of line, so that the caller's code stays short.
+#[inline(always)]
 fn long<const MINOR: u8, const AVALANCHE: bool, const COMPACT: bool, const PROTECTED: bool>(
     bytes: &[u8],
     secrets: &RapidSecrets,

@@ -32,7 +32,7 @@ pub use stream::{
 /// ```
 /// let shard = rapidhash_v3(b"user:4711") % 64;
 /// ```
-#[inline]
+#[inline(always)]
 pub fn rapidhash_v3(bytes: &[u8]) -> u64
     ensures { result ≡ default_hash v3 (options true false) bytes.now }
 {
@@ -45,7 +45,7 @@ pub fn rapidhash_v3(bytes: &[u8]) -> u64
 /// let secrets = RapidSecrets::seed(0x1234_5678);
 /// let hash = rapidhash_v3_seeded(b"hello", &secrets);
 /// ```
-#[inline]
+#[inline(always)]
 pub fn rapidhash_v3_seeded(bytes: &[u8], secrets: &RapidSecrets) -> u64
     ensures { result ≡ seeded_hash v3 (options true false) secrets.now bytes.now }
 {
@@ -105,20 +105,22 @@ pub(crate) fn hash<
     ensures { result ≡ seeded_hash (V3 LANES) (options AVALANCHE PROTECTED) secrets.now bytes.now }
 {
     let (n, seed) = (bytes.len(), secrets.seed);
-    if n > 16 {
-        return long::<LANES, AVALANCHE, COMPACT, PROTECTED>(bytes, secrets);
-    }
-    // With one close for all lengths, a caller's loop loads the default secrets for each message.
-    if n >= 8 {
-        let words = words_to_16(bytes);
-        close_short::<LANES, AVALANCHE, PROTECTED>(bytes, words, seed ^ n as u64, secrets)
-    } else if n >= 4 {
-        let words = words_to_7(bytes);
-        close_short::<LANES, AVALANCHE, PROTECTED>(bytes, words, seed ^ n as u64, secrets)
-    } else if n > 0 {
-        close_short::<LANES, AVALANCHE, PROTECTED>(bytes, words_to_3_v3(bytes), seed, secrets)
+    // Short messages come first, since the compiler lays out the code in this order. With one close
+    // for all lengths a caller's loop would load the default secrets for each message.
+    if n <= 16 {
+        if n >= 8 {
+            let words = words_to_16(bytes);
+            close_short::<LANES, AVALANCHE, PROTECTED>(bytes, words, seed ^ n as u64, secrets)
+        } else if n >= 4 {
+            let words = words_to_7(bytes);
+            close_short::<LANES, AVALANCHE, PROTECTED>(bytes, words, seed ^ n as u64, secrets)
+        } else if n > 0 {
+            close_short::<LANES, AVALANCHE, PROTECTED>(bytes, words_to_3_v3(bytes), seed, secrets)
+        } else {
+            close_short::<LANES, AVALANCHE, PROTECTED>(bytes, (0, 0), seed, secrets)
+        }
     } else {
-        close_short::<LANES, AVALANCHE, PROTECTED>(bytes, (0, 0), seed, secrets)
+        long::<LANES, AVALANCHE, COMPACT, PROTECTED>(bytes, secrets)
     }
 }
 
@@ -141,11 +143,9 @@ fn close_short<const LANES: usize, const AVALANCHE: bool, const PROTECTED: bool>
     close::<AVALANCHE, PROTECTED>(words, seed, second, masks)
 }
 
-/// The hash above 16 bytes. It is out of line, so that a message of up to 16 bytes saves no
-/// registers. The rows are out of line again, so that a message without a row sets up no lanes.
-/// `#[cold]` makes the short path run straight through.
-#[cold]
-#[inline(never)]
+/// The hash above 16 bytes. It is inlined as far as messages without a row go, so that these make
+/// no call. The rows are out of line, so that the caller's code stays short.
+#[inline(always)]
 fn long<const LANES: usize, const AVALANCHE: bool, const COMPACT: bool, const PROTECTED: bool>(
     bytes: &[u8],
     secrets: &RapidSecrets,

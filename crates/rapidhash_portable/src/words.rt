@@ -26,31 +26,20 @@ fn three_bytes(bytes: &[u8]) -> u64
     ((bytes[0] as u64) << 56) | ((bytes[n / 2] as u64) << 32) | bytes[n - 1] as u64
 }
 
-/// The two words of V1, of 8 to 16 bytes.
+/// The two words of V1, of 4 to 16 bytes. The test for 8 bytes compiles to no jump.
 #[inline(always)]
 #[tactic(auto, using(crate::proofs::Cases::tests), unfolding(crate::specs::Words::short_words))]
 pub(crate) fn words_to_16_v1(bytes: &[u8]) -> (u64, u64)
-    requires some { 8 ≤ length bytes.now }
+    requires some { 4 ≤ length bytes.now }
     requires few { length bytes.now ≤ 16 }
     ensures { (bug : Bool) → result ≡ short_words (V1 bug) bytes.now }
 {
     let n = bytes.len();
+    let inset = if n >= 8 { 4 } else { 0 };
     (
         read_u32_combined(bytes, 0, n - 4),
-        read_u32_combined(bytes, 4, n - 8),
+        read_u32_combined(bytes, inset, n - 4 - inset),
     )
-}
-
-/// The two words of V1, of 4 to 7 bytes.
-#[inline(always)]
-#[tactic(auto, using(crate::proofs::Cases::tests), unfolding(crate::specs::Words::short_words))]
-pub(crate) fn words_to_7_v1(bytes: &[u8]) -> (u64, u64)
-    requires some { 4 ≤ length bytes.now }
-    requires few { length bytes.now ≤ 7 }
-    ensures { (bug : Bool) → result ≡ short_words (V1 bug) bytes.now }
-{
-    let word = read_u32_combined(bytes, 0, bytes.len() - 4);
-    (word, word)
 }
 
 /// The two words of V1, of 1 to 3 bytes.
