@@ -194,7 +194,7 @@ fn with_rows<const AVALANCHE: bool, const COMPACT: bool, const PROTECTED: bool, 
 }
 
 /// The shared body of [`long`] and [`with_rows`]. Each has decided its test, so after inlining the
-/// other branch is gone. With separate bodies, `long` had one more register move.
+/// other branch is gone.
 #[inline(always)]
 fn above_16<const AVALANCHE: bool, const COMPACT: bool, const PROTECTED: bool, const V1_BUG: bool>(
     bytes: &[u8],
