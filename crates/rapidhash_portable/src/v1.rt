@@ -71,8 +71,7 @@ impl RapidSecrets {
         }
     }
 
-    /// The same secrets with a new seed, which is made from the old one with the last default
-    /// secret of V1.
+    /// The same secrets with a new seed, made from the old one with V1's last default secret.
     pub fn reseed(&self) -> Self
         ensures seed { result.seed ≡ reseeded self.now.seed 2 }
         ensures secrets { result.secrets ≡ self.now.secrets }
@@ -134,18 +133,16 @@ pub fn rapidhash_v1_inline<
     ensures { result ≡ seeded_hash_v1 V1_BUG (options AVALANCHE PROTECTED) secrets.now bytes.now }
 {
     let n = bytes.len();
-    // Short messages come first, since the compiler lays out the code in this order. With one close
-    // for all lengths a caller's loop would load the default secrets for each message.
-    if n <= 16 {
-        if n >= 4 {
-            close_short::<AVALANCHE, PROTECTED>(bytes, words_to_16_v1(bytes), secrets)
-        } else if n > 0 {
-            close_short::<AVALANCHE, PROTECTED>(bytes, words_to_3_v1(bytes), secrets)
-        } else {
-            close_short::<AVALANCHE, PROTECTED>(bytes, (0, 0), secrets)
-        }
+    if n > 16 {
+        return long::<AVALANCHE, COMPACT, PROTECTED, V1_BUG>(bytes, secrets);
+    }
+    // One close for all lengths would make a caller's loop load the default secrets each time.
+    if n >= 4 {
+        close_short::<AVALANCHE, PROTECTED>(bytes, words_to_16_v1(bytes), secrets)
+    } else if n > 0 {
+        close_short::<AVALANCHE, PROTECTED>(bytes, words_to_3_v1(bytes), secrets)
     } else {
-        long::<AVALANCHE, COMPACT, PROTECTED, V1_BUG>(bytes, secrets)
+        close_short::<AVALANCHE, PROTECTED>(bytes, (0, 0), secrets)
     }
 }
 
@@ -165,8 +162,8 @@ fn close_short<const AVALANCHE: bool, const PROTECTED: bool>(
     close::<AVALANCHE, PROTECTED>(words, secrets.seed ^ len, second, (first ^ len, second))
 }
 
-/// The hash above 16 bytes. It is inlined as far as messages without a row go, so that these make
-/// no call. The rows are out of line, so that the caller's code stays short.
+/// The hash above 16 bytes. Messages of up to two rows make no call: the tests tell the compiler how
+/// few rows there are.
 #[inline(always)]
 fn long<const AVALANCHE: bool, const COMPACT: bool, const PROTECTED: bool, const V1_BUG: bool>(
     bytes: &[u8],
@@ -175,13 +172,19 @@ fn long<const AVALANCHE: bool, const COMPACT: bool, const PROTECTED: bool, const
     requires { 16 < length bytes.now }
     ensures { result ≡ seeded_hash_v1 V1_BUG (options AVALANCHE PROTECTED) secrets.now bytes.now }
 {
-    if bytes.len() >= least_row::<V1_BUG>() {
-        return with_rows::<AVALANCHE, COMPACT, PROTECTED, V1_BUG>(bytes, secrets);
+    let n = bytes.len();
+    if n < least_row::<V1_BUG>() {
+        let len = n as u64;
+        let start = secrets.seed ^ len;
+        return close_tail::<AVALANCHE, PROTECTED>(bytes, bytes, len, start, &secrets.secrets);
     }
-    above_16::<AVALANCHE, COMPACT, PROTECTED, V1_BUG>(bytes, secrets)
+    if !COMPACT && n < 144 {
+        return rows::<AVALANCHE, COMPACT, PROTECTED, V1_BUG>(bytes, secrets);
+    }
+    with_rows::<AVALANCHE, COMPACT, PROTECTED, V1_BUG>(bytes, secrets)
 }
 
-/// The hash of a message that has a row.
+/// The hash of a message with any number of rows, out of line.
 #[inline(never)]
 fn with_rows<const AVALANCHE: bool, const COMPACT: bool, const PROTECTED: bool, const V1_BUG: bool>(
     bytes: &[u8],
@@ -190,27 +193,22 @@ fn with_rows<const AVALANCHE: bool, const COMPACT: bool, const PROTECTED: bool, 
     requires { least_row_v1 V1_BUG ≤ length bytes.now }
     ensures { result ≡ seeded_hash_v1 V1_BUG (options AVALANCHE PROTECTED) secrets.now bytes.now }
 {
-    above_16::<AVALANCHE, COMPACT, PROTECTED, V1_BUG>(bytes, secrets)
+    rows::<AVALANCHE, COMPACT, PROTECTED, V1_BUG>(bytes, secrets)
 }
 
-/// The shared body of [`long`] and [`with_rows`]. Each has decided its test, so after inlining the
-/// other branch is gone.
+/// The body of [`with_rows`].
 #[inline(always)]
-fn above_16<const AVALANCHE: bool, const COMPACT: bool, const PROTECTED: bool, const V1_BUG: bool>(
+fn rows<const AVALANCHE: bool, const COMPACT: bool, const PROTECTED: bool, const V1_BUG: bool>(
     bytes: &[u8],
     secrets: &RapidSecrets,
 ) -> u64
-    requires { 16 < length bytes.now }
+    requires long { least_row_v1 V1_BUG ≤ length bytes.now }
     ensures { result ≡ seeded_hash_v1 V1_BUG (options AVALANCHE PROTECTED) secrets.now bytes.now }
 {
     let len = bytes.len() as u64;
     let s = &secrets.secrets;
-    let mut seed = secrets.seed ^ len;
-    let mut tail = bytes;
-    if bytes.len() >= least_row::<V1_BUG>() {
-        (seed, tail) = wide_lanes::<3, 0, COMPACT, PROTECTED>(bytes, seed, s);
-    }
-    close_tail::<AVALANCHE, PROTECTED>(tail, bytes, len, seed, s)
+    let (joined, tail) = wide_lanes::<3, 0, COMPACT, PROTECTED>(bytes, secrets.seed ^ len, s);
+    close_tail::<AVALANCHE, PROTECTED>(tail, bytes, len, joined, s)
 }
 
 /// The hash of `len` bytes, more than 16, made of the joined lanes, the tail, and bytes that end in
@@ -230,8 +228,7 @@ fn close_tail<const AVALANCHE: bool, const PROTECTED: bool>(
         (start_seed (V1 bug) (length x) seed) joined tail.now →
         result ≡ portable_hash (V1 bug) (options AVALANCHE PROTECTED) seed secrets.now x }
 {
-    let s = secrets;
-    let mut seed = joined;
+    let (s, mut seed) = (secrets, joined);
     if tail.len() > 16 {
         seed ^= s[1];
     }

@@ -11,7 +11,7 @@ ghost use Rattle.rapidhash_portable.specs.Words.{last_16, short_words};
 
 mod readers;
 
-use crate::lanes::mixed_lanes;
+use crate::lanes::{mixed_lanes, one_narrow_row, two_narrow_rows};
 pub use crate::secrets::{DEFAULT_RAPID_SECRETS, RapidSecrets};
 use crate::tail::{close, fold_tail};
 use crate::util::ALTERNATING_BITS;
@@ -53,20 +53,21 @@ pub fn rapidhash_v2_inline<
     ensures { result ≡ seeded_hash (V2 MINOR) (options AVALANCHE PROTECTED) secrets.now bytes.now }
 {
     let n = bytes.len();
-    // Short messages come first, since the compiler lays out the code in this order. With one close
-    // for all lengths a caller's loop would load the default secrets for each message.
-    if n <= 16 {
-        if n >= 8 {
-            close_short::<AVALANCHE, PROTECTED>(bytes, words_to_16(bytes), secrets)
-        } else if n >= 4 {
+    if n > 16 {
+        return long::<MINOR, AVALANCHE, COMPACT, PROTECTED>(bytes, secrets);
+    }
+    // Each class has its own close: with one close for all lengths a caller's loop would load the
+    // default secrets for each message.
+    if n >= 4 {
+        if n < 8 {
             close_short::<AVALANCHE, PROTECTED>(bytes, words_to_7(bytes), secrets)
-        } else if n > 0 {
-            close_short::<AVALANCHE, PROTECTED>(bytes, words_to_3_v2::<MINOR>(bytes), secrets)
         } else {
-            close_short::<AVALANCHE, PROTECTED>(bytes, (0, 0), secrets)
+            close_short::<AVALANCHE, PROTECTED>(bytes, words_to_16(bytes), secrets)
         }
+    } else if n == 0 {
+        close_short::<AVALANCHE, PROTECTED>(bytes, (0, 0), secrets)
     } else {
-        long::<MINOR, AVALANCHE, COMPACT, PROTECTED>(bytes, secrets)
+        close_short::<AVALANCHE, PROTECTED>(bytes, words_to_3_v2::<MINOR>(bytes), secrets)
     }
 }
 
@@ -91,8 +92,7 @@ fn close_short<const AVALANCHE: bool, const PROTECTED: bool>(
     )
 }
 
-/// The hash above 16 bytes. It is inlined as far as messages without a row go, so that these make
-/// no call. The rows are out of line, so that the caller's code stays short.
+/// The hash above 16 bytes. Messages of fewer than 112 bytes make no call.
 #[inline(always)]
 fn long<const MINOR: u8, const AVALANCHE: bool, const COMPACT: bool, const PROTECTED: bool>(
     bytes: &[u8],
@@ -102,9 +102,34 @@ fn long<const MINOR: u8, const AVALANCHE: bool, const COMPACT: bool, const PROTE
     requires minor { MINOR ≤ 2 }
     ensures { result ≡ seeded_hash (V2 MINOR) (options AVALANCHE PROTECTED) secrets.now bytes.now }
 {
-    if bytes.len() > limit::<MINOR>() {
+    let n = bytes.len();
+    if n <= limit::<MINOR>() {
+        return without_rows::<MINOR, AVALANCHE, PROTECTED>(bytes, secrets);
+    }
+    if COMPACT || n >= 112 {
         return with_rows::<MINOR, AVALANCHE, COMPACT, PROTECTED>(bytes, secrets);
     }
+    let (len, s) = (n as u64, &secrets.secrets);
+    if n < 96 {
+        let (joined, tail) = one_narrow_row::<PROTECTED>(bytes, secrets.seed ^ len, s);
+        return close_tail::<AVALANCHE, PROTECTED>(tail, bytes, len, joined, s);
+    }
+    let (joined, _tail) = two_narrow_rows::<PROTECTED>(bytes, secrets.seed ^ len, s);
+    // The tail is shorter than a pair.
+    close_long::<AVALANCHE, PROTECTED>(bytes, len, joined, s)
+}
+
+/// The hash above 16 bytes of a message that has no row.
+#[inline(always)]
+fn without_rows<const MINOR: u8, const AVALANCHE: bool, const PROTECTED: bool>(
+    bytes: &[u8],
+    secrets: &RapidSecrets,
+) -> u64
+    requires long { 16 < length bytes.now }
+    requires few { length bytes.now ≤ v2_limit MINOR }
+    requires minor { MINOR ≤ 2 }
+    ensures { result ≡ seeded_hash (V2 MINOR) (options AVALANCHE PROTECTED) secrets.now bytes.now }
+{
     let len = bytes.len() as u64;
     let s = &secrets.secrets;
     let table = [s[0], s[1], s[last_place::<MINOR>()]];
@@ -112,9 +137,21 @@ fn long<const MINOR: u8, const AVALANCHE: bool, const COMPACT: bool, const PROTE
     close_long::<AVALANCHE, PROTECTED>(bytes, len, seed, s)
 }
 
-/// The hash of a message that has a row.
+/// The hash of a message with any number of rows, out of line.
 #[inline(never)]
 fn with_rows<const MINOR: u8, const AVALANCHE: bool, const COMPACT: bool, const PROTECTED: bool>(
+    bytes: &[u8],
+    secrets: &RapidSecrets,
+) -> u64
+    requires { v2_limit MINOR < length bytes.now }
+    ensures { result ≡ seeded_hash (V2 MINOR) (options AVALANCHE PROTECTED) secrets.now bytes.now }
+{
+    rows::<MINOR, AVALANCHE, COMPACT, PROTECTED>(bytes, secrets)
+}
+
+/// The body of [`with_rows`].
+#[inline(always)]
+fn rows<const MINOR: u8, const AVALANCHE: bool, const COMPACT: bool, const PROTECTED: bool>(
     bytes: &[u8],
     secrets: &RapidSecrets,
 ) -> u64

@@ -1,6 +1,6 @@
 //! rapidhash V3, and its relatives micro and nano, which differ from it in the number of lanes.
 
-ghost use Rattle.std.specs.Prelude.{◌≡◌, ◌<◌, ◌≤◌, ◌%◌, ℕ, List, true, false, length, drop};
+ghost use Rattle.std.specs.Prelude.{◌≡◌, ◌<◌, ◌≤◌, ◌*◌, ◌%◌, ℕ, List, true, false, length, drop};
 ghost use Rattle.rapidhash_portable.specs.declared.form.Form.TheVariants.{V3};
 ghost use Rattle.rapidhash_portable.specs.Folded.{AfterRows};
 ghost use Rattle.rapidhash_portable.specs.Form.{v3, micro, nano, shape_of, start_seed};
@@ -105,22 +105,27 @@ pub(crate) fn hash<
     ensures { result ≡ seeded_hash (V3 LANES) (options AVALANCHE PROTECTED) secrets.now bytes.now }
 {
     let (n, seed) = (bytes.len(), secrets.seed);
-    // Short messages come first, since the compiler lays out the code in this order. With one close
-    // for all lengths a caller's loop would load the default secrets for each message.
-    if n <= 16 {
-        if n >= 8 {
-            let words = words_to_16(bytes);
-            close_short::<LANES, AVALANCHE, PROTECTED>(bytes, words, seed ^ n as u64, secrets)
-        } else if n >= 4 {
+    if n > 16 {
+        return long::<LANES, AVALANCHE, COMPACT, PROTECTED>(bytes, secrets);
+    }
+    // Each class has its own close: with one close for all lengths a caller's loop would load the
+    // default secrets for each message. Nano is faster with 8 bytes asked for first.
+    if LANES == 3 && n >= 8 {
+        let words = words_to_16(bytes);
+        return close_short::<LANES, AVALANCHE, PROTECTED>(bytes, words, seed ^ n as u64, secrets);
+    }
+    if n >= 4 {
+        if n < 8 {
             let words = words_to_7(bytes);
             close_short::<LANES, AVALANCHE, PROTECTED>(bytes, words, seed ^ n as u64, secrets)
-        } else if n > 0 {
-            close_short::<LANES, AVALANCHE, PROTECTED>(bytes, words_to_3_v3(bytes), seed, secrets)
         } else {
-            close_short::<LANES, AVALANCHE, PROTECTED>(bytes, (0, 0), seed, secrets)
+            let words = words_to_16(bytes);
+            close_short::<LANES, AVALANCHE, PROTECTED>(bytes, words, seed ^ n as u64, secrets)
         }
+    } else if n == 0 {
+        close_short::<LANES, AVALANCHE, PROTECTED>(bytes, (0, 0), seed, secrets)
     } else {
-        long::<LANES, AVALANCHE, COMPACT, PROTECTED>(bytes, secrets)
+        close_short::<LANES, AVALANCHE, PROTECTED>(bytes, words_to_3_v3(bytes), seed, secrets)
     }
 }
 
@@ -143,8 +148,8 @@ fn close_short<const LANES: usize, const AVALANCHE: bool, const PROTECTED: bool>
     close::<AVALANCHE, PROTECTED>(words, seed, second, masks)
 }
 
-/// The hash above 16 bytes. It is inlined as far as messages without a row go, so that these make
-/// no call. The rows are out of line, so that the caller's code stays short.
+/// The hash above 16 bytes. Messages of up to 112 bytes in V3, and 160 in micro and nano, make no
+/// call: the tests tell the compiler how few rows there are.
 #[inline(always)]
 fn long<const LANES: usize, const AVALANCHE: bool, const COMPACT: bool, const PROTECTED: bool>(
     bytes: &[u8],
@@ -155,15 +160,47 @@ fn long<const LANES: usize, const AVALANCHE: bool, const COMPACT: bool, const PR
     requires odd { LANES % 2 ≡ 1 }
     ensures { result ≡ seeded_hash (V3 LANES) (options AVALANCHE PROTECTED) secrets.now bytes.now }
 {
-    if bytes.len() > 16 * LANES {
-        return with_rows::<LANES, AVALANCHE, COMPACT, PROTECTED>(bytes, secrets);
+    let n = bytes.len();
+    if n <= 16 * LANES {
+        return without_rows::<LANES, AVALANCHE, PROTECTED>(bytes, secrets);
     }
+    if !COMPACT && LANES <= 5 && n <= 160 {
+        return rows::<LANES, AVALANCHE, COMPACT, PROTECTED>(bytes, secrets);
+    }
+    with_rows::<LANES, AVALANCHE, COMPACT, PROTECTED>(bytes, secrets)
+}
+
+/// The hash above 16 bytes of a message that has no row.
+#[inline(always)]
+fn without_rows<const LANES: usize, const AVALANCHE: bool, const PROTECTED: bool>(
+    bytes: &[u8],
+    secrets: &RapidSecrets,
+) -> u64
+    requires long { 16 < length bytes.now }
+    requires short { length bytes.now ≤ 16 * LANES }
+    requires odd { LANES % 2 ≡ 1 }
+    ensures { result ≡ seeded_hash (V3 LANES) (options AVALANCHE PROTECTED) secrets.now bytes.now }
+{
     close_tail::<AVALANCHE, PROTECTED>(bytes, bytes, secrets.seed, &secrets.secrets)
 }
 
-/// The hash of a message that has a row.
+/// The hash of a message with any number of rows, out of line.
 #[inline(never)]
 fn with_rows<const LANES: usize, const AVALANCHE: bool, const COMPACT: bool, const PROTECTED: bool>(
+    bytes: &[u8],
+    secrets: &RapidSecrets,
+) -> u64
+    requires long { 16 < length bytes.now }
+    requires some { 0 < LANES }
+    requires few { LANES ≤ 7 }
+    ensures { result ≡ seeded_hash (V3 LANES) (options AVALANCHE PROTECTED) secrets.now bytes.now }
+{
+    rows::<LANES, AVALANCHE, COMPACT, PROTECTED>(bytes, secrets)
+}
+
+/// The body of [`with_rows`].
+#[inline(always)]
+fn rows<const LANES: usize, const AVALANCHE: bool, const COMPACT: bool, const PROTECTED: bool>(
     bytes: &[u8],
     secrets: &RapidSecrets,
 ) -> u64

@@ -1,14 +1,21 @@
-use Rattle.std.proofs.Common.{ℕ, List, not, nat_eq, length, bit_xor, sym, ap, ◌∙◌, arith}
+use Rattle.std.proofs.Common.{not, nat_eq, length, refl, sym, arith}
 use Rattle.rapidhash_portable.specs.declared.form.Form.TheVariants.{V2}
-use Rattle.rapidhash_portable.specs.Form.{start_seed, tail_seed}
-use Rattle.rapidhash_portable.specs.Lanes.{pair_of}
+use Rattle.rapidhash_portable.specs.Form.{start_seed, tail_places, tail_seed}
 use Rattle.rapidhash_portable.specs.Options.{options}
-use Rattle.rapidhash_portable.specs.Tail.{after_tail, picked}
+use Rattle.rapidhash_portable.specs.Tail.{picked}
 use Rattle.rapidhash_portable.specs.Words.{mixed_words}
-use Rattle.rapidhash_portable.proofs.FormLemmas.{rows-none, shape_of-v2-none, tail_places-v2-none}
+use Rattle.rapidhash_portable.proofs.FormLemmas.{shape_of-v2-some}
 use Rattle.rapidhash_portable.proofs.HashLemmas.{hash-is}
+use Rattle.rapidhash_portable.proofs.TailLemmas.{after_tail-short}
 use Rattle.rapidhash_portable.proofs.WordsLemmas.{last_words-long}
 use Rattle.rapidhash_portable.proofs.v2.long.Goals as goal
+
+pub returns-then-n-lt96 : goal.returns-then-n-lt96
+unfolding start_seed
+returns-then-n-lt96 g c =
+    let x = c.args.bytes.now in
+    let shape = shape_of-v2-some g.row.MINOR (length x) (omega arith) in
+    c.close_tail.ensures g.row.MINOR c.args.secrets.now.seed x (omega arith) refl refl (rw shape c.one_narrow_row-joined.ensures)
 
 pub returns : goal.returns
 unfolding start_seed tail_seed mixed_words
@@ -17,12 +24,11 @@ returns g c =
     let s = c.args.secrets.now in
     let form = V2 g.row.MINOR in
     let chosen = options (not (nat_eq g.row.AVALANCHE 0)) (not (nat_eq g.row.PROTECTED 0)) in
-    let start = bit_xor s.seed (length x) in
-    let shape = shape_of-v2-none g.row.MINOR (length x) (omega arith) in
-    let none = rows-none form 7 (length x) chosen.protected s.secrets x start (omega arith) shape in
-    let after = λ (table : List ℕ). after_tail chosen.protected table (pair_of x) 0 (length x) start in
-    let folded = rw (c.last_place.ensures.place) at c.fold_tail-seed.ensures in
-    let places = ap (λ p. after (picked s.secrets p)) (tail_places-v2-none g.row.MINOR (length x) (omega arith)) in
-    hash-is form chosen s.seed s.secrets x x start c.fold_tail-seed.result c.close_long.result none
-    (folded ∙ sym places)
-    (cc (c.close_long.ensures g.row.MINOR (length x), last_words-long form x c.requires.long))
+    let shape = shape_of-v2-some g.row.MINOR (length x) (omega arith) in
+    let few = c.two_narrow_rows-joined.ensures.few in
+    let tail = c.two_narrow_rows-joined.result.1.now in
+    let joined = c.two_narrow_rows-joined.result.0 in
+    let table = picked s.secrets (tail_places form (length x)) in
+    hash-is form chosen s.seed s.secrets x tail joined joined c.close_long.result (rw shape c.two_narrow_rows-joined.ensures.rows)
+    (sym (after_tail-short chosen.protected table tail joined (omega (arith, few))))
+    (cc (c.close_long.ensures g.row.MINOR (length tail), last_words-long form x c.requires.long))

@@ -5,8 +5,8 @@ use Rattle.rapidhash_portable.proofs.WordsLemmas.{short_words-none}
 use Rattle.rapidhash_portable.proofs.Cases.{tests}
 use Rattle.rapidhash_portable.proofs.v3.hash.Goals as goal
 
-pub returns-else-n-gt0 : goal.returns-else-n-gt0
+pub returns-then-n-eq0 : goal.returns-then-n-eq0
 unfolding start_seed
-returns-else-n-gt0 g c =
+returns-then-n-eq0 g c =
     let none = sym (short_words-none (V3 g.row.LANES) c.args.bytes.now (omega arith)) in
-    c.close_short-else-n-gt0.ensures none (grind (arith, tests))
+    c.close_short-then-n-eq0.ensures none (grind (arith, tests))

@@ -1,7 +1,7 @@
 use Rattle.std.proofs.Common.{not, nat_eq, length, refl, arith}
 use Rattle.rapidhash_portable.specs.declared.form.Form.TheVariants.{V3}
 use Rattle.rapidhash_portable.proofs.FormLemmas.{rows-none, shape_of-v3-none}
-use Rattle.rapidhash_portable.proofs.v3.long.Goals as goal
+use Rattle.rapidhash_portable.proofs.v3.without_rows.Goals as goal
 
 pub returns : goal.returns
 returns g c =
