@@ -67,8 +67,8 @@ pub fn rapidhash_v3_inline<const AVALANCHE: bool, const COMPACT: bool, const PRO
     hash::<7, AVALANCHE, COMPACT, PROTECTED>(bytes, secrets)
 }
 
-/// The hash of `bytes` with five lanes: less code than V3 for messages of up to some hundred bytes.
-/// Up to 80 bytes it is V3's. The options are those of [`rapidhash_v3_inline`].
+/// The hash of `bytes` with five lanes. Up to 80 bytes it is V3's. The options are those of
+/// [`rapidhash_v3_inline`].
 #[inline(always)]
 pub fn rapidhash_v3_micro_inline<const AVALANCHE: bool, const PROTECTED: bool>(
     bytes: &[u8],
@@ -79,8 +79,8 @@ pub fn rapidhash_v3_micro_inline<const AVALANCHE: bool, const PROTECTED: bool>(
     hash::<5, AVALANCHE, false, PROTECTED>(bytes, secrets)
 }
 
-/// The hash of `bytes` with three lanes: the least code. Up to 48 bytes it is V3's. The options are
-/// those of [`rapidhash_v3_inline`].
+/// The hash of `bytes` with three lanes: the least code in a program that calls it once. Up to 48
+/// bytes it is V3's. The options are those of [`rapidhash_v3_inline`].
 #[inline(always)]
 pub fn rapidhash_v3_nano_inline<const AVALANCHE: bool, const PROTECTED: bool>(
     bytes: &[u8],
