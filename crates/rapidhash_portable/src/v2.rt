@@ -106,17 +106,17 @@ fn long<const MINOR: u8, const AVALANCHE: bool, const COMPACT: bool, const PROTE
     if n <= limit::<MINOR>() {
         return without_rows::<MINOR, AVALANCHE, PROTECTED>(bytes, secrets);
     }
-    if COMPACT || n >= 112 {
-        return with_rows::<MINOR, AVALANCHE, COMPACT, PROTECTED>(bytes, secrets);
-    }
     let (len, s) = (n as u64, &secrets.secrets);
-    if n < 96 {
+    if !COMPACT && n < 96 {
         let (joined, tail) = one_narrow_row::<PROTECTED>(bytes, secrets.seed ^ len, s);
         return close_tail::<AVALANCHE, PROTECTED>(tail, bytes, len, joined, s);
     }
-    let (joined, _tail) = two_narrow_rows::<PROTECTED>(bytes, secrets.seed ^ len, s);
-    // The tail is shorter than a pair.
-    close_long::<AVALANCHE, PROTECTED>(bytes, len, joined, s)
+    if !COMPACT && n < 112 {
+        let (joined, _tail) = two_narrow_rows::<PROTECTED>(bytes, secrets.seed ^ len, s);
+        // The tail is shorter than a pair.
+        return close_long::<AVALANCHE, PROTECTED>(bytes, len, joined, s);
+    }
+    with_rows::<MINOR, AVALANCHE, COMPACT, PROTECTED>(bytes, secrets)
 }
 
 /// The hash above 16 bytes of a message that has no row.

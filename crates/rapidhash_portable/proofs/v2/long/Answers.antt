@@ -17,9 +17,9 @@ returns-then-n-lt96 g c =
     let shape = shape_of-v2-some g.row.MINOR (length x) (omega arith) in
     c.close_tail.ensures g.row.MINOR c.args.secrets.now.seed x (omega arith) refl refl (rw shape c.one_narrow_row-joined.ensures)
 
-pub returns : goal.returns
+pub returns-then-n-lt112 : goal.returns-then-n-lt112
 unfolding start_seed tail_seed mixed_words
-returns g c =
+returns-then-n-lt112 g c =
     let x = c.args.bytes.now in
     let s = c.args.secrets.now in
     let form = V2 g.row.MINOR in
