@@ -162,8 +162,8 @@ fn close_short<const AVALANCHE: bool, const PROTECTED: bool>(
     close::<AVALANCHE, PROTECTED>(words, secrets.seed ^ len, second, (first ^ len, second))
 }
 
-/// The hash above 16 bytes. Messages of up to two rows make no call: the tests tell the compiler how
-/// few rows there are.
+/// The hash above 16 bytes. Messages of up to two rows make no call: the tests tell the compiler
+/// how few rows there are.
 #[inline(always)]
 fn long<const AVALANCHE: bool, const COMPACT: bool, const PROTECTED: bool, const V1_BUG: bool>(
     bytes: &[u8],
