@@ -184,7 +184,7 @@ fn long<const AVALANCHE: bool, const COMPACT: bool, const PROTECTED: bool, const
     with_rows::<AVALANCHE, COMPACT, PROTECTED, V1_BUG>(bytes, secrets)
 }
 
-/// The hash of a message with any number of rows, out of line.
+/// The hash of a message that has a row, out of line.
 #[inline(never)]
 fn with_rows<const AVALANCHE: bool, const COMPACT: bool, const PROTECTED: bool, const V1_BUG: bool>(
     bytes: &[u8],
@@ -196,7 +196,7 @@ fn with_rows<const AVALANCHE: bool, const COMPACT: bool, const PROTECTED: bool, 
     rows::<AVALANCHE, COMPACT, PROTECTED, V1_BUG>(bytes, secrets)
 }
 
-/// The body of [`with_rows`].
+/// The body of [`with_rows`], which [`long`] inlines for few rows.
 #[inline(always)]
 fn rows<const AVALANCHE: bool, const COMPACT: bool, const PROTECTED: bool, const V1_BUG: bool>(
     bytes: &[u8],

@@ -137,7 +137,7 @@ fn without_rows<const MINOR: u8, const AVALANCHE: bool, const PROTECTED: bool>(
     close_long::<AVALANCHE, PROTECTED>(bytes, len, seed, s)
 }
 
-/// The hash of a message with any number of rows, out of line.
+/// The hash of a message that has a row, out of line.
 #[inline(never)]
 fn with_rows<const MINOR: u8, const AVALANCHE: bool, const COMPACT: bool, const PROTECTED: bool>(
     bytes: &[u8],

@@ -184,7 +184,7 @@ fn without_rows<const LANES: usize, const AVALANCHE: bool, const PROTECTED: bool
     close_tail::<AVALANCHE, PROTECTED>(bytes, bytes, secrets.seed, &secrets.secrets)
 }
 
-/// The hash of a message with any number of rows, out of line.
+/// The hash of a message that has a row, out of line.
 #[inline(never)]
 fn with_rows<const LANES: usize, const AVALANCHE: bool, const COMPACT: bool, const PROTECTED: bool>(
     bytes: &[u8],
@@ -198,7 +198,7 @@ fn with_rows<const LANES: usize, const AVALANCHE: bool, const COMPACT: bool, con
     rows::<LANES, AVALANCHE, COMPACT, PROTECTED>(bytes, secrets)
 }
 
-/// The body of [`with_rows`].
+/// The body of [`with_rows`], which [`long`] inlines for few rows.
 #[inline(always)]
 fn rows<const LANES: usize, const AVALANCHE: bool, const COMPACT: bool, const PROTECTED: bool>(
     bytes: &[u8],
