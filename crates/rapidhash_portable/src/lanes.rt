@@ -165,41 +165,6 @@ pub(crate) fn mixed_lanes<'x, const COMPACT: bool, const PROTECTED: bool>(
     join_mixed::<COMPACT, PROTECTED>(&mut lanes, bytes, secrets)
 }
 
-/// As [`mixed_lanes`], of a message with one row of three pairs and no other row.
-#[inline(always)]
-pub(crate) fn one_narrow_row<'x, const PROTECTED: bool>(
-    bytes: &'x [u8],
-    seed: u64,
-    secrets: &[u64; 7],
-) -> (u64, &'x [u8])
-    requires some { 48 ≤ length bytes.now }
-    requires few { length bytes.now < 96 }
-    ensures { let shape = mixed_shape 7 (length bytes.now) in
-        AfterRows PROTECTED secrets.now bytes.now shape seed result.0 result.1.now }
-{
-    let mut lanes = [seed; 7];
-    fold_row::<7, 3, PROTECTED>(&mut lanes, bytes, secrets);
-    (join::<7, 7>(&lanes), &bytes[48..])
-}
-
-/// As [`mixed_lanes`], of a message with two rows of three pairs and no other row.
-#[inline(always)]
-pub(crate) fn two_narrow_rows<'x, const PROTECTED: bool>(
-    bytes: &'x [u8],
-    seed: u64,
-    secrets: &[u64; 7],
-) -> (u64, &'x [u8])
-    requires some { 96 ≤ length bytes.now }
-    requires few { length bytes.now < 112 }
-    ensures rows { let shape = mixed_shape 7 (length bytes.now) in
-        AfterRows PROTECTED secrets.now bytes.now shape seed result.0 result.1.now }
-    ensures few { length result.1.now < 16 }
-{
-    let mut lanes = [seed; 7];
-    fold_two_rows::<7, 3, PROTECTED>(&mut lanes, bytes, secrets);
-    (join::<7, 7>(&lanes), &bytes[96..])
-}
-
 /// As [`wide_lanes`], where the lanes have folded a prefix already, and `bytes` are what follows
 /// it.
 #[inline(always)]

@@ -12,6 +12,7 @@ ghost use Rattle.rapidhash_portable.specs.Words.{last_16, short_words};
 
 mod readers;
 
+use crate::few::few_wide_rows;
 use crate::lanes::wide_lanes;
 use crate::secrets::{DEFAULT_SECRETS, chain, cpp_seed_of, reseed_of, seed_of};
 use crate::tail::{close, fold_tail};
@@ -162,8 +163,7 @@ fn close_short<const AVALANCHE: bool, const PROTECTED: bool>(
     close::<AVALANCHE, PROTECTED>(words, secrets.seed ^ len, second, (first ^ len, second))
 }
 
-/// The hash above 16 bytes. Messages of up to two rows make no call: the tests tell the compiler
-/// how few rows there are.
+/// The hash above 16 bytes. Messages of up to two rows make no call.
 #[inline(always)]
 fn long<const AVALANCHE: bool, const COMPACT: bool, const PROTECTED: bool, const V1_BUG: bool>(
     bytes: &[u8],
@@ -173,13 +173,17 @@ fn long<const AVALANCHE: bool, const COMPACT: bool, const PROTECTED: bool, const
     ensures { result ≡ seeded_hash_v1 V1_BUG (options AVALANCHE PROTECTED) secrets.now bytes.now }
 {
     let n = bytes.len();
+    let (len, s) = (n as u64, &secrets.secrets);
     if n < least_row::<V1_BUG>() {
-        let len = n as u64;
-        let start = secrets.seed ^ len;
-        return close_tail::<AVALANCHE, PROTECTED>(bytes, bytes, len, start, &secrets.secrets);
+        return close_tail::<AVALANCHE, PROTECTED>(bytes, bytes, len, secrets.seed ^ len, s);
+    }
+    if !COMPACT && n < 96 {
+        let (joined, tail) = few_wide_rows::<1, PROTECTED>(bytes, secrets.seed ^ len, s);
+        return close_tail::<AVALANCHE, PROTECTED>(tail, bytes, len, joined, s);
     }
     if !COMPACT && n < 144 {
-        return rows::<AVALANCHE, COMPACT, PROTECTED, V1_BUG>(bytes, secrets);
+        let (joined, tail) = few_wide_rows::<2, PROTECTED>(bytes, secrets.seed ^ len, s);
+        return close_tail::<AVALANCHE, PROTECTED>(tail, bytes, len, joined, s);
     }
     with_rows::<AVALANCHE, COMPACT, PROTECTED, V1_BUG>(bytes, secrets)
 }
@@ -191,18 +195,6 @@ fn with_rows<const AVALANCHE: bool, const COMPACT: bool, const PROTECTED: bool, 
     secrets: &RapidSecrets,
 ) -> u64
     requires { least_row_v1 V1_BUG ≤ length bytes.now }
-    ensures { result ≡ seeded_hash_v1 V1_BUG (options AVALANCHE PROTECTED) secrets.now bytes.now }
-{
-    rows::<AVALANCHE, COMPACT, PROTECTED, V1_BUG>(bytes, secrets)
-}
-
-/// The body of [`with_rows`], which [`long`] inlines for few rows.
-#[inline(always)]
-fn rows<const AVALANCHE: bool, const COMPACT: bool, const PROTECTED: bool, const V1_BUG: bool>(
-    bytes: &[u8],
-    secrets: &RapidSecrets,
-) -> u64
-    requires long { least_row_v1 V1_BUG ≤ length bytes.now }
     ensures { result ≡ seeded_hash_v1 V1_BUG (options AVALANCHE PROTECTED) secrets.now bytes.now }
 {
     let len = bytes.len() as u64;

@@ -11,7 +11,8 @@ ghost use Rattle.rapidhash_portable.specs.Words.{last_16, short_words};
 
 mod readers;
 
-use crate::lanes::{mixed_lanes, one_narrow_row, two_narrow_rows};
+use crate::few::few_narrow_rows;
+use crate::lanes::mixed_lanes;
 pub use crate::secrets::{DEFAULT_RAPID_SECRETS, RapidSecrets};
 use crate::tail::{close, fold_tail};
 use crate::util::ALTERNATING_BITS;
@@ -108,11 +109,11 @@ fn long<const MINOR: u8, const AVALANCHE: bool, const COMPACT: bool, const PROTE
     }
     let (len, s) = (n as u64, &secrets.secrets);
     if !COMPACT && n < 96 {
-        let (joined, tail) = one_narrow_row::<PROTECTED>(bytes, secrets.seed ^ len, s);
+        let (joined, tail) = few_narrow_rows::<1, PROTECTED>(bytes, secrets.seed ^ len, s);
         return close_tail::<AVALANCHE, PROTECTED>(tail, bytes, len, joined, s);
     }
     if !COMPACT && n < 112 {
-        let (joined, _tail) = two_narrow_rows::<PROTECTED>(bytes, secrets.seed ^ len, s);
+        let (joined, _tail) = few_narrow_rows::<2, PROTECTED>(bytes, secrets.seed ^ len, s);
         // The tail is shorter than a pair.
         return close_long::<AVALANCHE, PROTECTED>(bytes, len, joined, s);
     }
@@ -140,18 +141,6 @@ fn without_rows<const MINOR: u8, const AVALANCHE: bool, const PROTECTED: bool>(
 /// The hash of a message that has a row, out of line.
 #[inline(never)]
 fn with_rows<const MINOR: u8, const AVALANCHE: bool, const COMPACT: bool, const PROTECTED: bool>(
-    bytes: &[u8],
-    secrets: &RapidSecrets,
-) -> u64
-    requires { v2_limit MINOR < length bytes.now }
-    ensures { result ≡ seeded_hash (V2 MINOR) (options AVALANCHE PROTECTED) secrets.now bytes.now }
-{
-    rows::<MINOR, AVALANCHE, COMPACT, PROTECTED>(bytes, secrets)
-}
-
-/// The body of [`with_rows`].
-#[inline(always)]
-fn rows<const MINOR: u8, const AVALANCHE: bool, const COMPACT: bool, const PROTECTED: bool>(
     bytes: &[u8],
     secrets: &RapidSecrets,
 ) -> u64

@@ -15,7 +15,7 @@ unfolding start_seed
 returns-then-n-lt96 g c =
     let x = c.args.bytes.now in
     let shape = shape_of-v2-some g.row.MINOR (length x) (omega arith) in
-    c.close_tail.ensures g.row.MINOR c.args.secrets.now.seed x (omega arith) refl refl (rw shape c.one_narrow_row-joined.ensures)
+    c.close_tail.ensures g.row.MINOR c.args.secrets.now.seed x (omega arith) refl refl (rw shape c.few_narrow_rows-joined.ensures.rows)
 
 pub returns-then-n-lt112 : goal.returns-then-n-lt112
 unfolding start_seed tail_seed mixed_words
@@ -25,10 +25,10 @@ returns-then-n-lt112 g c =
     let form = V2 g.row.MINOR in
     let chosen = options (not (nat_eq g.row.AVALANCHE 0)) (not (nat_eq g.row.PROTECTED 0)) in
     let shape = shape_of-v2-some g.row.MINOR (length x) (omega arith) in
-    let few = c.two_narrow_rows-joined.ensures.few in
-    let tail = c.two_narrow_rows-joined.result.1.now in
-    let joined = c.two_narrow_rows-joined.result.0 in
+    let few = c.few_narrow_rows-joined-then-n-lt112.ensures.left in
+    let tail = c.few_narrow_rows-joined-then-n-lt112.result.1.now in
+    let joined = c.few_narrow_rows-joined-then-n-lt112.result.0 in
     let table = picked s.secrets (tail_places form (length x)) in
-    hash-is form chosen s.seed s.secrets x tail joined joined c.close_long.result (rw shape c.two_narrow_rows-joined.ensures.rows)
+    hash-is form chosen s.seed s.secrets x tail joined joined c.close_long.result (rw shape c.few_narrow_rows-joined-then-n-lt112.ensures.rows)
     (sym (after_tail-short chosen.protected table tail joined (omega (arith, few))))
     (cc (c.close_long.ensures g.row.MINOR (length tail), last_words-long form x c.requires.long))

@@ -1,7 +1,7 @@
 use Rattle.std.proofs.Common.{length, refl}
 use Rattle.rapidhash_portable.specs.Form.{start_seed}
 use Rattle.rapidhash_portable.proofs.FormLemmas.{shape_of-v2-some}
-use Rattle.rapidhash_portable.proofs.v2.rows.Goals as goal
+use Rattle.rapidhash_portable.proofs.v2.with_rows.Goals as goal
 
 pub returns : goal.returns
 unfolding start_seed
