@@ -8,9 +8,9 @@
 //! - [`form`] holds the types that the definition uses.
 //! - [`memory`] is the core of the in-memory hasher of the crate `rapidhash`.
 //!
-//! The row kernel (`lanes`), messages with few rows (`few`), what follows the rows (`tail`), the words that a message ends in
-//! (`words`), the reads of a known length (`sized`) and the arithmetic of secrets (`secrets`) are
-//! private.
+//! The row kernel (`lanes`), messages with few rows (`few`), what follows the rows (`tail`), the
+//! words that a message ends in (`words`), the reads of a known length (`sized`) and the arithmetic
+//! of secrets (`secrets`) are private.
 #![tactic(auto)]
 
 mod few;
