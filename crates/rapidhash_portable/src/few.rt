@@ -1,5 +1,5 @@
-//! Messages of V1 and V2 with few rows, all of three pairs. Their number is a constant, so the
-//! compiler leaves no loop, and inlines the hash of such a message where it is called.
+//! Messages with few rows. Their number is a constant, so the compiler leaves no loop, and inlines
+//! the hash of such a message where it is called.
 
 ghost use Rattle.std.specs.Prelude.{◌≡◌, ◌+◌, ◌*◌, ◌≤◌, ◌<◌, drop, length};
 ghost use Rattle.rapidhash_portable.specs.Folded.{AfterRows, HaveFolded};
@@ -7,46 +7,53 @@ ghost use Rattle.rapidhash_portable.specs.Lanes.{mixed_shape, wide_shape};
 
 use crate::lanes::{fold_row, join};
 
-/// Folds `ROWS` rows of three pairs into the first three lanes, and returns the bytes after them.
+/// Folds `ROWS` rows of `WIDTH` pairs into the first `WIDTH` lanes, and returns the bytes after
+/// them.
 #[inline(always)]
-fn fold_few_rows<'x, const LANES: usize, const ROWS: usize, const PROTECTED: bool>(
-    lanes: &mut [u64; LANES],
-    bytes: &'x [u8],
-    secrets: &[u64],
-) -> &'x [u8]
-    requires secrets { 3 ≤ length secrets.now }
-    requires narrow { 3 ≤ LANES }
-    requires enough { 48 * ROWS ≤ length bytes.now }
-    ensures lanes { HaveFolded PROTECTED secrets.now bytes.now 3 lanes.old lanes.new ROWS }
-    ensures rest { result.now ≡ drop (48 * ROWS) bytes.now }
+fn fold_few_rows<
+    'x,
+    const LANES: usize,
+    const WIDTH: usize,
+    const ROWS: usize,
+    const PROTECTED: bool,
+>(lanes: &mut [u64; LANES], bytes: &'x [u8], secrets: &[u64]) -> &'x [u8]
+    requires secrets { WIDTH ≤ length secrets.now }
+    requires narrow { WIDTH ≤ LANES }
+    requires small { WIDTH ≤ 7 }
+    requires enough { 16 * (WIDTH * ROWS) ≤ length bytes.now }
+    ensures lanes { HaveFolded PROTECTED secrets.now bytes.now WIDTH lanes.old lanes.new ROWS }
+    ensures rest { result.now ≡ drop (16 * (WIDTH * ROWS)) bytes.now }
 {
     let mut rest = bytes;
     for i in 0..ROWS {
-        fold_row::<LANES, 3, PROTECTED>(lanes, rest, secrets);
-        rest = &rest[48..];
+        fold_row::<LANES, WIDTH, PROTECTED>(lanes, rest, secrets);
+        rest = &rest[16 * WIDTH..];
     }
     rest
 }
 
-/// The seed after the rows of V1, of which there are `ROWS`, and the bytes that are left.
+/// As [`crate::lanes::wide_lanes`], where there are `ROWS` rows.
 #[inline(always)]
-pub(crate) fn few_wide_rows<'x, const ROWS: usize, const PROTECTED: bool>(
-    bytes: &'x [u8],
-    seed: u64,
-    secrets: &[u64; 3],
-) -> (u64, &'x [u8])
-    requires enough { 48 * ROWS ≤ length bytes.now }
-    requires few { length bytes.now < 48 * ROWS + 48 }
-    ensures { let shape = wide_shape 3 0 (length bytes.now) in
+pub(crate) fn few_wide_rows<
+    'x,
+    const LANES: usize,
+    const KEPT: usize,
+    const ROWS: usize,
+    const PROTECTED: bool,
+>(bytes: &'x [u8], seed: u64, secrets: &[u64]) -> (u64, &'x [u8])
+    requires secrets { LANES ≤ length secrets.now }
+    requires small { LANES ≤ 7 }
+    requires enough { 16 * (LANES * ROWS) + KEPT ≤ length bytes.now }
+    requires few { length bytes.now < 16 * (LANES * (ROWS + 1)) + KEPT }
+    ensures { let shape = wide_shape LANES KEPT (length bytes.now) in
         AfterRows PROTECTED secrets.now bytes.now shape seed result.0 result.1.now }
 {
-    let mut lanes = [seed; 3];
-    let rest = fold_few_rows::<3, ROWS, PROTECTED>(&mut lanes, bytes, secrets);
-    (join::<3, 3>(&lanes), rest)
+    let mut lanes = [seed; LANES];
+    let rest = fold_few_rows::<LANES, LANES, ROWS, PROTECTED>(&mut lanes, bytes, secrets);
+    (join::<LANES, LANES>(&lanes), rest)
 }
 
-/// The seed after the rows of V2, of which there are `ROWS` and none of seven pairs, and the bytes
-/// that are left.
+/// As [`crate::lanes::mixed_lanes`], where there are `ROWS` rows, all of three pairs.
 #[inline(always)]
 pub(crate) fn few_narrow_rows<'x, const ROWS: usize, const PROTECTED: bool>(
     bytes: &'x [u8],
@@ -56,11 +63,10 @@ pub(crate) fn few_narrow_rows<'x, const ROWS: usize, const PROTECTED: bool>(
     requires enough { 48 * ROWS ≤ length bytes.now }
     requires few { length bytes.now < 48 * ROWS + 48 }
     requires narrow { length bytes.now < 112 }
-    ensures rows { let shape = mixed_shape 7 (length bytes.now) in
+    ensures { let shape = mixed_shape 7 (length bytes.now) in
         AfterRows PROTECTED secrets.now bytes.now shape seed result.0 result.1.now }
-    ensures left { 48 * ROWS + length result.1.now ≡ length bytes.now }
 {
     let mut lanes = [seed; 7];
-    let rest = fold_few_rows::<7, ROWS, PROTECTED>(&mut lanes, bytes, secrets);
+    let rest = fold_few_rows::<7, 3, ROWS, PROTECTED>(&mut lanes, bytes, secrets);
     (join::<7, 7>(&lanes), rest)
 }

@@ -15,7 +15,7 @@ pub(crate) const ALTERNATING_BITS: u64 = 0xaaaa_aaaa_aaaa_aaaa;
 /// ```
 /// assert_eq!(rapid_mum::<false>(u64::MAX, 2), (u64::MAX - 1, 1));
 /// ```
-#[inline(always)]
+#[inline]
 #[tactic(auto, unfolding(crate::specs::Multiply::multiply))]
 pub fn rapid_mum<const PROTECTED: bool>(a: u64, b: u64) -> (u64, u64)
     ensures { result ≡ multiply PROTECTED a b }
@@ -31,7 +31,7 @@ pub fn rapid_mum<const PROTECTED: bool>(a: u64, b: u64) -> (u64, u64)
 }
 
 /// The two numbers of [`rapid_mum`], folded into one by XOR.
-#[inline(always)]
+#[inline]
 #[tactic(auto, unfolding(crate::specs::Multiply::mix))]
 pub fn rapid_mix<const PROTECTED: bool>(a: u64, b: u64) -> u64
     ensures { result ≡ mix PROTECTED a b }
@@ -42,7 +42,7 @@ pub fn rapid_mix<const PROTECTED: bool>(a: u64, b: u64) -> u64
 
 /// The little-endian number of the 8 bytes from `offset` on. That they lie in `bytes` is a
 /// precondition.
-#[inline(always)]
+#[inline]
 #[tactic(auto, unfolding(crate::specs::Bytes::word64))]
 pub fn read_u64(bytes: &[u8], offset: usize) -> u64
     requires { offset + 8 ≤ length bytes.now }
@@ -62,7 +62,7 @@ pub fn read_u64(bytes: &[u8], offset: usize) -> u64
 
 /// The little-endian number of the 4 bytes from `offset` on. That they lie in `bytes` is a
 /// precondition.
-#[inline(always)]
+#[inline]
 #[tactic(auto, unfolding(crate::specs::Bytes::word32))]
 pub fn read_u32(bytes: &[u8], offset: usize) -> u32
     requires { offset + 4 ≤ length bytes.now }
@@ -78,7 +78,7 @@ pub fn read_u32(bytes: &[u8], offset: usize) -> u32
 
 /// Two numbers of 4 bytes in one of 8: the one at `top` in the upper half, the one at `bot` in the
 /// lower. That both lie in `bytes` is a precondition.
-#[inline(always)]
+#[inline]
 pub fn read_u32_combined(bytes: &[u8], top: usize, bot: usize) -> u64
     requires top_inside { top + 4 ≤ length bytes.now }
     requires bot_inside { bot + 4 ≤ length bytes.now }

@@ -1,6 +1,6 @@
 //! rapidhash V1.
 
-ghost use Rattle.std.specs.Prelude.{◌≡◌, ◌<◌, ◌≤◌, ◌∷◌, ℕ, All, Bool, List, false, true, length, slice_index, drop};
+ghost use Rattle.std.specs.Prelude.{◌≡◌, ◌+◌, ◌*◌, ◌<◌, ◌≤◌, ◌∷◌, ℕ, All, Bool, List, false, true, length, slice_index, drop};
 ghost use Rattle.rapidhash_portable.specs.declared.form.Form.TheVariants.{V1};
 ghost use Rattle.rapidhash_portable.specs.Folded.{AfterRows};
 ghost use Rattle.rapidhash_portable.specs.Form.{least_row_v1, shape_of, start_seed};
@@ -173,19 +173,33 @@ fn long<const AVALANCHE: bool, const COMPACT: bool, const PROTECTED: bool, const
     ensures { result ≡ seeded_hash_v1 V1_BUG (options AVALANCHE PROTECTED) secrets.now bytes.now }
 {
     let n = bytes.len();
-    let (len, s) = (n as u64, &secrets.secrets);
     if n < least_row::<V1_BUG>() {
-        return close_tail::<AVALANCHE, PROTECTED>(bytes, bytes, len, secrets.seed ^ len, s);
+        let (len, s) = (n as u64, &secrets.secrets);
+        close_tail::<AVALANCHE, PROTECTED>(bytes, bytes, len, secrets.seed ^ len, s)
+    } else if !COMPACT && n < 96 {
+        few_rows::<1, AVALANCHE, PROTECTED, V1_BUG>(bytes, secrets)
+    } else if !COMPACT && n < 144 {
+        few_rows::<2, AVALANCHE, PROTECTED, V1_BUG>(bytes, secrets)
+    } else {
+        with_rows::<AVALANCHE, COMPACT, PROTECTED, V1_BUG>(bytes, secrets)
     }
-    if !COMPACT && n < 96 {
-        let (joined, tail) = few_wide_rows::<1, PROTECTED>(bytes, secrets.seed ^ len, s);
-        return close_tail::<AVALANCHE, PROTECTED>(tail, bytes, len, joined, s);
-    }
-    if !COMPACT && n < 144 {
-        let (joined, tail) = few_wide_rows::<2, PROTECTED>(bytes, secrets.seed ^ len, s);
-        return close_tail::<AVALANCHE, PROTECTED>(tail, bytes, len, joined, s);
-    }
-    with_rows::<AVALANCHE, COMPACT, PROTECTED, V1_BUG>(bytes, secrets)
+}
+
+/// The hash of a message that has `ROWS` rows, at least one.
+#[inline(always)]
+fn few_rows<const ROWS: usize, const AVALANCHE: bool, const PROTECTED: bool, const V1_BUG: bool>(
+    bytes: &[u8],
+    secrets: &RapidSecrets,
+) -> u64
+    requires some { least_row_v1 V1_BUG ≤ length bytes.now }
+    requires enough { 48 * ROWS ≤ length bytes.now }
+    requires few { length bytes.now < 48 * ROWS + 48 }
+    ensures { result ≡ seeded_hash_v1 V1_BUG (options AVALANCHE PROTECTED) secrets.now bytes.now }
+{
+    let len = bytes.len() as u64;
+    let s = &secrets.secrets;
+    let (joined, tail) = few_wide_rows::<3, 0, ROWS, PROTECTED>(bytes, secrets.seed ^ len, s);
+    close_tail::<AVALANCHE, PROTECTED>(tail, bytes, len, joined, s)
 }
 
 /// The hash of a message that has a row, out of line.

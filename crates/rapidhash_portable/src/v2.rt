@@ -1,6 +1,6 @@
 //! rapidhash V2, in its three minors.
 
-ghost use Rattle.std.specs.Prelude.{◌≡◌, ◌<◌, ◌≤◌, ℕ, List, true, false, if◌then◌else◌, nat_lt, drop, length, slice_index};
+ghost use Rattle.std.specs.Prelude.{◌≡◌, ◌+◌, ◌*◌, ◌<◌, ◌≤◌, ℕ, List, true, false, if◌then◌else◌, nat_lt, drop, length, slice_index};
 ghost use Rattle.rapidhash_portable.specs.declared.form.Form.TheVariants.{V2};
 ghost use Rattle.rapidhash_portable.specs.Folded.{AfterRows};
 ghost use Rattle.rapidhash_portable.specs.Form.{masks, shape_of, start_seed, v2_limit};
@@ -105,19 +105,14 @@ fn long<const MINOR: u8, const AVALANCHE: bool, const COMPACT: bool, const PROTE
 {
     let n = bytes.len();
     if n <= limit::<MINOR>() {
-        return without_rows::<MINOR, AVALANCHE, PROTECTED>(bytes, secrets);
+        without_rows::<MINOR, AVALANCHE, PROTECTED>(bytes, secrets)
+    } else if !COMPACT && n < 96 {
+        few_rows::<MINOR, 1, AVALANCHE, PROTECTED>(bytes, secrets)
+    } else if !COMPACT && n < 112 {
+        few_rows::<MINOR, 2, AVALANCHE, PROTECTED>(bytes, secrets)
+    } else {
+        with_rows::<MINOR, AVALANCHE, COMPACT, PROTECTED>(bytes, secrets)
     }
-    let (len, s) = (n as u64, &secrets.secrets);
-    if !COMPACT && n < 96 {
-        let (joined, tail) = few_narrow_rows::<1, PROTECTED>(bytes, secrets.seed ^ len, s);
-        return close_tail::<AVALANCHE, PROTECTED>(tail, bytes, len, joined, s);
-    }
-    if !COMPACT && n < 112 {
-        let (joined, _tail) = few_narrow_rows::<2, PROTECTED>(bytes, secrets.seed ^ len, s);
-        // The tail is shorter than a pair.
-        return close_long::<AVALANCHE, PROTECTED>(bytes, len, joined, s);
-    }
-    with_rows::<MINOR, AVALANCHE, COMPACT, PROTECTED>(bytes, secrets)
 }
 
 /// The hash above 16 bytes of a message that has no row.
@@ -136,6 +131,24 @@ fn without_rows<const MINOR: u8, const AVALANCHE: bool, const PROTECTED: bool>(
     let table = [s[0], s[1], s[last_place::<MINOR>()]];
     let seed = fold_tail::<3, PROTECTED>(bytes, &table, secrets.seed ^ len);
     close_long::<AVALANCHE, PROTECTED>(bytes, len, seed, s)
+}
+
+/// The hash of a message that has `ROWS` rows, all of three pairs.
+#[inline(always)]
+fn few_rows<const MINOR: u8, const ROWS: usize, const AVALANCHE: bool, const PROTECTED: bool>(
+    bytes: &[u8],
+    secrets: &RapidSecrets,
+) -> u64
+    requires some { v2_limit MINOR < length bytes.now }
+    requires enough { 48 * ROWS ≤ length bytes.now }
+    requires few { length bytes.now < 48 * ROWS + 48 }
+    requires narrow { length bytes.now < 112 }
+    ensures { result ≡ seeded_hash (V2 MINOR) (options AVALANCHE PROTECTED) secrets.now bytes.now }
+{
+    let len = bytes.len() as u64;
+    let s = &secrets.secrets;
+    let (joined, tail) = few_narrow_rows::<ROWS, PROTECTED>(bytes, secrets.seed ^ len, s);
+    close_tail::<AVALANCHE, PROTECTED>(tail, bytes, len, joined, s)
 }
 
 /// The hash of a message that has a row, out of line.

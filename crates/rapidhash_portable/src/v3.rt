@@ -1,6 +1,6 @@
 //! rapidhash V3, and its relatives micro and nano, which differ from it in the number of lanes.
 
-ghost use Rattle.std.specs.Prelude.{◌≡◌, ◌<◌, ◌≤◌, ◌*◌, ◌%◌, ℕ, List, true, false, length, drop};
+ghost use Rattle.std.specs.Prelude.{◌≡◌, ◌<◌, ◌≤◌, ◌+◌, ◌*◌, ◌%◌, ℕ, List, true, false, length, drop};
 ghost use Rattle.rapidhash_portable.specs.declared.form.Form.TheVariants.{V3};
 ghost use Rattle.rapidhash_portable.specs.Folded.{AfterRows};
 ghost use Rattle.rapidhash_portable.specs.Form.{v3, micro, nano, shape_of, start_seed};
@@ -12,6 +12,7 @@ ghost use Rattle.rapidhash_portable.specs.Words.{last_16, short_words};
 mod readers;
 mod stream;
 
+use crate::few::few_wide_rows;
 use crate::lanes::wide_lanes;
 pub use crate::secrets::{DEFAULT_RAPID_SECRETS, RapidSecrets};
 use crate::tail::{close, fold_tail};
@@ -148,8 +149,7 @@ fn close_short<const LANES: usize, const AVALANCHE: bool, const PROTECTED: bool>
     close::<AVALANCHE, PROTECTED>(words, seed, second, masks)
 }
 
-/// The hash above 16 bytes. Messages of up to 112 bytes in V3, and 160 in micro and nano, make no
-/// call: the tests tell the compiler how few rows there are.
+/// The hash above 16 bytes. Messages of one row make no call, nor do those of two in nano.
 #[inline(always)]
 fn long<const LANES: usize, const AVALANCHE: bool, const COMPACT: bool, const PROTECTED: bool>(
     bytes: &[u8],
@@ -162,12 +162,14 @@ fn long<const LANES: usize, const AVALANCHE: bool, const COMPACT: bool, const PR
 {
     let n = bytes.len();
     if n <= 16 * LANES {
-        return without_rows::<LANES, AVALANCHE, PROTECTED>(bytes, secrets);
+        without_rows::<LANES, AVALANCHE, PROTECTED>(bytes, secrets)
+    } else if !COMPACT && n <= 32 * LANES {
+        few_rows::<LANES, 1, AVALANCHE, PROTECTED>(bytes, secrets)
+    } else if !COMPACT && LANES == 3 && n <= 48 * LANES {
+        few_rows::<LANES, 2, AVALANCHE, PROTECTED>(bytes, secrets)
+    } else {
+        with_rows::<LANES, AVALANCHE, COMPACT, PROTECTED>(bytes, secrets)
     }
-    if !COMPACT && LANES <= 5 && n <= 160 {
-        return rows::<LANES, AVALANCHE, COMPACT, PROTECTED>(bytes, secrets);
-    }
-    with_rows::<LANES, AVALANCHE, COMPACT, PROTECTED>(bytes, secrets)
 }
 
 /// The hash above 16 bytes of a message that has no row.
@@ -184,23 +186,26 @@ fn without_rows<const LANES: usize, const AVALANCHE: bool, const PROTECTED: bool
     close_tail::<AVALANCHE, PROTECTED>(bytes, bytes, secrets.seed, &secrets.secrets)
 }
 
-/// The hash of a message that has a row, out of line.
-#[inline(never)]
-fn with_rows<const LANES: usize, const AVALANCHE: bool, const COMPACT: bool, const PROTECTED: bool>(
+/// The hash above 16 bytes of a message that has `ROWS` rows.
+#[inline(always)]
+fn few_rows<const LANES: usize, const ROWS: usize, const AVALANCHE: bool, const PROTECTED: bool>(
     bytes: &[u8],
     secrets: &RapidSecrets,
 ) -> u64
     requires long { 16 < length bytes.now }
-    requires some { 0 < LANES }
-    requires few { LANES ≤ 7 }
+    requires lanes { LANES ≤ 7 }
+    requires enough { 16 * (LANES * ROWS) < length bytes.now }
+    requires few { length bytes.now ≤ 16 * (LANES * (ROWS + 1)) }
     ensures { result ≡ seeded_hash (V3 LANES) (options AVALANCHE PROTECTED) secrets.now bytes.now }
 {
-    rows::<LANES, AVALANCHE, COMPACT, PROTECTED>(bytes, secrets)
+    let s = &secrets.secrets;
+    let (joined, tail) = few_wide_rows::<LANES, 1, ROWS, PROTECTED>(bytes, secrets.seed, s);
+    close_tail::<AVALANCHE, PROTECTED>(tail, bytes, joined, s)
 }
 
-/// The body of [`with_rows`], which [`long`] inlines for few rows.
-#[inline(always)]
-fn rows<const LANES: usize, const AVALANCHE: bool, const COMPACT: bool, const PROTECTED: bool>(
+/// The hash of a message that has a row, out of line.
+#[inline(never)]
+fn with_rows<const LANES: usize, const AVALANCHE: bool, const COMPACT: bool, const PROTECTED: bool>(
     bytes: &[u8],
     secrets: &RapidSecrets,
 ) -> u64

@@ -5,17 +5,20 @@ use Rattle.rapidhash_portable.proofs.few.fold_few_rows.Goals as goal
 
 pub loop-i-init : goal.loop-i-init
 loop-i-init g c = record {
-  lanes = HaveFolded-none (not (nat_eq g.row.PROTECTED 0)) c.args.secrets.now c.args.bytes.now 3 c.args.lanes.now;
-  rest = refl;
+  lanes = HaveFolded-none (not (nat_eq g.row.PROTECTED 0)) c.args.secrets.now c.args.bytes.now g.row.WIDTH c.args.lanes.now;
+  rest = let z : 16 * (g.row.WIDTH * 0) ≡ 0 = omega arith in rw z refl;
 }
 
 pub loop-i-preserved : goal.loop-i-preserved
 loop-i-preserved g c =
     let l = c.loop-i in
-    let x = c.args.bytes.now in
-    let at : 48 * l.i ≡ 16 * (3 * l.i) = omega arith in
-    let next : 48 * l.i + 48 ≡ 48 * (l.i + 1) = omega arith in
+    let at = 16 * (g.row.WIDTH * l.i) in
+    let next : at + 16 * g.row.WIDTH ≡ 16 * (g.row.WIDTH * (l.i + 1)) = omega arith in
     record {
-      lanes = HaveFolded-more l.invariant.lanes _ c.fold_row.new.lanes 1 (l.invariant.rest ∙ ap (λ n. drop n x) at) c.fold_row.ensures;
-      rest = take_rest l.rest.now 48 ∙ ap (drop 48) l.invariant.rest ∙ drop-drop 48 (48 * l.i) x ∙ ap (λ n. drop n x) next;
+      lanes = HaveFolded-more l.invariant.lanes _ c.fold_row.new.lanes 1 l.invariant.rest c.fold_row.ensures;
+      rest =
+          take_rest l.rest.now (16 * g.row.WIDTH)
+          ∙ ap (drop (16 * g.row.WIDTH)) l.invariant.rest
+          ∙ drop-drop (16 * g.row.WIDTH) at c.args.bytes.now
+          ∙ ap (λ n. drop n c.args.bytes.now) next;
     }

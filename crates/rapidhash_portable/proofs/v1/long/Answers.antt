@@ -1,7 +1,7 @@
 use Rattle.std.proofs.Common.{not, nat_eq, length, bit_xor, refl, arith}
 use Rattle.rapidhash_portable.specs.declared.form.Form.TheVariants.{V1}
 use Rattle.rapidhash_portable.specs.Form.{start_seed}
-use Rattle.rapidhash_portable.proofs.FormLemmas.{rows-none, shape_of-v1-none, shape_of-v1-some}
+use Rattle.rapidhash_portable.proofs.FormLemmas.{rows-none, shape_of-v1-none}
 use Rattle.rapidhash_portable.proofs.v1.long.Goals as goal
 
 pub returns-then-n-least_row : goal.returns-then-n-least_row
@@ -13,19 +13,3 @@ returns-then-n-least_row g c =
     let shape = shape_of-v1-none bug (length x) (omega arith) in
     let none = rows-none (V1 bug) 3 (length x) (not (nat_eq g.row.PROTECTED 0)) c.args.secrets.now.secrets x start (omega arith) shape in
     c.close_tail.ensures bug c.args.secrets.now.seed x c.requires refl refl none
-
-pub returns-then-n-lt96 : goal.returns-then-n-lt96
-unfolding start_seed
-returns-then-n-lt96 g c =
-    let x = c.args.bytes.now in
-    let bug = not (nat_eq g.row.V1_BUG 0) in
-    let shape = shape_of-v1-some bug (length x) (omega arith) in
-    c.close_tail-then-n-lt96.ensures bug c.args.secrets.now.seed x c.requires refl refl (rw shape c.few_wide_rows-joined.ensures)
-
-pub returns-then-n-lt144 : goal.returns-then-n-lt144
-unfolding start_seed
-returns-then-n-lt144 g c =
-    let x = c.args.bytes.now in
-    let bug = not (nat_eq g.row.V1_BUG 0) in
-    let shape = shape_of-v1-some bug (length x) (omega arith) in
-    c.close_tail-then-n-lt144.ensures bug c.args.secrets.now.seed x c.requires refl refl (rw shape c.few_wide_rows-joined-then-n-lt144.ensures)

@@ -1,6 +1,6 @@
 use Rattle.std.proofs.Common.{refl}
 use Rattle.rapidhash_portable.specs.Form.{shape_of}
-use Rattle.rapidhash_portable.proofs.v3.rows.Goals as goal
+use Rattle.rapidhash_portable.proofs.v3.with_rows.Goals as goal
 
 pub returns : goal.returns
 unfolding shape_of
