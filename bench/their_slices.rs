@@ -32,15 +32,17 @@ struct Secrets {
 #[inline(always)]
 fn hash<const FORM: u8>(text: &[u8], secrets: &Secrets) -> u64 {
     let seeded = cfg!(feature = "seeded");
-    let three = if seeded { &secrets.three } else { &v1::DEFAULT_RAPID_SECRETS };
     let two = if seeded { &secrets.same_seven } else { &v2::DEFAULT_RAPID_SECRETS };
     let seven = if seeded { &secrets.seven } else { &v3::DEFAULT_RAPID_SECRETS };
     match FORM {
-        V1 => v1::rapidhash_v1_seeded(text, three),
+        V1 if seeded => v1::rapidhash_v1_seeded(text, &secrets.three),
+        V1 => v1::rapidhash_v1(text),
         V2_0 => v2::rapidhash_v2_inline::<0, true, false, false>(text, two),
         V2_1 => v2::rapidhash_v2_inline::<1, true, false, false>(text, two),
-        V2_2 => v2::rapidhash_v2_2_seeded(text, two),
-        V3 => v3::rapidhash_v3_seeded(text, seven),
+        V2_2 if seeded => v2::rapidhash_v2_2_seeded(text, two),
+        V2_2 => v2::rapidhash_v2_2(text),
+        V3 if seeded => v3::rapidhash_v3_seeded(text, seven),
+        V3 => v3::rapidhash_v3(text),
         MICRO => v3::rapidhash_v3_micro_inline::<true, false>(text, seven),
         _ => v3::rapidhash_v3_nano_inline::<true, false>(text, seven),
     }

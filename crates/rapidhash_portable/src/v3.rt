@@ -37,7 +37,7 @@ pub use stream::{
 pub fn rapidhash_v3(bytes: &[u8]) -> u64
     ensures { result ≡ default_hash v3 (options true false) bytes.now }
 {
-    rapidhash_v3_inline::<true, false, false>(bytes, RapidSecrets::default_ref())
+    hash::<7, 1, true, false, false>(bytes, RapidSecrets::default_ref())
 }
 
 /// The hash of `bytes` with the caller's seed and secrets.
@@ -65,7 +65,7 @@ pub fn rapidhash_v3_inline<const AVALANCHE: bool, const COMPACT: bool, const PRO
 ) -> u64
     ensures { result ≡ seeded_hash v3 (options AVALANCHE PROTECTED) secrets.now bytes.now }
 {
-    hash::<7, AVALANCHE, COMPACT, PROTECTED>(bytes, secrets)
+    hash::<7, 0, AVALANCHE, COMPACT, PROTECTED>(bytes, secrets)
 }
 
 /// The hash of `bytes` with five lanes. Up to 80 bytes it is V3's. The options are those of
@@ -77,7 +77,7 @@ pub fn rapidhash_v3_micro_inline<const AVALANCHE: bool, const PROTECTED: bool>(
 ) -> u64
     ensures { result ≡ seeded_hash micro (options AVALANCHE PROTECTED) secrets.now bytes.now }
 {
-    hash::<5, AVALANCHE, false, PROTECTED>(bytes, secrets)
+    hash::<5, 1, AVALANCHE, false, PROTECTED>(bytes, secrets)
 }
 
 /// The hash of `bytes` with three lanes: the least code in a program that calls it once. Up to 48
@@ -89,14 +89,17 @@ pub fn rapidhash_v3_nano_inline<const AVALANCHE: bool, const PROTECTED: bool>(
 ) -> u64
     ensures { result ≡ seeded_hash nano (options AVALANCHE PROTECTED) secrets.now bytes.now }
 {
-    hash::<3, AVALANCHE, false, PROTECTED>(bytes, secrets)
+    hash::<3, 2, AVALANCHE, false, PROTECTED>(bytes, secrets)
 }
 
-/// The hash of `bytes` with an odd number of lanes.
+/// The hash of `bytes` with an odd number of lanes. Messages of up to `INLINED` rows make no call,
+/// where `INLINED` is 0, 1 or 2. A row of seven pairs is inlined only with the default secrets: with
+/// others it makes shorter messages slower.
 #[inline(always)]
 #[tactic(auto, using(crate::proofs::Cases::tests), unfolding(crate::specs::Form::start_seed))]
 pub(crate) fn hash<
     const LANES: usize,
+    const INLINED: usize,
     const AVALANCHE: bool,
     const COMPACT: bool,
     const PROTECTED: bool,
@@ -107,7 +110,7 @@ pub(crate) fn hash<
 {
     let (n, seed) = (bytes.len(), secrets.seed);
     if n > 16 {
-        return long::<LANES, AVALANCHE, COMPACT, PROTECTED>(bytes, secrets);
+        return long::<LANES, INLINED, AVALANCHE, COMPACT, PROTECTED>(bytes, secrets);
     }
     // Each class has its own close: with one close for all lengths a caller's loop would load the
     // default secrets for each message. Nano is faster with 8 bytes asked for first.
@@ -149,12 +152,15 @@ fn close_short<const LANES: usize, const AVALANCHE: bool, const PROTECTED: bool>
     close::<AVALANCHE, PROTECTED>(words, seed, second, masks)
 }
 
-/// The hash above 16 bytes. Messages of one row make no call, nor do those of two in nano.
+/// The hash above 16 bytes.
 #[inline(always)]
-fn long<const LANES: usize, const AVALANCHE: bool, const COMPACT: bool, const PROTECTED: bool>(
-    bytes: &[u8],
-    secrets: &RapidSecrets,
-) -> u64
+fn long<
+    const LANES: usize,
+    const INLINED: usize,
+    const AVALANCHE: bool,
+    const COMPACT: bool,
+    const PROTECTED: bool,
+>(bytes: &[u8], secrets: &RapidSecrets) -> u64
     requires long { 16 < length bytes.now }
     requires few { LANES ≤ 7 }
     requires odd { LANES % 2 ≡ 1 }
@@ -163,9 +169,9 @@ fn long<const LANES: usize, const AVALANCHE: bool, const COMPACT: bool, const PR
     let n = bytes.len();
     if n <= 16 * LANES {
         without_rows::<LANES, AVALANCHE, PROTECTED>(bytes, secrets)
-    } else if !COMPACT && n <= 32 * LANES {
+    } else if INLINED >= 1 && n <= 32 * LANES {
         few_rows::<LANES, 1, AVALANCHE, PROTECTED>(bytes, secrets)
-    } else if !COMPACT && LANES == 3 && n <= 48 * LANES {
+    } else if INLINED >= 2 && n <= 48 * LANES {
         few_rows::<LANES, 2, AVALANCHE, PROTECTED>(bytes, secrets)
     } else {
         with_rows::<LANES, AVALANCHE, COMPACT, PROTECTED>(bytes, secrets)

@@ -20,15 +20,6 @@ impl Secrets {
     }
 
     #[inline(always)]
-    fn three<const SEEDED: bool>(&self) -> &v1::RapidSecrets {
-        if SEEDED {
-            &self.three
-        } else {
-            v1::RapidSecrets::default_ref()
-        }
-    }
-
-    #[inline(always)]
     fn seven<const SEEDED: bool>(&self) -> &v3::RapidSecrets {
         if SEEDED {
             &self.seven
@@ -49,7 +40,11 @@ pub struct V1<const SEEDED: bool>;
 impl<const SEEDED: bool> Form for V1<SEEDED> {
     #[inline(always)]
     fn hash(text: &[u8], secrets: &Secrets) -> u64 {
-        v1::rapidhash_v1_seeded(text, secrets.three::<SEEDED>())
+        if SEEDED {
+            v1::rapidhash_v1_seeded(text, &secrets.three)
+        } else {
+            v1::rapidhash_v1(text)
+        }
     }
 }
 
@@ -73,7 +68,11 @@ impl<const SEEDED: bool> Form for V2<1, SEEDED> {
 impl<const SEEDED: bool> Form for V2<2, SEEDED> {
     #[inline(always)]
     fn hash(text: &[u8], secrets: &Secrets) -> u64 {
-        v2::rapidhash_v2_2_seeded(text, secrets.seven::<SEEDED>())
+        if SEEDED {
+            v2::rapidhash_v2_2_seeded(text, &secrets.seven)
+        } else {
+            v2::rapidhash_v2_2(text)
+        }
     }
 }
 
@@ -83,7 +82,11 @@ pub struct V3<const SEEDED: bool>;
 impl<const SEEDED: bool> Form for V3<SEEDED> {
     #[inline(always)]
     fn hash(text: &[u8], secrets: &Secrets) -> u64 {
-        v3::rapidhash_v3_seeded(text, secrets.seven::<SEEDED>())
+        if SEEDED {
+            v3::rapidhash_v3_seeded(text, &secrets.seven)
+        } else {
+            v3::rapidhash_v3(text)
+        }
     }
 }
 

@@ -156,7 +156,7 @@ impl<'a> Parts<'a> {
         let kept: &[u8] = &self.kept;
         let new = &kept[16..16 + self.len];
         if !self.any {
-            return hash::<LANES, AVALANCHE, false, PROTECTED>(new, self.secrets);
+            return hash::<LANES, 0, AVALANCHE, false, PROTECTED>(new, self.secrets);
         }
         let joined = self.folded.joined::<LANES>();
         let ending = &kept[..16 + self.len];
