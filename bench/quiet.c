@@ -1,0 +1,39 @@
+// Prints how many nanoseconds a fixed loop takes, the median of 150 turns. The loop keeps the units that add
+// busy and a product under way, so it takes longer where the processor runs slowly or shares its core.
+
+#include <stdint.h>
+#include <stdio.h>
+#include <stdlib.h>
+#include <time.h>
+
+static uint64_t now(void) {
+    struct timespec time;
+    clock_gettime(CLOCK_MONOTONIC, &time);
+    return (uint64_t)time.tv_sec * 1000000000 + (uint64_t)time.tv_nsec;
+}
+
+static uint64_t turn(void) {
+    uint64_t first = 0, second = 0, third = 0, fourth = 0, product = 1;
+    uint64_t start = now();
+    for (int i = 0; i < 5000; i++) {
+        __asm__ volatile("add $1, %0\n\tadd $1, %1\n\tadd $1, %2\n\tadd $1, %3\n\t"
+                         "add $1, %0\n\tadd $1, %1\n\tadd $1, %2\n\timul %4, %4"
+                         : "+r"(first), "+r"(second), "+r"(third), "+r"(fourth), "+r"(product));
+    }
+    return now() - start;
+}
+
+static int compare(const void *left, const void *right) {
+    uint64_t a = *(const uint64_t *)left, b = *(const uint64_t *)right;
+    return (a > b) - (a < b);
+}
+
+int main(void) {
+    uint64_t turns[150];
+    for (int i = 0; i < 150; i++) {
+        turns[i] = turn();
+    }
+    qsort(turns, 150, sizeof turns[0], compare);
+    printf("%llu\n", (unsigned long long)turns[75]);
+    return 0;
+}
