@@ -1,5 +1,6 @@
 //! The hashes for C and for languages that call C: `include/rapidhash_c.h` declares them. Each
-//! export calls the library's function and restates its clause.
+//! export calls the library's function and restates its clause. V1, V2 and nano above 16 bytes are
+//! in `long`.
 #![tactic(auto)]
 
 ghost use Rattle.std.specs.Prelude.{◌≡◌, ◌<◌, ◌∷◌, All, true, false};
@@ -8,9 +9,11 @@ ghost use Rattle.rapidhash.specs.Options.{options};
 ghost use Rattle.rapidhash.specs.Secrets.{IsGood, seeded, seeded_secrets};
 ghost use Rattle.rapidhash.specs.Seeded.{default_hash, seeded_hash, seeded_hash_v1};
 
+mod long;
 mod seeds;
 mod streams;
 
+use long::{long_nano, long_v1, long_v2};
 use rapidhash::{v1, v2, v3};
 
 /// The version number of the library: 100 times the major number, and the minor number.
@@ -26,6 +29,9 @@ pub extern "C" fn rapidhash_c_version() -> u32
 pub extern "C" fn rapidhash_v1(bytes: &[u8]) -> u64
     ensures { result ≡ default_hash v1 (options true false) bytes.now }
 {
+    if bytes.len() > 16 {
+        return long_v1(bytes, v1::RapidSecrets::default_ref());
+    }
     v1::rapidhash_v1(bytes)
 }
 
@@ -34,6 +40,9 @@ pub extern "C" fn rapidhash_v1(bytes: &[u8]) -> u64
 pub extern "C" fn rapidhash_v1_seeded(bytes: &[u8], secrets: &v1::RapidSecrets) -> u64
     ensures { result ≡ seeded_hash_v1 false (options true false) secrets.now bytes.now }
 {
+    if bytes.len() > 16 {
+        return long_v1(bytes, secrets);
+    }
     v1::rapidhash_v1_seeded(bytes, secrets)
 }
 
@@ -42,6 +51,9 @@ pub extern "C" fn rapidhash_v1_seeded(bytes: &[u8], secrets: &v1::RapidSecrets) 
 pub extern "C" fn rapidhash_v2_0(bytes: &[u8]) -> u64
     ensures { result ≡ default_hash (v2 0) (options true false) bytes.now }
 {
+    if bytes.len() > 16 {
+        return long_v2::<0>(bytes, v2::RapidSecrets::default_ref());
+    }
     v2::rapidhash_v2_inline::<0, true, false, false>(bytes, v2::RapidSecrets::default_ref())
 }
 
@@ -50,6 +62,9 @@ pub extern "C" fn rapidhash_v2_0(bytes: &[u8]) -> u64
 pub extern "C" fn rapidhash_v2_0_seeded(bytes: &[u8], secrets: &v2::RapidSecrets) -> u64
     ensures { result ≡ seeded_hash (v2 0) (options true false) secrets.now bytes.now }
 {
+    if bytes.len() > 16 {
+        return long_v2::<0>(bytes, secrets);
+    }
     v2::rapidhash_v2_inline::<0, true, false, false>(bytes, secrets)
 }
 
@@ -58,6 +73,9 @@ pub extern "C" fn rapidhash_v2_0_seeded(bytes: &[u8], secrets: &v2::RapidSecrets
 pub extern "C" fn rapidhash_v2_1(bytes: &[u8]) -> u64
     ensures { result ≡ default_hash (v2 1) (options true false) bytes.now }
 {
+    if bytes.len() > 16 {
+        return long_v2::<1>(bytes, v2::RapidSecrets::default_ref());
+    }
     v2::rapidhash_v2_inline::<1, true, false, false>(bytes, v2::RapidSecrets::default_ref())
 }
 
@@ -66,6 +84,9 @@ pub extern "C" fn rapidhash_v2_1(bytes: &[u8]) -> u64
 pub extern "C" fn rapidhash_v2_1_seeded(bytes: &[u8], secrets: &v2::RapidSecrets) -> u64
     ensures { result ≡ seeded_hash (v2 1) (options true false) secrets.now bytes.now }
 {
+    if bytes.len() > 16 {
+        return long_v2::<1>(bytes, secrets);
+    }
     v2::rapidhash_v2_inline::<1, true, false, false>(bytes, secrets)
 }
 
@@ -74,6 +95,9 @@ pub extern "C" fn rapidhash_v2_1_seeded(bytes: &[u8], secrets: &v2::RapidSecrets
 pub extern "C" fn rapidhash_v2_2(bytes: &[u8]) -> u64
     ensures { result ≡ default_hash (v2 2) (options true false) bytes.now }
 {
+    if bytes.len() > 16 {
+        return long_v2::<2>(bytes, v2::RapidSecrets::default_ref());
+    }
     v2::rapidhash_v2_2(bytes)
 }
 
@@ -82,6 +106,9 @@ pub extern "C" fn rapidhash_v2_2(bytes: &[u8]) -> u64
 pub extern "C" fn rapidhash_v2_2_seeded(bytes: &[u8], secrets: &v2::RapidSecrets) -> u64
     ensures { result ≡ seeded_hash (v2 2) (options true false) secrets.now bytes.now }
 {
+    if bytes.len() > 16 {
+        return long_v2::<2>(bytes, secrets);
+    }
     v2::rapidhash_v2_2_seeded(bytes, secrets)
 }
 
@@ -122,6 +149,9 @@ pub extern "C" fn rapidhash_v3_micro_seeded(bytes: &[u8], secrets: &v3::RapidSec
 pub extern "C" fn rapidhash_v3_nano(bytes: &[u8]) -> u64
     ensures { result ≡ default_hash nano (options true false) bytes.now }
 {
+    if bytes.len() > 16 {
+        return long_nano(bytes, v3::RapidSecrets::default_ref());
+    }
     v3::rapidhash_v3_nano_inline::<true, false>(bytes, v3::RapidSecrets::default_ref())
 }
 
@@ -130,6 +160,9 @@ pub extern "C" fn rapidhash_v3_nano(bytes: &[u8]) -> u64
 pub extern "C" fn rapidhash_v3_nano_seeded(bytes: &[u8], secrets: &v3::RapidSecrets) -> u64
     ensures { result ≡ seeded_hash nano (options true false) secrets.now bytes.now }
 {
+    if bytes.len() > 16 {
+        return long_nano(bytes, secrets);
+    }
     v3::rapidhash_v3_nano_inline::<true, false>(bytes, secrets)
 }
 
