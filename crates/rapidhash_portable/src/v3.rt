@@ -93,7 +93,7 @@ pub fn rapidhash_v3_nano_inline<const AVALANCHE: bool, const PROTECTED: bool>(
 }
 
 /// The hash of `bytes` with an odd number of lanes. Messages of up to `INLINED` rows make no call,
-/// where `INLINED` is 0, 1 or 2. A row of seven pairs is inlined only with the default secrets: with
+/// where it is 0, 1 or 2. A row of seven pairs is inlined only with the default secrets: with
 /// others it makes shorter messages slower.
 #[inline(always)]
 #[tactic(auto, using(crate::proofs::Cases::tests), unfolding(crate::specs::Form::start_seed))]
