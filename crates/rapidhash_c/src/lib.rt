@@ -1,5 +1,5 @@
 //! The hashes for C and for languages that call C: `include/rapidhash_c.h` declares them. Each
-//! export calls the library's function and restates its clause. V1, V2 and nano above 16 bytes are
+//! export calls the library's function and restates its clause. Messages above 16 bytes are hashed
 //! in `long`.
 #![tactic(auto)]
 
@@ -10,10 +10,11 @@ ghost use Rattle.rapidhash.specs.Secrets.{IsGood, seeded, seeded_secrets};
 ghost use Rattle.rapidhash.specs.Seeded.{default_hash, seeded_hash, seeded_hash_v1};
 
 mod long;
+mod long_seeds;
 mod seeds;
 mod streams;
 
-use long::{long_nano, long_v1, long_v2};
+use long::{long_micro, long_nano, long_v1, long_v2, long_v3};
 use rapidhash::{v1, v2, v3};
 
 /// The version number of the library: 100 times the major number, and the minor number.
@@ -117,6 +118,9 @@ pub extern "C" fn rapidhash_v2_2_seeded(bytes: &[u8], secrets: &v2::RapidSecrets
 pub extern "C" fn rapidhash_v3(bytes: &[u8]) -> u64
     ensures { result ≡ default_hash v3 (options true false) bytes.now }
 {
+    if bytes.len() > 16 {
+        return long_v3(bytes, v3::RapidSecrets::default_ref());
+    }
     v3::rapidhash_v3(bytes)
 }
 
@@ -125,6 +129,9 @@ pub extern "C" fn rapidhash_v3(bytes: &[u8]) -> u64
 pub extern "C" fn rapidhash_v3_seeded(bytes: &[u8], secrets: &v3::RapidSecrets) -> u64
     ensures { result ≡ seeded_hash v3 (options true false) secrets.now bytes.now }
 {
+    if bytes.len() > 16 {
+        return long_v3(bytes, secrets);
+    }
     v3::rapidhash_v3_seeded(bytes, secrets)
 }
 
@@ -133,6 +140,9 @@ pub extern "C" fn rapidhash_v3_seeded(bytes: &[u8], secrets: &v3::RapidSecrets) 
 pub extern "C" fn rapidhash_v3_micro(bytes: &[u8]) -> u64
     ensures { result ≡ default_hash micro (options true false) bytes.now }
 {
+    if bytes.len() > 16 {
+        return long_micro(bytes, v3::RapidSecrets::default_ref());
+    }
     v3::rapidhash_v3_micro_inline::<true, false>(bytes, v3::RapidSecrets::default_ref())
 }
 
@@ -141,6 +151,9 @@ pub extern "C" fn rapidhash_v3_micro(bytes: &[u8]) -> u64
 pub extern "C" fn rapidhash_v3_micro_seeded(bytes: &[u8], secrets: &v3::RapidSecrets) -> u64
     ensures { result ≡ seeded_hash micro (options true false) secrets.now bytes.now }
 {
+    if bytes.len() > 16 {
+        return long_micro(bytes, secrets);
+    }
     v3::rapidhash_v3_micro_inline::<true, false>(bytes, secrets)
 }
 

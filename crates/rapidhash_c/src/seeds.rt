@@ -1,5 +1,5 @@
 //! The hashes by one seed word, as the C++ library takes it: default secrets, and a seed made from
-//! the word.
+//! the word. Messages above 16 bytes are hashed in `long_seeds`.
 
 ghost use Rattle.std.specs.Prelude.{◌≡◌, true, false};
 ghost use Rattle.rapidhash.specs.Form.{v1, v2, v3, micro, nano};
@@ -7,6 +7,7 @@ ghost use Rattle.rapidhash.specs.Hash.{portable_hash};
 ghost use Rattle.rapidhash.specs.Options.{options};
 ghost use Rattle.rapidhash.specs.Secrets.{cpp_seeded, default_secrets, default_secrets_v1};
 
+use crate::long_seeds::{long_micro, long_nano, long_v1, long_v2, long_v3};
 use rapidhash::{v1, v2, v3};
 
 /// The hash of `bytes` by V1, with one seed word.
@@ -15,6 +16,9 @@ pub extern "C" fn rapidhash_v1_with_seed(bytes: &[u8], seed: u64) -> u64
     ensures { result
         ≡ portable_hash v1 (options true false) (cpp_seeded seed 0) default_secrets_v1 bytes.now }
 {
+    if bytes.len() > 16 {
+        return long_v1(bytes, seed);
+    }
     v1::rapidhash_v1_seeded(bytes, &v1::RapidSecrets::seed_cpp(seed))
 }
 
@@ -24,6 +28,9 @@ pub extern "C" fn rapidhash_v2_0_with_seed(bytes: &[u8], seed: u64) -> u64
     ensures { result
         ≡ portable_hash (v2 0) (options true false) (cpp_seeded seed 2) default_secrets bytes.now }
 {
+    if bytes.len() > 16 {
+        return long_v2::<0>(bytes, seed);
+    }
     v2::rapidhash_v2_inline::<0, true, false, false>(bytes, &v2::RapidSecrets::seed_cpp(seed))
 }
 
@@ -33,6 +40,9 @@ pub extern "C" fn rapidhash_v2_1_with_seed(bytes: &[u8], seed: u64) -> u64
     ensures { result
         ≡ portable_hash (v2 1) (options true false) (cpp_seeded seed 2) default_secrets bytes.now }
 {
+    if bytes.len() > 16 {
+        return long_v2::<1>(bytes, seed);
+    }
     v2::rapidhash_v2_inline::<1, true, false, false>(bytes, &v2::RapidSecrets::seed_cpp(seed))
 }
 
@@ -42,6 +52,9 @@ pub extern "C" fn rapidhash_v2_2_with_seed(bytes: &[u8], seed: u64) -> u64
     ensures { result
         ≡ portable_hash (v2 2) (options true false) (cpp_seeded seed 2) default_secrets bytes.now }
 {
+    if bytes.len() > 16 {
+        return long_v2::<2>(bytes, seed);
+    }
     v2::rapidhash_v2_inline::<2, true, false, false>(bytes, &v2::RapidSecrets::seed_cpp(seed))
 }
 
@@ -51,6 +64,9 @@ pub extern "C" fn rapidhash_v3_with_seed(bytes: &[u8], seed: u64) -> u64
     ensures { result
         ≡ portable_hash v3 (options true false) (cpp_seeded seed 2) default_secrets bytes.now }
 {
+    if bytes.len() > 16 {
+        return long_v3(bytes, seed);
+    }
     v3::rapidhash_v3_seeded(bytes, &v3::RapidSecrets::seed_cpp(seed))
 }
 
@@ -60,6 +76,9 @@ pub extern "C" fn rapidhash_v3_micro_with_seed(bytes: &[u8], seed: u64) -> u64
     ensures { result
         ≡ portable_hash micro (options true false) (cpp_seeded seed 2) default_secrets bytes.now }
 {
+    if bytes.len() > 16 {
+        return long_micro(bytes, seed);
+    }
     v3::rapidhash_v3_micro_inline::<true, false>(bytes, &v3::RapidSecrets::seed_cpp(seed))
 }
 
@@ -69,6 +88,9 @@ pub extern "C" fn rapidhash_v3_nano_with_seed(bytes: &[u8], seed: u64) -> u64
     ensures { result
         ≡ portable_hash nano (options true false) (cpp_seeded seed 2) default_secrets bytes.now }
 {
+    if bytes.len() > 16 {
+        return long_nano(bytes, seed);
+    }
     v3::rapidhash_v3_nano_inline::<true, false>(bytes, &v3::RapidSecrets::seed_cpp(seed))
 }
 
