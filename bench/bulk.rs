@@ -1,6 +1,7 @@
 //! Measures the hashes of the C library beside the Rust crate's and XXH3's, for `bench/bulk`, which
-//! builds it: `bulk FORM`, `bulk FORM seed` with one seed word, or `bulk stream`. Each line is a
-//! number of bytes and the nanoseconds of each: ours, the crate's, XXH3's.
+//! builds it: `bulk FORM` or `bulk stream`. Each line is a number of bytes and the nanoseconds of each:
+//! ours, the crate's, XXH3's. With `--cfg seeded` the hashes are those with one seed word: another
+//! program, so that the crate's compiler knows the default secrets in one and not in the other.
 
 use std::hint::black_box;
 use std::time::Instant;
@@ -22,9 +23,10 @@ type SeedHash = unsafe extern "C" fn(*const u8, usize, u64) -> u64;
 
 /// How a hash is called.
 #[derive(Clone, Copy)]
+#[cfg_attr(not(seeded), allow(dead_code))]
 enum Call {
     Plain(Hash),
-    Seed(SeedHash, u64),
+    Seed(SeedHash),
 }
 
 /// How long one measurement is to take, in nanoseconds: so short that some meet no other work.
@@ -45,10 +47,11 @@ unsafe extern "C" {
 
 impl Call {
     fn value(self, bytes: &[u8]) -> u64 {
+        let (start, len) = (bytes.as_ptr(), bytes.len());
         // SAFETY: a slice's pointer is not null, its bytes are readable, and nothing writes them.
         match self {
-            Call::Plain(hash) => unsafe { hash(bytes.as_ptr(), bytes.len()) },
-            Call::Seed(hash, seed) => unsafe { hash(bytes.as_ptr(), bytes.len(), seed) },
+            Call::Plain(hash) => unsafe { hash(start, len) },
+            Call::Seed(hash) => unsafe { hash(start, len, black_box(42)) },
         }
     }
 
@@ -91,39 +94,41 @@ fn measure(hashes: &[Call], size: usize, bytes: &[u8]) {
     println!("{size} {}", times.join(" "));
 }
 
-/// Ours, the crate's and XXH3's of a form, in this order, so far as they are there.
-fn hashes_of(form: &str, seed: Option<u64>) -> Vec<Call> {
+/// Ours and the crate's of a form, and beside V3 XXH3's, in this order, so far as they are there.
+fn hashes_of(form: &str) -> Vec<Call> {
     let place = ours::NAMES.iter().position(|name| *name == form).expect("a form");
-    let call = |hash: Hash, seeded: SeedHash| match seed {
-        None => Call::Plain(hash),
-        Some(seed) => Call::Seed(seeded, seed),
-    };
-    vec![
-        call(ours::FORMS[place], ours::SEED_FORMS[place]),
-        #[cfg(with_crate)]
-        call(their_bulk::FORMS[place], their_bulk::SEED_FORMS[place]),
-        #[cfg(with_xxhash)]
-        call(XXH3_64bits, XXH3_64bits_withSeed),
-    ]
+    let mut hashes = vec![ours::FORMS[place]];
+    #[cfg(with_crate)]
+    hashes.push(their_bulk::FORMS[place]);
+    #[cfg(with_xxhash)]
+    if form == "v3" {
+        let is_seeded = cfg!(seeded);
+        hashes.push(if is_seeded { Call::Seed(XXH3_64bits_withSeed) } else { Call::Plain(XXH3_64bits) });
+    }
+    hashes
+}
+
+/// V3's stream in pieces of each size, ours and the crate's.
+fn pieces() -> Vec<(usize, Vec<Call>)> {
+    #[allow(unused_mut)]
+    let mut all: Vec<(usize, Vec<Call>)> = ours::PIECES.map(|(size, hash)| (size, vec![Call::Plain(hash)])).into();
+    #[cfg(with_crate)]
+    for ((_, hashes), theirs) in all.iter_mut().zip(their_bulk::PIECES) {
+        hashes.push(Call::Plain(theirs));
+    }
+    all
 }
 
 fn main() {
-    let words: Vec<String> = std::env::args().skip(1).collect();
+    let form = std::env::args().nth(1).expect("a form, or stream");
     let bytes: Vec<u8> = (0..1usize << 20).map(|i| (i * i % 251) as u8).collect();
-    if words[0] == "stream" {
-        for (_i, (size, ours)) in ours::PIECES.into_iter().enumerate() {
-            let hashes = [
-                Call::Plain(ours),
-                #[cfg(with_crate)]
-                Call::Plain(their_bulk::PIECES[_i]),
-            ];
+    if form == "stream" {
+        for (size, hashes) in pieces() {
             measure(&hashes, size, &bytes);
         }
         return;
     }
-    // The length of an argument, so that no compiler knows the seed.
-    let seed = words.get(1).map(|word| word.len() as u64);
-    let hashes = hashes_of(&words[0], seed);
+    let hashes = hashes_of(&form);
     for length in LENGTHS {
         measure(&hashes, length, &bytes[..length]);
     }

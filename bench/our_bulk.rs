@@ -1,7 +1,9 @@
 //! The hashes of the C library, as C declares them.
 
-use crate::{Hash, SeedHash};
+use crate::{Call, Hash};
 
+// Each program calls half of them.
+#[allow(dead_code)]
 unsafe extern "C" {
     fn rapidhash_v1(bytes: *const u8, len: usize) -> u64;
     fn rapidhash_v2_0(bytes: *const u8, len: usize) -> u64;
@@ -25,26 +27,28 @@ unsafe extern "C" {
 
 pub const NAMES: [&str; 7] = ["v1", "v2.0", "v2.1", "v2.2", "v3", "micro", "nano"];
 
-/// In the order of the names, with the default secrets.
-pub const FORMS: [Hash; 7] = [
-    rapidhash_v1,
-    rapidhash_v2_0,
-    rapidhash_v2_1,
-    rapidhash_v2_2,
-    rapidhash_v3,
-    rapidhash_v3_micro,
-    rapidhash_v3_nano,
+/// In the order of the names.
+#[cfg(not(seeded))]
+pub const FORMS: [Call; 7] = [
+    Call::Plain(rapidhash_v1),
+    Call::Plain(rapidhash_v2_0),
+    Call::Plain(rapidhash_v2_1),
+    Call::Plain(rapidhash_v2_2),
+    Call::Plain(rapidhash_v3),
+    Call::Plain(rapidhash_v3_micro),
+    Call::Plain(rapidhash_v3_nano),
 ];
 
-/// In the order of the names, with one seed word.
-pub const SEED_FORMS: [SeedHash; 7] = [
-    rapidhash_v1_with_seed,
-    rapidhash_v2_0_with_seed,
-    rapidhash_v2_1_with_seed,
-    rapidhash_v2_2_with_seed,
-    rapidhash_v3_with_seed,
-    rapidhash_v3_micro_with_seed,
-    rapidhash_v3_nano_with_seed,
+/// In the order of the names.
+#[cfg(seeded)]
+pub const FORMS: [Call; 7] = [
+    Call::Seed(rapidhash_v1_with_seed),
+    Call::Seed(rapidhash_v2_0_with_seed),
+    Call::Seed(rapidhash_v2_1_with_seed),
+    Call::Seed(rapidhash_v2_2_with_seed),
+    Call::Seed(rapidhash_v3_with_seed),
+    Call::Seed(rapidhash_v3_micro_with_seed),
+    Call::Seed(rapidhash_v3_nano_with_seed),
 ];
 
 /// V3 through a stream, by pieces of so many bytes.

@@ -1,6 +1,6 @@
 //! The Rust crate's hashes, each as C would call it.
 
-use crate::{Hash, SeedHash};
+use crate::{Call, Hash};
 use rapidhash::{v1, v2, v3};
 
 #[inline(always)]
@@ -9,60 +9,73 @@ fn slice<'a>(bytes: *const u8, len: usize) -> &'a [u8] {
     unsafe { std::slice::from_raw_parts(bytes, len) }
 }
 
-extern "C" fn v1_hash(bytes: *const u8, len: usize) -> u64 {
-    v1::rapidhash_v1_inline::<true, false, false, false>(slice(bytes, len), &v1::DEFAULT_RAPID_SECRETS)
+/// The hashes with the default secrets.
+#[cfg(not(seeded))]
+mod forms {
+    use super::{slice, v1, v2, v3};
+
+    pub extern "C" fn v1(bytes: *const u8, len: usize) -> u64 {
+        v1::rapidhash_v1_inline::<true, false, false, false>(slice(bytes, len), &v1::DEFAULT_RAPID_SECRETS)
+    }
+
+    pub extern "C" fn v2<const MINOR: u8>(bytes: *const u8, len: usize) -> u64 {
+        v2::rapidhash_v2_inline::<MINOR, true, false, false>(slice(bytes, len), &v2::DEFAULT_RAPID_SECRETS)
+    }
+
+    pub extern "C" fn v3(bytes: *const u8, len: usize) -> u64 {
+        v3::rapidhash_v3_inline::<true, false, false>(slice(bytes, len), &v3::DEFAULT_RAPID_SECRETS)
+    }
+
+    pub extern "C" fn micro(bytes: *const u8, len: usize) -> u64 {
+        v3::rapidhash_v3_micro_inline::<true, false>(slice(bytes, len), &v3::DEFAULT_RAPID_SECRETS)
+    }
+
+    pub extern "C" fn nano(bytes: *const u8, len: usize) -> u64 {
+        v3::rapidhash_v3_nano_inline::<true, false>(slice(bytes, len), &v3::DEFAULT_RAPID_SECRETS)
+    }
 }
 
-extern "C" fn v2_0(bytes: *const u8, len: usize) -> u64 {
-    v2::rapidhash_v2_inline::<0, true, false, false>(slice(bytes, len), &v2::DEFAULT_RAPID_SECRETS)
+/// The hashes with one seed word.
+#[cfg(seeded)]
+mod forms {
+    use super::{slice, v1, v2, v3};
+
+    pub extern "C" fn v1(bytes: *const u8, len: usize, seed: u64) -> u64 {
+        v1::rapidhash_v1_inline::<true, false, false, false>(slice(bytes, len), &v1::RapidSecrets::seed_cpp(seed))
+    }
+
+    pub extern "C" fn v2<const MINOR: u8>(bytes: *const u8, len: usize, seed: u64) -> u64 {
+        v2::rapidhash_v2_inline::<MINOR, true, false, false>(slice(bytes, len), &v2::RapidSecrets::seed_cpp(seed))
+    }
+
+    pub extern "C" fn v3(bytes: *const u8, len: usize, seed: u64) -> u64 {
+        v3::rapidhash_v3_inline::<true, false, false>(slice(bytes, len), &v3::RapidSecrets::seed_cpp(seed))
+    }
+
+    pub extern "C" fn micro(bytes: *const u8, len: usize, seed: u64) -> u64 {
+        v3::rapidhash_v3_micro_inline::<true, false>(slice(bytes, len), &v3::RapidSecrets::seed_cpp(seed))
+    }
+
+    pub extern "C" fn nano(bytes: *const u8, len: usize, seed: u64) -> u64 {
+        v3::rapidhash_v3_nano_inline::<true, false>(slice(bytes, len), &v3::RapidSecrets::seed_cpp(seed))
+    }
 }
 
-extern "C" fn v2_1(bytes: *const u8, len: usize) -> u64 {
-    v2::rapidhash_v2_inline::<1, true, false, false>(slice(bytes, len), &v2::DEFAULT_RAPID_SECRETS)
-}
-
-extern "C" fn v2_2(bytes: *const u8, len: usize) -> u64 {
-    v2::rapidhash_v2_inline::<2, true, false, false>(slice(bytes, len), &v2::DEFAULT_RAPID_SECRETS)
-}
-
-extern "C" fn v3_hash(bytes: *const u8, len: usize) -> u64 {
-    v3::rapidhash_v3_inline::<true, false, false>(slice(bytes, len), &v3::DEFAULT_RAPID_SECRETS)
-}
-
-extern "C" fn micro(bytes: *const u8, len: usize) -> u64 {
-    v3::rapidhash_v3_micro_inline::<true, false>(slice(bytes, len), &v3::DEFAULT_RAPID_SECRETS)
-}
-
-extern "C" fn nano(bytes: *const u8, len: usize) -> u64 {
-    v3::rapidhash_v3_nano_inline::<true, false>(slice(bytes, len), &v3::DEFAULT_RAPID_SECRETS)
-}
-
-extern "C" fn v1_seed(bytes: *const u8, len: usize, seed: u64) -> u64 {
-    v1::rapidhash_v1_inline::<true, false, false, false>(slice(bytes, len), &v1::RapidSecrets::seed_cpp(seed))
-}
-
-extern "C" fn v2_seed<const MINOR: u8>(bytes: *const u8, len: usize, seed: u64) -> u64 {
-    v2::rapidhash_v2_inline::<MINOR, true, false, false>(slice(bytes, len), &v2::RapidSecrets::seed_cpp(seed))
-}
-
-extern "C" fn v3_seed(bytes: *const u8, len: usize, seed: u64) -> u64 {
-    v3::rapidhash_v3_inline::<true, false, false>(slice(bytes, len), &v3::RapidSecrets::seed_cpp(seed))
-}
-
-extern "C" fn micro_seed(bytes: *const u8, len: usize, seed: u64) -> u64 {
-    v3::rapidhash_v3_micro_inline::<true, false>(slice(bytes, len), &v3::RapidSecrets::seed_cpp(seed))
-}
-
-extern "C" fn nano_seed(bytes: *const u8, len: usize, seed: u64) -> u64 {
-    v3::rapidhash_v3_nano_inline::<true, false>(slice(bytes, len), &v3::RapidSecrets::seed_cpp(seed))
-}
+#[cfg(not(seeded))]
+use Call::Plain as Form;
+#[cfg(seeded)]
+use Call::Seed as Form;
 
 /// In the order of our own.
-pub const FORMS: [Hash; 7] = [v1_hash, v2_0, v2_1, v2_2, v3_hash, micro, nano];
-
-/// With one seed word, in the order of our own.
-pub const SEED_FORMS: [SeedHash; 7] =
-    [v1_seed, v2_seed::<0>, v2_seed::<1>, v2_seed::<2>, v3_seed, micro_seed, nano_seed];
+pub const FORMS: [Call; 7] = [
+    Form(forms::v1),
+    Form(forms::v2::<0>),
+    Form(forms::v2::<1>),
+    Form(forms::v2::<2>),
+    Form(forms::v3),
+    Form(forms::micro),
+    Form(forms::nano),
+];
 
 /// V3's stream hasher, by pieces of one size, in the order of our own.
 pub const PIECES: [Hash; 5] =
