@@ -1,6 +1,6 @@
 //! The hashes for C and for languages that call C: `include/rapidhash_c.h` declares them. Each
-//! export calls the library's function and restates its clause. Messages above 16 bytes are hashed
-//! in `long`.
+//! export calls the library's function and restates its clause. Where an export would be slower for
+//! short messages otherwise, messages above 16 bytes are hashed in `long`.
 #![tactic(auto)]
 
 ghost use Rattle.std.specs.Prelude.{◌≡◌, ◌<◌, ◌∷◌, All, true, false};
@@ -119,7 +119,7 @@ pub extern "C" fn rapidhash_v3(bytes: &[u8]) -> u64
     ensures { result ≡ default_hash v3 (options true false) bytes.now }
 {
     if bytes.len() > 16 {
-        return long_v3(bytes, v3::RapidSecrets::default_ref());
+        return long_v3(bytes);
     }
     v3::rapidhash_v3(bytes)
 }
@@ -129,9 +129,6 @@ pub extern "C" fn rapidhash_v3(bytes: &[u8]) -> u64
 pub extern "C" fn rapidhash_v3_seeded(bytes: &[u8], secrets: &v3::RapidSecrets) -> u64
     ensures { result ≡ seeded_hash v3 (options true false) secrets.now bytes.now }
 {
-    if bytes.len() > 16 {
-        return long_v3(bytes, secrets);
-    }
     v3::rapidhash_v3_seeded(bytes, secrets)
 }
 
@@ -141,7 +138,7 @@ pub extern "C" fn rapidhash_v3_micro(bytes: &[u8]) -> u64
     ensures { result ≡ default_hash micro (options true false) bytes.now }
 {
     if bytes.len() > 16 {
-        return long_micro(bytes, v3::RapidSecrets::default_ref());
+        return long_micro(bytes);
     }
     v3::rapidhash_v3_micro_inline::<true, false>(bytes, v3::RapidSecrets::default_ref())
 }
@@ -151,9 +148,6 @@ pub extern "C" fn rapidhash_v3_micro(bytes: &[u8]) -> u64
 pub extern "C" fn rapidhash_v3_micro_seeded(bytes: &[u8], secrets: &v3::RapidSecrets) -> u64
     ensures { result ≡ seeded_hash micro (options true false) secrets.now bytes.now }
 {
-    if bytes.len() > 16 {
-        return long_micro(bytes, secrets);
-    }
     v3::rapidhash_v3_micro_inline::<true, false>(bytes, secrets)
 }
 

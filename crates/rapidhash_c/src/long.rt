@@ -1,11 +1,11 @@
-//! Hashes above 16 bytes. They are out of line and cold, so that an export is short code for short
-//! messages and saves no register. Hashes of messages that have a row are out of line of these, for
-//! the same reason, where the library inlines rows.
+//! Hashes above 16 bytes. They are out of line and cold: so an export saves no register, and has no
+//! jump to the code of short messages. Messages that have a row are out of line once more, so that
+//! those of 17 bytes up to a row save no register either.
 
 ghost use Rattle.std.specs.Prelude.{◌≡◌, ◌≤◌, true, false};
 ghost use Rattle.rapidhash.specs.Form.{v2, v3, micro, nano};
 ghost use Rattle.rapidhash.specs.Options.{options};
-ghost use Rattle.rapidhash.specs.Seeded.{seeded_hash, seeded_hash_v1};
+ghost use Rattle.rapidhash.specs.Seeded.{default_hash, seeded_hash, seeded_hash_v1};
 
 use rapidhash::{v1, v2, v3};
 
@@ -41,22 +41,22 @@ pub(crate) fn long_v2<const MINOR: u8>(bytes: &[u8], secrets: &v2::RapidSecrets)
     v2::rapidhash_v2_inline::<MINOR, true, false, false>(bytes, secrets)
 }
 
-/// The hash by V3.
+/// The hash by V3, with the default secrets.
 #[cold]
 #[inline(never)]
-pub(crate) fn long_v3(bytes: &[u8], secrets: &v3::RapidSecrets) -> u64
-    ensures { result ≡ seeded_hash v3 (options true false) secrets.now bytes.now }
+pub(crate) fn long_v3(bytes: &[u8]) -> u64
+    ensures { result ≡ default_hash v3 (options true false) bytes.now }
 {
-    v3::rapidhash_v3_seeded(bytes, secrets)
+    v3::rapidhash_v3(bytes)
 }
 
-/// The hash by V3 micro.
+/// The hash by V3 micro, with the default secrets.
 #[cold]
 #[inline(never)]
-pub(crate) fn long_micro(bytes: &[u8], secrets: &v3::RapidSecrets) -> u64
-    ensures { result ≡ seeded_hash micro (options true false) secrets.now bytes.now }
+pub(crate) fn long_micro(bytes: &[u8]) -> u64
+    ensures { result ≡ default_hash micro (options true false) bytes.now }
 {
-    v3::rapidhash_v3_micro_inline::<true, false>(bytes, secrets)
+    v3::rapidhash_v3_micro_inline::<true, false>(bytes, v3::RapidSecrets::default_ref())
 }
 
 /// The hash by V3 nano.

@@ -7,7 +7,7 @@ ghost use Rattle.rapidhash.specs.Hash.{portable_hash};
 ghost use Rattle.rapidhash.specs.Options.{options};
 ghost use Rattle.rapidhash.specs.Secrets.{cpp_seeded, default_secrets, default_secrets_v1};
 
-use crate::long::{self, TAIL, TAIL_V2, TAIL_V2_0};
+use crate::long::{TAIL, TAIL_V2, TAIL_V2_0};
 use rapidhash::{v1, v2, v3};
 
 /// The hash by V1.
@@ -46,7 +46,7 @@ pub(crate) fn long_v3(bytes: &[u8], seed: u64) -> u64
         ≡ portable_hash v3 (options true false) (cpp_seeded seed 2) default_secrets bytes.now }
 {
     if bytes.len() > 112 {
-        return long::long_v3(bytes, &v3::RapidSecrets::seed_cpp(seed));
+        return rows_v3(bytes, seed);
     }
     v3::rapidhash_v3_seeded(bytes, &v3::RapidSecrets::seed_cpp(seed))
 }
@@ -95,6 +95,15 @@ fn rows_v2<const MINOR: u8>(bytes: &[u8], seed: u64) -> u64
         bytes.now }
 {
     v2::rapidhash_v2_inline::<MINOR, true, false, false>(bytes, &v2::RapidSecrets::seed_cpp(seed))
+}
+
+/// The hash of a message that has a row, by V3.
+#[inline(never)]
+fn rows_v3(bytes: &[u8], seed: u64) -> u64
+    ensures { result
+        ≡ portable_hash v3 (options true false) (cpp_seeded seed 2) default_secrets bytes.now }
+{
+    v3::rapidhash_v3_seeded(bytes, &v3::RapidSecrets::seed_cpp(seed))
 }
 
 /// The hash of a message that has a row, by V3 micro.
