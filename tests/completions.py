@@ -99,9 +99,7 @@ class Terminal:
 
     def words_after_tab(self, line):
         """The words of the line after the tab key: it is shown by a word before it, put there by Ctrl-A."""
-        os.write(self.file, line.encode() + b"\t")
-        self.read_until("\0", 0.4)
-        os.write(self.file, b"\x01show \x05\r")
+        os.write(self.file, line.encode() + b"\t\x01show \x05\r")
         text = self.read_until("|>>\r\n")
         return text.rpartition("<<")[2].partition("|>>")[0].rstrip("/")
 

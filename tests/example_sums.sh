@@ -138,8 +138,14 @@ printf 'a1266b469390773a  x\xff\n' | "$program" -c >out 2>log
 tell name-that-is-not-utf-8 $?
 
 # A pipe that is closed is a failed write. Its reader has ended before the program starts.
-(sleep 0.2 && "$program" first first 2>log
-echo $? >status) | true
+{
+  while [ ! -e gone ]; do sleep 0.02; done
+  "$program" first first 2>log
+  echo $? >status
+} | {
+  exec 0<&-
+  : >gone
+}
 [ "$(cat status)" -eq 1 ] && grep -q 'write error' log
 tell closed-pipe $?
 

@@ -90,10 +90,10 @@ run() {
   echo $? >status
 }
 
-# Waits until a line is there: FILE PATTERN.
+# Waits until a line is there, for 20 seconds at most: FILE PATTERN.
 wait_for() {
   local _
-  for _ in $(seq 100); do
+  for _ in $(seq 400); do
     grep -qs "$2" "$1" && return
     sleep 0.05
   done
@@ -150,6 +150,12 @@ start_build() {
   wait_for processes .
 }
 
+# Ends the build that start_build has started, once another call has said that it waits for it.
+let_the_build_end() {
+  wait_for err 'another build is running'
+  : >go
+}
+
 # Starts a build and ends it by a signal to the launcher's own process. Below a `&` a shell ignores
 # SIGINT, so Python gives the signals their first effect again.
 end_a_build() {
@@ -166,10 +172,10 @@ os.execv(sys.argv[1], sys.argv[1:])' repo/bin/rapidhash >out 2>err &
   echo $? >status
 }
 
-# Whether none of these processes runs any more, after a second at most.
+# Whether none of these processes runs any more, after five seconds at most.
 are_gone() {
   local _ process left
-  for _ in $(seq 20); do
+  for _ in $(seq 100); do
     left=
     for process in "$@"; do
       grep -qs '^State:[^ZX]*$' "/proc/$process/status" && left=yes
