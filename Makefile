@@ -1,5 +1,5 @@
 # make             proves and builds the tools and the library for C, where they are missing or old
-# make check       proves everything from nothing, and runs all tests: what a push has to pass
+# make check       proves everything, and runs all tests: what a push has to pass
 # make quick       lays the sources out, checks the pages, and proves what has changed: before a commit
 # make test        proves and runs the tests of all crates, and runs the programs from end to end
 # make fmt         lays the sources out

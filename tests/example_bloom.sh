@@ -103,7 +103,8 @@ ended no-input 1 'example_bloom: could not read standard input: Bad file descrip
 "$program" fruit <odd >/dev/full 2>err
 echo $? >status
 ended a-full-disk 1 'example_bloom: could not write standard output: No space left on device (os error 28)'
-("$program" odd <odd 2>err; echo $? >status) | :
+"$top/tests/closed_pipe" "$program" odd <odd 2>err
+echo $? >status
 ended a-closed-pipe 1 'example_bloom: could not write standard output: Broken pipe (os error 32)'
 "$program" fruit <odd >&- 2>err
 echo $? >status

@@ -95,7 +95,7 @@ fault 'a name that is not there' 1 'nothing: No such file or directory (os error
 fault 'a full disk' 1 'could not write standard output: No space left on device (os error 28)' \
   bash -c '"$1" tree >/dev/full' - "$program"
 fault 'a closed pipe' 1 'could not write standard output: Broken pipe (os error 32)' \
-  bash -c '{ until [ -e gone ]; do sleep 0.02; done; exec "$1" tree; } > >(exec 0<&-; : >gone)' - "$program"
+  "$top/tests/closed_pipe" "$program" tree
 fault 'memory refused' 1 'out of memory' bash -c 'ulimit -v 5000; exec "$1" /usr' - "$program"
 
 # What cannot be read is told, and the run goes on.

@@ -75,7 +75,7 @@ fault 'a full disk' 1 'could not write standard output: No space left on device 
 fault 'a full disk at the counts' 1 'could not write standard output: No space left on device (os error 28)' \
   bash -c '"$1" --counts red <lines >/dev/full' - "$program"
 fault 'a closed pipe' 1 'could not write standard output: Broken pipe (os error 32)' \
-  bash -c '"$1" red < <(seq 100000) > >(true)' - "$program"
+  "$top/tests/closed_pipe" "$program" red <lines
 head -c 20000000 /dev/zero >wide
 fault 'memory refused' 1 'out of memory' bash -c 'ulimit -v 8000; exec "$1" red <wide' - "$program"
 

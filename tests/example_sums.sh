@@ -137,16 +137,9 @@ printf 'a1266b469390773a  x\xff\n' | "$program" -c >out 2>log
 [ $? -eq 1 ] && grep -q 'UTF-8' log && grep -q 'FAILED open or read' out
 tell name-that-is-not-utf-8 $?
 
-# A pipe that is closed is a failed write. Its reader has ended before the program starts.
-{
-  while [ ! -e gone ]; do sleep 0.02; done
-  "$program" first first 2>log
-  echo $? >status
-} | {
-  exec 0<&-
-  : >gone
-}
-[ "$(cat status)" -eq 1 ] && grep -q 'write error' log
+# A pipe that is closed is a failed write.
+"$top/tests/closed_pipe" "$program" first first 2>log
+[ $? -eq 1 ] && grep -q 'write error' log
 tell closed-pipe $?
 
 # A list larger than the memory that there is.

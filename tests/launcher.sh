@@ -85,7 +85,6 @@ ended copied_checkout_of_an_old_build 0 second 1 "$changed" "$built"
 # Two builds at once, and edits while one runs.
 new_repository
 start_build
-: >err
 let_the_build_end &
 run other
 ended second_of_two_builds 0 $'first\nother' 1 "$waiting"
@@ -98,7 +97,6 @@ new_build
 edit second
 start_build
 edit third
-: >err
 let_the_build_end &
 run
 ended edit_during_the_build_of_another 0 third 2 "$waiting" "$changed" 'rapidhash: proving rapidhash' "$built"

@@ -144,6 +144,7 @@ as_another() {
 
 # Starts a build that waits for the file `go`, as the process $launcher.
 start_build() {
+  : >err
   echo wait >how
   repo/bin/rapidhash begun >begun_out 2>begun_err &
   launcher=$!
