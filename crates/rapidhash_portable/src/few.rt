@@ -25,7 +25,7 @@ fn fold_few_rows<
     ensures rest { result.now ≡ drop (16 * (WIDTH * ROWS)) bytes.now }
 {
     let mut rest = bytes;
-    for i in 0..ROWS {
+    for _i in 0..ROWS {
         fold_row::<LANES, WIDTH, PROTECTED>(lanes, rest, secrets);
         rest = &rest[16 * WIDTH..];
     }

@@ -103,12 +103,12 @@ pub(crate) fn fold_rows<
 {
     let mut rest = bytes;
     if !COMPACT {
-        'turns: while rest.len() >= 32 * WIDTH + KEPT {
+        while rest.len() >= 32 * WIDTH + KEPT {
             fold_two_rows::<LANES, WIDTH, PROTECTED>(lanes, rest, secrets);
             rest = &rest[32 * WIDTH..];
         }
     }
-    'rows: while rest.len() >= 16 * WIDTH + KEPT {
+    while rest.len() >= 16 * WIDTH + KEPT {
         fold_row::<LANES, WIDTH, PROTECTED>(lanes, rest, secrets);
         rest = &rest[16 * WIDTH..];
     }

@@ -18,9 +18,12 @@ use std::io::{ErrorKind, Read};
 /// that call failed.
 ///
 /// ```
-/// let mut source = Source::new(file);
-/// let answer = rapidhash_v3_source::<File, false>(&mut source, &DEFAULT_RAPID_SECRETS);
-/// let file_is_broken = source.failed();
+/// use rapidhash::reader::Source;
+/// use rapidhash::v3::{DEFAULT_RAPID_SECRETS, rapidhash_v3_source};
+///
+/// let mut source = Source::new(b"hello".as_slice());
+/// let answer = rapidhash_v3_source::<&[u8], false>(&mut source, &DEFAULT_RAPID_SECRETS);
+/// assert!(answer.is_ok() && !source.failed());
 /// ```
 #[derive(Drop)]
 pub struct Source<R: Read> {
@@ -32,7 +35,7 @@ impl<R: Read> Source<R> {
     ghost use Rattle.rapidhash_portable.specs.Source.{Settles, is_marked, reader_of, with_reader};
     ghost use Rattle.rapidhash_portable.specs.contracts.reader.Source.{the_row};
 
-    /// A source over a reader, with the mark off. It reads nothing.
+    /// Returns a source over a reader, with the mark off. It reads nothing.
     pub fn new(reader: R) -> Self
         ensures unmarked { is_marked result ≡ false }
         ensures reader { reader_of result ≡ reader }
@@ -43,8 +46,8 @@ impl<R: Read> Source<R> {
         }
     }
 
-    /// One read of the reader, with the reader's own result. Any error turns the mark on, also that
-    /// of an interrupted read.
+    /// Reads once, and returns the reader's own result. Any error turns the mark on, also that of
+    /// an interrupted read.
     pub fn read(&mut self, buf: &mut [u8]) -> io::Result<usize>
         ensures mark { is_marked self.new ≡ (is_marked self.old || is_err result) }
         ensures bound { ReadsAtMost result buf.new }
@@ -74,14 +77,14 @@ impl<R: Read> Source<R> {
         self.mark = false;
     }
 
-    /// Whether the mark is on.
+    /// Returns whether the mark is on.
     pub fn failed(&self) -> bool
         ensures { result ≡ is_marked self.now }
     {
         self.mark
     }
 
-    /// The reader, in its current state.
+    /// Returns the reader, in its current state.
     pub fn into_inner(self) -> R
         ensures { result ≡ reader_of self }
     {

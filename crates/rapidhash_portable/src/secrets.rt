@@ -26,10 +26,13 @@ pub const DEFAULT_RAPID_SECRETS: RapidSecrets = RapidSecrets {
 impl RapidSecrets {
     ghost use Rattle.rapidhash_portable.specs.Seeding.{Draws, secrets_of};
 
-    /// The default seed and secrets, [`DEFAULT_RAPID_SECRETS`], by reference.
+    /// Returns the default seed and secrets, [`DEFAULT_RAPID_SECRETS`], by reference.
     ///
     /// ```
-    /// let hash = rapidhash_v3_inline::<true, true, false>(b"hello", RapidSecrets::default_ref());
+    /// use rapidhash::v3::{RapidSecrets, rapidhash_v3_seeded};
+    ///
+    /// let hash = rapidhash_v3_seeded(b"hello", RapidSecrets::default_ref());
+    /// assert_eq!(hash, 3327445792987248966);
     /// ```
     #[inline(always)]
     #[tactic(auto, using(crate::proofs::SecretsLemmas::default_number))]
@@ -40,14 +43,16 @@ impl RapidSecrets {
         &DEFAULT_RAPID_SECRETS
     }
 
-    /// A seed and secrets made from a number. Each has a set bit in its upper, its middle and its
-    /// lower part, so none is 0.
+    /// Returns a seed and secrets made from a number. Each has a set bit in its upper, its middle
+    /// and its lower part, so none is 0.
     ///
     /// ```
+    /// use rapidhash::v3::{RapidSecrets, rapidhash_v3_seeded};
+    ///
     /// let secrets = RapidSecrets::seed(0x1234_5678);
     /// let hash = rapidhash_v3_seeded(b"hello", &secrets);
     /// ```
-    pub fn seed(seed: u64) -> Self
+    pub const fn seed(seed: u64) -> Self
         ensures seed { result.seed ≡ seeded seed }
         ensures secrets { result.secrets ≡ seeded_secrets 7 seed }
         ensures good { All IsGood (result.seed ∷ result.secrets) }
@@ -59,9 +64,9 @@ impl RapidSecrets {
         }
     }
 
-    /// The same secrets with a new seed, which is made from the old one with the last default
-    /// secret.
-    pub fn reseed(&self) -> Self
+    /// Returns the same secrets with a new seed, which is made from the old one with the last
+    /// default secret.
+    pub const fn reseed(&self) -> Self
         ensures seed { result.seed ≡ reseeded self.now.seed 6 }
         ensures secrets { result.secrets ≡ self.now.secrets }
         ensures good { IsGood result.seed }
@@ -72,10 +77,10 @@ impl RapidSecrets {
         }
     }
 
-    /// The default secrets with a seed made from a number as the C++ library makes it. Whoever
-    /// knows the default secrets can find messages that have one hash for every seed: if that
-    /// matters, see [`RapidSecrets::seed`].
-    pub fn seed_cpp(seed: u64) -> Self
+    /// Returns the default secrets with a seed made from a number as the C++ library makes it.
+    /// Whoever knows the default secrets can find messages that have the same hash for every seed:
+    /// if that matters, see [`RapidSecrets::seed`].
+    pub const fn seed_cpp(seed: u64) -> Self
         ensures seed { result.seed ≡ cpp_seeded seed 2 }
         ensures secrets { result.secrets ≡ default_secrets }
     {
@@ -85,7 +90,7 @@ impl RapidSecrets {
         }
     }
 
-    /// The next seed of `source`, with the secrets of `global`.
+    /// Returns the next seed of `source`, with the secrets of `global`.
     ///
     /// ```
     /// let global = GlobalSecrets::new(random_word);
@@ -119,7 +124,7 @@ const GLOBAL_MASK: u64 = 0xbdd8_9aa9_8270_4029;
 
 /// The word, with `bit` set if it has no bit of `mask`.
 #[tactic(auto, using(crate::proofs::Cases::tests), unfolding(crate::specs::Secrets::with_bit))]
-fn with_bit(word: u64, mask: u64, bit: u64) -> u64
+const fn with_bit(word: u64, mask: u64, bit: u64) -> u64
     ensures { result ≡ with_bit word mask bit }
 {
     if word & mask == 0 { word | bit } else { word }
@@ -127,7 +132,7 @@ fn with_bit(word: u64, mask: u64, bit: u64) -> u64
 
 /// The word, with a bit set in each of its upper, its middle and its lower part that has none.
 #[tactic(auto, unfolding(crate::specs::Secrets::repaired))]
-pub(crate) fn repair(word: u64) -> u64
+pub(crate) const fn repair(word: u64) -> u64
     ensures value { result ≡ repaired word }
     ensures good { IsGood result }
 {
@@ -138,7 +143,7 @@ pub(crate) fn repair(word: u64) -> u64
 
 /// The word mixed with the default secret at `place`, and repaired.
 #[tactic(auto, unfolding(crate::specs::Secrets::premixed))]
-fn premix(word: u64, place: usize) -> u64
+const fn premix(word: u64, place: usize) -> u64
     requires { place < 7 }
     ensures value { result ≡ premixed word place }
     ensures good { IsGood result }
@@ -149,7 +154,7 @@ fn premix(word: u64, place: usize) -> u64
 
 /// The seed that `RapidSecrets::seed` makes.
 #[tactic(auto, unfolding(crate::specs::Secrets::seeded))]
-pub(crate) fn seed_of(number: u64) -> u64
+pub(crate) const fn seed_of(number: u64) -> u64
     ensures value { result ≡ seeded number }
     ensures good { IsGood result }
 {
@@ -157,23 +162,25 @@ pub(crate) fn seed_of(number: u64) -> u64
 }
 
 /// `COUNT` secrets, the first made of the seed and each other of the one before.
-pub(crate) fn chain<const COUNT: usize>(seed: u64) -> [u64; COUNT]
+pub(crate) const fn chain<const COUNT: usize>(seed: u64) -> [u64; COUNT]
     requires { COUNT ≤ 7 }
     ensures value { result ≡ chained_secrets COUNT seed }
     ensures good { All IsGood result }
 {
     let mut secrets = [0; COUNT];
     let mut last = seed;
-    for place in 0..COUNT {
+    let mut place = 0;
+    while place < COUNT {
         last = premix(last, place);
         secrets[place] = last;
+        place += 1;
     }
     secrets
 }
 
 /// The seed that `RapidSecrets::seed_cpp` makes: V1 mixes with default secret 0, the others with 2.
 #[tactic(auto, unfolding(crate::specs::Secrets::cpp_seeded))]
-pub(crate) fn cpp_seed_of(number: u64, place: usize) -> u64
+pub(crate) const fn cpp_seed_of(number: u64, place: usize) -> u64
     requires { place < 7 }
     ensures { result ≡ cpp_seeded number place }
 {
@@ -182,7 +189,7 @@ pub(crate) fn cpp_seed_of(number: u64, place: usize) -> u64
 
 /// The seed that `RapidSecrets::reseed` makes, with the last default secret of the version.
 #[tactic(auto, unfolding(crate::specs::Secrets::reseeded))]
-pub(crate) fn reseed_of(seed: u64, place: usize) -> u64
+pub(crate) const fn reseed_of(seed: u64, place: usize) -> u64
     requires { place < 7 }
     ensures value { result ≡ reseeded seed place }
     ensures good { IsGood result }

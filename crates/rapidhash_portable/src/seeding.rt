@@ -10,6 +10,9 @@ use crate::util::rapid_mix;
 /// borrows them.
 ///
 /// ```
+/// use rapidhash::inner::GlobalSecrets;
+///
+/// let random_word = 0x9e37_79b9_7f4a_7c15;
 /// let secrets = GlobalSecrets::new(random_word);
 /// let seed = secrets.get_global_seed();
 /// ```
@@ -23,7 +26,8 @@ impl GlobalSecrets {
     ghost use Rattle.rapidhash_portable.specs.Seeding.{seed_of, secrets_of};
     ghost use Rattle.rapidhash_portable.specs.Secrets.{IsGood, global_seed, made_secrets};
 
-    /// The seed and secrets of a random word. Two calls with one word give one value.
+    /// Returns the seed and secrets of a random word. Two calls with the same word return the same
+    /// value.
     pub fn new(random: u64) -> Self
         ensures seed { seed_of result ≡ global_seed random }
         ensures secrets { secrets_of result ≡ made_secrets random }
@@ -35,7 +39,7 @@ impl GlobalSecrets {
         }
     }
 
-    /// The seven secrets.
+    /// Returns the seven secrets.
     #[inline]
     pub fn get(&self) -> &[u64; 7]
         ensures { result.now ≡ secrets_of self.now }
@@ -43,7 +47,7 @@ impl GlobalSecrets {
         &self.secrets
     }
 
-    /// The seed that was made beside the secrets.
+    /// Returns the seed that was made beside the secrets.
     #[inline]
     pub fn get_global_seed(&self) -> u64
         ensures { result ≡ seed_of self.now }
@@ -56,6 +60,10 @@ impl GlobalSecrets {
 /// Two seeds may be equal, and for some words they are.
 ///
 /// ```
+/// use rapidhash::inner::{GlobalSecrets, SeedSource};
+///
+/// let (random_word, second_random_word) = (0x9e37_79b9_7f4a_7c15, 0xbf58_476d_1ce4_e5b9);
+/// let secrets = GlobalSecrets::new(random_word);
 /// let mut source = SeedSource::new(&secrets, second_random_word);
 /// let seed = source.next();
 /// ```
@@ -69,7 +77,7 @@ impl SeedSource {
     ghost use Rattle.rapidhash_portable.specs.Seeding.{Draws, counter_of, random_of, seed_of};
     ghost use Rattle.rapidhash_portable.specs.Secrets.{source_start};
 
-    /// The source of a seed and a second random word.
+    /// Returns the source of a seed and a second random word.
     #[tactic(auto, unfolding(crate::specs::Secrets::source_start))]
     pub fn new(secrets: &GlobalSecrets, random: u64) -> Self
         ensures counter { counter_of result ≡ source_start (seed_of secrets.now) random }
@@ -80,7 +88,7 @@ impl SeedSource {
         SeedSource { counter, random }
     }
 
-    /// The next seed.
+    /// Returns the next seed.
     #[tactic(auto, unfolding(crate::specs::Secrets::source_answer))]
     pub fn next(&mut self) -> u64
         ensures { Draws self.old self.new result }

@@ -30,7 +30,7 @@ pub(crate) fn fill<R: Read>(reader: &mut R, buf: &mut [u8]) -> Result<(), Stop>
         (R.remaining reader.new) (length buf.old) (is_failed stop)) }
 {
     let mut at = 0;
-    'reads: while at < buf.len() {
+    while at < buf.len() {
         match read_once(reader, &mut buf[at..]) {
             Ok(0) => return Err(Stop::Ended),
             Ok(n) => at += n,
@@ -65,7 +65,7 @@ pub(crate) fn fold_front<R: Read, const LANES: usize, const PROTECTED: bool>(
     let room = buffer.len() - 16;
     let mut lanes = [seed; LANES];
     let mut left = len;
-    'pieces: while left >= room as u64 + 16 {
+    while left >= room as u64 + 16 {
         let piece = &mut buffer[..room];
         fill(reader, piece)?;
         fold_rows::<LANES, LANES, 0, false, PROTECTED>(&mut lanes, piece, secrets);

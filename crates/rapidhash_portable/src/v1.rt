@@ -43,7 +43,7 @@ pub const DEFAULT_RAPID_SECRETS: RapidSecrets = RapidSecrets {
 };
 
 impl RapidSecrets {
-    /// The default seed and secrets, [`DEFAULT_RAPID_SECRETS`], by reference.
+    /// Returns the default seed and secrets, [`DEFAULT_RAPID_SECRETS`], by reference.
     #[inline(always)]
     #[tactic(auto, using(crate::proofs::SecretsLemmas::default_number_v1))]
     pub fn default_ref() -> &'static Self
@@ -53,14 +53,16 @@ impl RapidSecrets {
         &DEFAULT_RAPID_SECRETS
     }
 
-    /// A seed and secrets made from a number. Each has a set bit in its upper, its middle and its
-    /// lower part, so none is 0.
+    /// Returns a seed and secrets made from a number. Each has a set bit in its upper, its middle
+    /// and its lower part, so none is 0.
     ///
     /// ```
+    /// use rapidhash::v1::{RapidSecrets, rapidhash_v1_seeded};
+    ///
     /// let secrets = RapidSecrets::seed(0x1234_5678);
     /// let hash = rapidhash_v1_seeded(b"hello", &secrets);
     /// ```
-    pub fn seed(seed: u64) -> Self
+    pub const fn seed(seed: u64) -> Self
         ensures seed { result.seed ≡ seeded seed }
         ensures secrets { result.secrets ≡ seeded_secrets 3 seed }
         ensures good { All IsGood (result.seed ∷ result.secrets) }
@@ -72,8 +74,9 @@ impl RapidSecrets {
         }
     }
 
-    /// The same secrets with a new seed, made from the old one with V1's last default secret.
-    pub fn reseed(&self) -> Self
+    /// Returns the same secrets with a new seed, made from the old one with V1's last default
+    /// secret.
+    pub const fn reseed(&self) -> Self
         ensures seed { result.seed ≡ reseeded self.now.seed 2 }
         ensures secrets { result.secrets ≡ self.now.secrets }
         ensures good { IsGood result.seed }
@@ -84,10 +87,10 @@ impl RapidSecrets {
         }
     }
 
-    /// The default secrets with a seed made from a number as the C++ library makes it. Whoever
-    /// knows the default secrets can find messages that have one hash for every seed: if that
-    /// matters, see [`RapidSecrets::seed`].
-    pub fn seed_cpp(seed: u64) -> Self
+    /// Returns the default secrets with a seed made from a number as the C++ library makes it.
+    /// Whoever knows the default secrets can find messages that have the same hash for every seed:
+    /// if that matters, see [`RapidSecrets::seed`].
+    pub const fn seed_cpp(seed: u64) -> Self
         ensures seed { result.seed ≡ cpp_seeded seed 0 }
         ensures secrets { result.secrets ≡ default_secrets_v1 }
     {
@@ -98,9 +101,11 @@ impl RapidSecrets {
     }
 }
 
-/// The hash of `bytes` with the default seed and secrets.
+/// Returns the hash of `bytes` with the default seed and secrets.
 ///
 /// ```
+/// use rapidhash::v1::rapidhash_v1;
+///
 /// assert_eq!(rapidhash_v1(b"something\n"), 15965596575264898037);
 /// ```
 #[inline(always)]
@@ -110,7 +115,13 @@ pub fn rapidhash_v1(bytes: &[u8]) -> u64
     rapidhash_v1_inline::<true, false, false, false>(bytes, RapidSecrets::default_ref())
 }
 
-/// The hash of `bytes` with the caller's seed and secrets.
+/// Returns the hash of `bytes` with the caller's seed and secrets.
+///
+/// ```
+/// use rapidhash::v1::{DEFAULT_RAPID_SECRETS, rapidhash_v1_seeded};
+///
+/// assert_eq!(rapidhash_v1_seeded(b"something\n", &DEFAULT_RAPID_SECRETS), 15965596575264898037);
+/// ```
 #[inline(always)]
 pub fn rapidhash_v1_seeded(bytes: &[u8], secrets: &RapidSecrets) -> u64
     ensures { result ≡ seeded_hash_v1 false (options true false) secrets.now bytes.now }
@@ -118,12 +129,19 @@ pub fn rapidhash_v1_seeded(bytes: &[u8], secrets: &RapidSecrets) -> u64
     rapidhash_v1_inline::<true, false, false, false>(bytes, secrets)
 }
 
-/// The hash of `bytes` with every option.
+/// Returns the hash of `bytes` with every option.
 ///
 /// - `AVALANCHE` mixes the last product once more, as the C++ library does.
-/// - `COMPACT` takes rows one by one in place of two at a time: less code, the same value.
+/// - `COMPACT` takes rows one by one instead of two at a time: less code, the same value.
 /// - `PROTECTED` mixes each product with its factors.
 /// - `V1_BUG` folds a row at 48 bytes, as versions 1.x of the Rust crate did.
+///
+/// ```
+/// use rapidhash::v1::{DEFAULT_RAPID_SECRETS, rapidhash_v1_inline};
+///
+/// let hash = rapidhash_v1_inline::<true, false, false, false>(b"something\n", &DEFAULT_RAPID_SECRETS);
+/// assert_eq!(hash, 15965596575264898037);
+/// ```
 #[inline(always)]
 pub fn rapidhash_v1_inline<
     const AVALANCHE: bool,

@@ -17,11 +17,15 @@ use std::hash::Hasher;
 /// A hasher of bytes and integers, with every option. Most programs name it by `fast::RapidHasher`
 /// or `quality::RapidHasher`.
 ///
-/// The inherent methods, such as [`RapidHasher::write_u8`], pack integers. Code that is generic
-/// over `Hasher` gets the trait's provided methods, which pass the bytes of an integer to `write`.
+/// The inherent methods, such as [`RapidHasher::write_u8`], pack integers. In Rust the trait's
+/// integer writes are these methods. In Rattle they are the trait's provided ones, which pass the
+/// bytes of an integer to `write`.
 ///
 /// ```
-/// let mut hasher = fast::RapidHasher::new(0);
+/// use rapidhash::fast::RapidHasher;
+/// use std::hash::Hasher;
+///
+/// let mut hasher = RapidHasher::new(0);
 /// hasher.write_u64(4711);
 /// hasher.write(b"user");
 /// let hash = hasher.finish();
@@ -49,16 +53,19 @@ impl<
     /// The number that `default_const` and `Default` pass to `new`, for programs that name it.
     pub const DEFAULT_SEED: u64 = 0;
 
-    /// A hasher of the default secrets, and of a seed made of `seed` as
+    /// Returns a hasher of the default secrets, and of a seed made of `seed` as
     /// `v3::RapidSecrets::seed_cpp` makes it.
     ///
     /// ```
-    /// let mut hasher = fast::RapidHasher::new(0x1234_5678);
+    /// use rapidhash::fast::RapidHasher;
+    /// use std::hash::Hasher;
+    ///
+    /// let mut hasher = RapidHasher::new(0x1234_5678);
     /// hasher.write_u32(7);
     /// let hash = hasher.finish();
     /// ```
     #[inline(always)]
-    pub fn new(seed: u64) -> Self
+    pub const fn new(seed: u64) -> Self
         ensures secrets { secrets_of result ≡ default_secrets }
         ensures stands { Stands result (cpp_seeded seed 2) [] }
     {
@@ -68,9 +75,9 @@ impl<
         )
     }
 
-    /// A hasher of the default seed and the default secrets: [`RapidHasher::new`] of 0.
+    /// Returns a hasher of the default seed and the default secrets: [`RapidHasher::new`] of 0.
     #[inline(always)]
-    pub fn default_const() -> Self
+    pub const fn default_const() -> Self
         ensures secrets { secrets_of result ≡ default_secrets }
         ensures stands { Stands result default_seed [] }
     {
@@ -79,7 +86,7 @@ impl<
 
     /// A hasher of a seed and secrets as they are.
     #[inline(always)]
-    pub(crate) fn from_parts(seed: u64, secrets: &'s [u64; 7]) -> Self
+    pub(crate) const fn from_parts(seed: u64, secrets: &'s [u64; 7]) -> Self
         ensures value { result ≡ fresh seed secrets.entry }
         ensures stands { Stands result seed [] }
     {
@@ -141,7 +148,7 @@ impl<
         self.seed = memory_hash::<AVALANCHE, COMPACT, PROTECTED>(bytes, self.seed, self.secrets);
     }
 
-    /// The hash of what was absorbed so far. It changes nothing: further writes may follow.
+    /// Returns the hash of what was absorbed so far. It changes nothing: further writes may follow.
     #[inline(always)]
     fn finish(&self) -> u64
         ensures value { result ≡ answer_of self.now }
@@ -168,7 +175,7 @@ impl<
     ghost is_default = { λ hasher. (secrets_of hasher ≡ default_secrets)
         × Stands hasher default_seed [] };
 
-    /// As [`RapidHasher::default_const`].
+    /// Returns [`RapidHasher::default_const`].
     #[inline(always)]
     fn default() -> Self {
         RapidHasher::default_const()

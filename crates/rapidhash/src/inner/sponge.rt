@@ -16,7 +16,7 @@ impl Sponge {
 
     /// No bits.
     #[inline(always)]
-    pub(crate) fn empty() -> Sponge
+    pub(crate) const fn empty() -> Sponge
         ensures { result ≡ empty_sponge }
     {
         Sponge { bits: 0, width: 0 }

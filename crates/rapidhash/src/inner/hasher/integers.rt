@@ -17,9 +17,14 @@ impl<
     /// hash as the joined one: `write_u8(2)` and `write_u8(1)` as `write_u16(258)`.
     ///
     /// ```
-    /// let mut hasher = fast::RapidHasher::default();
-    /// hasher.write_u8(2);
-    /// let hash = hasher.finish();
+    /// use rapidhash::fast::RapidHasher;
+    /// use std::hash::Hasher;
+    ///
+    /// let (mut parts, mut whole) = (RapidHasher::default(), RapidHasher::default());
+    /// parts.write_u8(2);
+    /// parts.write_u8(1);
+    /// whole.write_u16(258);
+    /// assert_eq!(parts.finish(), whole.finish());
     /// ```
     #[inline(always)]
     pub fn write_u8(&mut self, value: u8)
@@ -52,7 +57,7 @@ impl<
         self.write_number(value, 64);
     }
 
-    /// Absorbs an integer of 64 bits, as [`RapidHasher::write_u64`].
+    /// Absorbs an integer of 64 bits, as [`RapidHasher::write_u64`], on every machine.
     #[inline(always)]
     pub fn write_usize(&mut self, value: usize)
         ensures { Absorbs self.old self.new (Num 64 value) }
@@ -92,12 +97,12 @@ impl<
         self.write_number(value.cast_unsigned(), 64);
     }
 
-    /// Absorbs a signed integer of 64 bits, by its bits.
+    /// Absorbs a signed integer of 64 bits, by its bits, on every machine.
     #[inline(always)]
     pub fn write_isize(&mut self, value: isize)
         ensures { Absorbs self.old self.new (Num 64 (cast_unsigned w64 value)) }
     {
-        self.write_number(value.cast_unsigned() as u64, 64);
+        self.write_number((value as i64).cast_unsigned(), 64);
     }
 
     /// Absorbs 128 bits in one step. The integers that wait in the sponge stay there.

@@ -12,8 +12,8 @@ loop-i-init g c = record {
 pub loop-i-preserved : goal.loop-i-preserved
 loop-i-preserved g c =
     let l = c.loop-i in
-    let at = 16 * (g.row.WIDTH * l.i) in
-    let next : at + 16 * g.row.WIDTH ≡ 16 * (g.row.WIDTH * (l.i + 1)) = omega arith in
+    let at = 16 * (g.row.WIDTH * l._i) in
+    let next : at + 16 * g.row.WIDTH ≡ 16 * (g.row.WIDTH * (l._i + 1)) = omega arith in
     record {
       lanes = HaveFolded-more l.invariant.lanes _ c.fold_row.new.lanes 1 l.invariant.rest c.fold_row.ensures;
       rest =

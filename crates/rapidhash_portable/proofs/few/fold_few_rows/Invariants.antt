@@ -4,6 +4,6 @@ use Rattle.rapidhash_portable.proofs.few.fold_few_rows.Given as goal
 
 abbrev pub invariant-loop-i : goal.invariant-loop-i
 invariant-loop-i g l = record {
-  lanes : HaveFolded (not (nat_eq g.row.PROTECTED 0)) l.secrets l.bytes g.row.WIDTH l.fn.lanes l.lanes l.i;
-  rest : l.rest ≡ drop (16 * (g.row.WIDTH * l.i)) l.bytes;
+  lanes : HaveFolded (not (nat_eq g.row.PROTECTED 0)) l.secrets l.bytes g.row.WIDTH l.fn.lanes l.lanes l._i;
+  rest : l.rest ≡ drop (16 * (g.row.WIDTH * l._i)) l.bytes;
 }

@@ -10,13 +10,14 @@ unfolding chained
 loop-place-init g c = record {
   last_is = refl;
   filled = record { whole = length-replicate g.row.COUNT 0; made = λ k l. absurd (omega arith) };
+  most = omega arith;
 }
 
 pub loop-place-preserved : goal.loop-place-preserved
 loop-place-preserved g c =
     let l = c.loop-place in
     let last : c.premix-last.result ≡ chained c.args.seed (l.place + 1) = cc (c.premix-last.ensures.value, l.invariant.last_is, chained-more c.args.seed l.place) in
-    record { last_is = last; filled = AreFilled-more l.invariant.filled _ last (omega arith) }
+    record { last_is = last; filled = AreFilled-more l.invariant.filled _ last (omega arith); most = omega arith }
 
 pub returns-clause-value : goal.returns-clause-value
 unfolding chained_secrets

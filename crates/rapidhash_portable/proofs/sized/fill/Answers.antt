@@ -5,12 +5,12 @@ use Rattle.std.proofs.KnownBytes.{Consumes-trans}
 use Rattle.rapidhash_portable.proofs.ListLemmas.{filled_more}
 use Rattle.rapidhash_portable.proofs.sized.fill.Goals as goal
 
-pub reads-preserved : goal.reads-preserved
-reads-preserved g c =
-    let i = c.reads.invariant in
+pub loop-at-preserved : goal.loop-at-preserved
+loop-at-preserved g c =
+    let i = c.loop-at.invariant in
     let read = c.in-Ok.ensures in
     record {
       size = grind (arith, common_steps);
       within = grind (arith, common_steps);
-      taken = subst (Consumes _ _) (filled_more c.reads.at c.in-Ok.n c.reads.buf c.read_once.new.buf i.within read.bound.0) (Consumes-trans _ _ _ _ _ i.taken read.bytes.0);
+      taken = subst (Consumes _ _) (filled_more c.loop-at.at c.in-Ok.n c.loop-at.buf c.read_once.new.buf i.within read.bound.0) (Consumes-trans _ _ _ _ _ i.taken read.bytes.0);
     }

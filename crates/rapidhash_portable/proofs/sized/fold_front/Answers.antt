@@ -7,8 +7,8 @@ use Rattle.rapidhash_portable.proofs.ListLemmas.{refilled_room}
 use Rattle.rapidhash_portable.proofs.ReadingLemmas.{FellShort-front, FrontIsFolded-last, FrontIsFolded-more, FrontIsFolded-none}
 use Rattle.rapidhash_portable.proofs.sized.fold_front.Goals as goal
 
-pub pieces-init : goal.pieces-init
-pieces-init g c = record {
+pub loop-left-init : goal.loop-left-init
+loop-left-init g c = record {
   room = refl;
   some = c.requires.long;
   most = le_refl _;
@@ -20,21 +20,21 @@ pieces-init g c = record {
 pub returns-in_err-fill-clause-short : goal.returns-in_err-fill-clause-short
 returns-in_err-fill-clause-short g c =
     let k = length c.args.buffer.now - 16 in
-    let cut : length (take k c.pieces.buffer) ≡ k = length-take-le k c.pieces.buffer (omega arith) in
+    let cut : length (take k c.loop-left.buffer) ≡ k = length-take-le k c.loop-left.buffer (omega arith) in
     let p = err_from_is_err_and c.from_residual.result c.from_residual.ensures.1 in
-    rw (p.1, p.2) (FellShort-front c.pieces.invariant.front _ (length (take k c.pieces.buffer)) _ _ (omega arith) c.in_err-fill.ensures.short)
+    rw (p.1, p.2) (FellShort-front c.loop-left.invariant.front _ (length (take k c.loop-left.buffer)) _ _ (omega arith) c.in_err-fill.ensures.short)
 
-pub pieces-preserved : goal.pieces-preserved
-pieces-preserved g c =
-    let inv = c.pieces.invariant in
+pub loop-left-preserved : goal.loop-left-preserved
+loop-left-preserved g c =
+    let inv = c.loop-left.invariant in
     let piece = c.fill.new.buf in
     let k = length c.args.buffer.now - 16 in
-    let cut : length (take k c.pieces.buffer) ≡ k = length-take-le k c.pieces.buffer (omega arith) in
+    let cut : length (take k c.loop-left.buffer) ≡ k = length-take-le k c.loop-left.buffer (omega arith) in
     let size : length piece ≡ length c.args.buffer.now - 16 = omega arith in
     let rows : length piece ≡ 16 * (g.row.LANES * rows_in g.row.LANES 0 (length piece)) = rw size (sym c.requires.whole_rows) in
     let on = c.fold_rows.ensures.on _ _ (PrefixIsFolded-append inv.front.prefix piece) in
     record {
-      room = refilled_room piece c.pieces.buffer (length c.args.buffer.now - 16) size (omega arith) ∙ inv.room;
+      room = refilled_room piece c.loop-left.buffer (length c.args.buffer.now - 16) size (omega arith) ∙ inv.room;
       some = omega arith;
       most = omega arith;
       front =
@@ -44,18 +44,18 @@ pieces-preserved g c =
 
 pub returns-in_err-fill-2-clause-short : goal.returns-in_err-fill-2-clause-short
 returns-in_err-fill-2-clause-short g c =
-    let k = c.pieces.left in
-    let cut : length (take k c.pieces.buffer) ≡ k = length-take-le k c.pieces.buffer (omega arith) in
+    let k = c.loop-left.left in
+    let cut : length (take k c.loop-left.buffer) ≡ k = length-take-le k c.loop-left.buffer (omega arith) in
     let p = err_from_is_err_and c.from_residual-in_err-fill-2.result c.from_residual-in_err-fill-2.ensures.1 in
-    rw (p.1, p.2) (FellShort-front c.pieces.invariant.front _ (length (take k c.pieces.buffer)) _ _ (omega arith) c.in_err-fill-2.ensures.short)
+    rw (p.1, p.2) (FellShort-front c.loop-left.invariant.front _ (length (take k c.loop-left.buffer)) _ _ (omega arith) c.in_err-fill-2.ensures.short)
 
 pub returns-clause-ok : goal.returns-clause-ok
 returns-clause-ok g c =
-    let inv = c.pieces.invariant in
-    let n = c.pieces.left in
+    let inv = c.loop-left.invariant in
+    let n = c.loop-left.left in
     let room = inv.room in
     let buf = c.fill-2.new.buf in
-    let cut : length (take n c.pieces.buffer) ≡ n = length-take-le n c.pieces.buffer (omega arith) in
+    let cut : length (take n c.loop-left.buffer) ≡ n = length-take-le n c.loop-left.buffer (omega arith) in
     let size : length buf ≡ n = omega arith in
-    let whole : take n (buf ++ drop n c.pieces.buffer) ≡ buf = take-append-le n buf (drop n c.pieces.buffer) (omega arith) ∙ take_all n buf (omega arith) in
+    let whole : take n (buf ++ drop n c.loop-left.buffer) ≡ buf = take-append-le n buf (drop n c.loop-left.buffer) (omega arith) ∙ take_all n buf (omega arith) in
     rw whole (FrontIsFolded-last inv.front _ buf _ (c.in_ok-fill-2.ensures.ok) (omega arith))

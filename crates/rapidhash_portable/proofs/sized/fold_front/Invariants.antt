@@ -2,13 +2,13 @@ use Rattle.std.proofs.Common.{◌≡◌, ◌-◌, ◌≤◌, [], length, not, na
 use Rattle.rapidhash_portable.specs.Reading.{FrontIsFolded}
 use Rattle.rapidhash_portable.proofs.sized.fold_front.Given as goal
 
-abbrev pub invariant-pieces : goal.invariant-pieces
-invariant-pieces g l = record {
+abbrev pub invariant-loop-left : goal.invariant-loop-left
+invariant-loop-left g l = record {
   room : length l.buffer ≡ length l.fn.buffer;
   some : 16 ≤ l.left;
   most : l.left ≤ l.len;
   front : FrontIsFolded (not (nat_eq g.row.PROTECTED 0)) l.secrets (g.R.Read.remaining l.fn.reader) (g.R.Read.remaining l.reader) (l.len - l.left) g.row.LANES l.seed l.lanes [];
 }
 
-abbrev pub decreases-pieces : goal.decreases-pieces
-decreases-pieces g l = l.left
+abbrev pub decreases-loop-left : goal.decreases-loop-left
+decreases-loop-left g l = l.left

@@ -117,7 +117,7 @@ impl Folded {
         ensures fewer { length result.now ≤ length bytes.now }
     {
         let mut rest = bytes;
-        'turns: while rest.len() > 32 * LANES {
+        while rest.len() > 32 * LANES {
             self.step_twice::<LANES, PROTECTED>(rest, secrets);
             rest = &rest[32 * LANES..];
         }

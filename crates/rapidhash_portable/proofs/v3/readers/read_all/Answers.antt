@@ -12,9 +12,9 @@ use Rattle.rapidhash_portable.specs.Stream.{StreamStandsFor}
 use Rattle.rapidhash_portable.proofs.ReadingLemmas.{HaveRead-more}
 use Rattle.rapidhash_portable.proofs.v3.readers.read_all.Goals as goal
 
-pub reads-preserved : goal.reads-preserved
-reads-preserved g c =
-    let inv = c.reads.invariant in
+pub loop-turn-preserved : goal.loop-turn-preserved
+loop-turn-preserved g c =
+    let inv = c.loop-turn.invariant in
     let n : ℕ = c.in_ok-n.n in
     let some : 0 < n = omega arith in
     let fits : n ≤ length c.read.new.buf = omega (arith, c.in_ok-n.ensures.bound) in
@@ -22,12 +22,12 @@ reads-preserved g c =
       clean = grind (arith, common_steps);
       secrets = c.write.ensures.secrets ∙ inv.secrets;
       size = omega arith;
-      read = HaveRead-more _ _ _ (λ x. StreamStandsFor (not (nat_eq g.row.PROTECTED 0)) c.reads.hasher x) _ c.reads.turn n c.read.new.buf inv.read c.in_ok-n.ensures.bytes.0 some fits c.write.ensures.adds;
+      read = HaveRead-more _ _ _ (λ x. StreamStandsFor (not (nat_eq g.row.PROTECTED 0)) c.loop-turn.hasher x) _ c.loop-turn._turn n c.read.new.buf inv.read c.in_ok-n.ensures.bytes.0 some fits c.write.ensures.adds;
     }
 
 pub returns-then-n-eq0-clause-all : goal.returns-then-n-eq0-clause-all
 returns-then-n-eq0-clause-all g c =
-    let inv = c.reads.invariant in
+    let inv = c.loop-turn.invariant in
     let bytes = c.in_ok-n.ensures.bytes in
     let room : 0 < length c.read.new.buf = omega arith in
     let last = rw (c.if-n-eq0.true) at bytes.0 in
@@ -40,7 +40,7 @@ returns-then-n-eq0-clause-all g c =
 
 pub returns-in_err-n-clause-all : goal.returns-in_err-n-clause-all
 returns-in_err-n-clause-all g c =
-    let read = c.reads.invariant.read in
+    let read = c.loop-turn.invariant.read in
     let marked : is_marked c.read.new.self ≡ true = grind (arith, common_steps) in
     let p = err_from_is_err_and c.from_residual.result c.from_residual.ensures.1 in
     rw (p.1) (record {
@@ -52,6 +52,6 @@ returns-in_err-n-clause-all g c =
 
 pub returns-clause-all : goal.returns-clause-all
 returns-clause-all g c =
-    let read = c.reads.invariant.read in
+    let read = c.loop-turn.invariant.read in
     let some = read.some in
     record { bytes = read.bytes; taken = read.taken; ok = tt; endless = λ _. omega arith }

@@ -4,10 +4,10 @@ use Rattle.rapidhash_portable.specs.Stream.{StreamStandsFor, secrets_of}
 use Rattle.rapidhash_portable.proofs.ReadingLemmas.{HaveRead}
 use Rattle.rapidhash_portable.proofs.v3.readers.read_all.Given as goal
 
-abbrev pub invariant-reads : goal.invariant-reads
-invariant-reads g l = record {
+abbrev pub invariant-loop-turn : goal.invariant-loop-turn
+invariant-loop-turn g l = record {
   clean : is_marked l.source ≡ false;
   secrets : secrets_of l.hasher ≡ l.secrets;
   size : length l.buffer ≡ g.row.SIZE;
-  read : HaveRead (g.R.Read.remaining (reader_of l.fn.source)) (g.R.Read.remaining (reader_of l.source)) (λ x. StreamStandsFor (not (nat_eq g.row.PROTECTED 0)) l.hasher x) l.turn;
+  read : HaveRead (g.R.Read.remaining (reader_of l.fn.source)) (g.R.Read.remaining (reader_of l.source)) (λ x. StreamStandsFor (not (nat_eq g.row.PROTECTED 0)) l.hasher x) l._turn;
 }

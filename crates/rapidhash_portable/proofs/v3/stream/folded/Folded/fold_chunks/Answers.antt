@@ -3,15 +3,15 @@ use Rattle.std.proofs.lemmas.List.{take_rest}
 use Rattle.rapidhash_portable.proofs.StreamLemmas.{Running-more}
 use Rattle.rapidhash_portable.proofs.v3.stream.folded.Folded.fold_chunks.Goals as goal
 
-pub turns-preserved : goal.turns-preserved
-turns-preserved g c = record {
+pub loop-rest-preserved : goal.loop-rest-preserved
+loop-rest-preserved g c = record {
   on = λ x seed r.
-      Running-more (c.turns.invariant.on x seed r) _ _ _ 2 (32 * g.row.LANES) c.step_twice.ensures.folded c.step_twice.ensures.two
-      (omega arith) (omega arith) (take_rest c.turns.rest.now (32 * g.row.LANES));
+      Running-more (c.loop-rest.invariant.on x seed r) _ _ _ 2 (32 * g.row.LANES) c.step_twice.ensures.folded c.step_twice.ensures.two
+      (omega arith) (omega arith) (take_rest c.loop-rest.rest.now (32 * g.row.LANES));
   fewer = omega arith;
 }
 
 pub returns-then-rest-clause-on : goal.returns-then-rest-clause-on
 returns-then-rest-clause-on g c = λ x seed r.
-    Running-more (c.turns.invariant.on x seed r) _ _ _ 1 (16 * g.row.LANES) c.step.ensures.folded c.step.ensures.one
-    (omega arith) (omega arith) (take_rest c.turns.rest.now (16 * g.row.LANES))
+    Running-more (c.loop-rest.invariant.on x seed r) _ _ _ 1 (16 * g.row.LANES) c.step.ensures.folded c.step.ensures.one
+    (omega arith) (omega arith) (take_rest c.loop-rest.rest.now (16 * g.row.LANES))

@@ -1,0 +1,58 @@
+//! The hasher and the states of maps, without the avalanche: integers are packed (`SPONGE`), and neither a
+//! write of bytes nor the hash is mixed once more.
+//!
+//! ```
+//! use rapidhash::fast::SeedableState;
+//! use std::hash::BuildHasher;
+//!
+//! let state = SeedableState::fixed();
+//! assert_eq!(state.hash_one("user:4711"), state.hash_one("user:4711"));
+//! ```
+
+use crate::inner;
+
+/// The hasher of maps, without the avalanche.
+///
+/// ```
+/// use rapidhash::fast::RapidHasher;
+/// use std::hash::Hasher;
+///
+/// let mut hasher = RapidHasher::default();
+/// hasher.write(b"user:4711");
+/// let hash = hasher.finish();
+/// ```
+pub type RapidHasher<'s> = inner::RapidHasher<'s, false, true, false, false>;
+
+/// Builds hashers of a random seed: each state has its own.
+///
+/// ```
+/// use rapidhash::fast::RandomState;
+/// use std::collections::HashMap;
+///
+/// let mut map = HashMap::with_hasher(RandomState::new());
+/// map.insert("answer", 42);
+/// ```
+#[cfg(feature = "std")]
+pub type RandomState = inner::RandomState<false, true, false, false>;
+
+/// Builds hashers of the caller's seed.
+///
+/// ```
+/// use rapidhash::fast::SeedableState;
+/// use std::hash::BuildHasher;
+///
+/// let state = SeedableState::custom(1, &[2, 3, 5, 7, 11, 13, 17]);
+/// let hash = state.hash_one(4711);
+/// ```
+pub type SeedableState<'s> = inner::SeedableState<'s, false, true, false, false>;
+
+/// Builds hashers of the one random seed of this process.
+///
+/// ```
+/// use rapidhash::fast::GlobalState;
+/// use std::hash::BuildHasher;
+///
+/// assert_eq!(GlobalState::new().hash_one("key"), GlobalState::new().hash_one("key"));
+/// ```
+#[cfg(feature = "std")]
+pub type GlobalState = inner::GlobalState<false, true, false, false>;

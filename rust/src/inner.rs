@@ -1,0 +1,23 @@
+//! The hasher of maps, with every option, and the states that build it. Most programs use [`crate::fast`]
+//! or [`crate::quality`].
+//!
+//! Its four options are const parameters, the same for the hasher and for the states:
+//!
+//! - `AVALANCHE` mixes each write of bytes and the hash once more.
+//! - `SPONGE` collects integers and mixes 128 bits at once, instead of one multiply for each.
+//! - `COMPACT` takes rows one by one instead of two at a time: less code, the same values.
+//! - `PROTECTED` mixes each product with its factors.
+//!
+//! The values are those of version 4.5.1 of the crate `rapidhash`, which may change its own: for hashes
+//! that are stored or sent, use the portable ones. On 32-bit machines a `usize` is absorbed as 64 bits,
+//! so the values are the same on every machine.
+
+mod hasher;
+mod sponge;
+mod state;
+
+pub use crate::seeding::{GlobalSecrets, SeedSource};
+pub use hasher::RapidHasher;
+pub use state::SeedableState;
+#[cfg(feature = "std")]
+pub use state::{GlobalState, RandomState};

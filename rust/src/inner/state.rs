@@ -1,0 +1,242 @@
+//! What makes hashers for a map: each state keeps a seed and secrets, and nothing else. That is the proved
+//! `seeded`; where a random seed and random secrets come from is outside the proof.
+
+#[cfg(feature = "std")]
+use crate::random::{global, next_seed};
+use crate::secrets::RapidSecrets;
+use std::fmt::{Debug, Formatter, Result};
+use std::hash::BuildHasher;
+
+mod seeded;
+
+use super::RapidHasher;
+use seeded::Seeded;
+
+/// Builds hashers of the one random seed of this process: all its maps hash in the same way.
+///
+/// ```
+/// use rapidhash::inner::GlobalState;
+/// use std::hash::BuildHasher;
+///
+/// let state = GlobalState::<false, true, false, false>::new();
+/// assert_eq!(state.hash_one("key"), GlobalState::<false, true, false, false>::new().hash_one("key"));
+/// ```
+#[cfg(feature = "std")]
+#[derive(Clone, Copy, PartialEq, Eq)]
+pub struct GlobalState<
+    const AVALANCHE: bool,
+    const SPONGE: bool,
+    const COMPACT: bool,
+    const PROTECTED: bool,
+> {
+    seeded: Seeded<'static>,
+}
+
+#[cfg(feature = "std")]
+impl<const AVALANCHE: bool, const SPONGE: bool, const COMPACT: bool, const PROTECTED: bool>
+    GlobalState<AVALANCHE, SPONGE, COMPACT, PROTECTED>
+{
+    /// Returns a state of the seed and the secrets of this process.
+    #[inline]
+    pub fn new() -> Self {
+        let global = global();
+        Self {
+            seeded: Seeded {
+                seed: global.get_global_seed(),
+                secrets: global.get(),
+            },
+        }
+    }
+}
+
+#[cfg(feature = "std")]
+impl<const AVALANCHE: bool, const SPONGE: bool, const COMPACT: bool, const PROTECTED: bool> Default
+    for GlobalState<AVALANCHE, SPONGE, COMPACT, PROTECTED>
+{
+    /// Returns [`GlobalState::new`].
+    #[inline]
+    fn default() -> Self {
+        Self::new()
+    }
+}
+
+#[cfg(feature = "std")]
+impl<const AVALANCHE: bool, const SPONGE: bool, const COMPACT: bool, const PROTECTED: bool>
+    BuildHasher for GlobalState<AVALANCHE, SPONGE, COMPACT, PROTECTED>
+{
+    type Hasher = RapidHasher<'static, AVALANCHE, SPONGE, COMPACT, PROTECTED>;
+
+    #[inline(always)]
+    fn build_hasher(&self) -> Self::Hasher {
+        self.seeded.hasher()
+    }
+}
+
+#[cfg(feature = "std")]
+impl<const AVALANCHE: bool, const SPONGE: bool, const COMPACT: bool, const PROTECTED: bool> Debug
+    for GlobalState<AVALANCHE, SPONGE, COMPACT, PROTECTED>
+{
+    fn fmt(&self, f: &mut Formatter<'_>) -> Result {
+        f.debug_struct("GlobalState").finish_non_exhaustive()
+    }
+}
+
+/// Builds hashers of a random seed, and of the random secrets of this process. Each state has a seed of its
+/// own; two seeds may be equal.
+///
+/// ```
+/// use rapidhash::inner::RandomState;
+/// use std::collections::HashMap;
+///
+/// let state = RandomState::<false, true, false, false>::new();
+/// let mut map = HashMap::with_hasher(state);
+/// map.insert("answer", 42);
+/// ```
+#[cfg(feature = "std")]
+#[derive(Clone, Copy, PartialEq, Eq)]
+pub struct RandomState<
+    const AVALANCHE: bool,
+    const SPONGE: bool,
+    const COMPACT: bool,
+    const PROTECTED: bool,
+> {
+    seeded: Seeded<'static>,
+}
+
+#[cfg(feature = "std")]
+impl<const AVALANCHE: bool, const SPONGE: bool, const COMPACT: bool, const PROTECTED: bool>
+    RandomState<AVALANCHE, SPONGE, COMPACT, PROTECTED>
+{
+    /// Returns a state of a new random seed.
+    #[inline]
+    pub fn new() -> Self {
+        Self {
+            seeded: Seeded {
+                seed: next_seed(),
+                secrets: global().get(),
+            },
+        }
+    }
+}
+
+#[cfg(feature = "std")]
+impl<const AVALANCHE: bool, const SPONGE: bool, const COMPACT: bool, const PROTECTED: bool> Default
+    for RandomState<AVALANCHE, SPONGE, COMPACT, PROTECTED>
+{
+    /// Returns [`RandomState::new`].
+    #[inline]
+    fn default() -> Self {
+        Self::new()
+    }
+}
+
+#[cfg(feature = "std")]
+impl<const AVALANCHE: bool, const SPONGE: bool, const COMPACT: bool, const PROTECTED: bool>
+    BuildHasher for RandomState<AVALANCHE, SPONGE, COMPACT, PROTECTED>
+{
+    type Hasher = RapidHasher<'static, AVALANCHE, SPONGE, COMPACT, PROTECTED>;
+
+    #[inline(always)]
+    fn build_hasher(&self) -> Self::Hasher {
+        self.seeded.hasher()
+    }
+}
+
+#[cfg(feature = "std")]
+impl<const AVALANCHE: bool, const SPONGE: bool, const COMPACT: bool, const PROTECTED: bool> Debug
+    for RandomState<AVALANCHE, SPONGE, COMPACT, PROTECTED>
+{
+    fn fmt(&self, f: &mut Formatter<'_>) -> Result {
+        f.debug_struct("RandomState").finish_non_exhaustive()
+    }
+}
+
+/// Builds hashers of the caller's seed.
+///
+/// ```
+/// use rapidhash::inner::SeedableState;
+/// use std::hash::BuildHasher;
+///
+/// let state = SeedableState::<false, true, false, false>::custom(1, &[2, 3, 5, 7, 11, 13, 17]);
+/// let hash = state.hash_one("user:4711");
+/// ```
+#[derive(Clone, Copy, PartialEq, Eq)]
+pub struct SeedableState<
+    's,
+    const AVALANCHE: bool,
+    const SPONGE: bool,
+    const COMPACT: bool = false,
+    const PROTECTED: bool = false,
+> {
+    seeded: Seeded<'s>,
+}
+
+impl<'s, const AVALANCHE: bool, const SPONGE: bool, const COMPACT: bool, const PROTECTED: bool>
+    SeedableState<'s, AVALANCHE, SPONGE, COMPACT, PROTECTED>
+{
+    /// Returns a state of a seed made of `seed` as [`RapidSecrets::seed_cpp`](crate::v3::RapidSecrets::seed_cpp)
+    /// makes it, and of the random secrets of this process.
+    #[cfg(feature = "std")]
+    pub fn new(seed: u64) -> Self {
+        Self::custom(RapidSecrets::seed_cpp(seed).seed, global().get())
+    }
+
+    /// Returns a state of a random seed, and of the random secrets of this process.
+    #[cfg(feature = "std")]
+    #[inline]
+    pub fn random() -> Self {
+        Self::custom(next_seed(), global().get())
+    }
+
+    /// Returns the state of the default seed and the default secrets, the same in every run of every program.
+    /// Whoever knows them can find keys that all have the same hash.
+    #[inline]
+    pub fn fixed() -> Self {
+        let default = RapidSecrets::default_ref();
+        Self::custom(default.seed, &default.secrets)
+    }
+
+    /// Returns a state of a seed and secrets as they are.
+    #[inline]
+    pub fn custom(seed: u64, secrets: &'s [u64; 7]) -> Self {
+        Self {
+            seeded: Seeded { seed, secrets },
+        }
+    }
+
+    /// Returns the same as [`SeedableState::custom`].
+    #[inline]
+    pub fn with_seed(seed: u64, secrets: &'s [u64; 7]) -> Self {
+        Self::custom(seed, secrets)
+    }
+}
+
+#[cfg(feature = "std")]
+impl<'s, const AVALANCHE: bool, const SPONGE: bool, const COMPACT: bool, const PROTECTED: bool>
+    Default for SeedableState<'s, AVALANCHE, SPONGE, COMPACT, PROTECTED>
+{
+    /// Returns [`SeedableState::random`].
+    #[inline]
+    fn default() -> Self {
+        Self::random()
+    }
+}
+
+impl<'s, const AVALANCHE: bool, const SPONGE: bool, const COMPACT: bool, const PROTECTED: bool>
+    BuildHasher for SeedableState<'s, AVALANCHE, SPONGE, COMPACT, PROTECTED>
+{
+    type Hasher = RapidHasher<'s, AVALANCHE, SPONGE, COMPACT, PROTECTED>;
+
+    #[inline(always)]
+    fn build_hasher(&self) -> Self::Hasher {
+        self.seeded.hasher()
+    }
+}
+
+impl<'s, const AVALANCHE: bool, const SPONGE: bool, const COMPACT: bool, const PROTECTED: bool>
+    Debug for SeedableState<'s, AVALANCHE, SPONGE, COMPACT, PROTECTED>
+{
+    fn fmt(&self, f: &mut Formatter<'_>) -> Result {
+        f.debug_struct("SeedableState").finish_non_exhaustive()
+    }
+}

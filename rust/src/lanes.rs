@@ -1,0 +1,161 @@
+// Made by bin/rust_crate from crates/rapidhash_portable/src/lanes.rt: change that file.
+
+//! The row kernel of every hash: rows of 16-byte pairs folded into lanes, and the lanes joined. It
+//! is generic in the number of lanes and is proved once.
+//!
+//! The callers are thin: a form is its row widths, its tail's table and what goes into its close
+//! (module `tail`). The speed of the hashes depends on the loops here: after a change look at the
+//! machine code with `objdump`.
+
+use crate::util::{rapid_mix, read_u64};
+
+/// Folds a row of `WIDTH` pairs at the head of `row` into the first `WIDTH` lanes.
+#[inline(always)]
+pub(crate) fn fold_row<const LANES: usize, const WIDTH: usize, const PROTECTED: bool>(
+    lanes: &mut [u64; LANES],
+    row: &[u8],
+    secrets: &[u64],
+) {
+    for i in 0..WIDTH {
+        lanes[i] = rapid_mix::<PROTECTED>(
+            read_u64(row, 16 * i) ^ secrets[i],
+            read_u64(row, 16 * i + 8) ^ lanes[i],
+        );
+    }
+}
+
+/// Folds two rows of `WIDTH` pairs at the head of `rows` into the first `WIDTH` lanes: the body of
+/// the unrolled loop.
+#[inline(always)]
+fn fold_two_rows<const LANES: usize, const WIDTH: usize, const PROTECTED: bool>(
+    lanes: &mut [u64; LANES],
+    rows: &[u8],
+    secrets: &[u64],
+) {
+    fold_row::<LANES, WIDTH, PROTECTED>(lanes, rows, secrets);
+    fold_row::<LANES, WIDTH, PROTECTED>(lanes, &rows[16 * WIDTH..], secrets);
+}
+
+/// Folds two rows as [`fold_two_rows`] does, but lane by lane: lanes that are in memory are then
+/// loaded and stored once. For lanes in registers it needs one register more.
+#[inline(always)]
+pub(crate) fn fold_two_rows_by_lane<
+    const LANES: usize,
+    const WIDTH: usize,
+    const PROTECTED: bool,
+>(
+    lanes: &mut [u64; LANES],
+    rows: &[u8],
+    secrets: &[u64],
+) {
+    for i in 0..WIDTH {
+        let first = rapid_mix::<PROTECTED>(
+            read_u64(rows, 16 * i) ^ secrets[i],
+            read_u64(rows, 16 * i + 8) ^ lanes[i],
+        );
+        lanes[i] = rapid_mix::<PROTECTED>(
+            read_u64(rows, 16 * (WIDTH + i)) ^ secrets[i],
+            read_u64(rows, 16 * (WIDTH + i) + 8) ^ first,
+        );
+    }
+}
+
+/// Folds all rows of `WIDTH` pairs into the first `WIDTH` lanes, and returns the bytes after them,
+/// of which there are at least `KEPT`. The lanes may have folded a prefix of the message before.
+/// Without `COMPACT` the loop takes two rows at a time, and then at most one more.
+#[inline(always)]
+pub(crate) fn fold_rows<
+    'x,
+    const LANES: usize,
+    const WIDTH: usize,
+    const KEPT: usize,
+    const COMPACT: bool,
+    const PROTECTED: bool,
+>(
+    lanes: &mut [u64; LANES],
+    bytes: &'x [u8],
+    secrets: &[u64],
+) -> &'x [u8] {
+    let mut rest = bytes;
+    if !COMPACT {
+        while rest.len() >= 32 * WIDTH + KEPT {
+            fold_two_rows::<LANES, WIDTH, PROTECTED>(lanes, rest, secrets);
+            rest = &rest[32 * WIDTH..];
+        }
+    }
+    while rest.len() >= 16 * WIDTH + KEPT {
+        fold_row::<LANES, WIDTH, PROTECTED>(lanes, rest, secrets);
+        rest = &rest[16 * WIDTH..];
+    }
+    rest
+}
+
+/// The XOR of the first `WIDTH` lanes.
+#[inline(always)]
+pub(crate) fn join<const LANES: usize, const WIDTH: usize>(lanes: &[u64; LANES]) -> u64 {
+    let mut all = 0;
+    for i in 0..WIDTH {
+        all ^= lanes[i];
+    }
+    all
+}
+
+/// The seed after all rows of `LANES` pairs, and the bytes that are left.
+#[inline(always)]
+pub(crate) fn wide_lanes<
+    'x,
+    const LANES: usize,
+    const KEPT: usize,
+    const COMPACT: bool,
+    const PROTECTED: bool,
+>(
+    bytes: &'x [u8],
+    seed: u64,
+    secrets: &[u64],
+) -> (u64, &'x [u8]) {
+    let mut lanes = [seed; LANES];
+    join_wide::<LANES, KEPT, COMPACT, PROTECTED>(&mut lanes, bytes, secrets)
+}
+
+/// The seed after all rows of seven pairs and then of three, which the first three lanes fold, and
+/// the bytes that are left.
+#[inline(always)]
+pub(crate) fn mixed_lanes<'x, const COMPACT: bool, const PROTECTED: bool>(
+    bytes: &'x [u8],
+    seed: u64,
+    secrets: &[u64; 7],
+) -> (u64, &'x [u8]) {
+    let mut lanes = [seed; 7];
+    join_mixed::<COMPACT, PROTECTED>(&mut lanes, bytes, secrets)
+}
+
+/// As [`wide_lanes`], where the lanes have folded a prefix already, and `bytes` are what follows
+/// it.
+#[inline(always)]
+pub(crate) fn join_wide<
+    'x,
+    const LANES: usize,
+    const KEPT: usize,
+    const COMPACT: bool,
+    const PROTECTED: bool,
+>(
+    lanes: &mut [u64; LANES],
+    bytes: &'x [u8],
+    secrets: &[u64],
+) -> (u64, &'x [u8]) {
+    let rest = fold_rows::<LANES, LANES, KEPT, COMPACT, PROTECTED>(lanes, bytes, secrets);
+    (join::<LANES, LANES>(lanes), rest)
+}
+
+/// As [`mixed_lanes`], where the lanes have folded a prefix already, and `bytes` are what follows
+/// it.
+#[inline(always)]
+pub(crate) fn join_mixed<'x, const COMPACT: bool, const PROTECTED: bool>(
+    lanes: &mut [u64; 7],
+    bytes: &'x [u8],
+    secrets: &[u64; 7],
+) -> (u64, &'x [u8]) {
+    let wide = fold_rows::<7, 7, 0, COMPACT, PROTECTED>(lanes, bytes, secrets);
+    let rest = fold_rows::<7, 3, 0, COMPACT, PROTECTED>(lanes, wide, secrets);
+    (join::<7, 7>(lanes), rest)
+}

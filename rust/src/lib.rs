@@ -1,0 +1,70 @@
+//! The rapidhash family of 64-bit hashes, with the values of version 4.5.1 of the crate `rapidhash`.
+//!
+//! The code is that of a proved library, with its contracts taken out: a checker has proved that each
+//! hash is the value of one written definition, for every input. The README says what that covers.
+//!
+//! - [`v1`], [`v2`] and [`v3`] hold the portable hashes: of a slice, of pieces, of a reader. Their values
+//!   never change, and are the same on every machine.
+//! - [`RapidHashMap`] and [`RapidHashSet`] are std's map and set over the fast hasher.
+//! - [`fast`], [`quality`] and [`inner`] hold the hasher of maps and the states that build it.
+//! - [`reader`] holds the reader with an error mark that the hashes of a reader take.
+//! - [`rng`] holds a small generator.
+//! - [`util`] holds the reads and the multiply that the hashes use.
+//!
+//! Without the default feature `std` the crate needs `core` alone. It then has no readers, no maps, and no
+//! state that draws random words.
+//!
+//! ```
+//! use rapidhash::v3::{rapidhash_v3, RapidStreamHasherV3, DEFAULT_RAPID_SECRETS};
+//!
+//! assert_eq!(rapidhash_v3(b"hello"), 3327445792987248966);
+//!
+//! let mut stream = RapidStreamHasherV3::new(&DEFAULT_RAPID_SECRETS);
+//! stream.write(b"hel");
+//! stream.write(b"lo");
+//! assert_eq!(stream.finish(), 3327445792987248966);
+//! ```
+#![cfg_attr(not(feature = "std"), no_std)]
+#![cfg_attr(docsrs, feature(doc_cfg))]
+#![forbid(unsafe_code)]
+#![deny(missing_docs)]
+// The proofs speak of places in arrays, the generator's word is no iterator's, and lifetimes have names.
+#![allow(clippy::needless_range_loop, clippy::should_implement_trait)]
+#![allow(clippy::needless_lifetimes)]
+
+// The proved text names the standard library and the lower of its two crates.
+#[cfg(not(feature = "std"))]
+extern crate core as std;
+extern crate self as rapidhash_portable;
+
+#[macro_use]
+mod macros;
+
+#[cfg(feature = "std")]
+mod collections;
+pub mod fast;
+mod few;
+pub mod inner;
+#[cfg(feature = "std")]
+mod io;
+mod lanes;
+mod memory;
+pub mod quality;
+#[cfg(feature = "std")]
+mod random;
+#[cfg(feature = "std")]
+pub mod reader;
+pub mod rng;
+mod secrets;
+mod seeding;
+#[cfg(feature = "std")]
+mod sized;
+mod tail;
+pub mod util;
+pub mod v1;
+pub mod v2;
+pub mod v3;
+mod words;
+
+#[cfg(feature = "std")]
+pub use collections::{HashMapExt, HashSetExt, RapidHashMap, RapidHashSet};

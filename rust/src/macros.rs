@@ -1,0 +1,55 @@
+//! What the proved text calls, and Rust has otherwise.
+
+/// A precondition. Rattle proves that each caller keeps it; here a call that does not panics.
+macro_rules! prove {
+    ($holds:expr, $what:literal) => {
+        assert!($holds, $what)
+    };
+}
+
+/// The integer writes of `Hasher`, each by the proved method of that name. `derive(Hash)` and maps reach
+/// the sponge by them, as they do in the crate `rapidhash`.
+macro_rules! forward_integers {
+    () => {
+        forward_integers! {
+            write_u8 u8, write_u16 u16, write_u32 u32, write_u64 u64, write_u128 u128, write_usize usize,
+            write_i8 i8, write_i16 i16, write_i32 i32, write_i64 i64, write_i128 i128, write_isize isize
+        }
+    };
+    ($($name:ident $integer:ty),*) => {
+        $(
+            #[inline(always)]
+            fn $name(&mut self, value: $integer) {
+                // An inherent method comes before a trait's.
+                Self::$name(self, value);
+            }
+        )*
+    };
+}
+
+/// A signed integer as the unsigned one of the same bits.
+pub(crate) trait ToUnsigned {
+    /// The unsigned integer.
+    type Unsigned;
+
+    /// Returns the same bits.
+    fn to_unsigned(self) -> Self::Unsigned;
+}
+
+/// Implements it by a cast.
+macro_rules! to_unsigned {
+    ($($signed:ty as $unsigned:ty),*) => {
+        $(
+            impl ToUnsigned for $signed {
+                type Unsigned = $unsigned;
+
+                #[inline(always)]
+                fn to_unsigned(self) -> $unsigned {
+                    self as $unsigned
+                }
+            }
+        )*
+    };
+}
+
+to_unsigned! { i8 as u8, i16 as u16, i32 as u32, i64 as u64, i128 as u128 }

@@ -1,0 +1,56 @@
+// Made by bin/rust_crate from crates/rapidhash_portable/src/util.rt: change that file.
+
+//! Little-endian reads and the folded multiply.
+//!
+//! They are marked `inline`, not `inline(always)`: the compiler inlines them all the same, but
+//! counts them as calls when it looks how large their callers would grow.
+
+/// Every other bit, from the highest on: the avalanche of V2, V3 and the in-memory core mixes it
+/// into the last product.
+pub(crate) const ALTERNATING_BITS: u64 = 0xaaaa_aaaa_aaaa_aaaa;
+
+/// The 128-bit product of `a` and `b` as its low and its high 64 bits. With `PROTECTED` each half
+/// is mixed with a factor by XOR: the low one with `a`, the high one with `b`.
+///
+/// ```
+/// assert_eq!(rapid_mum::<false>(u64::MAX, 2), (u64::MAX - 1, 1));
+/// ```
+#[inline]
+pub const fn rapid_mum<const PROTECTED: bool>(a: u64, b: u64) -> (u64, u64) {
+    let product = a as u128 * b as u128;
+    let low = (product % 0x1_0000_0000_0000_0000) as u64;
+    let high = (product / 0x1_0000_0000_0000_0000) as u64;
+    if PROTECTED {
+        (a ^ low, b ^ high)
+    } else {
+        (low, high)
+    }
+}
+
+/// The two numbers of [`rapid_mum`], folded into one by XOR.
+#[inline]
+pub const fn rapid_mix<const PROTECTED: bool>(a: u64, b: u64) -> u64 {
+    let (low, high) = rapid_mum::<PROTECTED>(a, b);
+    low ^ high
+}
+
+/// The little-endian number of the 8 bytes from `offset` on. That they lie in `bytes` is a
+/// precondition.
+#[inline]
+pub fn read_u64(bytes: &[u8], offset: usize) -> u64 {
+    u64::from_le_bytes(bytes[offset..offset + 8].try_into().unwrap())
+}
+
+/// The little-endian number of the 4 bytes from `offset` on. That they lie in `bytes` is a
+/// precondition.
+#[inline]
+pub fn read_u32(bytes: &[u8], offset: usize) -> u32 {
+    u32::from_le_bytes(bytes[offset..offset + 4].try_into().unwrap())
+}
+
+/// Two numbers of 4 bytes in one of 8: the one at `top` in the upper half, the one at `bot` in the
+/// lower. That both lie in `bytes` is a precondition.
+#[inline]
+pub fn read_u32_combined(bytes: &[u8], top: usize, bot: usize) -> u64 {
+    (read_u32(bytes, top) as u64) << 32 | read_u32(bytes, bot) as u64
+}

@@ -1,0 +1,208 @@
+// Made by bin/rust_crate from crates/rapidhash_portable/src/v1.rt: change that file.
+
+//! rapidhash V1.
+
+#[cfg(feature = "std")]
+mod readers;
+
+use crate::few::few_wide_rows;
+use crate::lanes::wide_lanes;
+use crate::secrets::{DEFAULT_SECRETS, chain, cpp_seed_of, reseed_of, seed_of};
+use crate::tail::{close, fold_tail};
+use crate::words::{last_16, words_to_3_v1, words_to_16_v1};
+#[cfg(feature = "std")]
+pub use readers::{
+    rapidhash_v1_file, rapidhash_v1_file_inline, rapidhash_v1_file_seeded, rapidhash_v1_source,
+};
+
+/// A seed and the three secrets of V1. Make one once and keep it: making it costs four multiplies
+/// or more, and using it none. It is laid out as C lays it out, since the C library takes it.
+#[repr(C)]
+#[derive(Debug, Clone, Copy, PartialEq, Eq, Hash)]
+pub struct RapidSecrets {
+    /// What every lane starts from.
+    pub seed: u64,
+    /// What the words of a message are mixed with.
+    pub secrets: [u64; 3],
+}
+
+/// The secrets of [`rapidhash_v1`]: `RapidSecrets::seed_cpp(0xbdd89aa982704029)`, as numbers.
+pub const DEFAULT_RAPID_SECRETS: RapidSecrets = RapidSecrets {
+    seed: 0x7633_05bb_e7be_a536,
+    secrets: [
+        0x2d35_8dcc_aa6c_78a5,
+        0x8bb8_4b93_962e_acc9,
+        0x4b33_a62e_d433_d4a3,
+    ],
+};
+
+impl RapidSecrets {
+    /// The default seed and secrets, [`DEFAULT_RAPID_SECRETS`], by reference.
+    #[inline(always)]
+    pub fn default_ref() -> &'static Self {
+        &DEFAULT_RAPID_SECRETS
+    }
+
+    /// A seed and secrets made from a number. Each has a set bit in its upper, its middle and its
+    /// lower part, so none is 0.
+    ///
+    /// ```
+    /// let secrets = RapidSecrets::seed(0x1234_5678);
+    /// let hash = rapidhash_v1_seeded(b"hello", &secrets);
+    /// ```
+    pub const fn seed(seed: u64) -> Self {
+        let seed = seed_of(seed);
+        RapidSecrets {
+            seed,
+            secrets: chain::<3>(seed),
+        }
+    }
+
+    /// The same secrets with a new seed, made from the old one with V1's last default secret.
+    pub const fn reseed(&self) -> Self {
+        RapidSecrets {
+            seed: reseed_of(self.seed, 2),
+            secrets: self.secrets,
+        }
+    }
+
+    /// The default secrets with a seed made from a number as the C++ library makes it. Whoever
+    /// knows the default secrets can find messages that have one hash for every seed: if that
+    /// matters, see [`RapidSecrets::seed`].
+    pub const fn seed_cpp(seed: u64) -> Self {
+        RapidSecrets {
+            seed: cpp_seed_of(seed, 0),
+            secrets: [DEFAULT_SECRETS[0], DEFAULT_SECRETS[1], DEFAULT_SECRETS[2]],
+        }
+    }
+}
+
+/// The hash of `bytes` with the default seed and secrets.
+///
+/// ```
+/// assert_eq!(rapidhash_v1(b"something\n"), 15965596575264898037);
+/// ```
+#[inline(always)]
+pub fn rapidhash_v1(bytes: &[u8]) -> u64 {
+    rapidhash_v1_inline::<true, false, false, false>(bytes, RapidSecrets::default_ref())
+}
+
+/// The hash of `bytes` with the caller's seed and secrets.
+#[inline(always)]
+pub fn rapidhash_v1_seeded(bytes: &[u8], secrets: &RapidSecrets) -> u64 {
+    rapidhash_v1_inline::<true, false, false, false>(bytes, secrets)
+}
+
+/// The hash of `bytes` with every option.
+///
+/// - `AVALANCHE` mixes the last product once more, as the C++ library does.
+/// - `COMPACT` takes rows one by one in place of two at a time: less code, the same value.
+/// - `PROTECTED` mixes each product with its factors.
+/// - `V1_BUG` folds a row at 48 bytes, as versions 1.x of the Rust crate did.
+#[inline(always)]
+pub fn rapidhash_v1_inline<
+    const AVALANCHE: bool,
+    const COMPACT: bool,
+    const PROTECTED: bool,
+    const V1_BUG: bool,
+>(
+    bytes: &[u8],
+    secrets: &RapidSecrets,
+) -> u64 {
+    let n = bytes.len();
+    if n > 16 {
+        return long::<AVALANCHE, COMPACT, PROTECTED, V1_BUG>(bytes, secrets);
+    }
+    // One close for all lengths would make a caller's loop load the default secrets each time.
+    if n >= 4 {
+        close_short::<AVALANCHE, PROTECTED>(bytes, words_to_16_v1(bytes), secrets)
+    } else if n > 0 {
+        close_short::<AVALANCHE, PROTECTED>(bytes, words_to_3_v1(bytes), secrets)
+    } else {
+        close_short::<AVALANCHE, PROTECTED>(bytes, (0, 0), secrets)
+    }
+}
+
+/// The hash of at most 16 bytes, made of their two words.
+#[inline(always)]
+fn close_short<const AVALANCHE: bool, const PROTECTED: bool>(
+    bytes: &[u8],
+    words: (u64, u64),
+    secrets: &RapidSecrets,
+) -> u64 {
+    let len = bytes.len() as u64;
+    let [first, second, _] = secrets.secrets;
+    close::<AVALANCHE, PROTECTED>(words, secrets.seed ^ len, second, (first ^ len, second))
+}
+
+/// The hash above 16 bytes. Messages of up to two rows make no call.
+#[inline(always)]
+fn long<const AVALANCHE: bool, const COMPACT: bool, const PROTECTED: bool, const V1_BUG: bool>(
+    bytes: &[u8],
+    secrets: &RapidSecrets,
+) -> u64 {
+    let n = bytes.len();
+    if n < least_row::<V1_BUG>() {
+        let (len, s) = (n as u64, &secrets.secrets);
+        close_tail::<AVALANCHE, PROTECTED>(bytes, bytes, len, secrets.seed ^ len, s)
+    } else if !COMPACT && n < 96 {
+        few_rows::<1, AVALANCHE, PROTECTED, V1_BUG>(bytes, secrets)
+    } else if !COMPACT && n < 144 {
+        few_rows::<2, AVALANCHE, PROTECTED, V1_BUG>(bytes, secrets)
+    } else {
+        with_rows::<AVALANCHE, COMPACT, PROTECTED, V1_BUG>(bytes, secrets)
+    }
+}
+
+/// The hash of a message that has `ROWS` rows, at least one.
+#[inline(always)]
+fn few_rows<const ROWS: usize, const AVALANCHE: bool, const PROTECTED: bool, const V1_BUG: bool>(
+    bytes: &[u8],
+    secrets: &RapidSecrets,
+) -> u64 {
+    let len = bytes.len() as u64;
+    let s = &secrets.secrets;
+    let (joined, tail) = few_wide_rows::<3, 0, ROWS, PROTECTED>(bytes, secrets.seed ^ len, s);
+    close_tail::<AVALANCHE, PROTECTED>(tail, bytes, len, joined, s)
+}
+
+/// The hash of a message that has a row, out of line.
+#[inline(never)]
+fn with_rows<
+    const AVALANCHE: bool,
+    const COMPACT: bool,
+    const PROTECTED: bool,
+    const V1_BUG: bool,
+>(
+    bytes: &[u8],
+    secrets: &RapidSecrets,
+) -> u64 {
+    let len = bytes.len() as u64;
+    let s = &secrets.secrets;
+    let (joined, tail) = wide_lanes::<3, 0, COMPACT, PROTECTED>(bytes, secrets.seed ^ len, s);
+    close_tail::<AVALANCHE, PROTECTED>(tail, bytes, len, joined, s)
+}
+
+/// The hash of `len` bytes, more than 16, made of the joined lanes, the tail, and bytes that end in
+/// the message's last 16.
+#[inline(always)]
+fn close_tail<const AVALANCHE: bool, const PROTECTED: bool>(
+    tail: &[u8],
+    ending: &[u8],
+    len: u64,
+    joined: u64,
+    secrets: &[u64; 3],
+) -> u64 {
+    let (s, mut seed) = (secrets, joined);
+    if tail.len() > 16 {
+        seed ^= s[1];
+    }
+    seed = fold_tail::<2, PROTECTED>(tail, &[s[2], s[2]], seed);
+    close::<AVALANCHE, PROTECTED>(last_16(ending), seed, s[1], (s[0] ^ len, s[1]))
+}
+
+/// The smallest length at which a row is folded.
+#[inline(always)]
+fn least_row<const V1_BUG: bool>() -> usize {
+    if V1_BUG { 48 } else { 49 }
+}

@@ -1,0 +1,102 @@
+// Made by bin/rust_crate from crates/rapidhash_portable/src/v2/readers.rt: change that file.
+
+//! V2 of the next bytes of a reader, whose number is known.
+
+use super::{RapidSecrets, close_tail, rapidhash_v2_inline};
+use crate::lanes::join_mixed;
+use crate::reader::{Source, Stop};
+use crate::sized::{BUFFER, SHORT, fill, fold_front};
+use std::io;
+use std::io::Read;
+
+/// The hash of the next `len` bytes of the reader: that of [`rapidhash_v2_inline`] with
+/// `AVALANCHE`. No byte after them is read, and with `len` 0 none at all. `MINOR` is 0, 1 or 2,
+/// which is a precondition.
+///
+/// If the source is marked after the call, the error is the reader's own, also for an interrupted
+/// read. Otherwise it is `ErrorKind::UnexpectedEof`: the reader had fewer bytes, and all of them
+/// were read.
+///
+/// It uses 8 KiB of stack, and above 8192 bytes 64 KiB more.
+///
+/// ```
+/// let mut source = Source::new(file);
+/// let hash = rapidhash_v2_source::<File, 2, false>(&mut source, 4096, &DEFAULT_RAPID_SECRETS)?;
+/// ```
+pub fn rapidhash_v2_source<R: Read, const MINOR: u8, const PROTECTED: bool>(
+    source: &mut Source<R>,
+    len: u64,
+    secrets: &RapidSecrets,
+) -> io::Result<u64> {
+    source.clear();
+    let answer = next_of::<R, MINOR, PROTECTED>(source.reader_mut(), len, secrets);
+    source.settle(answer)
+}
+
+/// The hash of the next `len` bytes of a reader by V2.2, with the default seed and secrets. An
+/// error is the reader's own, or `ErrorKind::UnexpectedEof` if it had fewer bytes.
+///
+/// ```
+/// let hash = rapidhash_v2_2_file(&mut file, 4096)?;
+/// ```
+pub fn rapidhash_v2_2_file<R: Read>(data: &mut R, len: u64) -> io::Result<u64> {
+    rapidhash_v2_file_inline::<R, 2, false>(data, len, RapidSecrets::default_ref())
+}
+
+/// The hash of the next `len` bytes of a reader by V2.2, with the caller's seed and secrets. Errors
+/// are those of [`rapidhash_v2_2_file`].
+pub fn rapidhash_v2_2_file_seeded<R: Read>(
+    data: &mut R,
+    len: u64,
+    secrets: &RapidSecrets,
+) -> io::Result<u64> {
+    rapidhash_v2_file_inline::<R, 2, false>(data, len, secrets)
+}
+
+/// The hash of the next `len` bytes of a reader; `PROTECTED` mixes each product with its factors.
+/// `MINOR` is 0, 1 or 2, which is a precondition. Errors are those of [`rapidhash_v2_2_file`].
+pub fn rapidhash_v2_file_inline<R: Read, const MINOR: u8, const PROTECTED: bool>(
+    data: &mut R,
+    len: u64,
+    secrets: &RapidSecrets,
+) -> io::Result<u64> {
+    match next_of::<R, MINOR, PROTECTED>(data, len, secrets) {
+        Ok(hash) => Ok(hash),
+        Err(stop) => Err(stop.into_error()),
+    }
+}
+
+/// The body of every hash here.
+fn next_of<R: Read, const MINOR: u8, const PROTECTED: bool>(
+    reader: &mut R,
+    len: u64,
+    secrets: &RapidSecrets,
+) -> Result<u64, Stop> {
+    prove!(MINOR <= 2, "MINOR must be 0, 1 or 2");
+    if len > SHORT as u64 {
+        return long::<R, MINOR, PROTECTED>(reader, len, secrets);
+    }
+    let mut buffer = [0u8; SHORT];
+    let bytes = &mut buffer[..len as usize];
+    fill(reader, bytes)?;
+    Ok(rapidhash_v2_inline::<MINOR, true, false, PROTECTED>(
+        bytes, secrets,
+    ))
+}
+
+/// The hash of more bytes than the short buffer holds. It is out of line because of its large
+/// buffer.
+#[inline(never)]
+fn long<R: Read, const MINOR: u8, const PROTECTED: bool>(
+    reader: &mut R,
+    len: u64,
+    secrets: &RapidSecrets,
+) -> Result<u64, Stop> {
+    let s = &secrets.secrets;
+    let start = secrets.seed ^ len;
+    let mut buffer = [0u8; BUFFER];
+    let (mut lanes, n) = fold_front::<R, 7, PROTECTED>(reader, &mut buffer, len, start, s)?;
+    let last = &buffer[..n];
+    let (joined, tail) = join_mixed::<false, PROTECTED>(&mut lanes, last, s);
+    Ok(close_tail::<true, PROTECTED>(tail, last, len, joined, s))
+}

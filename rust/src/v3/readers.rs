@@ -1,0 +1,135 @@
+// Made by bin/rust_crate from crates/rapidhash_portable/src/v3/readers.rt: change that file.
+
+//! V3, micro and nano of all bytes of a reader. The bytes go through a fixed buffer into the stream
+//! hasher; the proofs here use only its contract. Nothing is allocated, and any length is allowed.
+//!
+//! One loop makes all the reads, in `read_all`.
+
+use super::stream::RapidStreamHasherLanes;
+use crate::reader::Source;
+use crate::secrets::RapidSecrets;
+use std::io;
+use std::io::{ErrorKind, Read};
+
+/// The hash of all that the reader still has, up to the first read that returns 0. It reads 8192
+/// bytes at a time, into a buffer on the stack.
+///
+/// If the source is marked after the call, the error is the reader's own, also for an interrupted
+/// read. Otherwise it is `ErrorKind::Other`: 2^64 - 1 reads returned bytes, and the hash gave up.
+/// After either error the bytes that were read are lost.
+pub fn rapidhash_v3_source<R: Read, const PROTECTED: bool>(
+    source: &mut Source<R>,
+    secrets: &RapidSecrets,
+) -> io::Result<u64> {
+    rapidhash_v3_source_sized::<R, 8192, PROTECTED>(source, secrets)
+}
+
+/// As [`rapidhash_v3_source`], with a buffer of `SIZE` bytes on the stack: no read asks for more.
+///
+/// `SIZE` is at least 1, which is a precondition.
+pub fn rapidhash_v3_source_sized<R: Read, const SIZE: usize, const PROTECTED: bool>(
+    source: &mut Source<R>,
+    secrets: &RapidSecrets,
+) -> io::Result<u64> {
+    rapidhash_v3_source_lanes::<R, 7, SIZE, PROTECTED>(source, secrets)
+}
+
+/// As [`rapidhash_v3_source_sized`], with 7, 5 or 3 lanes: V3, micro or nano.
+///
+/// `LANES` is 7, 5 or 3, and `SIZE` at least 1: both are preconditions.
+///
+/// ```
+/// let mut source = Source::new(file);
+/// let hash = rapidhash_v3_source_lanes::<File, 5, 65536, false>(
+///     &mut source,
+///     RapidSecrets::default_ref(),
+/// )?;
+/// ```
+pub fn rapidhash_v3_source_lanes<
+    R: Read,
+    const LANES: usize,
+    const SIZE: usize,
+    const PROTECTED: bool,
+>(
+    source: &mut Source<R>,
+    secrets: &RapidSecrets,
+) -> io::Result<u64> {
+    prove!(SIZE > 0, "SIZE must be at least 1");
+    // No array is larger than `isize::MAX`, so the `else` is dead. It spares callers a precondition.
+    if SIZE <= isize::MAX as usize {
+        read_all::<R, LANES, SIZE, PROTECTED>(source, secrets)
+    } else {
+        read_all::<R, LANES, 8192, PROTECTED>(source, secrets)
+    }
+}
+
+/// The loop of every hash here. It is out of line because of its buffer.
+#[inline(never)]
+fn read_all<R: Read, const LANES: usize, const SIZE: usize, const PROTECTED: bool>(
+    source: &mut Source<R>,
+    secrets: &RapidSecrets,
+) -> io::Result<u64> {
+    source.clear();
+    let mut hasher = RapidStreamHasherLanes::<LANES, true, PROTECTED>::new(secrets);
+    let mut buffer = [0u8; SIZE];
+    for _turn in 0..u64::MAX {
+        let n = source.read(&mut buffer)?;
+        if n == 0 {
+            return Ok(hasher.finish());
+        }
+        hasher.write(&buffer[..n]);
+    }
+    Err(io::Error::from(ErrorKind::Other))
+}
+
+/// The hash of all that a reader has, with the default seed and secrets. An error is the reader's
+/// own, or `ErrorKind::Other` after 2^64 - 1 reads that returned bytes.
+///
+/// ```
+/// let hash = rapidhash_v3_file(file)?;
+/// ```
+pub fn rapidhash_v3_file<R: Read>(data: R) -> io::Result<u64> {
+    rapidhash_v3_file_inline::<R, false>(data, RapidSecrets::default_ref())
+}
+
+/// The hash of all that a reader has, with the caller's seed and secrets. Errors are those of
+/// [`rapidhash_v3_file`].
+pub fn rapidhash_v3_file_seeded<R: Read>(data: R, secrets: &RapidSecrets) -> io::Result<u64> {
+    rapidhash_v3_file_inline::<R, false>(data, secrets)
+}
+
+/// The hash of all that a reader has; `PROTECTED` mixes each product with its factors. Errors are
+/// those of [`rapidhash_v3_file`].
+pub fn rapidhash_v3_file_inline<R: Read, const PROTECTED: bool>(
+    data: R,
+    secrets: &RapidSecrets,
+) -> io::Result<u64> {
+    rapidhash_v3_file_sized::<R, 8192, PROTECTED>(data, secrets)
+}
+
+/// As [`rapidhash_v3_file_inline`], with a buffer of `SIZE` bytes on the stack: no read asks for
+/// more.
+///
+/// `SIZE` is at least 1, which is a precondition.
+pub fn rapidhash_v3_file_sized<R: Read, const SIZE: usize, const PROTECTED: bool>(
+    data: R,
+    secrets: &RapidSecrets,
+) -> io::Result<u64> {
+    rapidhash_v3_file_lanes::<R, 7, SIZE, PROTECTED>(data, secrets)
+}
+
+/// As [`rapidhash_v3_file_sized`], with 7, 5 or 3 lanes: V3, micro or nano.
+///
+/// `LANES` is 7, 5 or 3, and `SIZE` at least 1: both are preconditions.
+pub fn rapidhash_v3_file_lanes<
+    R: Read,
+    const LANES: usize,
+    const SIZE: usize,
+    const PROTECTED: bool,
+>(
+    data: R,
+    secrets: &RapidSecrets,
+) -> io::Result<u64> {
+    let mut source = Source::new(data);
+    rapidhash_v3_source_lanes::<R, LANES, SIZE, PROTECTED>(&mut source, secrets)
+}
