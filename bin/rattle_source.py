@@ -33,9 +33,11 @@ def sentence_of(doc):
 
 
 def example_of(doc):
-    """The lines of the first code block of a doc comment."""
+    """The lines of the first code block of a doc comment, without imports and hidden lines."""
     fences = [place for place, line in enumerate(doc) if line.startswith("```")]
-    return doc[fences[0] + 1 : fences[1]] if len(fences) > 1 else []
+    block = doc[fences[0] + 1 : fences[1]] if len(fences) > 1 else []
+    shown = [line for line in block if not line.startswith(("use ", "# "))]
+    return shown[1:] if shown[:1] == [""] else shown
 
 
 def joined(lines):

@@ -5,9 +5,9 @@
 //!
 //! - [`v1`], [`v2`] and [`v3`] hold the portable hashes: of a slice, of pieces, of a reader. Their values
 //!   never change, and are the same on every machine.
-//! - [`RapidHashMap`] and [`RapidHashSet`] are std's map and set over the fast hasher.
+//! - `RapidHashMap` and `RapidHashSet` are std's map and set over the fast hasher.
 //! - [`fast`], [`quality`] and [`inner`] hold the hasher of maps and the states that build it.
-//! - [`reader`] holds the reader with an error mark that the hashes of a reader take.
+//! - `reader` holds the reader with an error mark that the hashes of a reader take.
 //! - [`rng`] holds a small generator.
 //! - [`util`] holds the reads and the multiply that the hashes use.
 //!

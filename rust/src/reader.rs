@@ -3,8 +3,8 @@
 //! A reader with an error mark, which tells the reader's own errors from the other errors of a
 //! hash.
 //!
-//! The mark is on only if a read failed. Privacy ensures this: only [`read_once`] makes a
-//! [`FailedRead`], and only [`Source`] turns its mark on, in `read` or for a `FailedRead`.
+//! The mark is on only if a read failed. Privacy ensures this: only `read_once` makes a
+//! `FailedRead`, and only [`Source`] turns its mark on, in `read` or for a `FailedRead`.
 
 use std::io;
 use std::io::{ErrorKind, Read};
@@ -15,9 +15,12 @@ use std::io::{ErrorKind, Read};
 /// that call failed.
 ///
 /// ```
-/// let mut source = Source::new(file);
-/// let answer = rapidhash_v3_source::<File, false>(&mut source, &DEFAULT_RAPID_SECRETS);
-/// let file_is_broken = source.failed();
+/// use rapidhash::reader::Source;
+/// use rapidhash::v3::{DEFAULT_RAPID_SECRETS, rapidhash_v3_source};
+///
+/// let mut source = Source::new(b"hello".as_slice());
+/// let answer = rapidhash_v3_source::<&[u8], false>(&mut source, &DEFAULT_RAPID_SECRETS);
+/// assert!(answer.is_ok() && !source.failed());
 /// ```
 #[derive(Clone, Debug)]
 pub struct Source<R: Read> {
@@ -26,7 +29,7 @@ pub struct Source<R: Read> {
 }
 
 impl<R: Read> Source<R> {
-    /// A source over a reader, with the mark off. It reads nothing.
+    /// Returns a source over a reader, with the mark off. It reads nothing.
     pub fn new(reader: R) -> Self {
         Source {
             reader,
@@ -34,8 +37,8 @@ impl<R: Read> Source<R> {
         }
     }
 
-    /// One read of the reader, with the reader's own result. Any error turns the mark on, also that
-    /// of an interrupted read.
+    /// Reads once, and returns the reader's own result. Any error turns the mark on, also that of
+    /// an interrupted read.
     pub fn read(&mut self, buf: &mut [u8]) -> io::Result<usize> {
         match read_once(&mut self.reader, buf) {
             Ok(n) => Ok(n),
@@ -54,12 +57,12 @@ impl<R: Read> Source<R> {
         self.mark = false;
     }
 
-    /// Whether the mark is on.
+    /// Returns whether the mark is on.
     pub fn failed(&self) -> bool {
         self.mark
     }
 
-    /// The reader, in its current state.
+    /// Returns the reader, in its current state.
     pub fn into_inner(self) -> R {
         self.reader
     }

@@ -24,9 +24,12 @@ const MOMENT_SEED: u64 = 0xbdd8_9aa9_8270_4029;
 /// Steps the state, and returns the word of the new one.
 ///
 /// ```
+/// use rapidhash::rng::rapidrng_fast;
+///
 /// let mut state = 42;
 /// let first = rapidrng_fast(&mut state);
 /// let second = rapidrng_fast(&mut state);
+/// assert_ne!(first, second);
 /// ```
 #[inline(always)]
 pub fn rapidrng_fast(state: &mut u64) -> u64 {
@@ -39,6 +42,8 @@ pub fn rapidrng_fast(state: &mut u64) -> u64 {
 /// name: the crate may compute another word on other machines, here all compute the same.
 ///
 /// ```
+/// use rapidhash::rng::rapidrng_fast_not_portable;
+///
 /// let mut state = 42;
 /// let word = rapidrng_fast_not_portable(&mut state);
 /// ```
@@ -51,13 +56,24 @@ pub fn rapidrng_fast_not_portable(state: &mut u64) -> u64 {
 
 /// Makes a new seed from the old one and a time, and returns the new seed's word. The caller passes
 /// the time, as seconds and nanoseconds since a start of its choice; only the low 32 bits of the
-/// seconds are used. Precondition: the nanoseconds are less than a second.
+/// seconds are used.
 ///
 /// ```
+/// use rapidhash::rng::rapidrng_time;
+///
 /// let mut seed = 42;
-/// let word = rapidrng_time(&mut seed, since_epoch.as_secs(), since_epoch.subsec_nanos());
+/// let word = rapidrng_time(&mut seed, 1_700_000_000, 123_456_789);
 /// ```
+///
+/// # Panics
+///
+/// In Rust, if the nanoseconds are a second or more. In Rattle that they are less is a
+/// precondition.
 pub fn rapidrng_time(seed: &mut u64, secs: u64, nanos: u32) -> u64 {
+    prove!(
+        nanos < 1_000_000_000,
+        "the nanoseconds must be less than a second"
+    );
     let entropy = secs % 0x1_0000_0000 * 0x1_0000_0000 + nanos as u64;
     let moment = rapid_mix::<false>(entropy ^ STEP, *seed ^ MASK);
     let made = rapid_mix::<false>(moment ^ STEP, MOMENT_MASK);
@@ -68,6 +84,8 @@ pub fn rapidrng_time(seed: &mut u64, secs: u64, nanos: u32) -> u64 {
 /// A generator, which contracts describe by its state.
 ///
 /// ```
+/// use rapidhash::rng::RapidRng;
+///
 /// let mut rng = RapidRng::new(42);
 /// let dice = rng.next() % 6 + 1;
 /// ```
@@ -77,14 +95,19 @@ pub struct RapidRng {
 }
 
 impl RapidRng {
-    /// A generator whose state is `seed`. Two seeds are two places of one cycle.
+    /// Returns a generator whose state is `seed`. Two seeds are two places of one cycle.
     #[inline]
     pub fn new(seed: u64) -> RapidRng {
         RapidRng { seed }
     }
 
-    /// A generator whose state is what [`rapidrng_time`] returns for a time and a fixed seed.
-    /// Precondition: the nanoseconds are less than a second.
+    /// Returns a generator whose state is what [`rapidrng_time`] returns for a time and a fixed
+    /// seed.
+    ///
+    /// # Panics
+    ///
+    /// In Rust, if the nanoseconds are a second or more. In Rattle that they are less is a
+    /// precondition.
     pub fn from_moment(secs: u64, nanos: u32) -> RapidRng {
         let mut seed = MOMENT_SEED;
         RapidRng::new(rapidrng_time(&mut seed, secs, nanos))
@@ -95,23 +118,24 @@ impl RapidRng {
         self.seed
     }
 
-    /// The state as little-endian bytes. [`SeedableRng::from_seed`] makes the generator from them
-    /// again.
+    /// Returns the state as little-endian bytes.
     #[inline]
     pub fn state(&self) -> [u8; 8] {
         self.number().to_le_bytes()
     }
 
-    /// The next word.
+    /// Returns the next word.
     #[inline]
     pub fn next(&mut self) -> u64 {
         rapidrng_fast(&mut self.seed)
     }
 
-    /// How many steps lead from this state to the other's. There is always such a number below
-    /// 2^64, and any other number of steps that leads there is equal to it modulo 2^64.
+    /// Returns how many steps lead from this state to the other's. There is always such a number
+    /// below 2^64, and any other number of steps that leads there is equal to it modulo 2^64.
     ///
     /// ```
+    /// use rapidhash::rng::RapidRng;
+    ///
     /// let start = RapidRng::new(42);
     /// let mut later = start;
     /// later.next();

@@ -22,20 +22,25 @@ pub const DEFAULT_RAPID_SECRETS: RapidSecrets = RapidSecrets {
 };
 
 impl RapidSecrets {
-    /// The default seed and secrets, [`DEFAULT_RAPID_SECRETS`], by reference.
+    /// Returns the default seed and secrets, [`DEFAULT_RAPID_SECRETS`], by reference.
     ///
     /// ```
-    /// let hash = rapidhash_v3_inline::<true, true, false>(b"hello", RapidSecrets::default_ref());
+    /// use rapidhash::v3::{RapidSecrets, rapidhash_v3_seeded};
+    ///
+    /// let hash = rapidhash_v3_seeded(b"hello", RapidSecrets::default_ref());
+    /// assert_eq!(hash, 3327445792987248966);
     /// ```
     #[inline(always)]
     pub fn default_ref() -> &'static Self {
         &DEFAULT_RAPID_SECRETS
     }
 
-    /// A seed and secrets made from a number. Each has a set bit in its upper, its middle and its
-    /// lower part, so none is 0.
+    /// Returns a seed and secrets made from a number. Each has a set bit in its upper, its middle
+    /// and its lower part, so none is 0.
     ///
     /// ```
+    /// use rapidhash::v3::{RapidSecrets, rapidhash_v3_seeded};
+    ///
     /// let secrets = RapidSecrets::seed(0x1234_5678);
     /// let hash = rapidhash_v3_seeded(b"hello", &secrets);
     /// ```
@@ -47,8 +52,8 @@ impl RapidSecrets {
         }
     }
 
-    /// The same secrets with a new seed, which is made from the old one with the last default
-    /// secret.
+    /// Returns the same secrets with a new seed, which is made from the old one with the last
+    /// default secret.
     pub const fn reseed(&self) -> Self {
         RapidSecrets {
             seed: reseed_of(self.seed, 6),
@@ -56,9 +61,9 @@ impl RapidSecrets {
         }
     }
 
-    /// The default secrets with a seed made from a number as the C++ library makes it. Whoever
-    /// knows the default secrets can find messages that have one hash for every seed: if that
-    /// matters, see [`RapidSecrets::seed`].
+    /// Returns the default secrets with a seed made from a number as the C++ library makes it.
+    /// Whoever knows the default secrets can find messages that have the same hash for every seed:
+    /// if that matters, see [`RapidSecrets::seed`].
     pub const fn seed_cpp(seed: u64) -> Self {
         RapidSecrets {
             seed: cpp_seed_of(seed, 2),

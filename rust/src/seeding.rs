@@ -10,6 +10,9 @@ use crate::util::rapid_mix;
 /// borrows them.
 ///
 /// ```
+/// use rapidhash::inner::GlobalSecrets;
+///
+/// let random_word = 0x9e37_79b9_7f4a_7c15;
 /// let secrets = GlobalSecrets::new(random_word);
 /// let seed = secrets.get_global_seed();
 /// ```
@@ -20,7 +23,8 @@ pub struct GlobalSecrets {
 }
 
 impl GlobalSecrets {
-    /// The seed and secrets of a random word. Two calls with one word give one value.
+    /// Returns the seed and secrets of a random word. Two calls with the same word return the same
+    /// value.
     pub fn new(random: u64) -> Self {
         GlobalSecrets {
             seed: global_seed_of(random),
@@ -28,13 +32,13 @@ impl GlobalSecrets {
         }
     }
 
-    /// The seven secrets.
+    /// Returns the seven secrets.
     #[inline]
     pub fn get(&self) -> &[u64; 7] {
         &self.secrets
     }
 
-    /// The seed that was made beside the secrets.
+    /// Returns the seed that was made beside the secrets.
     #[inline]
     pub fn get_global_seed(&self) -> u64 {
         self.seed
@@ -45,6 +49,10 @@ impl GlobalSecrets {
 /// Two seeds may be equal, and for some words they are.
 ///
 /// ```
+/// use rapidhash::inner::{GlobalSecrets, SeedSource};
+///
+/// let (random_word, second_random_word) = (0x9e37_79b9_7f4a_7c15, 0xbf58_476d_1ce4_e5b9);
+/// let secrets = GlobalSecrets::new(random_word);
 /// let mut source = SeedSource::new(&secrets, second_random_word);
 /// let seed = source.next();
 /// ```
@@ -55,14 +63,14 @@ pub struct SeedSource {
 }
 
 impl SeedSource {
-    /// The source of a seed and a second random word.
+    /// Returns the source of a seed and a second random word.
     pub fn new(secrets: &GlobalSecrets, random: u64) -> Self {
         let first = random.wrapping_add(1) ^ DEFAULT_SECRETS[3];
         let counter = rapid_mix::<false>(first, secrets.seed ^ DEFAULT_SECRETS[4]);
         SeedSource { counter, random }
     }
 
-    /// The next seed.
+    /// Returns the next seed.
     pub fn next(&mut self) -> u64 {
         let counter = self.counter.wrapping_add(DEFAULT_SECRETS[0]);
         self.counter = counter;

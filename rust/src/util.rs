@@ -9,10 +9,12 @@
 /// into the last product.
 pub(crate) const ALTERNATING_BITS: u64 = 0xaaaa_aaaa_aaaa_aaaa;
 
-/// The 128-bit product of `a` and `b` as its low and its high 64 bits. With `PROTECTED` each half
-/// is mixed with a factor by XOR: the low one with `a`, the high one with `b`.
+/// Returns the 128-bit product of `a` and `b` as its low and its high 64 bits. With `PROTECTED`
+/// each half is mixed with a factor by XOR: the low half with `a`, the high half with `b`.
 ///
 /// ```
+/// use rapidhash::util::rapid_mum;
+///
 /// assert_eq!(rapid_mum::<false>(u64::MAX, 2), (u64::MAX - 1, 1));
 /// ```
 #[inline]
@@ -27,29 +29,63 @@ pub const fn rapid_mum<const PROTECTED: bool>(a: u64, b: u64) -> (u64, u64) {
     }
 }
 
-/// The two numbers of [`rapid_mum`], folded into one by XOR.
+/// Returns the two numbers of [`rapid_mum`], folded into one by XOR.
+///
+/// ```
+/// use rapidhash::util::rapid_mix;
+///
+/// assert_eq!(rapid_mix::<false>(u64::MAX, 2), u64::MAX);
+/// ```
 #[inline]
 pub const fn rapid_mix<const PROTECTED: bool>(a: u64, b: u64) -> u64 {
     let (low, high) = rapid_mum::<PROTECTED>(a, b);
     low ^ high
 }
 
-/// The little-endian number of the 8 bytes from `offset` on. That they lie in `bytes` is a
-/// precondition.
+/// Returns the little-endian number of the 8 bytes from `offset` on.
+///
+/// ```
+/// use rapidhash::util::read_u64;
+///
+/// assert_eq!(read_u64(&[9, 1, 2, 0, 0, 0, 0, 0, 0], 1), 513);
+/// ```
+///
+/// # Panics
+///
+/// In Rust, if the 8 bytes do not lie in `bytes`. In Rattle that they do is a precondition.
 #[inline]
 pub fn read_u64(bytes: &[u8], offset: usize) -> u64 {
     u64::from_le_bytes(bytes[offset..offset + 8].try_into().unwrap())
 }
 
-/// The little-endian number of the 4 bytes from `offset` on. That they lie in `bytes` is a
-/// precondition.
+/// Returns the little-endian number of the 4 bytes from `offset` on.
+///
+/// ```
+/// use rapidhash::util::read_u32;
+///
+/// assert_eq!(read_u32(&[9, 1, 2, 0, 0], 1), 513);
+/// ```
+///
+/// # Panics
+///
+/// In Rust, if the 4 bytes do not lie in `bytes`. In Rattle that they do is a precondition.
 #[inline]
 pub fn read_u32(bytes: &[u8], offset: usize) -> u32 {
     u32::from_le_bytes(bytes[offset..offset + 4].try_into().unwrap())
 }
 
-/// Two numbers of 4 bytes in one of 8: the one at `top` in the upper half, the one at `bot` in the
-/// lower. That both lie in `bytes` is a precondition.
+/// Returns two numbers of 4 bytes in one of 8: the number at `top` in the upper half, the number at
+/// `bot` in the lower half.
+///
+/// ```
+/// use rapidhash::util::read_u32_combined;
+///
+/// assert_eq!(read_u32_combined(&[1, 0, 0, 0, 2, 0, 0, 0], 0, 4), (1 << 32) + 2);
+/// ```
+///
+/// # Panics
+///
+/// In Rust, if one of the two does not lie in `bytes`. In Rattle that both do is a precondition.
 #[inline]
 pub fn read_u32_combined(bytes: &[u8], top: usize, bot: usize) -> u64 {
     (read_u32(bytes, top) as u64) << 32 | read_u32(bytes, bot) as u64

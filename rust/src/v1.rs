@@ -37,16 +37,18 @@ pub const DEFAULT_RAPID_SECRETS: RapidSecrets = RapidSecrets {
 };
 
 impl RapidSecrets {
-    /// The default seed and secrets, [`DEFAULT_RAPID_SECRETS`], by reference.
+    /// Returns the default seed and secrets, [`DEFAULT_RAPID_SECRETS`], by reference.
     #[inline(always)]
     pub fn default_ref() -> &'static Self {
         &DEFAULT_RAPID_SECRETS
     }
 
-    /// A seed and secrets made from a number. Each has a set bit in its upper, its middle and its
-    /// lower part, so none is 0.
+    /// Returns a seed and secrets made from a number. Each has a set bit in its upper, its middle
+    /// and its lower part, so none is 0.
     ///
     /// ```
+    /// use rapidhash::v1::{RapidSecrets, rapidhash_v1_seeded};
+    ///
     /// let secrets = RapidSecrets::seed(0x1234_5678);
     /// let hash = rapidhash_v1_seeded(b"hello", &secrets);
     /// ```
@@ -58,7 +60,8 @@ impl RapidSecrets {
         }
     }
 
-    /// The same secrets with a new seed, made from the old one with V1's last default secret.
+    /// Returns the same secrets with a new seed, made from the old one with V1's last default
+    /// secret.
     pub const fn reseed(&self) -> Self {
         RapidSecrets {
             seed: reseed_of(self.seed, 2),
@@ -66,9 +69,9 @@ impl RapidSecrets {
         }
     }
 
-    /// The default secrets with a seed made from a number as the C++ library makes it. Whoever
-    /// knows the default secrets can find messages that have one hash for every seed: if that
-    /// matters, see [`RapidSecrets::seed`].
+    /// Returns the default secrets with a seed made from a number as the C++ library makes it.
+    /// Whoever knows the default secrets can find messages that have the same hash for every seed:
+    /// if that matters, see [`RapidSecrets::seed`].
     pub const fn seed_cpp(seed: u64) -> Self {
         RapidSecrets {
             seed: cpp_seed_of(seed, 0),
@@ -77,9 +80,11 @@ impl RapidSecrets {
     }
 }
 
-/// The hash of `bytes` with the default seed and secrets.
+/// Returns the hash of `bytes` with the default seed and secrets.
 ///
 /// ```
+/// use rapidhash::v1::rapidhash_v1;
+///
 /// assert_eq!(rapidhash_v1(b"something\n"), 15965596575264898037);
 /// ```
 #[inline(always)]
@@ -87,18 +92,31 @@ pub fn rapidhash_v1(bytes: &[u8]) -> u64 {
     rapidhash_v1_inline::<true, false, false, false>(bytes, RapidSecrets::default_ref())
 }
 
-/// The hash of `bytes` with the caller's seed and secrets.
+/// Returns the hash of `bytes` with the caller's seed and secrets.
+///
+/// ```
+/// use rapidhash::v1::{DEFAULT_RAPID_SECRETS, rapidhash_v1_seeded};
+///
+/// assert_eq!(rapidhash_v1_seeded(b"something\n", &DEFAULT_RAPID_SECRETS), 15965596575264898037);
+/// ```
 #[inline(always)]
 pub fn rapidhash_v1_seeded(bytes: &[u8], secrets: &RapidSecrets) -> u64 {
     rapidhash_v1_inline::<true, false, false, false>(bytes, secrets)
 }
 
-/// The hash of `bytes` with every option.
+/// Returns the hash of `bytes` with every option.
 ///
 /// - `AVALANCHE` mixes the last product once more, as the C++ library does.
-/// - `COMPACT` takes rows one by one in place of two at a time: less code, the same value.
+/// - `COMPACT` takes rows one by one instead of two at a time: less code, the same value.
 /// - `PROTECTED` mixes each product with its factors.
 /// - `V1_BUG` folds a row at 48 bytes, as versions 1.x of the Rust crate did.
+///
+/// ```
+/// use rapidhash::v1::{DEFAULT_RAPID_SECRETS, rapidhash_v1_inline};
+///
+/// let hash = rapidhash_v1_inline::<true, false, false, false>(b"something\n", &DEFAULT_RAPID_SECRETS);
+/// assert_eq!(hash, 15965596575264898037);
+/// ```
 #[inline(always)]
 pub fn rapidhash_v1_inline<
     const AVALANCHE: bool,

@@ -16,24 +16,50 @@ pub use readers::{
     rapidhash_v2_2_file, rapidhash_v2_2_file_seeded, rapidhash_v2_file_inline, rapidhash_v2_source,
 };
 
-/// The hash of `bytes` by V2.2 with the default seed and secrets.
+/// Returns the hash of `bytes` by V2.2 with the default seed and secrets.
+///
+/// ```
+/// use rapidhash::v2::rapidhash_v2_2;
+///
+/// let bytes: Vec<u8> = (0..60).collect();
+/// assert_eq!(rapidhash_v2_2(&bytes), 6181707366222537282);
+/// ```
 #[inline(always)]
 pub fn rapidhash_v2_2(bytes: &[u8]) -> u64 {
     rapidhash_v2_inline::<2, true, false, false>(bytes, RapidSecrets::default_ref())
 }
 
-/// The hash of `bytes` by V2.2 with the caller's seed and secrets.
+/// Returns the hash of `bytes` by V2.2 with the caller's seed and secrets.
+///
+/// ```
+/// use rapidhash::v2::{RapidSecrets, rapidhash_v2_2_seeded};
+///
+/// let secrets = RapidSecrets::seed(0x1234_5678);
+/// let hash = rapidhash_v2_2_seeded(b"hello", &secrets);
+/// ```
 #[inline(always)]
 pub fn rapidhash_v2_2_seeded(bytes: &[u8], secrets: &RapidSecrets) -> u64 {
     rapidhash_v2_inline::<2, true, false, false>(bytes, secrets)
 }
 
-/// The hash of `bytes` with every option.
+/// Returns the hash of `bytes` with every option.
 ///
-/// - `MINOR` is 0, 1 or 2, for V2.0, V2.1 and V2.2; that it is at most 2 is a precondition.
+/// - `MINOR` is 0, 1 or 2, for V2.0, V2.1 and V2.2.
 /// - `AVALANCHE` mixes the last product once more, as the C++ library does.
-/// - `COMPACT` takes rows one by one in place of two at a time: less code, the same value.
+/// - `COMPACT` takes rows one by one instead of two at a time: less code, the same value.
 /// - `PROTECTED` mixes each product with its factors.
+///
+/// ```
+/// use rapidhash::v2::{DEFAULT_RAPID_SECRETS, rapidhash_v2_inline};
+///
+/// let bytes: Vec<u8> = (0..60).collect();
+/// let hash = rapidhash_v2_inline::<0, true, false, false>(&bytes, &DEFAULT_RAPID_SECRETS);
+/// assert_eq!(hash, 13186137053657766175);
+/// ```
+///
+/// # Panics
+///
+/// In Rust, if `MINOR` is above 2. In Rattle that it is not is a precondition.
 #[inline(always)]
 pub fn rapidhash_v2_inline<
     const MINOR: u8,

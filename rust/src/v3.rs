@@ -23,9 +23,12 @@ pub use stream::{
     RapidStreamHasherInlineV3, RapidStreamHasherLanes, RapidStreamHasherV3,
 };
 
-/// The hash of `bytes` with the default seed and secrets.
+/// Returns the hash of `bytes` with the default seed and secrets.
 ///
 /// ```
+/// use rapidhash::v3::rapidhash_v3;
+///
+/// assert_eq!(rapidhash_v3(b"hello"), 3327445792987248966);
 /// let shard = rapidhash_v3(b"user:4711") % 64;
 /// ```
 #[inline(always)]
@@ -33,9 +36,11 @@ pub fn rapidhash_v3(bytes: &[u8]) -> u64 {
     hash::<7, 1, true, false, false>(bytes, RapidSecrets::default_ref())
 }
 
-/// The hash of `bytes` with the caller's seed and secrets.
+/// Returns the hash of `bytes` with the caller's seed and secrets.
 ///
 /// ```
+/// use rapidhash::v3::{RapidSecrets, rapidhash_v3_seeded};
+///
 /// let secrets = RapidSecrets::seed(0x1234_5678);
 /// let hash = rapidhash_v3_seeded(b"hello", &secrets);
 /// ```
@@ -44,11 +49,18 @@ pub fn rapidhash_v3_seeded(bytes: &[u8], secrets: &RapidSecrets) -> u64 {
     rapidhash_v3_inline::<true, false, false>(bytes, secrets)
 }
 
-/// The hash of `bytes` with every option.
+/// Returns the hash of `bytes` with every option.
 ///
 /// - `AVALANCHE` mixes the last product once more, as the C++ library does.
-/// - `COMPACT` takes rows one by one in place of two at a time: less code, the same value.
+/// - `COMPACT` takes rows one by one instead of two at a time: less code, the same value.
 /// - `PROTECTED` mixes each product with its factors.
+///
+/// ```
+/// use rapidhash::v3::{DEFAULT_RAPID_SECRETS, rapidhash_v3_inline};
+///
+/// let hash = rapidhash_v3_inline::<true, true, false>(b"hello", &DEFAULT_RAPID_SECRETS);
+/// assert_eq!(hash, 3327445792987248966);
+/// ```
 #[inline(always)]
 pub fn rapidhash_v3_inline<const AVALANCHE: bool, const COMPACT: bool, const PROTECTED: bool>(
     bytes: &[u8],
@@ -57,8 +69,15 @@ pub fn rapidhash_v3_inline<const AVALANCHE: bool, const COMPACT: bool, const PRO
     hash::<7, 0, AVALANCHE, COMPACT, PROTECTED>(bytes, secrets)
 }
 
-/// The hash of `bytes` with five lanes. Up to 80 bytes it is V3's. The options are those of
+/// Returns the hash of `bytes` with five lanes. Up to 80 bytes it is V3's. The options are those of
 /// [`rapidhash_v3_inline`].
+///
+/// ```
+/// use rapidhash::v3::{DEFAULT_RAPID_SECRETS, rapidhash_v3_micro_inline};
+///
+/// let hash = rapidhash_v3_micro_inline::<true, false>(b"hello", &DEFAULT_RAPID_SECRETS);
+/// assert_eq!(hash, 3327445792987248966);
+/// ```
 #[inline(always)]
 pub fn rapidhash_v3_micro_inline<const AVALANCHE: bool, const PROTECTED: bool>(
     bytes: &[u8],
@@ -67,8 +86,15 @@ pub fn rapidhash_v3_micro_inline<const AVALANCHE: bool, const PROTECTED: bool>(
     hash::<5, 1, AVALANCHE, false, PROTECTED>(bytes, secrets)
 }
 
-/// The hash of `bytes` with three lanes: the least code in a program that calls it once. Up to 48
-/// bytes it is V3's. The options are those of [`rapidhash_v3_inline`].
+/// Returns the hash of `bytes` with three lanes: the least code in a program that calls it once. Up
+/// to 48 bytes it is V3's. The options are those of [`rapidhash_v3_inline`].
+///
+/// ```
+/// use rapidhash::v3::{DEFAULT_RAPID_SECRETS, rapidhash_v3_nano_inline};
+///
+/// let hash = rapidhash_v3_nano_inline::<true, false>(b"hello", &DEFAULT_RAPID_SECRETS);
+/// assert_eq!(hash, 3327445792987248966);
+/// ```
 #[inline(always)]
 pub fn rapidhash_v3_nano_inline<const AVALANCHE: bool, const PROTECTED: bool>(
     bytes: &[u8],

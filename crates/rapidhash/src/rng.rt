@@ -88,6 +88,10 @@ pub fn rapidrng_time(seed: &mut u64, secs: u64, nanos: u32) -> u64
     ensures seed { seed.new ≡ seed_at_moment seed.old secs nanos }
     ensures word { result ≡ word_at_moment seed.old secs nanos }
 {
+    prove!(
+        nanos < 1_000_000_000,
+        "the nanoseconds must be less than a second"
+    );
     let entropy = secs % 0x1_0000_0000 * 0x1_0000_0000 + nanos as u64;
     let moment = rapid_mix::<false>(entropy ^ STEP, *seed ^ MASK);
     let made = rapid_mix::<false>(moment ^ STEP, MOMENT_MASK);

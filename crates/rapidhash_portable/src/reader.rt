@@ -1,8 +1,8 @@
 //! A reader with an error mark, which tells the reader's own errors from the other errors of a
 //! hash.
 //!
-//! The mark is on only if a read failed. Privacy ensures this: only [`read_once`] makes a
-//! [`FailedRead`], and only [`Source`] turns its mark on, in `read` or for a `FailedRead`.
+//! The mark is on only if a read failed. Privacy ensures this: only `read_once` makes a
+//! `FailedRead`, and only [`Source`] turns its mark on, in `read` or for a `FailedRead`.
 
 ghost use Rattle.std.specs.Prelude.{◌≡◌, ◌||◌, false, true, is_err};
 ghost use Rattle.std.specs.Borrow.{follows, sem};

@@ -13,11 +13,15 @@ use std::hash::Hasher;
 /// A hasher of bytes and integers, with every option. Most programs name it by `fast::RapidHasher`
 /// or `quality::RapidHasher`.
 ///
-/// The inherent methods, such as [`RapidHasher::write_u8`], pack integers. Code that is generic
-/// over `Hasher` gets the trait's provided methods, which pass the bytes of an integer to `write`.
+/// The inherent methods, such as [`RapidHasher::write_u8`], pack integers. In Rust the trait's
+/// integer writes are these methods. In Rattle they are the trait's provided ones, which pass the
+/// bytes of an integer to `write`.
 ///
 /// ```
-/// let mut hasher = fast::RapidHasher::new(0);
+/// use rapidhash::fast::RapidHasher;
+/// use std::hash::Hasher;
+///
+/// let mut hasher = RapidHasher::new(0);
 /// hasher.write_u64(4711);
 /// hasher.write(b"user");
 /// let hash = hasher.finish();
@@ -41,11 +45,14 @@ impl<'s, const AVALANCHE: bool, const SPONGE: bool, const COMPACT: bool, const P
     /// The number that `default_const` and `Default` pass to `new`, for programs that name it.
     pub const DEFAULT_SEED: u64 = 0;
 
-    /// A hasher of the default secrets, and of a seed made of `seed` as
+    /// Returns a hasher of the default secrets, and of a seed made of `seed` as
     /// `v3::RapidSecrets::seed_cpp` makes it.
     ///
     /// ```
-    /// let mut hasher = fast::RapidHasher::new(0x1234_5678);
+    /// use rapidhash::fast::RapidHasher;
+    /// use std::hash::Hasher;
+    ///
+    /// let mut hasher = RapidHasher::new(0x1234_5678);
     /// hasher.write_u32(7);
     /// let hash = hasher.finish();
     /// ```
@@ -57,7 +64,7 @@ impl<'s, const AVALANCHE: bool, const SPONGE: bool, const COMPACT: bool, const P
         )
     }
 
-    /// A hasher of the default seed and the default secrets: [`RapidHasher::new`] of 0.
+    /// Returns a hasher of the default seed and the default secrets: [`RapidHasher::new`] of 0.
     #[inline(always)]
     pub const fn default_const() -> Self {
         RapidHasher::new(0)
@@ -100,15 +107,15 @@ impl<'s, const AVALANCHE: bool, const SPONGE: bool, const COMPACT: bool, const P
 impl<'s, const AVALANCHE: bool, const SPONGE: bool, const COMPACT: bool, const PROTECTED: bool>
     Hasher for RapidHasher<'s, AVALANCHE, SPONGE, COMPACT, PROTECTED>
 {
+    forward_integers!();
+
     /// Absorbs bytes in one step. The integers that wait in the sponge stay there.
     #[inline(always)]
     fn write(&mut self, bytes: &[u8]) {
         self.seed = memory_hash::<AVALANCHE, COMPACT, PROTECTED>(bytes, self.seed, self.secrets);
     }
 
-    forward_integers!();
-
-    /// The hash of what was absorbed so far. It changes nothing: further writes may follow.
+    /// Returns the hash of what was absorbed so far. It changes nothing: further writes may follow.
     #[inline(always)]
     fn finish(&self) -> u64 {
         let mut last = self.seed;
@@ -125,7 +132,7 @@ impl<'s, const AVALANCHE: bool, const SPONGE: bool, const COMPACT: bool, const P
 impl<'s, const AVALANCHE: bool, const SPONGE: bool, const COMPACT: bool, const PROTECTED: bool>
     Default for RapidHasher<'s, AVALANCHE, SPONGE, COMPACT, PROTECTED>
 {
-    /// As [`RapidHasher::default_const`].
+    /// Returns [`RapidHasher::default_const`].
     #[inline(always)]
     fn default() -> Self {
         RapidHasher::default_const()

@@ -9,19 +9,27 @@ use crate::sized::{BUFFER, SHORT, fill, fold_front};
 use std::io;
 use std::io::Read;
 
-/// The hash of the next `len` bytes of the reader: that of [`rapidhash_v1_inline`] with `AVALANCHE`
-/// and without `V1_BUG`. No byte after them is read, and with `len` 0 none at all.
-///
-/// If the source is marked after the call, the error is the reader's own, also for an interrupted
-/// read. Otherwise it is `ErrorKind::UnexpectedEof`: the reader had fewer bytes, and all of them
-/// were read.
+/// Returns the hash of the next `len` bytes of the reader: that of [`rapidhash_v1_inline`] with
+/// `AVALANCHE` and without `V1_BUG`. It reads no byte after them, and nothing at all for a `len` of
+/// 0.
 ///
 /// It uses 8 KiB of stack, and above 8192 bytes 64 KiB more.
 ///
 /// ```
-/// let mut source = Source::new(socket);
-/// let hash = rapidhash_v1_source::<TcpStream, false>(&mut source, 4096, &DEFAULT_RAPID_SECRETS)?;
+/// use rapidhash::reader::Source;
+/// use rapidhash::v1::{DEFAULT_RAPID_SECRETS, rapidhash_v1_source};
+///
+/// let mut source = Source::new(b"something\nmore".as_slice());
+/// let hash = rapidhash_v1_source::<&[u8], false>(&mut source, 10, &DEFAULT_RAPID_SECRETS)?;
+/// assert_eq!(hash, 15965596575264898037);
+/// # Ok::<(), std::io::Error>(())
 /// ```
+///
+/// # Errors
+///
+/// If the source is marked after the call, the error is the reader's own, also for an interrupted
+/// read. Otherwise it is `ErrorKind::UnexpectedEof`: the reader had fewer bytes, and all of them
+/// were read.
 pub fn rapidhash_v1_source<R: Read, const PROTECTED: bool>(
     source: &mut Source<R>,
     len: u64,
@@ -32,20 +40,26 @@ pub fn rapidhash_v1_source<R: Read, const PROTECTED: bool>(
     source.settle(answer)
 }
 
-/// The hash of the next `len` bytes of a reader, with the default seed and secrets. An error is the
-/// reader's own, or `ErrorKind::UnexpectedEof` if it had fewer bytes.
+/// Returns the hash of the next `len` bytes of a reader, with the default seed and secrets.
 ///
 /// ```
+/// use rapidhash::v1::rapidhash_v1_file;
+///
 /// let mut text = b"something\nmore".as_slice();
 /// assert_eq!(rapidhash_v1_file(&mut text, 10)?, 15965596575264898037);
 /// assert_eq!(text, b"more");
+/// # Ok::<(), std::io::Error>(())
 /// ```
+///
+/// # Errors
+///
+/// The reader's own error, or `ErrorKind::UnexpectedEof` if it had fewer bytes.
 pub fn rapidhash_v1_file<R: Read>(data: &mut R, len: u64) -> io::Result<u64> {
     rapidhash_v1_file_inline::<R, false>(data, len, RapidSecrets::default_ref())
 }
 
-/// The hash of the next `len` bytes of a reader, with the caller's seed and secrets. Errors are
-/// those of [`rapidhash_v1_file`].
+/// Returns the hash of the next `len` bytes of a reader, with the caller's seed and secrets. Errors
+/// are those of [`rapidhash_v1_file`].
 pub fn rapidhash_v1_file_seeded<R: Read>(
     data: &mut R,
     len: u64,
@@ -54,8 +68,8 @@ pub fn rapidhash_v1_file_seeded<R: Read>(
     rapidhash_v1_file_inline::<R, false>(data, len, secrets)
 }
 
-/// The hash of the next `len` bytes of a reader; `PROTECTED` mixes each product with its factors.
-/// Errors are those of [`rapidhash_v1_file`].
+/// Returns the hash of the next `len` bytes of a reader; `PROTECTED` mixes each product with its
+/// factors. Errors are those of [`rapidhash_v1_file`].
 pub fn rapidhash_v1_file_inline<R: Read, const PROTECTED: bool>(
     data: &mut R,
     len: u64,

@@ -9,20 +9,30 @@ use crate::sized::{BUFFER, SHORT, fill, fold_front};
 use std::io;
 use std::io::Read;
 
-/// The hash of the next `len` bytes of the reader: that of [`rapidhash_v2_inline`] with
-/// `AVALANCHE`. No byte after them is read, and with `len` 0 none at all. `MINOR` is 0, 1 or 2,
-/// which is a precondition.
+/// Returns the hash of the next `len` bytes of the reader: that of [`rapidhash_v2_inline`] with
+/// `AVALANCHE`. It reads no byte after them, and nothing at all for a `len` of 0.
+///
+/// It uses 8 KiB of stack, and above 8192 bytes 64 KiB more.
+///
+/// ```
+/// use rapidhash::reader::Source;
+/// use rapidhash::v2::{DEFAULT_RAPID_SECRETS, rapidhash_v2_2, rapidhash_v2_source};
+///
+/// let mut source = Source::new(b"hello world".as_slice());
+/// let hash = rapidhash_v2_source::<&[u8], 2, false>(&mut source, 5, &DEFAULT_RAPID_SECRETS)?;
+/// assert_eq!(hash, rapidhash_v2_2(b"hello"));
+/// # Ok::<(), std::io::Error>(())
+/// ```
+///
+/// # Errors
 ///
 /// If the source is marked after the call, the error is the reader's own, also for an interrupted
 /// read. Otherwise it is `ErrorKind::UnexpectedEof`: the reader had fewer bytes, and all of them
 /// were read.
 ///
-/// It uses 8 KiB of stack, and above 8192 bytes 64 KiB more.
+/// # Panics
 ///
-/// ```
-/// let mut source = Source::new(file);
-/// let hash = rapidhash_v2_source::<File, 2, false>(&mut source, 4096, &DEFAULT_RAPID_SECRETS)?;
-/// ```
+/// In Rust, if `MINOR` is above 2. In Rattle that it is not is a precondition.
 pub fn rapidhash_v2_source<R: Read, const MINOR: u8, const PROTECTED: bool>(
     source: &mut Source<R>,
     len: u64,
@@ -33,18 +43,26 @@ pub fn rapidhash_v2_source<R: Read, const MINOR: u8, const PROTECTED: bool>(
     source.settle(answer)
 }
 
-/// The hash of the next `len` bytes of a reader by V2.2, with the default seed and secrets. An
-/// error is the reader's own, or `ErrorKind::UnexpectedEof` if it had fewer bytes.
+/// Returns the hash of the next `len` bytes of a reader by V2.2, with the default seed and secrets.
 ///
 /// ```
-/// let hash = rapidhash_v2_2_file(&mut file, 4096)?;
+/// use rapidhash::v2::{rapidhash_v2_2, rapidhash_v2_2_file};
+///
+/// let mut text = b"hello world".as_slice();
+/// assert_eq!(rapidhash_v2_2_file(&mut text, 5)?, rapidhash_v2_2(b"hello"));
+/// assert_eq!(text, b" world");
+/// # Ok::<(), std::io::Error>(())
 /// ```
+///
+/// # Errors
+///
+/// The reader's own error, or `ErrorKind::UnexpectedEof` if it had fewer bytes.
 pub fn rapidhash_v2_2_file<R: Read>(data: &mut R, len: u64) -> io::Result<u64> {
     rapidhash_v2_file_inline::<R, 2, false>(data, len, RapidSecrets::default_ref())
 }
 
-/// The hash of the next `len` bytes of a reader by V2.2, with the caller's seed and secrets. Errors
-/// are those of [`rapidhash_v2_2_file`].
+/// Returns the hash of the next `len` bytes of a reader by V2.2, with the caller's seed and
+/// secrets. Errors are those of [`rapidhash_v2_2_file`].
 pub fn rapidhash_v2_2_file_seeded<R: Read>(
     data: &mut R,
     len: u64,
@@ -53,8 +71,12 @@ pub fn rapidhash_v2_2_file_seeded<R: Read>(
     rapidhash_v2_file_inline::<R, 2, false>(data, len, secrets)
 }
 
-/// The hash of the next `len` bytes of a reader; `PROTECTED` mixes each product with its factors.
-/// `MINOR` is 0, 1 or 2, which is a precondition. Errors are those of [`rapidhash_v2_2_file`].
+/// Returns the hash of the next `len` bytes of a reader; `PROTECTED` mixes each product with its
+/// factors. Errors are those of [`rapidhash_v2_2_file`].
+///
+/// # Panics
+///
+/// In Rust, if `MINOR` is above 2. In Rattle that it is not is a precondition.
 pub fn rapidhash_v2_file_inline<R: Read, const MINOR: u8, const PROTECTED: bool>(
     data: &mut R,
     len: u64,

@@ -11,8 +11,20 @@ use crate::secrets::RapidSecrets;
 use std::io;
 use std::io::{ErrorKind, Read};
 
-/// The hash of all that the reader still has, up to the first read that returns 0. It reads 8192
-/// bytes at a time, into a buffer on the stack.
+/// Returns the hash of all that the reader still has, up to the first read that returns 0. It reads
+/// 8192 bytes at a time, into a buffer on the stack.
+///
+/// ```
+/// use rapidhash::reader::Source;
+/// use rapidhash::v3::{DEFAULT_RAPID_SECRETS, rapidhash_v3_source};
+///
+/// let mut source = Source::new(b"hello".as_slice());
+/// let hash = rapidhash_v3_source::<&[u8], false>(&mut source, &DEFAULT_RAPID_SECRETS)?;
+/// assert_eq!(hash, 3327445792987248966);
+/// # Ok::<(), std::io::Error>(())
+/// ```
+///
+/// # Errors
 ///
 /// If the source is marked after the call, the error is the reader's own, also for an interrupted
 /// read. Otherwise it is `ErrorKind::Other`: 2^64 - 1 reads returned bytes, and the hash gave up.
@@ -24,9 +36,12 @@ pub fn rapidhash_v3_source<R: Read, const PROTECTED: bool>(
     rapidhash_v3_source_sized::<R, 8192, PROTECTED>(source, secrets)
 }
 
-/// As [`rapidhash_v3_source`], with a buffer of `SIZE` bytes on the stack: no read asks for more.
+/// Returns the hash of [`rapidhash_v3_source`], with a buffer of `SIZE` bytes on the stack: no read
+/// asks for more.
 ///
-/// `SIZE` is at least 1, which is a precondition.
+/// # Panics
+///
+/// In Rust, if `SIZE` is 0. In Rattle that it is not is a precondition.
 pub fn rapidhash_v3_source_sized<R: Read, const SIZE: usize, const PROTECTED: bool>(
     source: &mut Source<R>,
     secrets: &RapidSecrets,
@@ -34,17 +49,23 @@ pub fn rapidhash_v3_source_sized<R: Read, const SIZE: usize, const PROTECTED: bo
     rapidhash_v3_source_lanes::<R, 7, SIZE, PROTECTED>(source, secrets)
 }
 
-/// As [`rapidhash_v3_source_sized`], with 7, 5 or 3 lanes: V3, micro or nano.
-///
-/// `LANES` is 7, 5 or 3, and `SIZE` at least 1: both are preconditions.
+/// Returns the hash of [`rapidhash_v3_source_sized`], with 7, 5 or 3 lanes: V3, micro or nano.
 ///
 /// ```
-/// let mut source = Source::new(file);
-/// let hash = rapidhash_v3_source_lanes::<File, 5, 65536, false>(
-///     &mut source,
-///     RapidSecrets::default_ref(),
-/// )?;
+/// use rapidhash::reader::Source;
+/// use rapidhash::v3::{DEFAULT_RAPID_SECRETS, rapidhash_v3_source_lanes};
+///
+/// let mut source = Source::new(b"hello".as_slice());
+/// let secrets = &DEFAULT_RAPID_SECRETS;
+/// let hash = rapidhash_v3_source_lanes::<&[u8], 5, 65536, false>(&mut source, secrets)?;
+/// assert_eq!(hash, 3327445792987248966);
+/// # Ok::<(), std::io::Error>(())
 /// ```
+///
+/// # Panics
+///
+/// In Rust, if `LANES` is not 7, 5 or 3, or `SIZE` is 0. In Rattle that neither is so is a
+/// precondition.
 pub fn rapidhash_v3_source_lanes<
     R: Read,
     const LANES: usize,
@@ -82,24 +103,30 @@ fn read_all<R: Read, const LANES: usize, const SIZE: usize, const PROTECTED: boo
     Err(io::Error::from(ErrorKind::Other))
 }
 
-/// The hash of all that a reader has, with the default seed and secrets. An error is the reader's
-/// own, or `ErrorKind::Other` after 2^64 - 1 reads that returned bytes.
+/// Returns the hash of all that a reader has, with the default seed and secrets.
 ///
 /// ```
-/// let hash = rapidhash_v3_file(file)?;
+/// use rapidhash::v3::rapidhash_v3_file;
+///
+/// assert_eq!(rapidhash_v3_file(b"hello".as_slice())?, 3327445792987248966);
+/// # Ok::<(), std::io::Error>(())
 /// ```
+///
+/// # Errors
+///
+/// The reader's own error, or `ErrorKind::Other` after 2^64 - 1 reads that returned bytes.
 pub fn rapidhash_v3_file<R: Read>(data: R) -> io::Result<u64> {
     rapidhash_v3_file_inline::<R, false>(data, RapidSecrets::default_ref())
 }
 
-/// The hash of all that a reader has, with the caller's seed and secrets. Errors are those of
-/// [`rapidhash_v3_file`].
+/// Returns the hash of all that a reader has, with the caller's seed and secrets. Errors are those
+/// of [`rapidhash_v3_file`].
 pub fn rapidhash_v3_file_seeded<R: Read>(data: R, secrets: &RapidSecrets) -> io::Result<u64> {
     rapidhash_v3_file_inline::<R, false>(data, secrets)
 }
 
-/// The hash of all that a reader has; `PROTECTED` mixes each product with its factors. Errors are
-/// those of [`rapidhash_v3_file`].
+/// Returns the hash of all that a reader has; `PROTECTED` mixes each product with its factors.
+/// Errors are those of [`rapidhash_v3_file`].
 pub fn rapidhash_v3_file_inline<R: Read, const PROTECTED: bool>(
     data: R,
     secrets: &RapidSecrets,
@@ -107,10 +134,12 @@ pub fn rapidhash_v3_file_inline<R: Read, const PROTECTED: bool>(
     rapidhash_v3_file_sized::<R, 8192, PROTECTED>(data, secrets)
 }
 
-/// As [`rapidhash_v3_file_inline`], with a buffer of `SIZE` bytes on the stack: no read asks for
-/// more.
+/// Returns the hash of [`rapidhash_v3_file_inline`], with a buffer of `SIZE` bytes on the stack: no
+/// read asks for more.
 ///
-/// `SIZE` is at least 1, which is a precondition.
+/// # Panics
+///
+/// In Rust, if `SIZE` is 0. In Rattle that it is not is a precondition.
 pub fn rapidhash_v3_file_sized<R: Read, const SIZE: usize, const PROTECTED: bool>(
     data: R,
     secrets: &RapidSecrets,
@@ -118,9 +147,12 @@ pub fn rapidhash_v3_file_sized<R: Read, const SIZE: usize, const PROTECTED: bool
     rapidhash_v3_file_lanes::<R, 7, SIZE, PROTECTED>(data, secrets)
 }
 
-/// As [`rapidhash_v3_file_sized`], with 7, 5 or 3 lanes: V3, micro or nano.
+/// Returns the hash of [`rapidhash_v3_file_sized`], with 7, 5 or 3 lanes: V3, micro or nano.
 ///
-/// `LANES` is 7, 5 or 3, and `SIZE` at least 1: both are preconditions.
+/// # Panics
+///
+/// In Rust, if `LANES` is not 7, 5 or 3, or `SIZE` is 0. In Rattle that neither is so is a
+/// precondition.
 pub fn rapidhash_v3_file_lanes<
     R: Read,
     const LANES: usize,

@@ -12,9 +12,14 @@ impl<'s, const AVALANCHE: bool, const SPONGE: bool, const COMPACT: bool, const P
     /// hash as the joined one: `write_u8(2)` and `write_u8(1)` as `write_u16(258)`.
     ///
     /// ```
-    /// let mut hasher = fast::RapidHasher::default();
-    /// hasher.write_u8(2);
-    /// let hash = hasher.finish();
+    /// use rapidhash::fast::RapidHasher;
+    /// use std::hash::Hasher;
+    ///
+    /// let (mut parts, mut whole) = (RapidHasher::default(), RapidHasher::default());
+    /// parts.write_u8(2);
+    /// parts.write_u8(1);
+    /// whole.write_u16(258);
+    /// assert_eq!(parts.finish(), whole.finish());
     /// ```
     #[inline(always)]
     pub fn write_u8(&mut self, value: u8) {
@@ -39,7 +44,7 @@ impl<'s, const AVALANCHE: bool, const SPONGE: bool, const COMPACT: bool, const P
         self.write_number(value, 64);
     }
 
-    /// Absorbs an integer of 64 bits, as [`RapidHasher::write_u64`].
+    /// Absorbs an integer of 64 bits, as [`RapidHasher::write_u64`], on every machine.
     #[inline(always)]
     pub fn write_usize(&mut self, value: usize) {
         self.write_number(value as u64, 64);
@@ -69,7 +74,7 @@ impl<'s, const AVALANCHE: bool, const SPONGE: bool, const COMPACT: bool, const P
         self.write_number(value.to_unsigned(), 64);
     }
 
-    /// Absorbs a signed integer of 64 bits, by its bits.
+    /// Absorbs a signed integer of 64 bits, by its bits, on every machine.
     #[inline(always)]
     pub fn write_isize(&mut self, value: isize) {
         self.write_number((value as i64).to_unsigned(), 64);

@@ -12,4 +12,3 @@ invariant-loop-place g l = record {
 
 abbrev pub decreases-loop-place : goal.decreases-loop-place
 decreases-loop-place g l = g.row.COUNT - l.place
-
