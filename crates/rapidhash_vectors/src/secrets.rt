@@ -3,7 +3,7 @@
 use rapidhash::fast;
 use rapidhash_portable::seeding::{GlobalSecrets, SeedSource};
 use rapidhash_portable::{v1, v3};
-use std::hash::{BuildHasher, Hash};
+use std::hash::{BuildHasher, Hash, Hasher};
 
 /// The default secrets among the random words here make secrets that need a repair.
 const WORDS: [u64; 6] = [
@@ -59,7 +59,9 @@ fn test_create_secrets(rt: HostRuntime) {
 
 /// What a value hashes to as the key of a map.
 fn hashed<T: Hash>(value: &T) -> u64 {
-    fast::SeedableState::fixed().hash_one(value)
+    let mut hasher = fast::SeedableState::fixed().build_hasher();
+    value.hash(&mut hasher);
+    hasher.finish()
 }
 
 /// Secrets of V1 with one part taken away: the seed, or one of the secrets.
@@ -122,5 +124,18 @@ fn a_seed_source_goes_on_from_0(rt: HostRuntime) {
         assert_eq!(rt; source.next(), 9454793320884447470);
         assert_eq!(rt; source.next(), 639202169605739871);
         assert_eq!(rt; source.next(), 6862678675849103174);
+    }
+}
+
+/// The seed is the source's next one, and the next secrets have the one after it.
+#[test]
+fn random_secrets(rt: HostRuntime) {
+    let global = GlobalSecrets::new(11);
+    let mut source = SeedSource::new(&global, 12);
+    let mut twin = SeedSource::new(&global, 12);
+    for _ in 0..2u32 {
+        let secrets = v3::RapidSecrets::random(&global, &mut source);
+        assert_eq!(rt; secrets.seed, twin.next());
+        assert_eq!(rt; &secrets.secrets, global.get());
     }
 }

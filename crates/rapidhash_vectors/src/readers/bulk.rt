@@ -4,8 +4,7 @@ ghost use Rattle.std.specs.Prelude.{◌≤◌};
 
 use crate::readers::asked::{gave, sound, v1_of, v1_of_slice, v2_of, v2_of_slice};
 use rapidhash::rng::RapidRng;
-use rapidhash_portable::seeding::{GlobalSecrets, SeedSource};
-use rapidhash_portable::{v1, v2, v3};
+use rapidhash_portable::{v1, v2};
 use std::alloc::{AllocError, Allocator};
 use std::test::Fail;
 
@@ -99,17 +98,4 @@ fn v2_file_forms(rt: HostRuntime) -> Result<(), Fail> {
         );
     }
     Ok(())
-}
-
-// The seed is the source's next one, and the next secrets have the one after it.
-#[test]
-fn random_secrets(rt: HostRuntime) {
-    let global = GlobalSecrets::new(11);
-    let mut source = SeedSource::new(&global, 12);
-    let mut twin = SeedSource::new(&global, 12);
-    for _ in 0..2u32 {
-        let secrets = v3::RapidSecrets::random(&global, &mut source);
-        assert_eq!(rt; secrets.seed, twin.next());
-        assert_eq!(rt; &secrets.secrets, global.get());
-    }
 }

@@ -1,0 +1,13 @@
+// Made by bin/rust_crate from crates/rapidhash_vectors/src/readers.rt: change that file.
+
+//! The hashes over a reader: known values, ends and errors, and that a reader's hash is that of its
+//! bytes.
+
+mod asked;
+mod bulk;
+mod ends;
+mod faults;
+mod known_length;
+mod outcome;
+mod sizes;
+mod to_the_end;

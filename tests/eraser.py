@@ -1,0 +1,166 @@
+#!/usr/bin/env python3
+"""Tests bin/eraser.py: each ghost form, what it must keep, and what it must refuse. Then checks each source of
+the Rust crate against the Rattle source that it was made from, by a walk of its own: the tokens of the one
+stand in the other in the same order, and each gap is a known ghost form or a row of bin/rust_crate. The last
+line counts the cases."""
+
+import re
+import sys
+from importlib.machinery import SourceFileLoader
+from importlib.util import module_from_spec, spec_from_loader
+from pathlib import Path
+
+sys.dont_write_bytecode = True
+TOP = Path(__file__).resolve().parent.parent
+sys.path.insert(0, str(TOP / "bin"))
+from eraser import Eraser, Refused  # noqa: E402
+
+loader = SourceFileLoader("rust_crate", str(TOP / "bin" / "rust_crate"))
+rust_crate = module_from_spec(spec_from_loader("rust_crate", loader))
+loader.exec_module(rust_crate)
+
+ERASED = {
+    "a clause": ("fn f()\n    requires { 0 < x }\n{ 1 }", "fn f()\n{ 1 }"),
+    "a clause with a name": ("fn f() ensures good { IsGood result } {}", "fn f() {}"),
+    "a clause with a star": ("fn f() ensures* writes_back { sem 𝓛 (x) } {}", "fn f() {}"),
+    "clauses of a method without a body": ("fn f(&self) ensures { x };", "fn f(&self);"),
+    "nested braces": ("fn f() ensures { record { seed = { x } } } { a }", "fn f() { a }"),
+    "a brace in a comment of a clause": ("fn f() ensures { x // }\n } { a }", "fn f() { a }"),
+    "a brace in a string of a clause": ('fn f() ensures { "}" } { a }', "fn f() { a }"),
+    "a ghost import": ("ghost use A.{◌≡◌, B};\nuse c;", "\nuse c;"),
+    "a ghost field": ("struct A { a: u8, ghost fits: { a ≤ 2 }, }", "struct A { a: u8, }"),
+    "a ghost member": ("impl A for B { ghost eq = { λ x y. x }; fn f() {} }", "impl A for B { fn f() {} }"),
+    "a tactic": ("#[inline]\n#[tactic(auto, unfolding(a::b))]\nfn f() {}", "#[inline]\nfn f() {}"),
+    "a tactic of a file": ("//! A.\n#![tactic(auto)]\nmod a;", "//! A.\nmod a;"),
+    "an implementation of Model": ("impl<A> Model for B<A> { ghost view = { x }; } fn f() {}", " fn f() {}"),
+    "the import of Model": ("use std::marker::Model;\nuse a;", "\nuse a;"),
+    "Drop as a bound": ("fn f<R: Read + Drop>(r: R) {}", "fn f<R: Read>(r: R) {}"),
+    "Drop in a derive": ("#[derive(Debug, Drop)] struct A;", "#[derive(Debug)] struct A;"),
+}
+KEPT = {
+    "a clause in a string": 'f("requires { x }");',
+    "a clause in a comment": "// ensures { x }\nf();",
+    "a clause in a doc comment": "/// ghost use a;\nfn f() {}",
+    "an implementation": "impl A for B { fn f() {} }",
+    "an attribute": "#[inline(always)] fn f() {}",
+    "a character that is a quote": "let q = '\"'; let b = b'{'; let l: &'a str;",
+    "an escaped quote": 'f("\\"requires {");',
+    "a word with a ghost word in it": "let ensures_all = ghosts;",
+}
+REFUSED = {
+    "a ghost function": "ghost fn f() {}",
+    "a clause without braces": "fn f() requires x;",
+    "a ghost member without an end": "ghost eq = { x } fn f() {}",
+    "a bracket that is not closed": "fn f() requires { ( } {}",
+    "a sign of contracts": "let x = λ y;",
+    "Drop in the front of a derive": "#[derive(Drop, Debug)] struct A;",
+    "a block comment": "/* requires { x } */",
+    "a raw string": 'f(r"requires {");',
+}
+
+# The walk of its own: how a ghost form begins, in words with single spaces, and what ends it.
+GHOST = [
+    (r"(requires|ensures) (\* )?(\w+ )?\{", "}"),
+    (r"ghost use ", ";"),
+    (r"ghost \w+ [:=] \{", "} ,;"),
+    (r"# (! )?\[ tactic ", "]"),
+    (r"impl (< [^{]* > )?Model (< [^{]* > )?for [^{]*\{", "}"),
+    (r"use std : : marker : : Model ", ";"),
+    (r"[+,] Drop ", "Drop"),
+]
+WORDS = re.compile(r'//[^\n]*|b?"(?:[^"\\]|\\.)*"|\'\\?.\'|\w+|\S', re.DOTALL)
+
+
+def words_of(text):
+    """The tokens of a text and its comments; a comma before a closing bracket is rustfmt's to set."""
+    words = [word.rstrip() for word in WORDS.findall(text)]
+    return [word for word, following in zip(words, words[1:] + [""]) if word != "," or following not in list(")]}>")]
+
+
+def end_of(words, at, closing):
+    """The place behind the form that begins here."""
+    depth = 0
+    for place in range(at, len(words)):
+        depth += (words[place] in list("([{")) - (words[place] in list(")]}"))
+        if depth == 0 and words[place] in closing.split() and place > at:
+            more = closing.split()[1:] and place + 1 < len(words) and words[place + 1] in (",", ";")
+            return place + 1 + bool(more)
+    return len(words)
+
+
+def gap(words, at, left_out):
+    """The place behind the form or the left-out item that begins here, or None."""
+    ahead = " ".join(words[at : at + 60]) + " "
+    for begin, closing in GHOST:
+        if re.match(begin, ahead):
+            return end_of(words, at, closing)
+    start = at
+    while words[start].startswith("///"):
+        start += 1
+    item = " ".join(words[start : start + 12])
+    if not any(item.startswith(" ".join(words_of(begin))) for begin in left_out):
+        return None
+    if words[start] == "use":
+        return end_of(words, start, ";")
+    while words[start] != "{":
+        start = gap(words, start, []) or start + 1
+    return end_of(words, start, "}")
+
+
+def behind_gaps(words, at, left_out):
+    """The place behind all forms and items that begin here, one after another."""
+    while at < len(words) and (behind := gap(words, at, left_out)):
+        at = behind
+    return at
+
+
+def difference(rattle, rust, left_out):
+    """Where the two texts part, or nothing."""
+    theirs, ours = words_of(rattle), words_of(rust)
+    at, place = behind_gaps(theirs, 0, left_out), 0
+    while at < len(theirs) and place < len(ours):
+        following = behind_gaps(theirs, at + 1, left_out)
+        if theirs[at] == ours[place]:
+            place += 1
+        elif theirs[at] != "," or theirs[following] != ours[place] or ours[place] not in list(")]}>"):
+            break
+        at = following
+    left = " ".join(theirs[at : at + 8]), " ".join(ours[place : place + 8])
+    return "{!r} is not {!r}".format(*left) if any(left) else ""
+
+
+def sources():
+    """Each source of the crate: its name, Rattle's text with the table's rows, Rust's, and what is left out."""
+    for crate, (folder, names) in rust_crate.SOURCES.items():
+        for name in names.split():
+            rattle = (TOP / "crates" / crate / "src" / f"{name}.rt").read_text()
+            for files, old, new, _reason in rust_crate.REPLACED:
+                rattle = rattle.replace(old, new) if files == "*" or name in files.split() else rattle
+            head, _, rust = (TOP / "rust" / folder / f"{name}.rs").read_text().partition("\n\n")
+            begins = [begin for file, some, _reason in rust_crate.LEFT_OUT if file == f"{folder}/{name}" for begin in some]
+            yield name, rattle, rust if head.startswith("// Made by bin/rust_crate from") else head, begins
+
+
+def erased(text):
+    try:
+        return Eraser(text).erase()
+    except Refused as refused:
+        return refused
+
+
+def main():
+    findings = {name: "" if erased(old) == new else f"{erased(old)!r}" for name, (old, new) in ERASED.items()}
+    findings |= {f"{name} is kept": "" if erased(text) == text else f"{erased(text)!r}" for name, text in KEPT.items()}
+    for name, text in REFUSED.items():
+        findings[f"{name} is refused"] = "" if isinstance(erased(text), Refused) else f"{erased(text)!r}"
+    for name, rattle, rust, left_out in sources():
+        findings[f"{name}.rs is {name}.rt without its contracts"] = difference(rattle, rust, left_out)
+    for name, finding in findings.items():
+        print(f"FAILED {name}: {finding}" if finding else f"ok {name}")
+    failed = sum(map(bool, findings.values()))
+    print(f"{len(findings) - failed} passed, {failed} failed")
+    sys.exit(failed > 0)
+
+
+if __name__ == "__main__":
+    main()
