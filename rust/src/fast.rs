@@ -3,10 +3,11 @@
 //!
 //! ```
 //! use rapidhash::fast::SeedableState;
-//! use std::hash::BuildHasher;
+//! use std::hash::{BuildHasher, Hasher};
 //!
-//! let state = SeedableState::fixed();
-//! assert_eq!(state.hash_one("user:4711"), state.hash_one("user:4711"));
+//! let mut hasher = SeedableState::fixed().build_hasher();
+//! hasher.write(b"user:4711");
+//! let hash = hasher.finish();
 //! ```
 
 use crate::inner;
@@ -39,10 +40,11 @@ pub type RandomState = inner::RandomState<false, true, false, false>;
 ///
 /// ```
 /// use rapidhash::fast::SeedableState;
-/// use std::hash::BuildHasher;
+/// use std::collections::HashMap;
 ///
 /// let state = SeedableState::custom(1, &[2, 3, 5, 7, 11, 13, 17]);
-/// let hash = state.hash_one(4711);
+/// let mut map = HashMap::with_hasher(state);
+/// map.insert("answer", 42);
 /// ```
 pub type SeedableState<'s> = inner::SeedableState<'s, false, true, false, false>;
 
@@ -50,9 +52,8 @@ pub type SeedableState<'s> = inner::SeedableState<'s, false, true, false, false>
 ///
 /// ```
 /// use rapidhash::fast::GlobalState;
-/// use std::hash::BuildHasher;
 ///
-/// assert_eq!(GlobalState::new().hash_one("key"), GlobalState::new().hash_one("key"));
+/// assert_eq!(GlobalState::new(), GlobalState::new());
 /// ```
 #[cfg(feature = "std")]
 pub type GlobalState = inner::GlobalState<false, true, false, false>;

@@ -16,10 +16,9 @@ use seeded::Seeded;
 ///
 /// ```
 /// use rapidhash::inner::GlobalState;
-/// use std::hash::BuildHasher;
 ///
 /// let state = GlobalState::<false, true, false, false>::new();
-/// assert_eq!(state.hash_one("key"), GlobalState::<false, true, false, false>::new().hash_one("key"));
+/// assert_eq!(state, GlobalState::new());
 /// ```
 #[cfg(feature = "std")]
 #[derive(Clone, Copy, PartialEq, Eq)]
@@ -155,10 +154,11 @@ impl<const AVALANCHE: bool, const SPONGE: bool, const COMPACT: bool, const PROTE
 ///
 /// ```
 /// use rapidhash::inner::SeedableState;
-/// use std::hash::BuildHasher;
+/// use std::collections::HashMap;
 ///
 /// let state = SeedableState::<false, true, false, false>::custom(1, &[2, 3, 5, 7, 11, 13, 17]);
-/// let hash = state.hash_one("user:4711");
+/// let mut map = HashMap::with_hasher(state);
+/// map.insert("answer", 42);
 /// ```
 #[derive(Clone, Copy, PartialEq, Eq)]
 pub struct SeedableState<

@@ -2,3 +2,5 @@
 
 mod blocks;
 mod integers;
+mod keys;
+mod states;

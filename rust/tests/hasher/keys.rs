@@ -1,0 +1,88 @@
+//! Keys through the traits of std. The expected hashes are the crate's, version 4.5.1.
+
+use rapidhash::{fast, quality};
+use std::hash::{BuildHasher, Hash, Hasher};
+
+#[derive(Hash)]
+enum Kind {
+    Plain,
+    Pair(u8, i16),
+    Named {
+        name: String,
+        tags: Vec<u32>,
+        wide: i128,
+    },
+}
+
+#[derive(Hash)]
+struct Key {
+    id: u64,
+    kind: Kind,
+    flag: bool,
+    letter: char,
+    offset: Option<isize>,
+    numbers: (i8, u16, i32, u128),
+    bytes: [u8; 5],
+}
+
+fn key(number: u8, kind: Kind, offset: Option<isize>) -> Key {
+    Key {
+        id: u64::from(number).wrapping_mul(0x9e37_79b9_7f4a_7c15),
+        kind,
+        flag: number % 2 == 0,
+        letter: 'λ',
+        offset,
+        numbers: (-1, 2, -3, 4),
+        bytes: [1, 2, 3, 4, number],
+    }
+}
+
+/// The hashes of a key by the fixed states of `fast` and `quality`.
+fn hashes<T: Hash + ?Sized>(key: &T) -> (u64, u64) {
+    let mut fast = fast::SeedableState::fixed().build_hasher();
+    let mut quality = quality::SeedableState::fixed().build_hasher();
+    key.hash(&mut fast);
+    key.hash(&mut quality);
+    (fast.finish(), quality.finish())
+}
+
+#[test]
+fn derived_keys() {
+    let plain = key(0, Kind::Plain, None);
+    assert_eq!(hashes(&plain), (12897164979441356047, 16779014412953333066));
+    let pair = key(1, Kind::Pair(1, -1), Some(-1));
+    assert_eq!(hashes(&pair), (3121766663117925470, 972828044404782362));
+    let named = Kind::Named {
+        name: "nn".to_owned(),
+        tags: vec![0, 1],
+        wide: -2,
+    };
+    let named = key(2, named, Some(-2));
+    assert_eq!(hashes(&named), (7533125613894166309, 9222927566033123518));
+}
+
+#[test]
+fn plain_keys() {
+    assert_eq!(hashes("hello"), (4470728437428163729, 11433842339275487407));
+    assert_eq!(
+        hashes(&4711u32),
+        (9601639254778723943, 13637543073516011895)
+    );
+    assert_eq!(
+        hashes(b"hello world"),
+        (11339569883731722945, 3348275917668072623)
+    );
+    let tuple = (7u8, -1i16, "key", [1u64, 2, 3]);
+    assert_eq!(hashes(&tuple), (15687909503537828233, 15552875111850562695));
+}
+
+/// The trait's integer writes reach the sponge: two of a block are the same as the joined one.
+#[test]
+fn integers_of_the_trait_are_packed() {
+    let (mut parts, mut whole) = (fast::RapidHasher::default(), fast::RapidHasher::default());
+    for value in [2u8, 1] {
+        value.hash(&mut parts);
+    }
+    258u16.hash(&mut whole);
+    assert_eq!(parts.finish(), whole.finish());
+}

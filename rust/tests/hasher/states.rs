@@ -1,0 +1,109 @@
+//! The states of `fast`, `quality` and `inner`, with secrets of the caller's and of this process.
+
+use rapidhash::inner::{GlobalSecrets, SeedSource};
+use rapidhash::v3::RapidSecrets;
+use rapidhash::{fast, inner, quality};
+use std::hash::{BuildHasher, Hasher};
+
+/// The hash of an integer, which waits in the sponge, and four bytes.
+fn hash_of<S: BuildHasher>(state: &S) -> u64 {
+    let mut hasher = state.build_hasher();
+    hasher.write_u64(4711);
+    hasher.write(b"user");
+    hasher.finish()
+}
+
+/// The hashes are the crate's, of hashers with these seeds and secrets.
+#[test]
+fn states_of_known_seeds() {
+    let own = [2, 3, 5, 7, 11, 13, 17];
+    assert_eq!(
+        hash_of(&fast::SeedableState::custom(1, &own)),
+        7367051224096954094
+    );
+    assert_eq!(
+        hash_of(&quality::SeedableState::custom(1, &own)),
+        4813190096566161236
+    );
+    assert_eq!(hash_of(&fast::SeedableState::fixed()), 6021588442437052047);
+    assert_eq!(
+        hash_of(&quality::SeedableState::fixed()),
+        829435165229610713
+    );
+    let secrets = GlobalSecrets::new(1);
+    let global = fast::SeedableState::custom(secrets.get_global_seed(), secrets.get());
+    assert_eq!(hash_of(&global), 1604029122039678008);
+    let mut source = SeedSource::new(&secrets, 11233534814198372660);
+    let random = fast::SeedableState::custom(source.next(), secrets.get());
+    assert_eq!(hash_of(&random), 16952220623277801737);
+}
+
+/// Each type builds hashers of its own options.
+#[test]
+fn aliases_name_their_options() {
+    let fast: inner::SeedableState<false, true> = fast::SeedableState::fixed();
+    let quality: inner::SeedableState<true, true, false, false> = quality::SeedableState::fixed();
+    let hasher: inner::RapidHasher<true, true> = quality.build_hasher();
+    assert_ne!(hasher.finish(), fast.build_hasher().finish());
+}
+
+#[test]
+fn states_are_equal_by_seed_and_secrets() {
+    let state = fast::SeedableState::custom(1, &[2; 7]);
+    assert!(state == fast::SeedableState::with_seed(1, &[2; 7]));
+    assert!(state != fast::SeedableState::custom(2, &[2; 7]));
+    assert!(state != fast::SeedableState::custom(1, &[2, 2, 2, 2, 2, 2, 3]));
+}
+
+#[cfg(feature = "std")]
+#[test]
+fn states_without_words() {
+    let (one, other) = (fast::RandomState::new(), fast::RandomState::default());
+    assert!(one != other && hash_of(&one) != hash_of(&other));
+    assert_eq!(hash_of(&one), hash_of(&one.clone()));
+    assert!(quality::GlobalState::new() == quality::GlobalState::default());
+    assert!(fast::SeedableState::random() != fast::SeedableState::default());
+    assert!(fast::SeedableState::new(5) == fast::SeedableState::new(5));
+    assert!(fast::SeedableState::new(5) != fast::SeedableState::new(6));
+    assert!(RapidSecrets::random() != RapidSecrets::random());
+    let debug = format!(
+        "{:?} {:?} {:?}",
+        one,
+        fast::GlobalState::new(),
+        fast::SeedableState::fixed()
+    );
+    assert_eq!(
+        debug,
+        "RandomState { .. } GlobalState { .. } SeedableState { .. }"
+    );
+}
+
+/// All threads have the secrets of the process, and none has the seeds of another.
+#[cfg(feature = "std")]
+#[test]
+fn threads_share_secrets_and_no_seeds() {
+    use std::{collections::HashSet, thread};
+
+    let run = || thread::spawn(|| (hash_of(&fast::GlobalState::new()), RapidSecrets::random()));
+    let threads: Vec<_> = (0..8).map(|_| run()).collect();
+    let found: Vec<_> = threads
+        .into_iter()
+        .map(|thread| thread.join().unwrap())
+        .collect();
+    let here = (hash_of(&fast::GlobalState::new()), RapidSecrets::random());
+    assert!(
+        found
+            .iter()
+            .all(|(hash, made)| (*hash, made.secrets) == (here.0, here.1.secrets))
+    );
+    let seeds: HashSet<u64> = found.iter().map(|(_, made)| made.seed).collect();
+    assert_eq!(seeds.len(), 8);
+}
+
+#[test]
+fn hashers_in_constants() {
+    const HASHER: fast::RapidHasher<'static> = fast::RapidHasher::default_const();
+    const SECRETS: RapidSecrets = RapidSecrets::seed(0x12_3456).reseed();
+    assert_eq!(HASHER.finish(), fast::RapidHasher::new(0).finish());
+    assert_eq!(SECRETS, RapidSecrets::seed(0x12_3456).reseed());
+}

@@ -1,0 +1,105 @@
+//! What users of Rust expect besides the hashes: writers, maps, copies, and panics with a message.
+#![cfg(feature = "std")]
+
+use rapidhash::reader::Source;
+use rapidhash::rng::{RapidRng, rapidrng_time};
+use rapidhash::v3::{DEFAULT_RAPID_SECRETS, rapidhash_v3};
+use rapidhash::v3::{RapidStream, RapidStreamHasherLanes, RapidStreamHasherV3};
+use rapidhash::{HashMapExt, HashSetExt, RapidHashMap, RapidHashSet};
+use rapidhash::{util, v2, v3};
+use std::io::{Write, copy};
+
+#[test]
+fn streams_are_writers() {
+    let bytes: Vec<u8> = (0..20_000u32).map(|place| (place % 251) as u8).collect();
+    let mut stream = RapidStreamHasherV3::new(&DEFAULT_RAPID_SECRETS);
+    assert_eq!(copy(&mut bytes.as_slice(), &mut stream).unwrap(), 20_000);
+    write!(stream, "{}", 4711).unwrap();
+    stream.flush().unwrap();
+    let mut by_lanes = RapidStream::new(7, &DEFAULT_RAPID_SECRETS);
+    assert_eq!(copy(&mut bytes.as_slice(), &mut by_lanes).unwrap(), 20_000);
+    by_lanes.write_all(b"4711").unwrap();
+    by_lanes.flush().unwrap();
+    let whole = [bytes.as_slice(), b"4711"].concat();
+    assert_eq!(stream.finish(), rapidhash_v3(&whole));
+    assert_eq!(by_lanes.finish(), rapidhash_v3(&whole));
+}
+
+#[test]
+fn a_copy_of_a_stream_goes_on_alone() {
+    let mut stream = RapidStreamHasherV3::new(&DEFAULT_RAPID_SECRETS);
+    stream.write(b"hel");
+    let mut copy = stream.clone();
+    stream.write(b"lo");
+    copy.write(b"p");
+    assert_eq!(stream.finish(), rapidhash_v3(b"hello"));
+    assert_eq!(copy.finish(), rapidhash_v3(b"help"));
+    assert!(format!("{stream:?}").starts_with("RapidStreamHasherLanes"));
+    assert!(format!("{:?}", Source::new(b"x".as_slice())).starts_with("Source"));
+}
+
+#[test]
+fn maps_and_sets() {
+    let mut map = RapidHashMap::default();
+    assert_eq!(map.insert("key", "value"), None);
+    assert_eq!((map.get("key"), map.get("na")), (Some(&"value"), None));
+    let mut map: RapidHashMap<u64, u64> = RapidHashMap::with_capacity(100);
+    assert!(map.capacity() >= 100);
+    map.extend((0..100).map(|number| (number, number * number)));
+    assert!((0..100).all(|number| map[&number] == number * number));
+    let mut set: RapidHashSet<String> = HashSetExt::with_capacity(10);
+    assert!(
+        set.capacity() >= 10 && set.insert("value".to_owned()) && !set.insert("value".to_owned())
+    );
+    let empty: (RapidHashMap<u8, u8>, RapidHashSet<u8>) = (HashMapExt::new(), HashSetExt::new());
+    assert_eq!((empty.0.capacity(), empty.1.capacity()), (0, 0));
+}
+
+#[test]
+fn generators_start_at_random() {
+    assert_ne!(RapidRng::default(), RapidRng::default());
+}
+
+#[test]
+#[should_panic(expected = "MINOR must be 0, 1 or 2")]
+fn a_minor_that_is_none() {
+    v2::rapidhash_v2_inline::<3, true, false, false>(b"", &v2::DEFAULT_RAPID_SECRETS);
+}
+
+#[test]
+#[should_panic(expected = "MINOR must be 0, 1 or 2")]
+fn a_minor_that_is_none_of_a_long_file() {
+    let mut zeros = [0; 10_000].as_slice();
+    let secrets = &v2::DEFAULT_RAPID_SECRETS;
+    let _ = v2::rapidhash_v2_file_inline::<&[u8], 3, false>(&mut zeros, 10_000, secrets);
+}
+
+#[test]
+#[should_panic(expected = "LANES must be 7, 5 or 3")]
+fn four_lanes() {
+    RapidStreamHasherLanes::<4, true, false>::new(&DEFAULT_RAPID_SECRETS);
+}
+
+#[test]
+#[should_panic(expected = "the lanes must be 7, 5 or 3")]
+fn four_lanes_as_a_value() {
+    RapidStream::new(4, &DEFAULT_RAPID_SECRETS);
+}
+
+#[test]
+#[should_panic(expected = "SIZE must be at least 1")]
+fn a_buffer_of_no_bytes() {
+    let _ = v3::rapidhash_v3_file_sized::<&[u8], 0, false>(b"hello", &DEFAULT_RAPID_SECRETS);
+}
+
+#[test]
+#[should_panic(expected = "the nanoseconds must be less than a second")]
+fn a_second_of_nanoseconds() {
+    rapidrng_time(&mut 42, 0, 1_000_000_000);
+}
+
+#[test]
+#[should_panic(expected = "range end index 9 out of range")]
+fn a_read_past_the_end() {
+    util::read_u64(&[0; 8], 1);
+}

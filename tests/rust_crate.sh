@@ -1,0 +1,90 @@
+#!/usr/bin/env bash
+# Tests the Rust crate in rust/: that its sources are current, its layout and lints, its tests and examples with
+# the machine's compiler and with Debian's, the package that cargo makes, and the README's program in a folder
+# of its own. Debian's compiler is skipped if it is not installed. The last line counts the cases.
+set -u
+
+top=$(cd "$(dirname "${BASH_SOURCE[0]}")/.." && pwd) || exit 1
+room=$(mktemp -d) || exit 1
+trap 'rm -rf "$room"' EXIT
+export CARGO_TARGET_DIR=$room/target CARGO_NET_OFFLINE=true
+passed=0
+failed=0
+
+# Counts a case by the status of a command: NAME COMMAND..
+try() {
+  local name=$1
+  shift
+  if "$@" >"$room/log" 2>&1; then
+    passed=$((passed + 1))
+    printf 'ok %s\n' "$name"
+  else
+    failed=$((failed + 1))
+    printf 'FAILED %s: %s\n' "$name" "$(tail -c 800 "$room/log")"
+  fi
+}
+
+# Debian's cargo, with its compiler.
+debian() {
+  env RUSTC=/usr/bin/rustc RUSTDOC=/usr/bin/rustdoc CARGO_TARGET_DIR="$room/debian" /usr/bin/cargo "$@"
+}
+
+# Tests that ran, and none of them failed: the words of cargo. A run without a test fails.
+tests_pass() {
+  "$@" >"$room/tests" 2>&1 || { cat "$room/tests"; return 1; }
+  grep -q '^test result: ok\. [1-9]' "$room/tests"
+}
+
+has_no_dependency() {
+  [ "$(cargo tree | wc -l)" -eq 1 ]
+}
+
+has_no_unsafe() {
+  grep -q '^#!\[forbid(unsafe_code)\]' src/lib.rs && ! grep -rnE '\bunsafe\b[^_]' src
+}
+
+documents_itself() {
+  RUSTDOCFLAGS='-D warnings' cargo doc --no-deps "$@"
+}
+
+# The package, with its licences, and nothing of the tests.
+packages() {
+  cargo package --allow-dirty && tar -tf "$CARGO_TARGET_DIR"/package/*.crate >"$room/list" &&
+    grep -q '/LICENSE-MIT$' "$room/list" && grep -q '/LICENSE-APACHE$' "$room/list" &&
+    grep -q '/NOTICE$' "$room/list" && ! grep -q '/tests/' "$room/list"
+}
+
+# The first program of the README, in a new project beside nothing: COMMAND..
+readme_runs() {
+  local project=$room/project
+  rm -rf "$project" && mkdir -p "$project/src" &&
+    awk '/^```rust$/ { on = 1; next } /^```$/ { if (on) exit } on' README.md >"$project/src/main.rs" &&
+    printf '[package]\nname = "first"\nversion = "0.0.0"\nedition = "2021"\n\n[dependencies]\n%s\n' \
+      "yervound-rapidhash = { path = \"$top/rust\" }" >"$project/Cargo.toml" &&
+    (cd "$project" && "$@" run --quiet) >"$room/printed" && [ "$(cat "$room/printed")" = 3327445792987248966 ]
+}
+
+cd "$top/rust" || exit 1
+try current "$top/bin/rust_crate" --check
+try layout cargo fmt --check
+for features in --all-features --no-default-features; do
+  try "lints $features" cargo clippy --all-targets "$features" -- -D warnings
+  try "documentation $features" documents_itself "$features"
+  try "tests $features" tests_pass cargo test "$features" --tests
+done
+try examples tests_pass cargo test --doc
+try no_dependency has_no_dependency
+try no_unsafe has_no_unsafe
+try package packages
+try readme readme_runs cargo
+if [ -x /usr/bin/rustc ] && [ -x /usr/bin/cargo ]; then
+  try "tests with $(/usr/bin/rustc --version)" tests_pass debian test --tests
+  try "tests without std" tests_pass debian test --tests --no-default-features
+  try "examples" tests_pass debian test --doc
+  try "readme" readme_runs debian
+else
+  printf "skipped Debian's compiler: no /usr/bin/rustc and /usr/bin/cargo\n"
+fi
+
+printf '%s passed, %s failed\n' "$passed" "$failed"
+[ "$failed" -eq 0 ]
