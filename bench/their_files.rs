@@ -37,8 +37,14 @@ fn main() -> std::io::Result<()> {
     let len = file.metadata()?.len();
     let start = Instant::now();
     let hash = match words[1].as_str() {
+        #[cfg(not(feature = "yervound"))]
         "v1" => v1::rapidhash_v1_file(&mut file)?,
+        #[cfg(not(feature = "yervound"))]
         "v2.2" => v2::rapidhash_v2_2_file(&mut file)?,
+        #[cfg(feature = "yervound")]
+        "v1" => v1::rapidhash_v1_file(&mut file, len)?,
+        #[cfg(feature = "yervound")]
+        "v2.2" => v2::rapidhash_v2_2_file(&mut file, len)?,
         "read-8k" => read_alone(file, &mut [0; 8192])?,
         "read-64k" => read_alone(file, &mut [0; 65536])?,
         "hash-8k" => hash_alone(len, &[1; 8192]),
