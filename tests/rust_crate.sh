@@ -35,6 +35,13 @@ tests_pass() {
   grep -q '^test result: ok\. [1-9]' "$room/tests"
 }
 
+# The files that bin/rust_crate makes are those that git takes as generated.
+marks_generated() {
+  grep -rl '^// Made by bin/rust_crate' src tests | sort >"$room/made" && [ -s "$room/made" ] &&
+    find src tests -name '*.rs' | git check-attr --stdin linguist-generated |
+    sed -n 's/: linguist-generated: set$//p' | sort | diff "$room/made" -
+}
+
 has_no_dependency() {
   [ "$(cargo tree | wc -l)" -eq 1 ]
 }
@@ -66,6 +73,7 @@ readme_runs() {
 
 cd "$top/rust" || exit 1
 try current "$top/bin/rust_crate" --check
+try generated marks_generated
 try layout cargo fmt --check
 for features in --all-features --no-default-features; do
   try "lints $features" cargo clippy --all-targets "$features" -- -D warnings
