@@ -1,8 +1,8 @@
 #!/usr/bin/env bash
-# Builds the library for C, static and shared, and tests what stands over it: the header alone by each
-# standard of C and C++, the names that the two files define, what a stream copies of a large piece, and
-# the bindings for Python, Rust, JavaScript and Go. A language that is not on this machine is skipped and
-# not counted. The last line counts the cases.
+# Builds the library for C, static and shared, and tests it and what stands over it: the header alone by
+# each standard of C and C++, the names that the two files define, every call from C and C++, and the
+# bindings for Python, Rust, JavaScript and Go. A language that is not on this machine is skipped and not
+# counted. The last line counts the cases.
 set -u
 
 top=$(cd "$(dirname "${BASH_SOURCE[0]}")/.." && pwd) || exit 1
@@ -79,10 +79,16 @@ defines_the_header() {
   awk 'NF > 1 { print $1 }' "$room/nm" | sort | diff "$room/declared" -
 }
 
-# Of a large piece a stream copies only what fills its buffer. No contract says so.
-large_pieces() {
-  cc -O2 -Wall -Wextra -Werror "-I$top/include" "$top/tests/large_pieces.c" "$archive" \
-    -o "$room/large_pieces" && "$room/large_pieces"
+# Every call of the library, linked by the words of a compiler: COMPILER WORD..
+calls_from_c() {
+  "$@" -O2 -Wall -Wextra -Werror -o "$room/c_library" && LD_LIBRARY_PATH=$room/both/lib "$room/c_library"
+}
+
+by_pkg_config() {
+  local words
+  words=$(PKG_CONFIG_PATH=$room/both/lib/pkgconfig pkg-config --cflags --libs rapidhash_c) || return 1
+  # shellcheck disable=SC2086
+  calls_from_c cc "$top/tests/c_library.c" $words
 }
 
 python_tests() {
@@ -137,7 +143,10 @@ for standard in c++98 c++11 c++17 c++20 c++23; do
 done
 try names_of_the_archive defines_the_header "$archive"
 try names_of_the_shared_library defines_the_header -D "$shared"
-try large_pieces large_pieces
+try c_archive calls_from_c cc -std=c99 -I"$top/include" "$top/tests/c_library.c" "$archive"
+try c_shared calls_from_c cc -std=c99 -I"$top/include" "$top/tests/c_library.c" "$shared"
+try c_by_pkg_config by_pkg_config
+try cpp_archive calls_from_c c++ -I"$top/include" -x c++ "$top/tests/c_library.c" -x none "$archive"
 
 try_with python python3 python_tests
 try_with rust_by_folder cargo rust_tests RAPIDHASH_LIB_DIR="$room/both/lib"
