@@ -168,7 +168,6 @@ VERSIONS = {
     "share/rapidsum.1": r'^\.TH .*"Yervound (\d+\.\d+)"',
     "include/rapidhash_c.h": r'VERSION_STRING "(\d+\.\d+)"',
     "crates/example_sums/src/words.rt": r'\.version\("(\d+\.\d+)"\)',
-    "bindings/rust/Cargo.toml": r'^version = "(\d+\.\d+)\.\d+"',
 }
 
 
