@@ -1,8 +1,8 @@
 #!/usr/bin/env bash
 # Builds the library for C, static and shared, and tests it and what stands over it: the header alone by
-# each standard of C and C++, the names that the two files define, every call from C and C++, and the
-# bindings for Python, JavaScript and Go. A language that is not on this machine is skipped and not
-# counted. The last line counts the cases.
+# each standard of C and C++, the names that the two files define, every call from C and C++, the hashes
+# beside those of the Rust crate, and the bindings for Python, JavaScript and Go. A language that is not on
+# this machine is skipped and not counted. The last line counts the cases.
 set -u
 
 top=$(cd "$(dirname "${BASH_SOURCE[0]}")/.." && pwd) || exit 1
@@ -11,6 +11,8 @@ trap 'rm -rf "$room"' EXIT
 header=$top/include/rapidhash_c.h
 archive=$top/crates/rapidhash_c/out/librapidhash_c.a
 shared=$top/build/librapidhash_c.so.1
+# The Rust crate: the .rlib that the variable names, or what cargo builds of the folder rust.
+rlib=${RAPIDHASH_RLIB:-$room/cargo/release/librapidhash.rlib}
 passed=0
 failed=0
 
@@ -81,6 +83,16 @@ by_pkg_config() {
   calls_from_c cc "$top/tests/c_library.c" $words
 }
 
+# The hashes of random messages from C and from Rust.
+rust_and_c() {
+  if ! [ -f "$rlib" ]; then
+    cargo build --release --offline --quiet --manifest-path "$top/rust/Cargo.toml" \
+      --target-dir "$room/cargo" || return 1
+  fi
+  rustc -O --edition 2021 "$top/tests/rust_and_c.rs" --extern "rapidhash=$rlib" \
+    -L "native=${archive%/*}" -l static=rapidhash_c -o "$room/rust_and_c" && "$room/rust_and_c"
+}
+
 python_tests() {
   RAPIDHASH_LIBRARY=$shared python3 -B "$top/bindings/python/test_rapidhash.py"
 }
@@ -130,6 +142,11 @@ try c_archive calls_from_c cc -std=c99 -I"$top/include" "$top/tests/c_library.c"
 try c_shared calls_from_c cc -std=c99 -I"$top/include" "$top/tests/c_library.c" "$shared"
 try c_by_pkg_config by_pkg_config
 try cpp_archive calls_from_c c++ -I"$top/include" -x c++ "$top/tests/c_library.c" -x none "$archive"
+if [ -f "$rlib" ] || [ -d "$top/rust" ]; then
+  try rust_and_c rust_and_c
+else
+  printf 'skipped rust_and_c: no Rust crate in %s/rust\n' "$top"
+fi
 
 try_with python python3 python_tests
 try_with go go go_tests
