@@ -63,7 +63,8 @@ static void check_form(const struct form *form)
     compare(form->name, "with the secrets of word 0", form->seeded(bytes, form->len, &secrets), form->of_default);
     if (form->with_seed == NULL)
         return;
-    compare(form->name, "with a seed word", form->with_seed(bytes, form->len, 1), form->of_word);
+    compare(form->name, "with the seed word 0", form->with_seed(bytes, form->len, 0), form->of_default);
+    compare(form->name, "with the seed word 1", form->with_seed(bytes, form->len, 1), form->of_word);
     rapidhash_seed_secrets(1, &secrets);
     compare(form->name, "with the secrets of word 1", form->seeded(bytes, form->len, &secrets), form->of_word);
 }
@@ -72,13 +73,15 @@ static void check_form(const struct form *form)
 static void check_v1(void)
 {
     const uint64_t of_default = UINT64_C(13504714392771582078), of_word = UINT64_C(16595489079910452471);
+    const uint64_t default_word = UINT64_C(0xbdd89aa982704029);
     struct rapidhash_v1_secrets secrets;
 
     compare("v1", "with the default secrets", rapidhash_v1(bytes, 60), of_default);
     compare("v1", "with secrets of one's own", rapidhash_v1_seeded(bytes, 60, &own_of_v1),
             UINT64_C(13848206912060221315));
-    compare("v1", "with a seed word", rapidhash_v1_with_seed(bytes, 60, 1), of_word);
-    rapidhash_v1_seed_secrets(UINT64_C(0xbdd89aa982704029), &secrets);
+    compare("v1", "with its default word", rapidhash_v1_with_seed(bytes, 60, default_word), of_default);
+    compare("v1", "with the seed word 1", rapidhash_v1_with_seed(bytes, 60, 1), of_word);
+    rapidhash_v1_seed_secrets(default_word, &secrets);
     compare("v1", "with the secrets of its default word", rapidhash_v1_seeded(bytes, 60, &secrets), of_default);
     rapidhash_v1_seed_secrets(1, &secrets);
     compare("v1", "with the secrets of word 1", rapidhash_v1_seeded(bytes, 60, &secrets), of_word);
