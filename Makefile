@@ -97,7 +97,7 @@ dist: all wasm
 	$(MAKE) -s install DESTDIR= PREFIX='$(CURDIR)/build/$(name)'
 	sed 's|@PREFIX@|$${pcfiledir}/../..|; s|@LIBDIR@|$${prefix}/lib|; s|@INCLUDEDIR@|$${prefix}/include|' \
 	  share/rapidhash_c.pc.in >build/$(name)/lib/pkgconfig/rapidhash_c.pc
-	tar --exclude=__pycache__ --exclude=target --exclude=build.sh -cf - bindings | \
+	tar --exclude=__pycache__ --exclude=build.sh -cf - bindings | \
 	  tar -C build/$(name) -xf -
 	install -D -m 644 build/rapidhash_c.wasm build/$(name)/build/rapidhash_c.wasm
 	install -m 644 LICENSE-MIT LICENSE-APACHE NOTICE docs/C.md docs/ALGORITHM.md build/$(name)

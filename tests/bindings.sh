@@ -1,8 +1,8 @@
 #!/usr/bin/env bash
-# Builds the library for C, static and shared, and tests what stands over it: the header alone by each
-# standard of C and C++, the names that the two files define, what a stream copies of a large piece, and
-# the bindings for Python, Rust, JavaScript and Go. A language that is not on this machine is skipped and
-# not counted. The last line counts the cases.
+# Builds the library for C, static and shared, and tests it and what stands over it: the header alone by
+# each standard of C and C++, the names that the two files define, every call from C and C++, the hashes
+# beside those of the Rust crate, and the bindings for Python, JavaScript and Go. A language that is not on
+# this machine is skipped and not counted. The last line counts the cases.
 set -u
 
 top=$(cd "$(dirname "${BASH_SOURCE[0]}")/.." && pwd) || exit 1
@@ -11,6 +11,8 @@ trap 'rm -rf "$room"' EXIT
 header=$top/include/rapidhash_c.h
 archive=$top/crates/rapidhash_c/out/librapidhash_c.a
 shared=$top/build/librapidhash_c.so.1
+# The Rust crate: the .rlib that the variable names, or what cargo builds of the folder rust.
+rlib=${RAPIDHASH_RLIB:-$room/cargo/release/librapidhash.rlib}
 passed=0
 failed=0
 
@@ -38,23 +40,13 @@ try_with() {
   fi
 }
 
-# Lays the library out as an installed one, with a .pc file: FOLDER FILE..
-lay_out() {
-  local prefix=$1
-  shift
-  mkdir -p "$prefix/lib/pkgconfig" "$prefix/include" &&
-    cp "$header" "$prefix/include/" && cp "$@" "$prefix/lib/" &&
-    sed "s|@PREFIX@|$prefix|; s|@LIBDIR@|$prefix/lib|; s|@INCLUDEDIR@|$prefix/include|" \
-      "$top/share/rapidhash_c.pc.in" >"$prefix/lib/pkgconfig/rapidhash_c.pc"
-}
-
-# Builds the library, and lays it out with both files, and with the shared one alone.
+# Builds the library, and lays it out as an installed one, with a file for pkg-config.
 prepare() {
   make -s -C "$top" library </dev/null &&
-    lay_out "$room/both" "$archive" "$shared" &&
-    lay_out "$room/shared" "$shared" &&
-    ln -s librapidhash_c.so.1 "$room/both/lib/librapidhash_c.so" &&
-    ln -s librapidhash_c.so.1 "$room/shared/lib/librapidhash_c.so"
+    mkdir "$room/lib" "$room/include" && cp "$header" "$room/include" &&
+    cp "$archive" "$shared" "$room/lib" && ln -s librapidhash_c.so.1 "$room/lib/librapidhash_c.so" &&
+    sed "s|@PREFIX@|$room|; s|@LIBDIR@|$room/lib|; s|@INCLUDEDIR@|$room/include|" \
+      "$top/share/rapidhash_c.pc.in" >"$room/lib/rapidhash_c.pc"
 }
 
 # The header alone in an empty program: COMPILER LANGUAGE STANDARD
@@ -79,27 +71,36 @@ defines_the_header() {
   awk 'NF > 1 { print $1 }' "$room/nm" | sort | diff "$room/declared" -
 }
 
-# Of a large piece a stream copies only what fills its buffer. No contract says so.
-large_pieces() {
-  cc -O2 -Wall -Wextra -Werror "-I$top/include" "$top/tests/large_pieces.c" "$archive" \
-    -o "$room/large_pieces" && "$room/large_pieces"
+# Every call of the library, linked by the words of a compiler: COMPILER WORD..
+calls_from_c() {
+  "$@" -O2 -Wall -Wextra -Werror -o "$room/c_library" && LD_LIBRARY_PATH=$room/lib "$room/c_library"
+}
+
+by_pkg_config() {
+  local words
+  words=$(PKG_CONFIG_PATH=$room/lib pkg-config --cflags --libs rapidhash_c) || return 1
+  # shellcheck disable=SC2086
+  calls_from_c cc "$top/tests/c_library.c" $words
+}
+
+# The hashes of random messages from C and from Rust.
+rust_and_c() {
+  if ! [ -f "$rlib" ]; then
+    cargo build --release --offline --quiet --manifest-path "$top/rust/Cargo.toml" \
+      --target-dir "$room/cargo" || return 1
+  fi
+  rustc -O --edition 2021 "$top/tests/rust_and_c.rs" --extern "rapidhash=$rlib" \
+    -L "native=${archive%/*}" -l static=rapidhash_c -o "$room/rust_and_c" && "$room/rust_and_c"
 }
 
 python_tests() {
   RAPIDHASH_LIBRARY=$shared python3 -B "$top/bindings/python/test_rapidhash.py"
 }
 
-# By the library of the folder, or by that of pkg-config: WORDS of env
-rust_tests() (
-  cd "$top/bindings/rust" &&
-    env -u RAPIDHASH_LIB_DIR -u RAPIDHASH_SHARED CARGO_TARGET_DIR="$room/cargo" "$@" \
-      cargo test --offline --locked --jobs 2
-)
-
 go_tests() (
   cd "$top/bindings/go" &&
-    PKG_CONFIG_PATH=$room/both/lib/pkgconfig LD_LIBRARY_PATH=$room/both/lib GOCACHE=$room/go \
-      GOPROXY=off GOFLAGS=-mod=readonly go test -count 1 -p 2 ./...
+    PKG_CONFIG_PATH=$room/lib LD_LIBRARY_PATH=$room/lib GOCACHE=$room/go GOPROXY=off \
+      GOFLAGS=-mod=readonly go test -count 1 -p 2 ./...
 )
 
 # Whether node takes 64-bit memory: the smallest module that has one, with the flag or without.
@@ -137,13 +138,17 @@ for standard in c++98 c++11 c++17 c++20 c++23; do
 done
 try names_of_the_archive defines_the_header "$archive"
 try names_of_the_shared_library defines_the_header -D "$shared"
-try large_pieces large_pieces
+try c_archive calls_from_c cc -std=c99 -I"$top/include" "$top/tests/c_library.c" "$archive"
+try c_shared calls_from_c cc -std=c99 -I"$top/include" "$top/tests/c_library.c" "$shared"
+try c_by_pkg_config by_pkg_config
+try cpp_archive calls_from_c c++ -I"$top/include" -x c++ "$top/tests/c_library.c" -x none "$archive"
+if [ -f "$rlib" ] || [ -d "$top/rust" ]; then
+  try rust_and_c rust_and_c
+else
+  printf 'skipped rust_and_c: no Rust crate in %s/rust\n' "$top"
+fi
 
 try_with python python3 python_tests
-try_with rust_by_folder cargo rust_tests RAPIDHASH_LIB_DIR="$room/both/lib"
-try_with rust_by_pkg_config cargo rust_tests PKG_CONFIG_PATH="$room/both/lib/pkgconfig"
-try_with rust_shared cargo rust_tests PKG_CONFIG_PATH="$room/shared/lib/pkgconfig" \
-  LD_LIBRARY_PATH="$room/shared/lib"
 try_with go go go_tests
 javascript_tests
 

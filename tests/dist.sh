@@ -51,8 +51,8 @@ links_where_it_stands() {
   words=$(PKG_CONFIG_PATH=$room/unpacked/lib/pkgconfig pkg-config --cflags --libs rapidhash_c) ||
     return 1
   # shellcheck disable=SC2086
-  cc -O2 "$top/examples/known_values.c" $words -o "$room/known_values" &&
-    LD_LIBRARY_PATH=$room/unpacked/lib "$room/known_values"
+  cc -O2 "$top/tests/c_library.c" $words -o "$room/c_library" &&
+    LD_LIBRARY_PATH=$room/unpacked/lib "$room/c_library"
 }
 
 try archive makes_the_archive

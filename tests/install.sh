@@ -52,8 +52,8 @@ prints_and_checks_a_sum() {
 
 # Builds the example by some words of the compiler, and runs it with the installed shared library.
 runs_the_example() {
-  cc -O2 -Wall -Werror "$top/examples/known_values.c" "$@" -o "$room/known_values" &&
-    LD_LIBRARY_PATH=$prefix/lib "$room/known_values"
+  cc -O2 -Wall -Werror "$top/tests/c_library.c" "$@" -o "$room/c_library" &&
+    LD_LIBRARY_PATH=$prefix/lib "$room/c_library"
 }
 
 # The words that pkg-config tells are all that a C program needs: they link the shared library.
@@ -62,7 +62,7 @@ links_by_pkg_config() {
   words=$(PKG_CONFIG_PATH=$prefix/lib/pkgconfig pkg-config --cflags --libs rapidhash_c) || return 1
   # shellcheck disable=SC2086
   runs_the_example $words &&
-    readelf -d "$room/known_values" | grep -q 'NEEDED.*librapidhash_c\.so\.1'
+    readelf -d "$room/c_library" | grep -q 'NEEDED.*librapidhash_c\.so\.1'
 }
 
 links_the_archive() {
@@ -140,8 +140,8 @@ serves_a_folder_of_any_name() {
 links_by_words_of() {
   local words
   words=$(PKG_CONFIG_PATH=$1/lib/pkgconfig pkg-config --cflags --libs rapidhash_c) &&
-    eval "cc -O2 '$top/examples/known_values.c' $words -o '$room/known_values'" &&
-    LD_LIBRARY_PATH=$1/lib "$room/known_values"
+    eval "cc -O2 '$top/tests/c_library.c' $words -o '$room/c_library'" &&
+    LD_LIBRARY_PATH=$1/lib "$room/c_library"
 }
 
 # A folder that the file for pkg-config cannot name is refused in one line, before a file is copied.

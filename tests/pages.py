@@ -12,7 +12,7 @@ TOP = Path(__file__).resolve().parent.parent
 PAGES = sorted([*TOP.glob("*.md"), *TOP.glob("docs/*.md"), TOP / "share" / "dist.md"])
 # Folders that builds make, and what lies in an archive or in an installed copy alone.
 BUILT = ("build/", "crates/example_NAME", "tests/example_NAME")
-PATH = re.compile(r"`((?:crates|docs|tests|bench|bin|include|bindings|examples|share|\.ci)/[^` ]*)`")
+PATH = re.compile(r"`((?:crates|docs|tests|bench|bin|include|bindings|share|\.ci)/[^` ]*)`")
 NAME = re.compile(r"`([A-Za-z]\w*(?:::\w+)*)`")
 passed = failed = 0
 
@@ -168,7 +168,6 @@ VERSIONS = {
     "share/rapidsum.1": r'^\.TH .*"Yervound (\d+\.\d+)"',
     "include/rapidhash_c.h": r'VERSION_STRING "(\d+\.\d+)"',
     "crates/example_sums/src/words.rt": r'\.version\("(\d+\.\d+)"\)',
-    "bindings/rust/Cargo.toml": r'^version = "(\d+\.\d+)\.\d+"',
 }
 
 

@@ -92,7 +92,7 @@ def run_command(command, comment, programs):
     said = re.search(r"prints (\d+)", comment)
     is_right = done.returncode == 0 and (said is None or done.stdout.strip() == said[1])
     if command.startswith("cc "):
-        is_right = is_right and shell("build/known_values", TOP).returncode == 0
+        is_right = is_right and shell("build/c_library", TOP).returncode == 0
     tell(command, is_right, done.stdout)
 
 

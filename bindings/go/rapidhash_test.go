@@ -107,6 +107,18 @@ func TestCopiesGoOnAlone(t *testing.T) {
 	compare(t, "second", second.Sum64(), V3([]byte("left lift")))
 }
 
+func TestZeroStreams(t *testing.T) {
+	var written, read, reset, sized Stream
+	written.Write(data())
+	compare(t, "written", written.Sum64(), 7088138960297660729)
+	compare(t, "of nothing", read.Sum64(), 232177599295442350)
+	reset.Reset()
+	other := reset
+	other.Write(data())
+	compare(t, "reset and copied", other.Sum64(), 7088138960297660729)
+	compare(t, "block size", uint64(sized.BlockSize()), 112)
+}
+
 func TestTakesWhatWritersTake(t *testing.T) {
 	message := make([]byte, 1000000)
 	for at := range message {

@@ -43,8 +43,8 @@ import (
 )
 
 // A Stream is a message in pieces, for V3, micro or nano. It is a hash.Hash64 and so an io.Writer.
-// NewV3, NewV3Micro or NewV3Nano starts it. It keeps a copy of its secrets, and a copy of it by = is
-// independent of it.
+// NewV3, NewV3Micro or NewV3Nano starts it; the zero Stream is that of NewV3(nil). It keeps a copy of
+// its secrets, and a copy of it by = is independent of it.
 type Stream struct {
 	inner   C.struct_rapidhash_stream
 	secrets Secrets
@@ -77,15 +77,24 @@ func start(lanes int, secrets *Secrets) *Stream {
 	return stream
 }
 
+// Starts a zero stream.
+func (stream *Stream) ensureStarted() {
+	if stream.block == 0 {
+		*stream = *NewV3(nil)
+	}
+}
+
 // Write adds a whole piece to the message, and the error is nil.
 func (stream *Stream) Write(data []byte) (int, error) {
 	bytes, size := piece(data)
+	stream.ensureStarted()
 	C.go_write(&stream.inner, stream.secrets.inner(), unsafe.Pointer(&bytes[0]), size)
 	return len(data), nil
 }
 
 // Sum64 is the hash of the message so far. More pieces may follow.
 func (stream *Stream) Sum64() uint64 {
+	stream.ensureStarted()
 	return uint64(C.go_finish(&stream.inner, stream.secrets.inner()))
 }
 
@@ -96,6 +105,7 @@ func (stream *Stream) Sum(data []byte) []byte {
 
 // Reset forgets the message, and keeps the secrets and the version.
 func (stream *Stream) Reset() {
+	stream.ensureStarted()
 	C.go_reset(&stream.inner, stream.secrets.inner())
 }
 
@@ -106,5 +116,6 @@ func (stream *Stream) Size() int {
 
 // BlockSize is how many bytes the hash folds at a time.
 func (stream *Stream) BlockSize() int {
+	stream.ensureStarted()
 	return stream.block
 }

@@ -14,18 +14,36 @@ function bytesOf(data) {
   throw new TypeError("only an ArrayBuffer or a view of one can be hashed: encode a text first");
 }
 
-/** A number from 0 to 2^64 - 1, as a BigInt. */
-function word(number) {
-  const big = BigInt(number);
-  if (big !== BigInt.asUintN(64, big)) throw new RangeError("a seed is from 0 to 2n ** 64n - 1n");
-  return big;
+/** The argument `name` as a BigInt from 0 to 2^64 - 1. A Number from 2^53 on may be a rounded one. */
+function word(name, number) {
+  if (typeof number !== "bigint" && typeof number !== "number")
+    throw new TypeError(`${name} must be a BigInt or a Number`);
+  if (typeof number === "number" && !Number.isSafeInteger(number))
+    throw new RangeError(`${name} must be an integer, and a BigInt from 2n ** 53n on`);
+  if (BigInt.asUintN(64, BigInt(number)) !== BigInt(number))
+    throw new RangeError(`${name} must be from 0 to 2n ** 64n - 1n`);
+  return BigInt(number);
 }
 
-/** Refuses a seed together with secrets. */
-function choose({ seed, secrets } = {}) {
+/** Whether a value is an object as { } makes it, here or in another window. */
+function isPlain(value) {
+  if (typeof value !== "object" || value === null) return false;
+  const prototype = Object.getPrototypeOf(value);
+  return prototype === null || Object.getPrototypeOf(prototype) === null;
+}
+
+/** The seed or the secrets of a call, if it has any. Refuses what would be ignored otherwise. */
+function choose(options = {}) {
+  if (!isPlain(options)) throw new TypeError("options must be an object: { seed } or { secrets }");
+  for (const name of Object.keys(options))
+    if (name !== "seed" && name !== "secrets")
+      throw new TypeError(`there is no option ${name}, only seed and secrets`);
+  const { seed, secrets } = options;
   if (seed !== undefined && secrets !== undefined)
     throw new TypeError("secrets have a seed of their own: give one of the two");
-  return { seed, secrets };
+  if (secrets !== undefined && !(secrets instanceof BigUint64Array))
+    throw new TypeError("secrets must be a BigUint64Array, the seed first");
+  return { seed: seed === undefined ? undefined : word("seed", seed), secrets };
 }
 
 /** What WebAssembly.instantiate accepts: bytes are passed on, and a path or a URL is read. */
@@ -73,15 +91,15 @@ class Library {
 
   /** Copies secrets into the memory, and returns where they are. */
   give(secrets, count) {
-    if (!(secrets instanceof BigUint64Array) || secrets.length !== count)
-      throw new TypeError(`these secrets are a BigUint64Array of ${count} words, the seed first`);
+    if (secrets.length !== count)
+      throw new TypeError(`secrets must have ${count} words here, the seed first`);
     this.words(count).set(secrets);
     return this.atSecrets;
   }
 
   /** Secrets that an export makes from a number. */
   take(name, count, number) {
-    this.call(name, word(number), this.atSecrets);
+    this.call(name, word("number", number), this.atSecrets);
     return this.words(count).slice();
   }
 }
@@ -152,7 +170,7 @@ function form(library, name, count, lanes) {
     if (seed === undefined) return library.call(name, ...message);
     if (!library.exports[`${name}_with_seed`])
       throw new TypeError(`${name} takes secrets and no seed`);
-    return library.call(`${name}_with_seed`, ...message, word(seed));
+    return library.call(`${name}_with_seed`, ...message, seed);
   };
 }
 

@@ -107,6 +107,27 @@ test("hashers do not disturb each other", () => {
   assert.equal(right.digest(), 13105958653737073913n);
 });
 
+// What is not refused is ignored or rounded without a word.
+test("refused options", () => {
+  const refused = [
+    [7n, /options/], ["7", /options/], [null, /options/], [own, /options/],
+    [new Map([["seed", 7n]]), /options/], [{ sed: 7n }, /no option sed,/],
+    [{ seed: 1n, secret: own }, /no option secret,/], [{ seed: null }, /seed/],
+    [{ seed: "7" }, /seed/], [{ seed: true }, /seed/], [{ secrets: null }, /secrets/],
+  ];
+  for (const [options, message] of refused)
+    for (const call of [() => v3(data, options), () => v2_2(data, options), () => new V3(options)])
+      assert.throws(call, { name: "TypeError", message });
+  for (const seed of [2 ** 60 + 1, 2 ** 53, -1, 1.5, NaN, -1n]) {
+    for (const call of [() => v3(data, { seed }), () => new V3({ seed })])
+      assert.throws(call, { name: "RangeError", message: /seed/ });
+    assert.throws(() => library.makeSecrets(seed), { name: "RangeError", message: /number/ });
+  }
+  assert.equal(v3(data, {}), v3(data));
+  assert.equal(v3(data, { seed: undefined, secrets: undefined }), v3(data));
+  assert.equal(v3(data, Object.assign(Object.create(null), { seed: 1 })), 8806718467852582029n);
+});
+
 test("refused words", () => {
   const long = new Uint8Array(library.room + 1);
   for (const call of [v1, v2_0, v2_1, v2_2, v3Protected])

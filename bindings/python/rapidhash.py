@@ -5,8 +5,8 @@
     True
 
 A hash is an integer below 2**64, the same on every machine. `data` is anything with a buffer that is
-laid out in one piece: bytes, bytearray, memoryview, array.array. Other threads run during a call as
-far as ctypes lets them.
+laid out in one piece: bytes, bytearray, memoryview, array.array, mmap. It is hashed where it lies, and
+other threads run meanwhile. They may use the same hasher. This needs CPython.
 
 The library is the file that the environment variable RAPIDHASH_LIBRARY names, or else the one that
 the system's loader finds.
@@ -14,6 +14,7 @@ the system's loader finds.
 
 import ctypes
 import os
+import threading
 
 __all__ = ["v1", "v2_0", "v2_1", "v2_2", "v3", "v3_micro", "v3_nano", "v3_protected",
            "make_secrets", "V3", "V3Micro", "V3Nano"]
@@ -47,6 +48,31 @@ def _call(name, result, *arguments):
     return function
 
 
+class _Buffer(ctypes.Structure):
+    """CPython's Py_buffer: bytes that an object lends. ctypes alone has the address of none that are
+    read-only."""
+
+    _fields_ = [
+        ("address", ctypes.c_void_p),
+        ("lender", ctypes.c_void_p),
+        ("len", ctypes.c_ssize_t),
+        ("itemsize", ctypes.c_ssize_t),
+        ("readonly", ctypes.c_int),
+        ("ndim", ctypes.c_int),
+        ("rest", ctypes.c_void_p * 5),
+    ]
+
+    def __del__(self):
+        _give_back(self)
+
+
+_lend = ctypes.pythonapi.PyObject_GetBuffer
+_lend.argtypes = ctypes.py_object, ctypes.POINTER(_Buffer), ctypes.c_int
+_give_back = ctypes.pythonapi.PyBuffer_Release
+_give_back.argtypes = (ctypes.POINTER(_Buffer),)
+_give_back.restype = None
+
+
 def _buffer(data):
     """The address and the length of a buffer, and what keeps it alive."""
     if isinstance(data, bytes):
@@ -54,11 +80,9 @@ def _buffer(data):
     view = memoryview(data)
     if not view.c_contiguous:
         raise BufferError("the bytes to hash must lie in one piece")
-    if view.readonly:
-        copy = view.tobytes()
-        return copy, len(copy), copy
-    kept = (ctypes.c_ubyte * view.nbytes).from_buffer(view.cast("B") if view.nbytes else bytearray(0))
-    return ctypes.addressof(kept), view.nbytes, kept
+    kept = _Buffer()
+    _lend(view, kept, 0)
+    return kept.address, kept.len, kept
 
 
 def _word(number):
@@ -124,7 +148,8 @@ def make_secrets(number, version=3):
 
 
 class V3:
-    """A message that is hashed piece by piece, with the methods of hashlib's objects."""
+    """A message that is hashed piece by piece, with the methods of hashlib's objects. A lock keeps
+    threads apart that use one hasher."""
 
     name = "rapidhash_v3"
     digest_size = 8
@@ -137,6 +162,7 @@ class V3:
             _seed(0 if seed is None else _word(seed), ctypes.byref(secrets))
         elif seed is not None:
             raise TypeError("secrets have a seed of their own: give one of the two")
+        self._lock = threading.RLock()
         self._secrets = secrets
         self._stream = _Stream(secrets=ctypes.pointer(secrets), lanes=self._lanes)
         self.reset()
@@ -145,12 +171,14 @@ class V3:
     def update(self, data):
         """Adds a piece to the message, and returns the hasher."""
         address, length, _kept = _buffer(data)
-        _write(ctypes.byref(self._stream), address, length)
+        with self._lock:
+            _write(ctypes.byref(self._stream), address, length)
         return self
 
     def intdigest(self):
         """The hash of the message so far, as an integer."""
-        return _finish(ctypes.byref(self._stream))
+        with self._lock:
+            return _finish(ctypes.byref(self._stream))
 
     def digest(self):
         """The same as 8 bytes, the highest first."""
@@ -162,13 +190,17 @@ class V3:
 
     def reset(self):
         """Forgets the message, and keeps the secrets."""
-        _reset(ctypes.byref(self._stream))
+        with self._lock:
+            _reset(ctypes.byref(self._stream))
 
     def copy(self):
         """A hasher of the same message."""
         other = type(self)(secrets=self._secrets)
-        ctypes.pointer(other._stream)[0] = self._stream
+        with self._lock:
+            ctypes.pointer(other._stream)[0] = self._stream
         return other
+
+    __copy__ = copy
 
 
 class V3Micro(V3):

@@ -1,0 +1,230 @@
+/* Calls every function of the C library, and compares the results with those of the Rust crate
+ * rapidhash 4.5.1. Prints each value that differs. The last line counts the values, and the status
+ * is 1 if one differs. */
+#include <inttypes.h>
+#include <stdio.h>
+
+#include "rapidhash_c.h"
+
+/* The bytes 0 to 119: at 60 bytes the three V2 differ, at 120 bytes V3, micro and nano do. */
+static uint8_t bytes[120];
+static uint8_t large[1000000];
+
+/* A seed and secrets that all differ, so that each has to arrive in its own place. */
+static const struct rapidhash_v1_secrets own_of_v1 = {1, {2, 3, 5}};
+static const struct rapidhash_secrets own = {1, {2, 3, 5, 7, 11, 13, 17}};
+
+static int passed, failed;
+
+static void compare(const char *name, const char *what, uint64_t value, uint64_t known)
+{
+    if (value == known) {
+        passed++;
+    } else {
+        failed++;
+        printf("FAILED %s %s: %" PRIu64 ", and %" PRIu64 " is right\n", name, what, value, known);
+    }
+}
+
+struct form {
+    const char *name;
+    size_t len;
+    uint64_t (*hash)(const void *, size_t);
+    uint64_t (*with_seed)(const void *, size_t, uint64_t);
+    uint64_t (*seeded)(const void *, size_t, const struct rapidhash_secrets *);
+    /* With the default secrets, with the seed word 1, and with the secrets `own`. */
+    uint64_t of_default, of_word, of_own;
+};
+
+static const struct form forms[] = {
+    {"v2.0", 60, rapidhash_v2_0, rapidhash_v2_0_with_seed, rapidhash_v2_0_seeded,
+     UINT64_C(13186137053657766175), UINT64_C(10726147324944781525), UINT64_C(7480442917932512801)},
+    {"v2.1", 60, rapidhash_v2_1, rapidhash_v2_1_with_seed, rapidhash_v2_1_seeded,
+     UINT64_C(13012060828128651499), UINT64_C(10166538060445963011), UINT64_C(15302905912564408163)},
+    {"v2.2", 60, rapidhash_v2_2, rapidhash_v2_2_with_seed, rapidhash_v2_2_seeded,
+     UINT64_C(6181707366222537282), UINT64_C(10905583924937672291), UINT64_C(11896991483551387597)},
+    {"v3", 120, rapidhash_v3, rapidhash_v3_with_seed, rapidhash_v3_seeded,
+     UINT64_C(7088138960297660729), UINT64_C(8806718467852582029), UINT64_C(13105958653737073913)},
+    {"micro", 120, rapidhash_v3_micro, rapidhash_v3_micro_with_seed, rapidhash_v3_micro_seeded,
+     UINT64_C(3055975138125564292), UINT64_C(13208658450986943527), UINT64_C(5648300410578423183)},
+    {"nano", 120, rapidhash_v3_nano, rapidhash_v3_nano_with_seed, rapidhash_v3_nano_seeded,
+     UINT64_C(3778853990780631382), UINT64_C(1125117906108554434), UINT64_C(4961128163384780230)},
+    {"protected", 120, rapidhash_v3_protected, NULL, rapidhash_v3_protected_seeded,
+     UINT64_C(4753706306364957255), 0, UINT64_C(9934095814131968034)},
+};
+
+static void check_form(const struct form *form)
+{
+    struct rapidhash_secrets secrets;
+
+    compare(form->name, "with the default secrets", form->hash(bytes, form->len), form->of_default);
+    compare(form->name, "with secrets of one's own", form->seeded(bytes, form->len, &own), form->of_own);
+    rapidhash_seed_secrets(0, &secrets);
+    compare(form->name, "with the secrets of word 0", form->seeded(bytes, form->len, &secrets), form->of_default);
+    if (form->with_seed == NULL)
+        return;
+    compare(form->name, "with the seed word 0", form->with_seed(bytes, form->len, 0), form->of_default);
+    compare(form->name, "with the seed word 1", form->with_seed(bytes, form->len, 1), form->of_word);
+    rapidhash_seed_secrets(1, &secrets);
+    compare(form->name, "with the secrets of word 1", form->seeded(bytes, form->len, &secrets), form->of_word);
+}
+
+/* V1 has secrets of another type. */
+static void check_v1(void)
+{
+    const uint64_t of_default = UINT64_C(13504714392771582078), of_word = UINT64_C(16595489079910452471);
+    const uint64_t default_word = UINT64_C(0xbdd89aa982704029);
+    struct rapidhash_v1_secrets secrets;
+
+    compare("v1", "with the default secrets", rapidhash_v1(bytes, 60), of_default);
+    compare("v1", "with secrets of one's own", rapidhash_v1_seeded(bytes, 60, &own_of_v1),
+            UINT64_C(13848206912060221315));
+    compare("v1", "with its default word", rapidhash_v1_with_seed(bytes, 60, default_word), of_default);
+    compare("v1", "with the seed word 1", rapidhash_v1_with_seed(bytes, 60, 1), of_word);
+    rapidhash_v1_seed_secrets(default_word, &secrets);
+    compare("v1", "with the secrets of its default word", rapidhash_v1_seeded(bytes, 60, &secrets), of_default);
+    rapidhash_v1_seed_secrets(1, &secrets);
+    compare("v1", "with the secrets of word 1", rapidhash_v1_seeded(bytes, 60, &secrets), of_word);
+    compare("v1", "of a line", rapidhash_v1("something\n", 10), UINT64_C(15965596575264898037));
+}
+
+static void check_made_secrets(void)
+{
+    static const struct rapidhash_secrets known = {UINT64_C(0x6d95b902ea9b0223), {
+        UINT64_C(0x4e6220ca4fb6cfce), UINT64_C(0x192d182c120632f7), UINT64_C(0xf457c94ec4a04866),
+        UINT64_C(0x4197ccbf5bf8f9d7), UINT64_C(0xfe96dfa00f02022d), UINT64_C(0x7c8eb6ba6268e054),
+        UINT64_C(0x6333af257102a99e)}};
+    static const char *const names[] = {"made secret 0", "made secret 1", "made secret 2", "made secret 3",
+                                        "made secret 4", "made secret 5", "made secret 6"};
+    struct rapidhash_v1_secrets of_v1;
+    struct rapidhash_secrets of_others;
+    int i;
+
+    rapidhash_v1_make_secrets(0x12345678, &of_v1);
+    compare("v1", "made seed", of_v1.seed, known.seed);
+    for (i = 0; i < 3; i++)
+        compare("v1", names[i], of_v1.secrets[i], known.secrets[i]);
+    rapidhash_make_secrets(0x12345678, &of_others);
+    compare("all but v1", "made seed", of_others.seed, known.seed);
+    for (i = 0; i < 7; i++)
+        compare("all but v1", names[i], of_others.secrets[i], known.secrets[i]);
+}
+
+struct stream_form {
+    const char *name;
+    void (*start)(struct rapidhash_stream *, const struct rapidhash_secrets *);
+    uint64_t (*hash)(const void *, size_t);
+    /* Of `bytes` with the secrets `own`, and of `large` with the default secrets. */
+    uint64_t of_own, of_large;
+};
+
+static const struct stream_form stream_forms[] = {
+    {"v3", rapidhash_v3_start, rapidhash_v3,
+     UINT64_C(13105958653737073913), UINT64_C(3141031059669918984)},
+    {"micro", rapidhash_v3_micro_start, rapidhash_v3_micro,
+     UINT64_C(5648300410578423183), UINT64_C(3665126695038604524)},
+    {"nano", rapidhash_v3_nano_start, rapidhash_v3_nano,
+     UINT64_C(4961128163384780230), UINT64_C(13390060429168413506)},
+};
+
+/* Pieces of 1, 2, 3 bytes and so on, after a reset of a stream that had other bytes. The stream is
+ * asked for its hash after each piece, which changes nothing. */
+static void check_uneven_pieces(const struct stream_form *form)
+{
+    struct rapidhash_stream stream;
+    size_t at, size;
+
+    form->start(&stream, &own);
+    rapidhash_stream_write(&stream, bytes, 100);
+    rapidhash_stream_reset(&stream);
+    for (at = 0, size = 1; at < sizeof bytes; at += size, size++) {
+        if (size > sizeof bytes - at)
+            size = sizeof bytes - at;
+        rapidhash_stream_write(&stream, bytes + at, size);
+        (void)rapidhash_stream_finish(&stream);
+    }
+    compare(form->name, "in uneven pieces", rapidhash_stream_finish(&stream), form->of_own);
+    compare(form->name, "finished again", rapidhash_stream_finish(&stream), form->of_own);
+}
+
+/* The writes to the two take turns, so that each would disturb the other if they shared anything. */
+static void check_copy(const struct stream_form *form)
+{
+    struct rapidhash_stream first, second;
+
+    form->start(&first, &own);
+    rapidhash_stream_write(&first, bytes, 60);
+    second = first;
+    rapidhash_stream_write(&first, bytes + 60, 30);
+    rapidhash_stream_write(&second, bytes + 60, 60);
+    rapidhash_stream_write(&first, bytes + 90, 30);
+    compare(form->name, "that was copied", rapidhash_stream_finish(&first), form->of_own);
+    compare(form->name, "of the copy", rapidhash_stream_finish(&second), form->of_own);
+}
+
+static void check_large(const struct stream_form *form)
+{
+    static const struct {
+        size_t size;
+        const char *what;
+    } pieces[] = {{16, "in pieces of 16 bytes"}, {64, "in pieces of 64 bytes"}, {112, "in pieces of 112 bytes"},
+                  {1024, "in pieces of 1,024 bytes"}, {65536, "in pieces of 65,536 bytes"},
+                  {sizeof large, "in one large piece"}};
+    struct rapidhash_secrets secrets;
+    struct rapidhash_stream stream;
+    size_t i, at;
+
+    compare(form->name, "of a large message", form->hash(large, sizeof large), form->of_large);
+    rapidhash_seed_secrets(0, &secrets);
+    form->start(&stream, &secrets);
+    for (i = 0; i < sizeof pieces / sizeof pieces[0]; i++) {
+        rapidhash_stream_reset(&stream);
+        for (at = 0; at < sizeof large; at += pieces[i].size) {
+            size_t left = sizeof large - at;
+            rapidhash_stream_write(&stream, large + at, left < pieces[i].size ? left : pieces[i].size);
+        }
+        compare(form->name, pieces[i].what, rapidhash_stream_finish(&stream), form->of_large);
+    }
+}
+
+/* A large piece is hashed where it lies. Only what fills the buffer of a stream is copied to it: here
+ * the first chunk of 112 bytes, and in the end the last 2 bytes, with the 16 before them. Behind these
+ * 18 the buffer still has the bytes of the first chunk. It would have those of the third if the stream
+ * copied each chunk. No contract says so. */
+static void check_copied_bytes(void)
+{
+    const size_t len = 3 * 112 + 2;
+    struct rapidhash_stream stream;
+    size_t i, differing = 0;
+
+    rapidhash_v3_start(&stream, &own);
+    rapidhash_stream_write(&stream, large, len);
+    for (i = 0; i < sizeof stream.kept; i++)
+        differing += stream.kept[i] != (i < 18 ? large[len - 18 + i] : large[i - 16]);
+    compare("v3", "bytes that differ in the buffer", differing, 0);
+}
+
+int main(void)
+{
+    size_t i;
+
+    for (i = 0; i < sizeof bytes; i++)
+        bytes[i] = (uint8_t)i;
+    for (i = 0; i < sizeof large; i++)
+        large[i] = (uint8_t)(i % 251);
+    compare("the library", "version", rapidhash_c_version(), RAPIDHASH_C_VERSION_NUMBER);
+    compare("a stream", "size", sizeof(struct rapidhash_stream), 216);
+    compare("v3", "of no bytes", rapidhash_v3(NULL, 0), UINT64_C(232177599295442350));
+    check_v1();
+    for (i = 0; i < sizeof forms / sizeof forms[0]; i++)
+        check_form(&forms[i]);
+    check_made_secrets();
+    for (i = 0; i < sizeof stream_forms / sizeof stream_forms[0]; i++) {
+        check_uneven_pieces(&stream_forms[i]);
+        check_copy(&stream_forms[i]);
+        check_large(&stream_forms[i]);
+    }
+    check_copied_bytes();
+    printf("%d passed, %d failed\n", passed, failed);
+    return failed != 0;
+}
