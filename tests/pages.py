@@ -9,7 +9,7 @@ import sys
 from pathlib import Path
 
 TOP = Path(__file__).resolve().parent.parent
-PAGES = sorted([*TOP.glob("*.md"), *TOP.glob("docs/*.md"), TOP / "share" / "dist.md"])
+PAGES = sorted([*TOP.glob("*.md"), *TOP.glob("docs/*.md"), TOP / "share" / "dist.md", TOP / "rust" / "README.md"])
 # Folders that builds make, and what lies in an archive or in an installed copy alone.
 BUILT = ("build/", "crates/example_NAME", "tests/example_NAME")
 PATH = re.compile(r"`((?:crates|docs|tests|bench|bin|include|bindings|share|\.ci)/[^` ]*)`")
@@ -55,7 +55,7 @@ def links():
 
 def paths():
     for page in PAGES:
-        if page.name == "dist.md":
+        if page.name == "dist.md" or page.parent.name == "rust":
             continue
         for number, line in prose(page):
             for path in PATH.findall(line):
@@ -168,6 +168,7 @@ VERSIONS = {
     "share/rapidsum.1": r'^\.TH .*"Yervound (\d+\.\d+)"',
     "include/rapidhash_c.h": r'VERSION_STRING "(\d+\.\d+)"',
     "crates/example_sums/src/words.rt": r'\.version\("(\d+\.\d+)"\)',
+    "rust/Cargo.toml": r'^version = "(\d+\.\d+)\.\d+"',
 }
 
 
