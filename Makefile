@@ -1,6 +1,6 @@
 # make             proves and builds the tools and the library for C, where they are missing or old
 # make check       proves everything, and runs all tests: what a push has to pass
-# make quick       lays the sources out, checks the pages, and proves what has changed: before a commit
+# make quick       lays the sources out, writes the Rust crate, checks the pages, and proves what has changed
 # make test        proves and runs the tests of all crates, and runs the programs from end to end
 # make fmt         lays the sources out
 # make bench       measures the hashes, beside the Rust crate where RAPIDHASH_CRATE names its folder
@@ -62,6 +62,7 @@ fmt:
 	@for crate in crates/*; do (cd $$crate && rt fmt) || exit 1; done
 
 quick: fmt
+	@bin/rust_crate --write
 	@tests/pages.py
 	@rt all check
 
