@@ -1,12 +1,24 @@
 """Finds a processor that runs at full speed and does nothing else, for the programs that measure."""
 
+import datetime
 import os
+import re
 import subprocess
+from pathlib import Path
 
 # How often a measurement is repeated until a processor was quiet before and after it.
 TRIES = 4
 # A loop that takes up to this much more than the fastest that was seen ran on a quiet processor.
 ALLOWED = 1.035
+
+
+def machine_and_date():
+    """The processor, as a reader may compare it with another, and today's date."""
+    told = Path("/proc/cpuinfo").read_text()
+    name = re.search(r"model name\s*: (.*)", told)[1]
+    words = (re.search(rf"^{word}\s*: (\d+)", told, re.M)[1] for word in ("cpu family", "model", "stepping"))
+    where = "family {}, model {}, stepping {}".format(*words)
+    return f"{name} ({where}), {os.cpu_count()} cores, {datetime.date.today()}"
 
 
 class Processors:
