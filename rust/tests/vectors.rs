@@ -1,4 +1,5 @@
-//! The crate has the values of the vector files.
+//! The crate has the values of the vector files, among them those of readers, which need std.
+#![cfg(feature = "std")]
 
 mod replay;
 

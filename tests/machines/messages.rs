@@ -2,7 +2,7 @@
 
 use crate::replay::forms::{Form, Options, Start, hash};
 use crate::replay::items::{self, Item};
-use crate::replay::start_of;
+use crate::replay::rules::start_of;
 use crate::replay::streams::{self, Step};
 use rapidhash::{v1, v3};
 

@@ -6,15 +6,13 @@
 pub mod forms;
 pub mod items;
 mod reads;
-mod rules;
+pub mod rules;
 mod seeds;
 mod slices;
 pub mod streams;
 
 use std::fs;
 use std::path::Path;
-
-pub use rules::start_of;
 
 /// Each file with its number of cases, so that a file cut short is noticed.
 pub const FILES: [(&str, usize); 24] = [
@@ -50,8 +48,11 @@ pub const CASES: usize = 7419;
 /// The error says how the crate's value differs, or what in the line cannot be read.
 pub type Case = Result<(), String>;
 
-/// The kinds of files: the names of the columns, and what replays a line.
-const KINDS: [(&str, fn(&str) -> Case); 13] = [
+/// Replays a line of a file.
+type Replay = fn(&str) -> Case;
+
+/// The kinds of files, by the names of their columns.
+const KINDS: [(&str, Replay); 13] = [
     (slices::COLUMNS, slices::replay),
     (items::CORE_COLUMNS, items::replay_core),
     (items::COLUMNS, items::replay),
