@@ -1,0 +1,121 @@
+//! The rules by which a vector file names messages, secrets and numbers.
+
+use super::forms::Start;
+use rapidhash::rng::RapidRng;
+use rapidhash::{v1, v3};
+use std::str::FromStr;
+
+/// The fields of a line, whose number is known.
+pub fn fields<const COUNT: usize>(line: &str) -> Result<[&str; COUNT], String> {
+    let all: Vec<&str> = line.split('\t').collect();
+    all.try_into().map_err(|_| format!("no {COUNT} fields"))
+}
+
+pub fn number<T: FromStr>(text: &str) -> Result<T, String> {
+    text.parse()
+        .map_err(|_| format!("no number of this type: {text}"))
+}
+
+/// The numbers of a field, with spaces between them.
+pub fn numbers(field: &str) -> Result<Vec<u64>, String> {
+    field.split_whitespace().map(number).collect()
+}
+
+pub fn flag(field: &str) -> Result<bool, String> {
+    match field {
+        "0" => Ok(false),
+        "1" => Ok(true),
+        _ => Err(format!("no 0 or 1: {field}")),
+    }
+}
+
+/// The message of a rule and a length.
+pub fn message(rule: &str, length: &str) -> Result<Vec<u8>, String> {
+    let length: usize = number(length)?;
+    let bytes = match rule.split_once(':') {
+        None if rule == "square" => (0..length as u64)
+            .map(|i| square(i, length as u64))
+            .collect(),
+        Some(("rng", seed)) => drawn(number(seed)?, length),
+        Some(("text", text)) => text.replace("\\n", "\n").into_bytes(),
+        Some(("at", places)) => placed(places, length)?,
+        _ => return Err(format!("no message by the rule {rule}")),
+    };
+    if bytes.len() == length {
+        Ok(bytes)
+    } else {
+        Err(format!(
+            "the message has {} bytes, not {length}",
+            bytes.len()
+        ))
+    }
+}
+
+fn square(i: u64, length: u64) -> u8 {
+    ((i * i + 7 * i + length) % 251) as u8
+}
+
+/// The little-endian bytes of a generator's words.
+fn drawn(seed: u64, length: usize) -> Vec<u8> {
+    let mut rng = RapidRng::new(seed);
+    let mut bytes = Vec::with_capacity(length + 8);
+    while bytes.len() < length {
+        bytes.extend_from_slice(&rng.next().to_le_bytes());
+    }
+    bytes.truncate(length);
+    bytes
+}
+
+/// Bytes that are 0, except those at the named places, as in `0=1,16=2`.
+fn placed(places: &str, length: usize) -> Result<Vec<u8>, String> {
+    let mut bytes = vec![0; length];
+    for pair in places.split(',').filter(|pair| !pair.is_empty()) {
+        let (place, value) = pair.split_once('=').ok_or("no place and value")?;
+        let byte = bytes
+            .get_mut(number::<usize>(place)?)
+            .ok_or("a place behind the end")?;
+        *byte = number(value)?;
+    }
+    Ok(bytes)
+}
+
+/// The seed and the secrets of a rule.
+pub fn start_of(rule: &str) -> Result<Start, String> {
+    match rule.split_once(':') {
+        None if rule == "default" => Ok(Start {
+            three: v1::DEFAULT_RAPID_SECRETS,
+            seven: v3::DEFAULT_RAPID_SECRETS,
+        }),
+        Some(("seed", seed)) => Ok(Start {
+            three: v1::RapidSecrets::seed(number(seed)?),
+            seven: v3::RapidSecrets::seed(number(seed)?),
+        }),
+        Some(("bare", words)) => bare(words),
+        _ => Err(format!("no secrets by the rule {rule}")),
+    }
+}
+
+/// A seed, and secrets that are 0, except at the places named after it, as in `0,1=1`.
+fn bare(words: &str) -> Result<Start, String> {
+    let mut seed = 0;
+    let mut secrets = [0; 7];
+    for part in words.split(',') {
+        match part.split_once('=') {
+            None => seed = number(part)?,
+            Some((place, value)) => {
+                let secret = secrets
+                    .get_mut(number::<usize>(place)?)
+                    .ok_or("no such secret")?;
+                *secret = number(value)?;
+            }
+        }
+    }
+    let [a, b, c, ..] = secrets;
+    Ok(Start {
+        three: v1::RapidSecrets {
+            seed,
+            secrets: [a, b, c],
+        },
+        seven: v3::RapidSecrets { seed, secrets },
+    })
+}

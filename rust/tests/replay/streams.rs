@@ -1,0 +1,111 @@
+//! Cases of the stream hashers: messages in pieces, with hashes asked for between them.
+
+use super::forms::with_consts;
+use super::rules::{fields, flag, message, number, numbers, start_of};
+use super::{Case, same};
+use rapidhash::v3::{RapidSecrets, RapidStreamHasherLanes};
+
+pub const COLUMNS: &str = "avalanche\tprotected\tmessage\tlength\tsecrets\toperations\texpected";
+
+pub const LANES_COLUMNS: &str =
+    "lanes\tavalanche\tprotected\tmessage\tlength\tsecrets\toperations\tsteps\texpected";
+
+/// What a stream hasher is asked to do.
+pub enum Step<'d> {
+    Write(&'d [u8]),
+    Finish,
+    Reset,
+}
+
+fn answers<const LANES: usize, const AVALANCHE: bool, const PROTECTED: bool>(
+    secrets: &RapidSecrets,
+    steps: &[Step<'_>],
+) -> Vec<u64> {
+    let mut hasher = RapidStreamHasherLanes::<LANES, AVALANCHE, PROTECTED>::new(secrets);
+    let mut hashes = Vec::new();
+    for step in steps {
+        match step {
+            Step::Write(piece) => hasher.write(piece),
+            Step::Finish => hashes.push(hasher.finish()),
+            Step::Reset => hasher.reset(),
+        }
+    }
+    hashes
+}
+
+/// The hashes that a stream hasher of 7, 5 or 3 lanes returns, one for each `Finish`.
+pub fn hashes(
+    lanes: usize,
+    options: (bool, bool),
+    secrets: &RapidSecrets,
+    steps: &[Step<'_>],
+) -> Result<Vec<u64>, String> {
+    let (avalanche, protected) = options;
+    Ok(with_consts!(A = avalanche, P = protected => match lanes {
+        7 => answers::<7, A, P>(secrets, steps),
+        5 => answers::<5, A, P>(secrets, steps),
+        3 => answers::<3, A, P>(secrets, steps),
+        _ => return Err(format!("no hasher of {lanes} lanes")),
+    }))
+}
+
+/// Cuts a message from its beginning on: `f` asks for a hash, `r` resets, a number is a size.
+fn cut<'d>(message: &'d [u8], operations: &str) -> Result<Vec<Step<'d>>, String> {
+    let mut rest = message;
+    let mut steps = Vec::new();
+    for word in operations.split_whitespace() {
+        steps.push(match word {
+            "f" => Step::Finish,
+            "r" => Step::Reset,
+            size => {
+                let size: usize = number(size)?;
+                let piece = rest.get(..size).ok_or("too few bytes are left")?;
+                rest = &rest[size..];
+                Step::Write(piece)
+            }
+        });
+    }
+    Ok(steps)
+}
+
+/// The seven fields that both kinds of cases have.
+fn compare(lanes: &str, fields: [&str; 7]) -> Case {
+    let [
+        avalanche,
+        protected,
+        rule,
+        length,
+        secrets,
+        operations,
+        expected,
+    ] = fields;
+    let options = (flag(avalanche)?, flag(protected)?);
+    let bytes = message(rule, length)?;
+    let steps = cut(&bytes, operations)?;
+    let secrets = start_of(secrets)?.seven;
+    same(
+        "the list",
+        hashes(number(lanes)?, options, &secrets, &steps)?,
+        numbers(expected)?,
+    )
+}
+
+pub fn replay(line: &str) -> Case {
+    compare("7", fields(line)?)
+}
+
+/// The column `steps` is not compared: it counts what the definition folds.
+pub fn replay_lanes(line: &str) -> Case {
+    let [
+        lanes,
+        a,
+        p,
+        rule,
+        length,
+        secrets,
+        operations,
+        _steps,
+        expected,
+    ] = fields(line)?;
+    compare(lanes, [a, p, rule, length, secrets, operations, expected])
+}

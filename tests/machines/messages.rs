@@ -1,0 +1,170 @@
+//! Hashes of random messages by all forms, with all options, and a checksum of them.
+
+use crate::replay::forms::{Form, Options, Start, hash};
+use crate::replay::items::{self, Item};
+use crate::replay::rules::start_of;
+use crate::replay::streams::{self, Step};
+use rapidhash::{v1, v3};
+
+const FORMS: [Form; 8] = [
+    Form::V1,
+    Form::V1Bug,
+    Form::V2Minor0,
+    Form::V2Minor1,
+    Form::V2Minor2,
+    Form::V3,
+    Form::Micro,
+    Form::Nano,
+];
+
+/// Messages are cut from a room of this many bytes, at any place, so at any alignment.
+const ROOM: usize = 16384;
+
+/// Words that do not come from the crate: the messages must not depend on what is tested.
+struct Draws(u64);
+
+impl Draws {
+    fn word(&mut self) -> u64 {
+        self.0 = self.0.wrapping_add(0x9e37_79b9_7f4a_7c15);
+        let mut word = self.0;
+        word = (word ^ (word >> 30)).wrapping_mul(0xbf58_476d_1ce4_e5b9);
+        word = (word ^ (word >> 27)).wrapping_mul(0x94d0_49bb_1331_11eb);
+        word ^ (word >> 31)
+    }
+
+    /// A number from 0 to one less than the bound.
+    fn below(&mut self, bound: usize) -> usize {
+        (self.word() % bound as u64) as usize
+    }
+
+    fn flag(&mut self) -> bool {
+        self.word() % 2 == 1
+    }
+
+    /// Most lengths are up to 1,100, many of them short, and one of 16 is longer.
+    fn length(&mut self) -> usize {
+        match self.below(16) {
+            0 => 1101 + self.below(7000),
+            1..=5 => self.below(129),
+            _ => self.below(1101),
+        }
+    }
+
+    fn start(&mut self) -> Result<Start, String> {
+        match self.below(4) {
+            0 => start_of("default"),
+            1 => start_of(&format!("seed:{}", self.word())),
+            _ => Ok(self.words()),
+        }
+    }
+
+    /// A seed and secrets that are any words.
+    fn words(&mut self) -> Start {
+        let seed = self.word();
+        let [a, b, c, d, e, f, g] = [(); 7].map(|()| self.word());
+        Start {
+            three: v1::RapidSecrets {
+                seed,
+                secrets: [a, b, c],
+            },
+            seven: v3::RapidSecrets {
+                seed,
+                secrets: [a, b, c, d, e, f, g],
+            },
+        }
+    }
+}
+
+/// A message in random pieces, and the question for its hash.
+fn in_pieces<'d>(draws: &mut Draws, message: &'d [u8]) -> Vec<Step<'d>> {
+    let mut rest = message;
+    let mut steps = Vec::new();
+    while !rest.is_empty() {
+        let (piece, others) = rest.split_at(draws.below(rest.len()) + 1);
+        steps.push(Step::Write(piece));
+        rest = others;
+    }
+    steps.push(Step::Finish);
+    steps
+}
+
+/// A message, and integers in its midst, as items of the hasher of maps.
+fn in_memory(draws: &mut Draws, message: &[u8]) -> Vec<Item> {
+    let (front, back) = message.split_at(draws.below(message.len() + 1));
+    let mut all = vec![Item::Bytes(front.to_vec())];
+    for _ in 0..draws.below(6) {
+        let word = draws.word();
+        all.push(match word % 5 {
+            0 => Item::U8((word >> 8) as u8),
+            1 => Item::U16((word >> 8) as u16),
+            2 => Item::I32((word >> 8) as i32),
+            3 => Item::U64(word),
+            _ => Item::U128(u128::from(word) << 64 | u128::from(draws.word())),
+        });
+    }
+    all.push(Item::Bytes(back.to_vec()));
+    all
+}
+
+/// One hash. A message in pieces must have the hash of the whole.
+fn one(draws: &mut Draws, message: &[u8]) -> Result<u64, String> {
+    let start = draws.start()?;
+    let [avalanche, compact, protected, sponge] = [(); 4].map(|()| draws.flag());
+    let options = Options {
+        avalanche,
+        compact,
+        protected,
+    };
+    let (form, lanes) = match draws.below(FORMS.len() + 4) {
+        8 => (Form::V3, 7),
+        9 => (Form::Micro, 5),
+        10 => (Form::Nano, 3),
+        11 => {
+            let options = items::Options {
+                avalanche,
+                sponge,
+                compact,
+                protected,
+            };
+            return Ok(items::hash(
+                options,
+                &start.seven,
+                &in_memory(draws, message),
+            ));
+        }
+        place => return Ok(hash(FORMS[place], options, &start, message)),
+    };
+    let steps = in_pieces(draws, message);
+    let whole = hash(form, options, &start, message);
+    if streams::hashes(lanes, (avalanche, protected), &start.seven, &steps)? == [whole] {
+        Ok(whole)
+    } else {
+        Err(format!(
+            "{} bytes in pieces have another hash than the whole",
+            message.len()
+        ))
+    }
+}
+
+/// The checksum of the hashes of so many messages, in their order, as a line of text.
+pub fn checksum(count: u64) -> Result<String, String> {
+    let mut draws = Draws(0);
+    let mut room = vec![0u8; ROOM];
+    for bytes in room.chunks_exact_mut(8) {
+        bytes.copy_from_slice(&draws.word().to_le_bytes());
+    }
+    let (mut sum, mut bytes) = (0u64, 0u64);
+    for _ in 0..count {
+        let length = draws.length();
+        let at = draws.below(ROOM - length - 8);
+        // So that no message is the same twice: eight new bytes in it, or all where it is shorter.
+        let changed = at + draws.below(length.saturating_sub(8) + 1);
+        room[changed..changed + 8].copy_from_slice(&draws.word().to_le_bytes());
+        let hash = one(&mut draws, &room[at..at + length])?;
+        sum = (sum.rotate_left(9) ^ hash).wrapping_mul(0x9e37_79b9_7f4a_7c15);
+        bytes += length as u64;
+    }
+    Ok(format!(
+        "{count} messages of {bytes} bytes, checksum {sum:016x}"
+    ))
+}
