@@ -1,6 +1,6 @@
 # make             proves and builds the tools and the library for C, where they are missing or old
 # make check       proves everything, and runs all tests: what a push has to pass
-# make quick       lays the sources out, writes the Rust crate, checks the pages, and proves what has changed
+# make quick       lays the sources out, writes the Rust crate, checks the pages, and proves what changed
 # make test        proves and runs the tests of all crates, and runs the programs from end to end
 # make fmt         lays the sources out
 # make bench       measures the hashes, beside the Rust crate where RAPIDHASH_CRATE names its folder
@@ -98,7 +98,7 @@ dist: all wasm
 	$(MAKE) -s install DESTDIR= PREFIX='$(CURDIR)/build/$(name)'
 	sed 's|@PREFIX@|$${pcfiledir}/../..|; s|@LIBDIR@|$${prefix}/lib|; s|@INCLUDEDIR@|$${prefix}/include|' \
 	  share/rapidhash_c.pc.in >build/$(name)/lib/pkgconfig/rapidhash_c.pc
-	tar --exclude=__pycache__ --exclude=build.sh -cf - bindings | \
+	tar --exclude=__pycache__ --exclude=build.sh --exclude=rust/target --exclude=rust/tests -hcf - bindings rust | \
 	  tar -C build/$(name) -xf -
 	install -D -m 644 build/rapidhash_c.wasm build/$(name)/build/rapidhash_c.wasm
 	install -m 644 LICENSE-MIT LICENSE-APACHE NOTICE docs/C.md docs/ALGORITHM.md build/$(name)

@@ -55,11 +55,21 @@ links_where_it_stands() {
     LD_LIBRARY_PATH=$room/unpacked/lib "$room/c_library"
 }
 
+# A program finds the Rust crate where the archive was unpacked.
+builds_the_rust_crate() {
+  mkdir -p "$room/first/src" && cd "$room/first" &&
+    printf '[package]\nname = "first"\nedition = "2021"\n[dependencies]\n%s\n' \
+      "yervound-rapidhash = { path = \"$room/unpacked/rust\" }" >Cargo.toml &&
+    echo 'fn main() { println!("{}", rapidhash::v3::rapidhash_v3(b"hello")) }' >src/main.rs &&
+    [ "$(cargo run --quiet --offline)" = 3327445792987248966 ]
+}
+
 try archive makes_the_archive
 try program prints_the_known_hash
 try vectors agrees_with_the_vectors
 try wrong_vector tells_a_wrong_vector
 try library links_where_it_stands
+try rust_crate builds_the_rust_crate
 
 printf '%s passed, %s failed\n' "$passed" "$failed"
 [ "$failed" -eq 0 ]
