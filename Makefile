@@ -105,7 +105,7 @@ dist: all wasm
 	install -D -m 644 docs/images/lanes.svg build/$(name)/images/lanes.svg
 	install -m 644 share/dist.md build/$(name)/README.md
 	install -m 755 share/check_vectors.py build/$(name)
-	python3 share/vectors.py crates/rapidhash_replay/data >build/$(name)/rapidhash_vectors.tsv
+	python3 share/vectors.py crates/test_replay/data >build/$(name)/rapidhash_vectors.tsv
 	tar -C build -czf build/$(name).tar.gz $(name)
 	rm -rf build/$(name)
 

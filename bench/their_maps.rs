@@ -1,4 +1,4 @@
-//! Maps from integers, and from keys of 20 bytes, to integers, as `rapidhash_memory_bench` has them.
+//! Maps from integers, and from keys of 20 bytes, to integers, as `bench_memory` has them.
 
 use rapidhash::fast;
 use rapidhash::rng::RapidRng;

@@ -1,7 +1,7 @@
 #!/usr/bin/env python3
 """Writes the values of the Rust crate as one file with each message written out:
 
-    python3 share/vectors.py crates/rapidhash_replay/data >rapidhash_vectors.tsv
+    python3 share/vectors.py crates/test_replay/data >rapidhash_vectors.tsv
 
 The files of the folder name a message by a rule, so that they stay small; here the rules are followed.
 Of the options only those are taken that the C library has, and no message above 8193 bytes.

@@ -139,7 +139,7 @@ machine() {
   if ! has_all "$name" "${packages[@]}" >"$room/$name.log" 2>&1; then
     printf 'skipped %s: %s\n' "$name" "$(tail -n 1 "$room/$name.log")"
   elif mkdir "$out" && try "${name}_build" build "$out" "${compile[@]}"; then
-    try "${name}_vectors" "${run[@]}" "$out/program" vectors "$top/crates/rapidhash_replay/data"
+    try "${name}_vectors" "${run[@]}" "$out/program" vectors "$top/crates/test_replay/data"
     try "${name}_messages" "${run[@]}" "$out/program" messages 1000000
   fi
 }

@@ -104,7 +104,7 @@ def edits():
 
 def cases():
     """Compares what the page on the vector files says of each file and of each table with the files."""
-    data = TOP / "crates" / "rapidhash_replay" / "data"
+    data = TOP / "crates" / "test_replay" / "data"
     listed, promised, found = set(), 0, 0
     for line in (data / "README.md").read_text().splitlines() + ["0 cases"]:
         row, head = re.match(r"\| (`.*?) \| (\d+)", line), re.match(r"([\d,]+) cases", line)
@@ -135,10 +135,6 @@ def calls():
     return made_by("bin/api", "--check")
 
 
-def picture_of_the_crates():
-    return made_by("bin/crates_picture", "--check")
-
-
 def plot_of_the_speed():
     return made_by("bench/plot", "--check")
 
@@ -158,6 +154,17 @@ def program_lines():
         row = next(line for line in readme.splitlines() if line.startswith(f"| `example_{program}`"))
         if not row.endswith(f"| {code}, {specs}, {proofs} |"):
             yield f"example_{program} has {code}, {specs}, {proofs} lines"
+
+
+def options():
+    """Each option in the tool's help stands in its manual and in what each shell completes."""
+    wanted = set(re.findall(r"--([a-z0-9.-]+)", (TOP / "crates/rapidhash_tool/src/usage.rt").read_text()))
+    for name in ("rapidhash.1", "rapidhash.bash", "rapidhash.fish", "rapidhash.zsh"):
+        text = (TOP / "share" / name).read_text().replace("\\", "")
+        listed = set(re.findall(r"(?:--|-l |-o )([a-z0-9.-]*[a-z0-9])", text))
+        listed |= set(" ".join(re.findall(r"^set -l versions (.*)", text, re.MULTILINE)).split())
+        for option in sorted(wanted - listed):
+            yield f"share/{name} has no --{option}"
 
 
 VERSIONS = {
@@ -186,9 +193,8 @@ def version():
 
 
 for name, check in [("links", links), ("paths", paths), ("limits", limits), ("names", names),
-                    ("edits", edits), ("cases", cases), ("lines of the programs", program_lines), ("version", version),
-                    ("calls", calls), ("picture of the crates", picture_of_the_crates),
-                    ("plot of the speed", plot_of_the_speed)]:
+                    ("edits", edits), ("cases", cases), ("lines of the programs", program_lines), ("version", version), ("options", options),
+                    ("calls", calls), ("plot of the speed", plot_of_the_speed)]:
     tell(name, list(check()))
 print(f"{passed} passed, {failed} failed")
 sys.exit(failed > 0)

@@ -3,7 +3,7 @@
 use crate::lookup::{LookupError, answer, filter_of};
 use crate::options::{OptionsError, Request, parse_words};
 use crate::shape::{Shape, ShapeError};
-use rapidhash_fakes::{CountingReader, FullWriter, OneByteWriter};
+use test_fakes::{CountingReader, FullWriter, OneByteWriter};
 use std::alloc::Global;
 use std::io::{BufReader, ErrorKind, Result};
 use std::process::Abort;

@@ -2,7 +2,7 @@
 
 use crate::lookup::{LookupError, answer, lines};
 use crate::table::{BuildError, Table};
-use rapidhash_fakes::{CountingReader, FullWriter, OneByteWriter};
+use test_fakes::{CountingReader, FullWriter, OneByteWriter};
 use std::io::{BufReader, ErrorKind};
 use std::process::Abort;
 

@@ -8,7 +8,7 @@ use crate::problem::Problem;
 use crate::store::Store;
 use crate::sum::write_sum;
 use linked_list_allocator::LocalHeap;
-use rapidhash_fakes::{CountingReader, FullWriter};
+use test_fakes::{CountingReader, FullWriter};
 use std::io;
 use std::io::ErrorKind;
 use std::process::Abort;

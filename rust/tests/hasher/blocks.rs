@@ -1,4 +1,4 @@
-// Made by bin/rust_crate from crates/rapidhash_hasher_tests/src/blocks.rt: change that file.
+// Made by bin/rust_crate from crates/test_hasher/src/blocks.rt: change that file.
 
 //! Integers of one byte, which share blocks of 128 bits.
 

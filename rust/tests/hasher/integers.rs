@@ -1,4 +1,4 @@
-// Made by bin/rust_crate from crates/rapidhash_hasher_tests/src/integers.rt: change that file.
+// Made by bin/rust_crate from crates/test_hasher/src/integers.rt: change that file.
 
 //! Each call that takes an integer, by itself.
 

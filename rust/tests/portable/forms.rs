@@ -1,4 +1,4 @@
-// Made by bin/rust_crate from crates/rapidhash_vectors/src/forms.rt: change that file.
+// Made by bin/rust_crate from crates/test_portable/src/forms.rt: change that file.
 
 //! The lengths at which two forms agree. They are those of the Rust crate, for random bytes.
 

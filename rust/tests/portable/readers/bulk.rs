@@ -1,4 +1,4 @@
-// Made by bin/rust_crate from crates/rapidhash_vectors/src/readers/bulk.rt: change that file.
+// Made by bin/rust_crate from crates/test_portable/src/readers/bulk.rt: change that file.
 
 //! The hash of a reader is that of its bytes.
 

@@ -1,0 +1,67 @@
+//! Times the generator, the stream hasher, the hasher of maps, and maps:
+//! `bench_memory FORM NUMBER PLACE`, for `bench/memory`. It prints a number that all its
+//! work goes into, and the nanoseconds that it took.
+#![tactic(auto)]
+
+mod draws;
+mod hashers;
+mod keys;
+mod nothing;
+mod streams;
+mod tables;
+
+use anyhow::{Context, Result};
+use std::env;
+use std::rt::Clock;
+use std::time::Instant;
+use tables::Taken;
+
+fn main(rt: HostRuntime) -> Result<()> {
+    let words: Vec<String> = env::args(&rt)?.skip(1).collect(rt.alloc())?;
+    let [form, number, place] = words.as_slice() else {
+        // With no form there is nothing to measure.
+        return Ok(());
+    };
+    let Taken { sum, nanos } = measured(
+        &rt,
+        form.as_str(),
+        number.parse::<u64>()?,
+        place.parse::<u64>()?,
+    )?;
+    println!(rt; "{sum} {nanos}")?;
+    Ok(())
+}
+
+/// Does the work of a form. The number, and those in the form's name, come from the command line,
+/// so that the compiler does not know them.
+fn measured(rt: &(impl Clock + AllocGlobal), form: &str, number: u64, place: u64) -> Result<Taken> {
+    if let Some(table) = form.strip_prefix("std_") {
+        return tables::standard(rt, table);
+    }
+    if let Some(table) = form.strip_prefix("map_") {
+        return tables::rapid(rt, table);
+    }
+    if let Some(table) = form.strip_prefix("keys_") {
+        return tables::rapid_bytes(rt, table);
+    }
+    if let Some(table) = form.strip_prefix("drawn_") {
+        return tables::rapid_drawn(rt, table);
+    }
+    if let Some(table) = form.strip_prefix("none_") {
+        return tables::unhashed(rt, table);
+    }
+    if let Some(size) = form.strip_prefix("stream") {
+        return streams::measured(rt, size, number);
+    }
+    let start = Instant::now(rt)?;
+    let sum = match form {
+        "next" => draws::next(),
+        "fill_bytes" => draws::fill_bytes(rt.alloc())?,
+        _ => match form.strip_prefix("quality_") {
+            Some(item) => hashers::hashed::<true>(item, number, place)?,
+            None => hashers::hashed::<false>(form, number, place)?,
+        },
+    };
+    let nanos = start.elapsed(rt)?.as_nanos();
+    Ok(Taken { sum, nanos })
+}

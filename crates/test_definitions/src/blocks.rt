@@ -1,0 +1,112 @@
+//! Integers packed into blocks of 128 bits, at places that widths alone fix.
+
+ghost use Rattle.std.specs.Prelude.{◌≡◌, ◌≤◌, ◌<◌, ◌+◌, ◌^◌, length, map};
+ghost use Rattle.rapidhash.specs.Laws.{item_of as item_of_number, value_of, width_of};
+ghost use Rattle.rapidhash.specs.Sponge.{IsItem, block, end_after, end_of, place_of, share};
+ghost use Rattle.test_definitions.specs.Items.{IsPackable, item_of};
+
+use crate::hasher::Absorbed;
+use rapidhash::laws::Num;
+
+/// The width of an integer in bits.
+pub(crate) fn width_of(number: Num) -> usize
+    ensures width { result ≡ width_of number }
+    ensures item { IsItem (item_of_number number) }
+{
+    match number {
+        Num::N8(_value) => 8,
+        Num::N16(_value) => 16,
+        Num::N32(_value) => 32,
+        Num::N64(_value) => 64,
+    }
+}
+
+/// The integer, whatever its width.
+pub(crate) fn value_of(number: Num) -> u64
+    ensures value { result ≡ value_of number }
+    ensures item { IsItem (item_of_number number) }
+{
+    match number {
+        Num::N8(value) => u64::from(value),
+        Num::N16(value) => u64::from(value),
+        Num::N32(value) => u64::from(value),
+        Num::N64(value) => value,
+    }
+}
+
+/// The block and the bit where an integer starts, after integers that end at `end`.
+fn place_of(end: (usize, usize), number: Num) -> (usize, usize)
+    requires count { end.0 + 1 < 2 ^ 64 }
+    requires inside { end.1 ≤ 128 }
+    ensures place { result ≡ place_of end (width_of number) }
+    ensures near { result.0 ≤ end.0 + 1 }
+    ensures room { result.1 + width_of number ≤ 128 }
+{
+    if end.1 + width_of(number) <= 128 {
+        end
+    } else {
+        (end.0 + 1, 0)
+    }
+}
+
+/// The block and the bit where the integers end after one more item.
+pub(crate) fn end_after(end: (usize, usize), item: Absorbed<'_>) -> (usize, usize)
+    requires count { end.0 + 1 < 2 ^ 64 }
+    requires inside { end.1 ≤ 128 }
+    ensures end { result ≡ end_after end (item_of item.entry) }
+    ensures near { result.0 ≤ end.0 + 1 }
+    ensures inside { result.1 ≤ 128 }
+{
+    match item {
+        Absorbed::Bytes(_) => end,
+        Absorbed::Wide(_) => end,
+        Absorbed::Number(number) => {
+            let place = place_of(end, number);
+            (place.0, place.1 + width_of(number))
+        }
+    }
+}
+
+/// What an item adds to the number of a block.
+fn share(place: usize, end: (usize, usize), item: Absorbed<'_>) -> u128
+    requires count { end.0 + 1 < 2 ^ 64 }
+    requires inside { end.1 ≤ 128 }
+    ensures share { result ≡ share place end (item_of item.entry) }
+    ensures packable { IsPackable (item_of item.entry) }
+{
+    match item {
+        Absorbed::Bytes(_) => 0,
+        Absorbed::Wide(_) => 0,
+        Absorbed::Number(number) => {
+            let own = place_of(end, number);
+            let value = u128::from(value_of(number));
+            if own.0 == place { value << own.1 } else { 0 }
+        }
+    }
+}
+
+/// Where the integers of a list end.
+#[tactic(auto, unfolding(rapidhash::specs::Sponge::end_of))]
+pub(crate) fn end_of(items: &[Absorbed<'_>]) -> (usize, usize)
+    ensures end { result ≡ end_of (map item_of items.now) }
+    ensures inside { result.1 ≤ 128 }
+{
+    let mut end = (0, 0);
+    for item in items {
+        end = end_after(end, *item);
+    }
+    end
+}
+
+/// The number of a block: the sum of its integers, each times 2 to the power of its bit.
+pub(crate) fn block(items: &[Absorbed<'_>], place: usize) -> u128
+    ensures { result ≡ block (map item_of items.now) place }
+{
+    let mut end = (0, 0);
+    let mut sum = 0u128;
+    for item in items {
+        sum += share(place, end, *item);
+        end = end_after(end, *item);
+    }
+    sum
+}

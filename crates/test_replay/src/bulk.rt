@@ -1,0 +1,93 @@
+//! Cases of the bulk hashes and of the in-memory core.
+
+use crate::hashers;
+use crate::items::Item;
+use crate::rules::{message, number, secrets_of};
+use crate::tally::Agreement;
+use anyhow::{Result, bail};
+use test_definitions::bodies::{Version, body, defined, defined_by_words};
+use rapidhash_portable::form::Options;
+use std::alloc::Global;
+
+/// The columns of a file of bulk hashes.
+pub const COLUMNS: &str =
+    "form\tavalanche\tprotected\tv1_bug\tminor\tmessage\tlength\tsecrets\texpected";
+
+/// The columns of a file of the in-memory core.
+pub const MEMORY_COLUMNS: &str = "avalanche\tprotected\tmessage\tlength\tsecrets\texpected";
+
+/// The version of a case.
+pub fn version_of(form: &str, bug: &str, minor: &str) -> Option<Version> {
+    match (form, bug, minor) {
+        ("v1", "0", _) => Some(Version::V1),
+        ("v1", "1", _) => Some(Version::V1Bug),
+        ("v2", _, "0") => Some(Version::V2Minor0),
+        ("v2", _, "1") => Some(Version::V2Minor1),
+        ("v2", _, "2") => Some(Version::V2Minor2),
+        ("v3", _, _) => Some(Version::V3),
+        ("micro", _, _) => Some(Version::Micro),
+        ("nano", _, _) => Some(Version::Nano),
+        _ => None,
+    }
+}
+
+/// The options of a case.
+pub fn options_of(avalanche: &str, protected: &str) -> Options {
+    Options {
+        avalanche: avalanche == "1",
+        protected: protected == "1",
+    }
+}
+
+/// Replays a bulk hash.
+pub fn replay(alloc: Global, line: &str) -> Result<Agreement> {
+    let fields: Vec<&str> = line.split("\t").collect(alloc)?;
+    let [
+        form,
+        avalanche,
+        protected,
+        bug,
+        minor,
+        rule,
+        length,
+        secrets_rule,
+        expected,
+    ] = fields.as_slice()
+    else {
+        bail!("no nine fields: {line}");
+    };
+    let Some(version) = version_of(form, bug, minor) else {
+        bail!("no version: {line}");
+    };
+    let options = options_of(avalanche, protected);
+    let bytes = message(alloc, rule, number(length)?)?;
+    let secrets = secrets_of(secrets_rule)?;
+    let expected = number(expected)?;
+    let bytes = bytes.as_slice();
+    let compact = if version.has_compact() {
+        Some(body::<true>(version, options, &secrets, bytes) == expected)
+    } else {
+        None
+    };
+    let by_words = defined_by_words(alloc, version, options, &secrets, bytes)?;
+    Ok(Agreement {
+        definition: Some(defined(version, options, &secrets, bytes) == expected),
+        words: Some(by_words == expected),
+        body: Some(body::<false>(version, options, &secrets, bytes) == expected),
+        compact,
+        steps: None,
+    })
+}
+
+/// Replays the in-memory core, as one write into a hasher and its hash.
+pub fn replay_memory(alloc: Global, line: &str) -> Result<Agreement> {
+    let fields: Vec<&str> = line.split("\t").collect(alloc)?;
+    let [avalanche, protected, rule, length, secrets_rule, expected] = fields.as_slice() else {
+        bail!("no six fields: {line}");
+    };
+    let options = options_of(avalanche, protected);
+    let bytes = message(alloc, rule, number(length)?)?;
+    let start = secrets_of(secrets_rule)?.seven;
+    let items = [Item::Bytes(bytes)];
+    hashers::compare(alloc, options, true, &start, &items, number(expected)?)
+}

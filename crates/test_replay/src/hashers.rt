@@ -1,0 +1,100 @@
+//! Cases of the hasher of maps: lists of items, and the hash after them.
+
+use crate::bulk::options_of;
+use crate::items::{Item, listed};
+use crate::rules::{number, secrets_of};
+use crate::tally::Agreement;
+use anyhow::{Result, bail};
+use rapidhash::inner::SeedableState;
+use test_definitions::finished;
+use rapidhash_portable::form::Options;
+use rapidhash_portable::v3::RapidSecrets;
+use std::alloc::Global;
+use std::hash::{BuildHasher, Hasher};
+
+/// The columns of a file of items.
+pub const COLUMNS: &str = "avalanche\tsponge\tprotected\tsecrets\titems\texpected";
+
+/// What the hasher of a seedable state returns.
+fn answer<const AVALANCHE: bool, const SPONGE: bool, const COMPACT: bool, const PROTECTED: bool>(
+    start: &RapidSecrets,
+    items: &[Item],
+) -> u64 {
+    let state = SeedableState::<AVALANCHE, SPONGE, COMPACT, PROTECTED>::custom(
+        start.seed,
+        &start.secrets,
+    );
+    let mut hasher = state.build_hasher();
+    for item in items {
+        item.write_to(&mut hasher);
+    }
+    hasher.finish()
+}
+
+/// The same, of options that are values.
+fn answered<const COMPACT: bool>(
+    options: Options,
+    sponge: bool,
+    start: &RapidSecrets,
+    items: &[Item],
+) -> u64 {
+    match (options.avalanche, sponge, options.protected) {
+        (true, true, true) => answer::<true, true, COMPACT, true>(start, items),
+        (true, true, false) => answer::<true, true, COMPACT, false>(start, items),
+        (true, false, true) => answer::<true, false, COMPACT, true>(start, items),
+        (true, false, false) => answer::<true, false, COMPACT, false>(start, items),
+        (false, true, true) => answer::<false, true, COMPACT, true>(start, items),
+        (false, true, false) => answer::<false, true, COMPACT, false>(start, items),
+        (false, false, true) => answer::<false, false, COMPACT, true>(start, items),
+        (false, false, false) => answer::<false, false, COMPACT, false>(start, items),
+    }
+}
+
+/// Compares the hashes of the definition and of the hasher with the expected one.
+pub fn compare(
+    alloc: Global,
+    options: Options,
+    sponge: bool,
+    start: &RapidSecrets,
+    items: &[Item],
+    expected: u64,
+) -> Result<Agreement> {
+    let mut absorbed = Vec::new(alloc);
+    for item in items {
+        absorbed.push(item.absorbed())?;
+    }
+    let defined = finished(
+        options,
+        sponge,
+        &start.secrets,
+        start.seed,
+        absorbed.as_slice(),
+    );
+    Ok(Agreement {
+        definition: Some(defined == expected),
+        words: None,
+        body: Some(answered::<false>(options, sponge, start, items) == expected),
+        compact: Some(answered::<true>(options, sponge, start, items) == expected),
+        steps: None,
+    })
+}
+
+/// Replays a list of items.
+pub fn replay(alloc: Global, line: &str) -> Result<Agreement> {
+    let fields: Vec<&str> = line.split("\t").collect(alloc)?;
+    let [avalanche, sponge, protected, secrets, list, expected] = fields.as_slice() else {
+        bail!("no six fields: {line}");
+    };
+    let options = options_of(avalanche, protected);
+    let sponge = *sponge == "1";
+    let start = secrets_of(secrets)?.seven;
+    let items = listed(alloc, list)?;
+    compare(
+        alloc,
+        options,
+        sponge,
+        &start,
+        items.as_slice(),
+        number(expected)?,
+    )
+}

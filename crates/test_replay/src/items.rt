@@ -1,0 +1,106 @@
+//! What a hasher of maps absorbs, and how a vector file names it.
+
+use anyhow::{Result, bail};
+use rapidhash::inner::RapidHasher;
+use rapidhash::laws::Num;
+use test_definitions::Absorbed;
+use std::alloc::Global;
+use std::hash::Hasher;
+
+/// Bytes, or an integer by the call that takes it.
+#[derive(Drop)]
+pub enum Item {
+    Bytes(Vec<u8>),
+    U8(u8),
+    U16(u16),
+    U32(u32),
+    U64(u64),
+    Usize(usize),
+    U128(u128),
+    I8(i8),
+    I16(i16),
+    I32(i32),
+    I64(i64),
+    Isize(isize),
+    I128(i128),
+}
+
+impl Item {
+    /// What the definition sees of it.
+    pub fn absorbed(&self) -> Absorbed<'_> {
+        match self {
+            Item::Bytes(bytes) => Absorbed::Bytes(bytes.as_slice()),
+            Item::U8(value) => Absorbed::Number(Num::N8(*value)),
+            Item::U16(value) => Absorbed::Number(Num::N16(*value)),
+            Item::U32(value) => Absorbed::Number(Num::N32(*value)),
+            Item::U64(value) => Absorbed::Number(Num::N64(*value)),
+            Item::Usize(value) => Absorbed::Number(Num::N64(*value as u64)),
+            Item::U128(value) => Absorbed::Wide(*value),
+            Item::I8(value) => Absorbed::Number(Num::N8(value.cast_unsigned())),
+            Item::I16(value) => Absorbed::Number(Num::N16(value.cast_unsigned())),
+            Item::I32(value) => Absorbed::Number(Num::N32(value.cast_unsigned())),
+            Item::I64(value) => Absorbed::Number(Num::N64(value.cast_unsigned())),
+            Item::Isize(value) => Absorbed::Number(Num::N64(value.cast_unsigned() as u64)),
+            Item::I128(value) => Absorbed::Wide(value.cast_unsigned()),
+        }
+    }
+
+    /// Writes it, an integer by the hasher's own call for its type.
+    pub fn write_to<
+        const AVALANCHE: bool,
+        const SPONGE: bool,
+        const COMPACT: bool,
+        const PROTECTED: bool,
+    >(&self, hasher: &mut RapidHasher<'_, AVALANCHE, SPONGE, COMPACT, PROTECTED>) {
+        match self {
+            Item::Bytes(bytes) => hasher.write(bytes.as_slice()),
+            Item::U8(value) => hasher.write_u8(*value),
+            Item::U16(value) => hasher.write_u16(*value),
+            Item::U32(value) => hasher.write_u32(*value),
+            Item::U64(value) => hasher.write_u64(*value),
+            Item::Usize(value) => hasher.write_usize(*value),
+            Item::U128(value) => hasher.write_u128(*value),
+            Item::I8(value) => hasher.write_i8(*value),
+            Item::I16(value) => hasher.write_i16(*value),
+            Item::I32(value) => hasher.write_i32(*value),
+            Item::I64(value) => hasher.write_i64(*value),
+            Item::Isize(value) => hasher.write_isize(*value),
+            Item::I128(value) => hasher.write_i128(*value),
+        }
+    }
+}
+
+/// An item by its name: `bytes:` and hex digits, or the type of an integer and its value.
+fn named(alloc: Global, word: &str) -> Result<Item> {
+    let Some((name, value)) = word.split_once(":") else {
+        bail!("no name and value in {word}");
+    };
+    Ok(match name {
+        "bytes" => Item::Bytes(hex::decode(alloc, if value == "-" { "" } else { value })?),
+        "u8" => Item::U8(value.parse::<u8>()?),
+        "u16" => Item::U16(value.parse::<u16>()?),
+        "u32" => Item::U32(value.parse::<u32>()?),
+        "u64" => Item::U64(value.parse::<u64>()?),
+        "usize" => Item::Usize(value.parse::<usize>()?),
+        "u128" => Item::U128(value.parse::<u128>()?),
+        "i8" => Item::I8(value.parse::<i8>()?),
+        "i16" => Item::I16(value.parse::<i16>()?),
+        "i32" => Item::I32(value.parse::<i32>()?),
+        "i64" => Item::I64(value.parse::<i64>()?),
+        "isize" => Item::Isize(value.parse::<isize>()?),
+        "i128" => Item::I128(value.parse::<i128>()?),
+        _ => bail!("no item {word}"),
+    })
+}
+
+/// The items of a field, `(none)` for none.
+pub fn listed(alloc: Global, field: &str) -> Result<Vec<Item>> {
+    let mut all = Vec::new(alloc);
+    if field == "(none)" {
+        return Ok(all);
+    }
+    for word in field.split_whitespace() {
+        all.push(named(alloc, word)?)?;
+    }
+    Ok(all)
+}

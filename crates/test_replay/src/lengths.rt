@@ -1,0 +1,98 @@
+//! Compares versions with one another: the lengths at which they have one hash are known.
+
+use crate::compare::OPTIONS;
+use anyhow::Result;
+use test_definitions::bodies::{Secrets, Version, body};
+use rapidhash_portable::form::Options;
+
+/// Two versions, and the lengths at which they differ.
+#[derive(Clone, Copy)]
+struct Known {
+    first: Version,
+    second: Version,
+    /// Where they differ, in words.
+    words: &'static str,
+    /// The same as the first and the last length of each run.
+    runs: &'static [(usize, usize)],
+}
+
+/// What is known. Of V3 and a relative, the one with fewer lanes folds its first chunk at the first
+/// length at which they differ, and V1's historical fault shows only at 48 bytes. V2.0 begins its
+/// rows at 57 bytes and not at 65, and V2.2 reads up to 3 bytes in another way and takes another
+/// secret for the third pair of a tail.
+const ALL: [Known; 5] = [
+    Known {
+        first: Version::V3,
+        second: Version::Micro,
+        words: "from 81 on",
+        runs: &[(81, 512)],
+    },
+    Known {
+        first: Version::V3,
+        second: Version::Nano,
+        words: "from 49 on",
+        runs: &[(49, 512)],
+    },
+    Known {
+        first: Version::V1,
+        second: Version::V1Bug,
+        words: "at 48",
+        runs: &[(48, 48)],
+    },
+    Known {
+        first: Version::V2Minor0,
+        second: Version::V2Minor1,
+        words: "at 57 to 64",
+        runs: &[(57, 64)],
+    },
+    Known {
+        first: Version::V2Minor1,
+        second: Version::V2Minor2,
+        words: "at 1 to 3 and 49 to 64",
+        runs: &[(1, 3), (49, 64)],
+    },
+];
+
+impl Known {
+    /// Whether the two are known to differ on `n` bytes.
+    fn differ(&self, n: usize) -> bool {
+        self.runs
+            .iter()
+            .any(|&(first, last)| first <= n && n <= last)
+    }
+
+    /// Whether they do on these bytes as is known.
+    fn holds(&self, options: Options, secrets: &Secrets, x: &[u8]) -> bool {
+        let first = body::<false>(self.first, options, secrets, x);
+        let second = body::<false>(self.second, options, secrets, x);
+        (first != second) == self.differ(x.len())
+    }
+
+    /// On how many of the lengths below the bytes' own it holds with all options.
+    fn lengths(&self, secrets: &Secrets, bytes: &[u8]) -> u64 {
+        let mut lengths = 0u64;
+        for n in 0..bytes.len() {
+            let x = &bytes[..n];
+            let holds = OPTIONS
+                .iter()
+                .all(|&options| self.holds(options, secrets, x));
+            lengths = lengths.saturating_add(u64::from(holds));
+        }
+        lengths
+    }
+}
+
+/// Prints on how many of the lengths 0 to 512 two versions agree or differ as is known; returns at
+/// how many lengths they do not.
+pub fn print_lengths(rt: &impl Print, secrets: &Secrets, bytes: &[u8]) -> Result<u64> {
+    let all = bytes.len() as u64;
+    let mut otherwise = 0u64;
+    for known in ALL {
+        let held = known.lengths(secrets, bytes);
+        let (first, second) = (known.first.name(), known.second.name());
+        let words = known.words;
+        println!(rt; "{first} and {second} differ {words}, else agree: {held} of {all} lengths")?;
+        otherwise = otherwise.saturating_add(all.saturating_sub(held));
+    }
+    Ok(otherwise)
+}

@@ -1,0 +1,86 @@
+//! Replays vector files: reads cases whose values come from elsewhere (see data/README.md), and
+//! compares the definitions and the fast bodies with each. It prints a line of counts for each file
+//! named in its arguments, the cases that differ on standard error, and ends with status 1 if one
+//! does. The argument `--compare` compares bodies and definitions on bytes of the generator.
+//! Without arguments it prints how it is called, and ends with status 2.
+#![tactic(auto)]
+
+mod bulk;
+mod compare;
+mod draws;
+mod hashers;
+mod items;
+mod lengths;
+mod pieces;
+mod readers;
+mod rules;
+mod seeds;
+mod streams;
+mod tally;
+mod words;
+
+use anyhow::{Context, Result, bail};
+use std::process::ExitCode;
+use std::rt::{Env, Files};
+use std::{env, fs};
+use tally::Tally;
+
+/// How the program is called.
+const USAGE: &str = "usage: test_replay [--compare] [FILE]..
+
+Compares the values of vector files with the definitions and the library, and
+with --compare the library with the definitions on bytes of a generator.";
+
+fn main(rt: HostRuntime) -> Result<ExitCode> {
+    let words: Vec<String> = env::args(&rt)?.skip(1).collect(rt.alloc())?;
+    if words.is_empty() {
+        eprintln!(rt; "{USAGE}")?;
+        return Ok(ExitCode::from(2));
+    }
+    let mut differing = 0u64;
+    for word in &words {
+        if word.as_str() == "--compare" {
+            differing = differing.saturating_add(compare::compare(&rt)?);
+            continue;
+        }
+        let tally = replay(&rt, word.as_str())?;
+        println!(rt; "{}: {tally}", word.as_str())?;
+        differing = differing.saturating_add(tally.differing());
+    }
+    if differing > 0 {
+        bail!("{differing} values differ");
+    }
+    Ok(ExitCode::SUCCESS)
+}
+
+/// Replays one file, by the kind of cases that its column names say.
+fn replay(rt: &(impl Files + Print + Eprint + AllocGlobal), name: &str) -> Result<Tally> {
+    let text = fs::read_to_string(rt, name).context(format_args!("reading {name}"))?;
+    let mut lines = text.lines().filter(|line| !line.starts_with("#"));
+    let Some(columns) = lines.next() else {
+        bail!("{name} has no column names");
+    };
+    let mut tally = Tally::new();
+    for line in lines {
+        let case = match columns {
+            bulk::COLUMNS => bulk::replay(rt.alloc(), line)?,
+            bulk::MEMORY_COLUMNS => bulk::replay_memory(rt.alloc(), line)?,
+            hashers::COLUMNS => hashers::replay(rt.alloc(), line)?,
+            readers::COLUMNS => readers::replay(rt.alloc(), line)?,
+            streams::COLUMNS => streams::replay(rt.alloc(), line)?,
+            streams::LANES_COLUMNS => streams::replay_with_lanes(rt.alloc(), line)?,
+            seeds::COLUMNS => seeds::replay(rt.alloc(), line)?,
+            seeds::RESEED_COLUMNS => seeds::replay_reseed(rt.alloc(), line)?,
+            seeds::MADE_COLUMNS => seeds::replay_made(rt.alloc(), line)?,
+            seeds::SOURCE_COLUMNS => seeds::replay_source(rt.alloc(), line)?,
+            draws::COLUMNS => draws::replay(rt.alloc(), line)?,
+            draws::TIME_COLUMNS => draws::replay_time(rt.alloc(), line)?,
+            draws::STEPS_COLUMNS => draws::replay_steps(rt.alloc(), line)?,
+            _ => bail!("no cases with the columns {columns}"),
+        };
+        if tally.differs(case) {
+            rt.eprintln(format_args!("{name}: {line}"))?;
+        }
+    }
+    Ok(tally)
+}

@@ -1,0 +1,113 @@
+//! Compares the stream hashers with the bulk calls, on bytes of the generator cut into pieces.
+
+ghost use Rattle.std.specs.Prelude.{◌<◌};
+ghost use Rattle.rapidhash_portable.specs.Lanes.{IsLaneCount};
+
+use crate::compare::OPTIONS;
+use anyhow::Result;
+use test_definitions::bodies::{Secrets, Version, body};
+use rapidhash_portable::v3::RapidStreamHasherLanes;
+
+/// How many of the lengths below the bytes' own a stream hasher of `LANES` lanes hashes as the bulk
+/// call does, by pieces of one size, each length after a reset.
+fn pieces_agree<const LANES: usize>(
+    version: Version,
+    secrets: &Secrets,
+    bytes: &[u8],
+    size: usize,
+) -> u64
+    requires lanes { IsLaneCount LANES }
+    requires size { 0 < size }
+{
+    let [options, ..] = OPTIONS;
+    let mut hasher = RapidStreamHasherLanes::<LANES, true, false>::new(&secrets.seven);
+    let mut agreed = 0u64;
+    for n in 0..bytes.len() {
+        let x = &bytes[..n];
+        hasher.reset();
+        for piece in x.chunks(size) {
+            hasher.write(piece);
+        }
+        if hasher.finish() == body::<false>(version, options, secrets, x) {
+            agreed = agreed.saturating_add(1);
+        }
+    }
+    agreed
+}
+
+/// The pieces' sizes: those round a word, a pair, a chunk of seven lanes and two of them.
+const SIZES: [usize; 14] = [
+    1, 2, 15, 16, 17, 111, 112, 113, 128, 223, 224, 225, 511, 1024,
+];
+
+/// Compares by pieces of each size; returns how many values differ.
+fn print_sizes(rt: &impl Print, secrets: &Secrets, bytes: &[u8]) -> Result<u64> {
+    let lengths = bytes.len() as u64;
+    let mut differing = 0u64;
+    for size in SIZES {
+        let size = size.max(1);
+        let seven = pieces_agree::<7>(Version::V3, secrets, bytes, size);
+        let five = pieces_agree::<5>(Version::Micro, secrets, bytes, size);
+        let three = pieces_agree::<3>(Version::Nano, secrets, bytes, size);
+        println!(rt;
+            "pieces of {size}: v3 {seven}, micro {five}, nano {three} of {lengths} lengths"
+        )?;
+        for agreed in [seven, five, three] {
+            differing = differing.saturating_add(lengths.saturating_sub(agreed));
+        }
+    }
+    Ok(differing)
+}
+
+/// How many pairs of pieces V3's stream hasher hashes as the bulk call does, with a hash asked for
+/// after each piece and a reset after each pair.
+fn pairs_agree(secrets: &Secrets, bytes: &[u8]) -> u64 {
+    let [options, ..] = OPTIONS;
+    let mut hasher = RapidStreamHasherLanes::<7, true, false>::new(&secrets.seven);
+    let mut agreed = 0u64;
+    for (first, second) in PAIRS {
+        let (Some(one), Some(both)) = (bytes.get(..first), bytes.get(..second)) else {
+            continue;
+        };
+        let Some(rest) = both.get(first..) else {
+            continue;
+        };
+        hasher.reset();
+        hasher.write(one);
+        let after_one = hasher.finish() == body::<false>(Version::V3, options, secrets, one);
+        hasher.write(rest);
+        let after_both = hasher.finish() == body::<false>(Version::V3, options, secrets, both);
+        agreed = agreed.saturating_add(u64::from(after_one && after_both));
+    }
+    agreed
+}
+
+/// Pieces of 111, 112, 113 and 128 bytes in every order of two: where the first ends, and the
+/// second.
+const PAIRS: [(usize, usize); 16] = [
+    (111, 222),
+    (111, 223),
+    (111, 224),
+    (111, 239),
+    (112, 223),
+    (112, 224),
+    (112, 225),
+    (112, 240),
+    (113, 224),
+    (113, 225),
+    (113, 226),
+    (113, 241),
+    (128, 239),
+    (128, 240),
+    (128, 241),
+    (128, 256),
+];
+
+/// Compares by pieces of one size and by pairs of pieces; returns how many values differ.
+pub fn print_pieces(rt: &impl Print, secrets: &Secrets, bytes: &[u8]) -> Result<u64> {
+    let sizes = print_sizes(rt, secrets, bytes)?;
+    let agreed = pairs_agree(secrets, bytes);
+    println!(rt; "pairs of pieces: {agreed} of 16")?;
+    let all = PAIRS.len() as u64;
+    Ok(sizes.saturating_add(all.saturating_sub(agreed)))
+}

@@ -1,0 +1,79 @@
+//! Cases of the hashes of a reader.
+
+use crate::bulk::version_of;
+use crate::rules::{message, number, secrets_of};
+use crate::tally::Agreement;
+use anyhow::{Result, bail};
+use test_definitions::bodies::{Secrets, Version, defined};
+use rapidhash_portable::form::Options;
+use rapidhash_portable::v1::rapidhash_v1_file_inline;
+use rapidhash_portable::v2::rapidhash_v2_file_inline;
+use rapidhash_portable::v3::rapidhash_v3_file_inline;
+use std::alloc::Global;
+use std::io;
+
+/// The columns of a file of readers' hashes.
+pub const COLUMNS: &str = "form\tminor\tprotected\tmessage\tlength\tsecrets\texpected";
+
+/// The hash of all bytes of a reader.
+fn of_reader<const PROTECTED: bool>(
+    version: Version,
+    secrets: &Secrets,
+    bytes: &[u8],
+) -> io::Result<u64> {
+    let mut reader = bytes;
+    let len = bytes.len() as u64;
+    let three = &secrets.three;
+    let seven = &secrets.seven;
+    match version {
+        Version::V1 | Version::V1Bug => rapidhash_v1_file_inline::<&[u8], PROTECTED>(
+            &mut reader,
+            len,
+            three,
+        ),
+        Version::V2Minor0 => rapidhash_v2_file_inline::<&[u8], 0, PROTECTED>(
+            &mut reader,
+            len,
+            seven,
+        ),
+        Version::V2Minor1 => rapidhash_v2_file_inline::<&[u8], 1, PROTECTED>(
+            &mut reader,
+            len,
+            seven,
+        ),
+        Version::V2Minor2 => rapidhash_v2_file_inline::<&[u8], 2, PROTECTED>(
+            &mut reader,
+            len,
+            seven,
+        ),
+        _ => rapidhash_v3_file_inline::<&[u8], PROTECTED>(bytes, seven),
+    }
+}
+
+/// Replays a hash of a reader, with the avalanche on.
+pub fn replay(alloc: Global, line: &str) -> Result<Agreement> {
+    let fields: Vec<&str> = line.split("\t").collect(alloc)?;
+    let [form, minor, protected, rule, length, secrets, expected] = fields.as_slice() else {
+        bail!("no seven fields: {line}");
+    };
+    let Some(version) = version_of(form, "0", minor) else {
+        bail!("no version: {line}");
+    };
+    let options = Options {
+        avalanche: true,
+        protected: *protected == "1",
+    };
+    let bytes = message(alloc, rule, number(length)?)?;
+    let secrets = secrets_of(secrets)?;
+    let expected = number(expected)?;
+    let bytes = bytes.as_slice();
+    let answer = if options.protected {
+        of_reader::<true>(version, &secrets, bytes)?
+    } else {
+        of_reader::<false>(version, &secrets, bytes)?
+    };
+    Ok(Agreement::new(
+        defined(version, options, &secrets, bytes) == expected,
+        answer == expected,
+    ))
+}
