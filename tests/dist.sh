@@ -64,12 +64,25 @@ builds_the_rust_crate() {
     [ "$(cargo run --quiet --offline)" = 3327445792987248966 ]
 }
 
+# The module for JavaScript lies where the binding looks for it. Node 20 wants a flag for its memory.
+loads_the_module() {
+  local program
+  program="import('$room/unpacked/bindings/javascript/rapidhash.mjs').then(async ({ load }) =>
+    process.exit((await load()).v3(new TextEncoder().encode('hello')) === 3327445792987248966n ? 0 : 1))"
+  node -e "$program" || node --experimental-wasm-memory64 -e "$program"
+}
+
 try archive makes_the_archive
 try program prints_the_known_hash
 try vectors agrees_with_the_vectors
 try wrong_vector tells_a_wrong_vector
 try library links_where_it_stands
 try rust_crate builds_the_rust_crate
+if command -v node >/dev/null; then
+  try module loads_the_module
+else
+  printf 'skipped module: no node\n'
+fi
 
 printf '%s passed, %s failed\n' "$passed" "$failed"
 [ "$failed" -eq 0 ]

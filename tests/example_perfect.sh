@@ -19,7 +19,7 @@ ended() {
   elif ! cmp -s out wanted; then
     failed=$((failed + 1))
     printf 'FAILED %s: it printed: %s\n' "$1" "$(head -c 200 out)"
-  elif [ "$(head -n 1 err)" != "$3" ]; then
+  elif [ "$(cat err)" != "$3" ]; then
     failed=$((failed + 1))
     printf 'FAILED %s: standard error has: %s\n' "$1" "$(head -c 200 err)"
   else
@@ -68,6 +68,12 @@ for count in 1 2 3 4 5 7 11 100; do
   run few <odd
   ended "a-list-of-$count" 0 ''
 done
+
+# A list that takes more seeds than most: 15,887 for one group.
+seq 1 1000 >few
+(awk '{ print NR " " $0 }' few; seq 1001 2000 | sed 's/^/absent /') >wanted
+seq 1 2000 | run few
+ended a-list-that-takes-many-seeds 0 ''
 
 printf '3 plum\n2 \nabsent fig\n' >wanted
 printf 'plum\n\nfig' | run fruit

@@ -33,8 +33,8 @@ tell() {
 fault() {
   local name=$1 status=$2 text=$3
   shift 3
-  "$@" 2>err
-  [ $? -eq "$status" ] && [ "$(cat err)" = "example_shards: $text" ]
+  "$@" >out 2>err
+  [ $? -eq "$status" ] && [ "$(cat err)" = "example_shards: $text" ] && [ ! -s out ]
   tell "$name" $?
 }
 

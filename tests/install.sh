@@ -88,14 +88,19 @@ completes() {
 
 # Every option that the help of a program names stands in a file: PROGRAM, how many there are, FILE.
 names_every_option() {
-  local program=$1 count=$2 file=$3 option options
+  local program=$1 count=$2 file=$3 option options pattern
   options=$("$prefix/bin/$program" --help | grep -oE '^ .{0,5} --[a-z0-9.-]+' | grep -oE -- '--.*')
   [ "$(wc -w <<<"$options")" -eq "$count" ] || {
     echo "the help does not name $count options, but: $options"
     return 1
   }
   for option in $options; do
-    sed 's/\\//g' "$file" | grep -q -- "${option#--}" || {
+    pattern=${option//./[.]}
+    case $file in
+    */_*) pattern="$pattern[}']*\\[" ;; # zsh offers what has a description, and excludes other options.
+    *) pattern="(^|[^a-z0-9.-]|--)${pattern#--}([^a-z0-9.-]|[.] |\$)" ;;
+    esac
+    sed 's/\\//g' "$file" | grep -qE -e "$pattern" || {
       echo "$option is not in $file"
       return 1
     }
@@ -184,6 +189,29 @@ wants_a_new_shared_library() {
     [ "$said" = 'make install: the shared library is not linked: run make first' ]
 }
 
+# A folder whose name the file for pkg-config cannot hold: the script's own check, since make expands some.
+refuses_characters() {
+  local character said
+  for character in '#' '$' '\' "'" '"' '`' $'\n' $'\t'; do
+    said=$(PREFIX="$room/a${character}b" BINDIR=/b LIBDIR=/l INCLUDEDIR=/i DATADIR=/d "$top/bin/install" 2>&1) &&
+      return 1
+    grep '^make install: PREFIX has a character' <<<"$said" || return 1
+  done
+}
+
+# Nothing is copied if one of the programs or the library is older than its sources.
+wants_each_built() {
+  local stale=$room/each crate said
+  mkdir -p "$stale/bin" && cp "$top/bin/install" "$stale/bin" || return 1
+  for crate in rapidhash_cli example_sums rapidhash_c; do
+    printf '#!/bin/sh\n[ "$2" != %s ]\n' "$crate" >"$stale/bin/build" && chmod +x "$stale/bin/build" || return 1
+    said=$(PREFIX=$room/none BINDIR=$room/none LIBDIR=$room/none INCLUDEDIR=$room/none \
+      DATADIR=$room/none "$stale/bin/install" 2>&1) && return 1
+    [ "$said" = "make install: $crate is not built of what is here: run make first" ] || return 1
+  done
+  [ ! -e "$room/none" ]
+}
+
 # Programs and the shared library may be run by all, and every other file may be read by all.
 has_the_modes() {
   [ -z "$(find "$prefix" -type f ! -perm 644 ! -perm 755)" ] &&
@@ -221,6 +249,8 @@ try folder_with_a_quote refuses PREFIX='/usr/a"b'
 try folders_of_a_packager serves_a_packager
 try nothing_built wants_a_build_first
 try old_shared_library wants_a_new_shared_library
+try characters_of_folders refuses_characters
+try old_programs wants_each_built
 try uninstall make -s -C "$top" uninstall PREFIX="$prefix"
 try nothing_left is_empty "$prefix"
 

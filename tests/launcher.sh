@@ -61,6 +61,14 @@ mkdir -p repo/crates/rapidhash_cli/specs
 run
 ended new_folder 0 first 4 "$changed" "$built"
 
+# Each crate that the tool uses counts.
+for crate in rapidhash rapidhash_tool rapidhash_cli; do
+  new_build
+  mkdir -p repo/crates/$crate/specs && echo more >repo/crates/$crate/specs/More.antt
+  run
+  ended "new_file_of_$crate" 0 first 1 "$changed" "$built"
+done
+
 new_build
 echo '# A comment' >>repo/crates.txt
 run

@@ -156,17 +156,6 @@ def program_lines():
             yield f"example_{program} has {code}, {specs}, {proofs} lines"
 
 
-def options():
-    """Each option in the tool's help stands in its manual and in what each shell completes."""
-    wanted = set(re.findall(r"--([a-z0-9.-]+)", (TOP / "crates/rapidhash_tool/src/usage.rt").read_text()))
-    for name in ("rapidhash.1", "rapidhash.bash", "rapidhash.fish", "rapidhash.zsh"):
-        text = (TOP / "share" / name).read_text().replace("\\", "")
-        listed = set(re.findall(r"(?:--|-l |-o )([a-z0-9.-]*[a-z0-9])", text))
-        listed |= set(" ".join(re.findall(r"^set -l versions (.*)", text, re.MULTILINE)).split())
-        for option in sorted(wanted - listed):
-            yield f"share/{name} has no --{option}"
-
-
 VERSIONS = {
     "CHANGELOG.md": r"^## (\d+\.\d+)",
     "Makefile": r"^name = yervound-(\d+\.\d+)-",
@@ -193,7 +182,7 @@ def version():
 
 
 for name, check in [("links", links), ("paths", paths), ("limits", limits), ("names", names),
-                    ("edits", edits), ("cases", cases), ("lines of the programs", program_lines), ("version", version), ("options", options),
+                    ("edits", edits), ("cases", cases), ("lines of the programs", program_lines), ("version", version),
                     ("calls", calls), ("plot of the speed", plot_of_the_speed)]:
     tell(name, list(check()))
 print(f"{passed} passed, {failed} failed")

@@ -107,6 +107,16 @@ test("hashers do not disturb each other", () => {
   assert.equal(right.digest(), 13105958653737073913n);
 });
 
+test("views of all kinds", () => {
+  const { buffer } = Uint8Array.from({ length: 400 }, (_, at) => at);
+  const views = [buffer, new Uint32Array(buffer), new Float64Array(buffer, 8, 20)];
+  for (const view of [...views, new DataView(buffer, 3, 50), new Uint8Array(buffer, 5, 7)]) {
+    const bytes = new Uint8Array(buffer, view.byteOffset ?? 0, view.byteLength);
+    assert.equal(v3(view), v3(bytes.slice()));
+    assert.equal(new V3().update(view).digest(), v3(bytes.slice()));
+  }
+});
+
 // What is not refused is ignored or rounded without a word.
 test("refused options", () => {
   const refused = [

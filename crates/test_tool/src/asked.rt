@@ -26,6 +26,9 @@ fn reads_up_to_a_length(rt: HostRuntime) {
     }
 }
 
+// What a read asks for: the capacity of a Linux pipe.
+const PIECE: usize = 65536;
+
 // If the input is read to its end, a read for each byte is followed by one that finds the end.
 #[test]
 fn reads_up_to_the_end(rt: HostRuntime) {
@@ -37,6 +40,7 @@ fn reads_up_to_the_end(rt: HostRuntime) {
             let of_stdin = version.hash_stdin(rt.alloc(), &mut input);
             assert!(rt; of_stdin.is_ok());
             assert_eq!(rt; input.reads, u64::from(count) + 1, "{version:?} at {count}");
+            assert_eq!(rt; input.longest, PIECE, "{version:?} at {count}");
             if version.needs_length() {
                 continue;
             }
@@ -47,6 +51,7 @@ fn reads_up_to_the_end(rt: HostRuntime) {
                 u64::from(count) + 1,
                 "{version:?} at {count}"
             );
+            assert_eq!(rt; reader.longest, PIECE, "{version:?} at {count}");
         }
     }
 }

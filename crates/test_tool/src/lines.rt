@@ -161,18 +161,24 @@ fn lengths_of_files(rt: HostRuntime) {
     assert_eq!(rt; first.written.as_slice(), SOMETHING_LINE);
 }
 
-// V3, micro and nano hash all bytes, whatever the length is.
+// V3, micro and nano hash and print all bytes, whatever the length is.
 #[test]
-fn lengths_that_are_not_looked_at(rt: HostRuntime) {
+fn lengths_that_are_not_looked_at(rt: HostRuntime) -> Result<(), Fail> {
     let bytes = counted();
     let all = versions(false);
     for i in 4..7usize {
+        let hash = OF_200[i];
+        let line = format!(in rt.alloc(); "{hash}\n")?;
         for len in [0, 99, 200, 201, u64::MAX] {
-            let hash = all[i].hash_file(whole(&bytes), len);
-            assert_eq!(rt; hash, Ok(OF_200[i]), "at {len}");
+            assert_eq!(rt; all[i].hash_file(whole(&bytes), len), Ok(hash), "at {len}");
+            let ended = of_file(all[i], whole(&bytes), len, writer(Vec::new(rt.alloc()), 0));
+            assert_eq!(rt; ended.result, Ok(()), "at {len}");
+            assert_eq!(rt; ended.written.as_slice(), line.as_bytes(), "at {len}");
         }
     }
-    assert_eq!(rt; V3.hash_file(whole(SOMETHING), 99), Ok(OF_SOMETHING[4]));
+    let ended = of_file(V3, whole(SOMETHING), 99, writer(Vec::new(rt.alloc()), 0));
+    assert_eq!(rt; ended.written.as_slice(), V3_LINE);
+    Ok(())
 }
 
 #[test]

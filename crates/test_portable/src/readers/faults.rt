@@ -4,7 +4,7 @@ use crate::readers::asked::{drip, failed, gave, v1_of, v2_of};
 use test_fakes::CountingReader;
 use rapidhash_portable::reader::Source;
 use rapidhash_portable::v1::{DEFAULT_RAPID_SECRETS, rapidhash_v1, rapidhash_v1_source};
-use rapidhash_portable::v2;
+use rapidhash_portable::{v2, v3};
 use std::io::ErrorKind;
 use std::test::Fail;
 
@@ -63,4 +63,25 @@ fn a_source_marks_a_failed_read(rt: HostRuntime) {
         (reader.reads, reader.longest, reader.left.len()),
         (3, 4, 8)
     );
+}
+
+/// V3 of ten bytes that come one a read, over a source: if one of the eleven reads fails, its error
+/// is returned and the source is marked. A twelfth read is not made. The number is the Rust crate's.
+#[test]
+fn a_source_is_marked_by_each_read(rt: HostRuntime) {
+    for fails_at in 1..13u64 {
+        let reader = drip(SOMETHING, fails_at, ErrorKind::BrokenPipe);
+        let mut source = Source::new(reader);
+        let answer = v3::rapidhash_v3_source::<CountingReader, false>(
+            &mut source,
+            &v3::DEFAULT_RAPID_SECRETS,
+        );
+        let want = if fails_at < 12 {
+            Err(ErrorKind::BrokenPipe)
+        } else {
+            Ok(11612086640089003834)
+        };
+        assert_eq!(rt; answer.map_err(|error| error.kind()), want, "{fails_at}");
+        assert_eq!(rt; source.failed(), fails_at < 12, "{fails_at}");
+    }
 }
