@@ -83,13 +83,25 @@ by_pkg_config() {
   calls_from_c cc "$top/tests/c_library.c" $words
 }
 
+build_rust() {
+  [ -f "$rlib" ] || cargo build --release --offline --quiet --manifest-path "$top/rust/Cargo.toml" \
+    --target-dir "$room/cargo"
+}
+
+# A million inputs that libFuzzer makes up, or as many as fit into RAPIDHASH_FUZZ_SECONDS.
+fuzz() {
+  local runs=-runs=1000000
+  [ -z "${RAPIDHASH_FUZZ_SECONDS:-}" ] || runs=-max_total_time=$RAPIDHASH_FUZZ_SECONDS
+  build_rust && rustc -O --edition 2021 --crate-type staticlib "$top/tests/fuzz.rs" --extern "rapidhash=$rlib" \
+    -o "$room/libfuzz.a" &&
+    clang -O1 -fsanitize=fuzzer,address,undefined -fno-sanitize-recover=all "-I$top/include" \
+      "$top/tests/fuzz.c" "$archive" "$room/libfuzz.a" -lpthread -ldl -lm -o "$room/fuzz" &&
+    (cd "$room" && ./fuzz -max_len=1200 -len_control=0 "$runs")
+}
+
 # The hashes of random messages from C and from Rust.
 rust_and_c() {
-  if ! [ -f "$rlib" ]; then
-    cargo build --release --offline --quiet --manifest-path "$top/rust/Cargo.toml" \
-      --target-dir "$room/cargo" || return 1
-  fi
-  rustc -O --edition 2021 "$top/tests/rust_and_c.rs" --extern "rapidhash=$rlib" \
+  build_rust && rustc -O --edition 2021 "$top/tests/rust_and_c.rs" --extern "rapidhash=$rlib" \
     -L "native=${archive%/*}" -l static=rapidhash_c -o "$room/rust_and_c" && "$room/rust_and_c"
 }
 
@@ -142,11 +154,8 @@ try c_archive calls_from_c cc -std=c99 -I"$top/include" "$top/tests/c_library.c"
 try c_shared calls_from_c cc -std=c99 -I"$top/include" "$top/tests/c_library.c" "$shared"
 try c_by_pkg_config by_pkg_config
 try cpp_archive calls_from_c c++ -I"$top/include" -x c++ "$top/tests/c_library.c" -x none "$archive"
-if [ -f "$rlib" ] || [ -d "$top/rust" ]; then
-  try rust_and_c rust_and_c
-else
-  printf 'skipped rust_and_c: no Rust crate in %s/rust\n' "$top"
-fi
+try_with rust_and_c rustc rust_and_c
+try_with fuzz clang fuzz
 
 try_with python python3 python_tests
 try_with go go go_tests

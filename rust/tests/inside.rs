@@ -1,7 +1,7 @@
 //! What a stream keeps, and what a reader's error says: no contract and no hash tells it.
 #![cfg(feature = "std")]
 
-use rapidhash::v3::{RapidStreamHasherLanes, DEFAULT_RAPID_SECRETS};
+use rapidhash::v3::{DEFAULT_RAPID_SECRETS, RapidStreamHasherLanes};
 use rapidhash::{v1, v2, v3};
 use std::fmt::Debug;
 use std::io::{Error, ErrorKind, Read, Result};
@@ -11,7 +11,10 @@ fn shown(value: &impl Debug, field: &str) -> Vec<u64> {
     let text = format!("{value:?}");
     let (_, rest) = text.split_once(&format!("{field}: [")).unwrap();
     let (numbers, _) = rest.split_once(']').unwrap();
-    numbers.split(", ").map(|number| number.parse().unwrap()).collect()
+    numbers
+        .split(", ")
+        .map(|number| number.parse().unwrap())
+        .collect()
 }
 
 fn counted(length: u64) -> Vec<u8> {
@@ -52,7 +55,10 @@ fn two_chunks_fold_as_one_after_another() {
         let at_once = shown(&after::<LANES>(&bytes, bytes.len()), "lanes");
         let one_by_one = shown(&after::<LANES>(&bytes, chunk), "lanes");
         assert_eq!(at_once, one_by_one);
-        assert_ne!(at_once, shown(&after::<LANES>(&bytes[..chunk], chunk), "lanes"));
+        assert_ne!(
+            at_once,
+            shown(&after::<LANES>(&bytes[..chunk], chunk), "lanes")
+        );
     }
     agrees::<7>();
     agrees::<5>();
@@ -82,11 +88,21 @@ fn errors_are_those_of_the_reader() {
         |reader| v2::rapidhash_v2_2_file(reader, 10),
         |reader| v3::rapidhash_v3_file(reader),
     ];
-    for kind in [BrokenPipe, Interrupted, Other, TimedOut, UnexpectedEof, WouldBlock] {
+    for kind in [
+        BrokenPipe,
+        Interrupted,
+        Other,
+        TimedOut,
+        UnexpectedEof,
+        WouldBlock,
+    ] {
         for call in calls {
             let mut reader = Broken { kind, reads: 0 };
             let error = call(&mut reader).unwrap_err();
-            assert_eq!((error.kind(), error.to_string()), (kind, "the disk is gone".to_owned()));
+            assert_eq!(
+                (error.kind(), error.to_string()),
+                (kind, "the disk is gone".to_owned())
+            );
             assert_eq!(reader.reads, 1);
         }
     }

@@ -3,10 +3,10 @@
 use crate::lookup::{LookupError, answer, filter_of};
 use crate::options::{OptionsError, Request, parse_words};
 use crate::shape::{Shape, ShapeError};
-use test_fakes::{CountingReader, FullWriter, OneByteWriter};
 use std::alloc::Global;
 use std::io::{BufReader, ErrorKind, Result};
 use std::process::Abort;
+use test_fakes::{CountingReader, FullWriter, OneByteWriter};
 
 #[test]
 fn shapes(rt: HostRuntime) {

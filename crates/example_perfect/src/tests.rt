@@ -2,9 +2,9 @@
 
 use crate::lookup::{LookupError, answer, lines};
 use crate::table::{BuildError, Table};
-use test_fakes::{CountingReader, FullWriter, OneByteWriter};
 use std::io::{BufReader, ErrorKind};
 use std::process::Abort;
+use test_fakes::{CountingReader, FullWriter, OneByteWriter};
 
 fn answered(rt: &(impl Abort + AllocGlobal), list: &[u8], input: &[u8], want: &[u8]) {
     let keys = lines(rt.alloc(), list).expect(rt, "memory");

@@ -8,10 +8,10 @@ use crate::problem::Problem;
 use crate::store::Store;
 use crate::sum::write_sum;
 use linked_list_allocator::LocalHeap;
-use test_fakes::{CountingReader, FullWriter};
 use std::io;
 use std::io::ErrorKind;
 use std::process::Abort;
+use test_fakes::{CountingReader, FullWriter};
 
 const SOMETHING: &[u8] = b"something\n";
 

@@ -2,12 +2,12 @@
 
 use rapidhash::inner::RapidHasher;
 use rapidhash::rng::RapidRng;
-use test_definitions::{cpp_seeded, memory_hash, mix};
 use rapidhash_portable::form::Options;
 use rapidhash_portable::v3::DEFAULT_RAPID_SECRETS;
 use std::alloc::{AllocError, Global};
 use std::hash::Hasher;
 use std::test::Fail;
+use test_definitions::{cpp_seeded, memory_hash, mix};
 
 /// The definition's hash, for a hasher with the default seed after one write.
 fn defined(options: Options, bytes: &[u8]) -> u64 {

@@ -5,9 +5,9 @@ use crate::items::Item;
 use crate::rules::{message, number, secrets_of};
 use crate::tally::Agreement;
 use anyhow::{Result, bail};
-use test_definitions::bodies::{Version, body, defined, defined_by_words};
 use rapidhash_portable::form::Options;
 use std::alloc::Global;
+use test_definitions::bodies::{Version, body, defined, defined_by_words};
 
 /// The columns of a file of bulk hashes.
 pub const COLUMNS: &str =

@@ -6,9 +6,9 @@ use crate::rules::{message, secrets_of};
 use crate::tally::{Agreement, Tally};
 use crate::words::print_words;
 use anyhow::{Result, bail};
+use rapidhash_portable::form::Options;
 use test_definitions::bodies::{Secrets, Version, body, defined, memory_body};
 use test_definitions::memory_hash;
-use rapidhash_portable::form::Options;
 
 /// Every choice of options.
 pub const OPTIONS: [Options; 4] = [

@@ -5,8 +5,8 @@ use crate::seeds::{agreement, numbers};
 use crate::tally::Agreement;
 use anyhow::{Result, bail};
 use rapidhash::rng::{RapidRng, rapidrng_fast, rapidrng_fast_not_portable, rapidrng_time};
-use test_definitions::{other_word_of, seed_at_moment, state_after, word_of};
 use std::alloc::{AllocError, Global};
+use test_definitions::{other_word_of, seed_at_moment, state_after, word_of};
 
 /// The columns of a file of words and states.
 pub const COLUMNS: &str = "seed\tcount\texpected";

@@ -6,11 +6,11 @@ use crate::rules::{number, secrets_of};
 use crate::tally::Agreement;
 use anyhow::{Result, bail};
 use rapidhash::inner::SeedableState;
-use test_definitions::finished;
 use rapidhash_portable::form::Options;
 use rapidhash_portable::v3::RapidSecrets;
 use std::alloc::Global;
 use std::hash::{BuildHasher, Hasher};
+use test_definitions::finished;
 
 /// The columns of a file of items.
 pub const COLUMNS: &str = "avalanche\tsponge\tprotected\tsecrets\titems\texpected";

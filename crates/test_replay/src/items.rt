@@ -3,9 +3,9 @@
 use anyhow::{Result, bail};
 use rapidhash::inner::RapidHasher;
 use rapidhash::laws::Num;
-use test_definitions::Absorbed;
 use std::alloc::Global;
 use std::hash::Hasher;
+use test_definitions::Absorbed;
 
 /// Bytes, or an integer by the call that takes it.
 #[derive(Drop)]

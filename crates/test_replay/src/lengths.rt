@@ -2,8 +2,8 @@
 
 use crate::compare::OPTIONS;
 use anyhow::Result;
-use test_definitions::bodies::{Secrets, Version, body};
 use rapidhash_portable::form::Options;
+use test_definitions::bodies::{Secrets, Version, body};
 
 /// Two versions, and the lengths at which they differ.
 #[derive(Clone, Copy)]

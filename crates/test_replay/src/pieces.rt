@@ -5,8 +5,8 @@ ghost use Rattle.rapidhash_portable.specs.Lanes.{IsLaneCount};
 
 use crate::compare::OPTIONS;
 use anyhow::Result;
-use test_definitions::bodies::{Secrets, Version, body};
 use rapidhash_portable::v3::RapidStreamHasherLanes;
+use test_definitions::bodies::{Secrets, Version, body};
 
 /// How many of the lengths below the bytes' own a stream hasher of `LANES` lanes hashes as the bulk
 /// call does, by pieces of one size, each length after a reset.

@@ -4,13 +4,13 @@ use crate::bulk::version_of;
 use crate::rules::{message, number, secrets_of};
 use crate::tally::Agreement;
 use anyhow::{Result, bail};
-use test_definitions::bodies::{Secrets, Version, defined};
 use rapidhash_portable::form::Options;
 use rapidhash_portable::v1::rapidhash_v1_file_inline;
 use rapidhash_portable::v2::rapidhash_v2_file_inline;
 use rapidhash_portable::v3::rapidhash_v3_file_inline;
 use std::alloc::Global;
 use std::io;
+use test_definitions::bodies::{Secrets, Version, defined};
 
 /// The columns of a file of readers' hashes.
 pub const COLUMNS: &str = "form\tminor\tprotected\tmessage\tlength\tsecrets\texpected";

@@ -2,10 +2,10 @@
 
 use anyhow::{Context, Result, bail};
 use rapidhash::rng::RapidRng;
-use test_definitions::bodies::Secrets;
 use rapidhash_portable::seeding::{GlobalSecrets, SeedSource};
 use rapidhash_portable::{v1, v3};
 use std::alloc::Global;
+use test_definitions::bodies::Secrets;
 
 /// How the bytes of a message are computed from their places.
 #[derive(Clone, Copy)]

@@ -3,13 +3,13 @@
 use crate::rules::number;
 use crate::tally::Agreement;
 use anyhow::{Result, bail};
+use rapidhash_portable::seeding::{GlobalSecrets, SeedSource};
+use rapidhash_portable::{v1, v2, v3};
+use std::alloc::{AllocError, Global};
 use test_definitions::{
     chained, cpp_seeded, global_seed, made_secrets, reseeded, seeded, source_answer, source_next,
     source_start,
 };
-use rapidhash_portable::seeding::{GlobalSecrets, SeedSource};
-use rapidhash_portable::{v1, v2, v3};
-use std::alloc::{AllocError, Global};
 
 /// The columns of a file of secrets.
 pub const COLUMNS: &str = "form\tcall\tnumber\texpected";

@@ -8,10 +8,10 @@ use crate::seeds::numbers;
 use crate::tally::Agreement;
 use anyhow::{Result, bail};
 use rapidhash::laws::{StreamOp, replay_lanes};
-use test_definitions::{chunk_count, finishes};
 use rapidhash_portable::form::Options;
 use rapidhash_portable::v3::RapidSecrets;
 use std::alloc::{AllocError, Global};
+use test_definitions::{chunk_count, finishes};
 
 /// The columns of a file of V3's stream hasher.
 pub const COLUMNS: &str = "avalanche\tprotected\tmessage\tlength\tsecrets\toperations\texpected";

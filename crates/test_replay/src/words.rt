@@ -5,9 +5,9 @@ use anyhow::Result;
 use rapidhash::laws::{
     same_words_micro, same_words_nano, same_words_v1, same_words_v2, same_words_v3,
 };
+use std::alloc::{AllocError, Global};
 use test_definitions::absorbed_words;
 use test_definitions::bodies::Version;
-use std::alloc::{AllocError, Global};
 
 /// Whether the library finds that two messages are equal.
 fn body(version: Version, x: &[u8], y: &[u8]) -> bool {

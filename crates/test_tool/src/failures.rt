@@ -7,10 +7,10 @@ use crate::ends::{
     whole, writer,
 };
 use linked_list_allocator::LocalHeap;
-use test_fakes::CountingReader;
 use rapidhash_tool::{CliFault, RapidhashVersion, run_help, run_stdin};
 use std::io::ErrorKind;
 use std::process::Abort;
+use test_fakes::CountingReader;
 
 // Forty bytes: a vector that takes them one by one grows four times.
 const FORTY: &[u8] = b"a line of forty bytes, not one byte more";

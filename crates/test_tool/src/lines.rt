@@ -3,10 +3,10 @@
 use crate::ends::{
     SOMETHING, SOMETHING_LINE, V1, V3, V3_LINE, counted, of_file, of_stdin, versions, whole, writer,
 };
-use test_fakes::FullWriter;
 use rapidhash_tool::{CliFault, help, run_file, run_help, run_stdin};
 use std::process::Abort;
 use std::test::Fail;
+use test_fakes::FullWriter;
 
 // What the Rust crate's hashes are, for V1, V2.0, V2.1, V2.2, V3, micro and nano.
 const OF_SOMETHING: [u64; 7] = [

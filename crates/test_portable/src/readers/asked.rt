@@ -3,11 +3,11 @@
 ghost use Rattle.std.specs.Prelude.{◌≤◌};
 
 use crate::readers::outcome::Outcome;
-use test_fakes::CountingReader;
 use rapidhash_portable::reader::Source;
 use rapidhash_portable::{v1, v2};
 use std::io;
 use std::io::ErrorKind;
+use test_fakes::CountingReader;
 
 /// The result of a call, whether the mark was on after it, and how many bytes were left.
 #[derive(Debug, Clone, Copy, PartialEq, Eq)]

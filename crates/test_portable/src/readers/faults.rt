@@ -1,12 +1,12 @@
 //! A read that fails, each in turn, and the call after it.
 
 use crate::readers::asked::{drip, failed, gave, v1_of, v2_of};
-use test_fakes::CountingReader;
 use rapidhash_portable::reader::Source;
 use rapidhash_portable::v1::{DEFAULT_RAPID_SECRETS, rapidhash_v1, rapidhash_v1_source};
 use rapidhash_portable::{v2, v3};
 use std::io::ErrorKind;
 use std::test::Fail;
+use test_fakes::CountingReader;
 
 const SOMETHING: &[u8] = b"something\n";
 

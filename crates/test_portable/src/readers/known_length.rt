@@ -5,9 +5,9 @@ mod form;
 
 use crate::readers::outcome::Outcome;
 use form::{FORMS, Form};
-use test_fakes::CountingReader;
 use std::io::ErrorKind;
 use std::process::Abort;
+use test_fakes::CountingReader;
 
 /// Hashes ten bytes that come one a read. Each read in turn fails: its own error is returned, the
 /// bytes before it are gone, and no read follows.

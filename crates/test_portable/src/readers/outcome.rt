@@ -1,8 +1,8 @@
 //! What a hash over a fake reader returned, and what it asked the reader for.
 
-use test_fakes::CountingReader;
 use std::io;
 use std::io::ErrorKind;
+use test_fakes::CountingReader;
 
 /// What a call returned, how many reads it made, the most bytes that one of them asked for, and how
 /// many bytes are left.

@@ -7,10 +7,10 @@ use rapidhash::rng::RapidRng;
 use rapidhash::v3::{
     RapidSecrets, rapidhash_v3_file_sized, rapidhash_v3_inline, rapidhash_v3_source_sized,
 };
-use test_fakes::CountingReader;
 use std::io;
 use std::io::ErrorKind;
 use std::test::Fail;
+use test_fakes::CountingReader;
 
 /// At how many lengths below that of the bytes both sized forms return the hash of the bytes and
 /// ask for `SIZE` bytes a read.

@@ -6,12 +6,12 @@ mod form;
 use crate::readers::outcome::Outcome;
 use form::{FORMS, Form};
 use rapidhash::rng::RapidRng;
-use test_fakes::CountingReader;
 use rapidhash_portable::reader::Source;
 use rapidhash_portable::v3;
 use std::io::ErrorKind;
 use std::process::Abort;
 use std::test::Fail;
+use test_fakes::CountingReader;
 
 /// Hashes ten bytes that come one a read; an eleventh read finds the end. Each read in turn fails:
 /// its own error is returned, the bytes before it are gone, and no read follows.

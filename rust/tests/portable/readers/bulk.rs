@@ -2,7 +2,9 @@
 
 //! The hash of a reader is that of its bytes.
 
-use crate::readers::asked::{gave, sound, v1_of, v1_of_slice, v2_of, v2_of_slice};
+use crate::readers::asked::{
+    gave, sound, v1_of, v1_of_files, v1_of_slice, v2_of, v2_of_file, v2_of_slice,
+};
 use rapidhash::rng::RapidRng;
 use rapidhash::{v1, v2};
 type Fail = Box<dyn std::error::Error>;
@@ -22,12 +24,17 @@ fn random_bytes() -> Result<Vec<u8>, Fail> {
 }
 
 /// Whether V1 of the first `n` bytes is the same number from a reader of one byte a read, from one
-/// that returns all it is asked for, and of the slice.
+/// that returns all it is asked for, by each file form, and of the slice.
 fn v1_agrees(bytes: &[u8], n: usize) -> bool {
     let bytes = &bytes[..n.min(bytes.len())];
     let len = bytes.len() as u64;
     let want = gave(v1::rapidhash_v1(bytes), 0);
-    v1_of(sound(bytes), len) == want && v1_of_slice(bytes, len) == want
+    let [named, seeded, inline] = v1_of_files(bytes, len, 0);
+    v1_of(sound(bytes), len) == want
+        && v1_of_slice(bytes, len) == want
+        && named.is_hash(v1::rapidhash_v1(bytes))
+        && seeded.is_hash(v1::rapidhash_v1(bytes))
+        && inline.is_hash(v1::rapidhash_v1(bytes))
 }
 
 /// The same of V2.
@@ -37,7 +44,9 @@ fn v2_agrees<const MINOR: u8>(bytes: &[u8], n: usize) -> bool {
     let secrets = &v2::DEFAULT_RAPID_SECRETS;
     let hash = v2::rapidhash_v2_inline::<MINOR, true, false, false>(bytes, secrets);
     let want = gave(hash, 0);
-    v2_of::<MINOR>(sound(bytes), len) == want && v2_of_slice::<MINOR>(bytes, len) == want
+    v2_of::<MINOR>(sound(bytes), len) == want
+        && v2_of_slice::<MINOR>(bytes, len) == want
+        && v2_of_file::<MINOR>(bytes, len).is_hash(hash)
 }
 
 fn all_agree(bytes: &[u8], n: usize) -> bool {

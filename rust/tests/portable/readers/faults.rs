@@ -2,13 +2,13 @@
 
 //! A read that fails, each in turn, and the call after it.
 
-use crate::fakes::CountingReader;
 use crate::readers::asked::{drip, failed, gave, v1_of, v2_of};
 use rapidhash::reader::Source;
 use rapidhash::v1::{DEFAULT_RAPID_SECRETS, rapidhash_v1, rapidhash_v1_source};
-use rapidhash::v2;
+use rapidhash::{v2, v3};
 use std::io::ErrorKind;
 type Fail = Box<dyn std::error::Error>;
+use crate::fakes::CountingReader;
 
 const SOMETHING: &[u8] = b"something\n";
 
@@ -62,4 +62,25 @@ fn a_source_marks_a_failed_read() {
     assert_eq!(source.failed(), false);
     let reader = source.into_inner();
     assert_eq!((reader.reads, reader.longest, reader.left.len()), (3, 4, 8));
+}
+
+/// V3 of ten bytes that come one a read, over a source: if one of the eleven reads fails, its error
+/// is returned and the source is marked. A twelfth read is not made. The number is the Rust crate's.
+#[test]
+fn a_source_is_marked_by_each_read() {
+    for fails_at in 1..13u64 {
+        let reader = drip(SOMETHING, fails_at, ErrorKind::BrokenPipe);
+        let mut source = Source::new(reader);
+        let answer = v3::rapidhash_v3_source::<CountingReader, false>(
+            &mut source,
+            &v3::DEFAULT_RAPID_SECRETS,
+        );
+        let want = if fails_at < 12 {
+            Err(ErrorKind::BrokenPipe)
+        } else {
+            Ok(11612086640089003834)
+        };
+        assert_eq!(answer.map_err(|error| error.kind()), want, "{fails_at}");
+        assert_eq!(source.failed(), fails_at < 12, "{fails_at}");
+    }
 }

@@ -2,7 +2,6 @@
 
 //! V3's readers with buffers of several sizes.
 
-use crate::fakes::CountingReader;
 use rapidhash::reader::Source;
 use rapidhash::rng::RapidRng;
 use rapidhash::v3::{
@@ -11,6 +10,7 @@ use rapidhash::v3::{
 use std::io;
 use std::io::ErrorKind;
 type Fail = Box<dyn std::error::Error>;
+use crate::fakes::CountingReader;
 
 /// At how many lengths below that of the bytes both sized forms return the hash of the bytes and
 /// ask for `SIZE` bytes a read.

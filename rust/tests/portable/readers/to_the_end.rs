@@ -5,7 +5,6 @@
 
 mod form;
 
-use crate::fakes::CountingReader;
 use crate::readers::outcome::Outcome;
 use form::{FORMS, Form};
 use rapidhash::reader::Source;
@@ -13,6 +12,7 @@ use rapidhash::rng::RapidRng;
 use rapidhash::v3;
 use std::io::ErrorKind;
 type Fail = Box<dyn std::error::Error>;
+use crate::fakes::CountingReader;
 
 /// Hashes ten bytes that come one a read; an eleventh read finds the end. Each read in turn fails:
 /// its own error is returned, the bytes before it are gone, and no read follows.

@@ -1,10 +1,10 @@
 //! The calls that hash a number of bytes of a reader.
 
 use crate::readers::outcome::Outcome;
-use test_fakes::CountingReader;
 use rapidhash_portable::reader::Source;
 use rapidhash_portable::{v1, v2};
 use std::io;
+use test_fakes::CountingReader;
 
 /// A call that hashes a number of bytes of a reader. The named calls have default secrets, and the
 /// others those of the seed 3.

@@ -3,11 +3,11 @@
 ghost use Rattle.std.specs.Prelude.{◌<◌};
 
 use crate::readers::outcome::Outcome;
-use test_fakes::CountingReader;
 use rapidhash_portable::reader::Source;
 use rapidhash_portable::v3;
 use rapidhash_portable::v3::RapidSecrets;
 use std::io;
+use test_fakes::CountingReader;
 
 /// A call that hashes all that a reader has. The named call without a seed has default secrets, and
 /// the others those of the seed 3.
