@@ -119,6 +119,12 @@ mv out of_a_slow_pipe
 run ten_million
 ended slow_pipe 0 "$(cat of_a_slow_pipe)"$'\n' ''
 
+# More than 128 MiB, which V1 and V2 keep in memory.
+head -c 140000000 /dev/zero | run --v1
+ended v1_of_140_million_bytes 0 $'15042570400923500380\n' ''
+head -c 140000000 /dev/zero | run --v2.2
+ended v2_2_of_140_million_bytes 0 $'1949155381881807616\n' ''
+
 mkfifo fifo
 cat large >fifo &
 run --v3 fifo

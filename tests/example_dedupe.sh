@@ -70,6 +70,17 @@ head -c 39999 /dev/zero >odd/shorter
 "$program" odd | cmp -s - <(printf 'odd/copy\nodd/zeros\n\n')
 tell 'long files' $?
 
+# Two file systems number their files alike.
+if unshare -rm true 2>/dev/null; then
+  mkdir one two
+  unshare -rm bash -c 'mount -t tmpfs none one && mount -t tmpfs none two && echo same >one/file &&
+    echo same >two/file && [ "$(stat -c %i one/file)" = "$(stat -c %i two/file)" ] && "$1" one two' - "$program" |
+    cmp -s - <(printf 'one/file\ntwo/file\n\n')
+  tell 'files of two file systems' $?
+else
+  printf 'skipped files of two file systems: unshare is refused\n'
+fi
+
 # A tree of the kit or of the system, copied, against fdupes.
 if command -v fdupes >/dev/null; then
   mkdir wide && cp -r /usr/share/doc wide/one 2>/dev/null && cp -r "$top/crates/rapidhash" wide/two

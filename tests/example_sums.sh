@@ -155,8 +155,8 @@ tell large-file $?
 # A terminal shows how far a large file is, and nothing else does.
 truncate -s 300000000 sparse
 script -qec "$program sparse" log </dev/null >/dev/null 2>&1
-grep -q '128 MiB.*256 MiB' log && grep -q 'c266dafd0143ba3a  sparse' log
-tell progress-on-a-terminal $?
+grep -q '128 MiB.*256 MiB' log && grep -qP '\r\x1b\[Kc266dafd0143ba3a  sparse' log
+tell progress-on-a-terminal-is-erased $?
 "$program" sparse >out 2>log
 [ ! -s log ] && [ "$(cat out)" = 'c266dafd0143ba3a  sparse' ]
 tell no-progress-elsewhere $?

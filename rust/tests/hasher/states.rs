@@ -6,11 +6,14 @@ use rapidhash::{fast, inner, quality};
 use std::hash::{BuildHasher, Hasher};
 
 /// The hash of an integer, which waits in the sponge, and four bytes.
-fn hash_of<S: BuildHasher>(state: &S) -> u64 {
-    let mut hasher = state.build_hasher();
+fn hash_by(mut hasher: impl Hasher) -> u64 {
     hasher.write_u64(4711);
     hasher.write(b"user");
     hasher.finish()
+}
+
+fn hash_of<S: BuildHasher>(state: &S) -> u64 {
+    hash_by(state.build_hasher())
 }
 
 /// The hashes are the crate's, of hashers with these seeds and secrets.
@@ -30,6 +33,8 @@ fn states_of_known_seeds() {
         hash_of(&quality::SeedableState::fixed()),
         829435165229610713
     );
+    assert_eq!(hash_by(fast::RapidHasher::default()), 6021588442437052047);
+    assert_eq!(hash_by(quality::RapidHasher::default()), 829435165229610713);
     let secrets = GlobalSecrets::new(1);
     let global = fast::SeedableState::custom(secrets.get_global_seed(), secrets.get());
     assert_eq!(hash_of(&global), 1604029122039678008);
@@ -45,6 +50,15 @@ fn aliases_name_their_options() {
     let quality: inner::SeedableState<true, true, false, false> = quality::SeedableState::fixed();
     let hasher: inner::RapidHasher<true, true> = quality.build_hasher();
     assert_ne!(hasher.finish(), fast.build_hasher().finish());
+}
+
+#[cfg(feature = "std")]
+#[test]
+fn aliases_of_random_states() {
+    let _: inner::RandomState<false, true, false, false> = fast::RandomState::new();
+    let _: inner::RandomState<true, true, false, false> = quality::RandomState::new();
+    let _: inner::GlobalState<false, true, false, false> = fast::GlobalState::new();
+    let _: inner::GlobalState<true, true, false, false> = quality::GlobalState::new();
 }
 
 #[test]
@@ -65,6 +79,9 @@ fn states_without_words() {
     assert!(fast::SeedableState::random() != fast::SeedableState::default());
     assert!(fast::SeedableState::new(5) == fast::SeedableState::new(5));
     assert!(fast::SeedableState::new(5) != fast::SeedableState::new(6));
+    let own = RapidSecrets::random().secrets;
+    let five = fast::SeedableState::custom(RapidSecrets::seed_cpp(5).seed, &own);
+    assert!(fast::SeedableState::new(5) == five);
     assert!(RapidSecrets::random() != RapidSecrets::random());
     let debug = format!(
         "{:?} {:?} {:?}",
