@@ -42,6 +42,14 @@ marks_generated() {
     sed -n 's/: linguist-generated: set$//p' | sort | diff "$room/made" -
 }
 
+# The crate has the licences and the notice of the repository.
+has_the_licences() {
+  local file
+  for file in LICENSE-MIT LICENSE-APACHE NOTICE; do
+    cmp "$file" "../$file" || return 1
+  done
+}
+
 has_no_dependency() {
   [ "$(cargo tree | wc -l)" -eq 1 ]
 }
@@ -74,6 +82,7 @@ readme_runs() {
 cd "$top/rust" || exit 1
 try current "$top/bin/rust_crate" --check
 try generated marks_generated
+try licences has_the_licences
 try layout cargo fmt --check
 for features in --all-features --no-default-features; do
   try "lints $features" cargo clippy --all-targets "$features" -- -D warnings
