@@ -101,7 +101,7 @@ fuzz() {
 
 # The hashes of random messages from C and from Rust.
 rust_and_c() {
-  build_rust && rustc -O --edition 2021 "$top/tests/rust_and_c.rs" --extern "rapidhash=$rlib" \
+  build_rust && rustc -O --edition 2021 "$top/tests/rust_and_c/main.rs" --extern "rapidhash=$rlib" \
     -L "native=${archive%/*}" -l static=rapidhash_c -o "$room/rust_and_c" && "$room/rust_and_c"
 }
 

@@ -45,6 +45,14 @@ pub extern "C" fn rust_secrets(
     of_v1: &mut v1::RapidSecrets,
     others: &mut v3::RapidSecrets,
 ) {
-    *of_v1 = if made { v1::RapidSecrets::seed(number) } else { v1::RapidSecrets::seed_cpp(number) };
-    *others = if made { v3::RapidSecrets::seed(number) } else { v3::RapidSecrets::seed_cpp(number) };
+    *of_v1 = if made {
+        v1::RapidSecrets::seed(number)
+    } else {
+        v1::RapidSecrets::seed_cpp(number)
+    };
+    *others = if made {
+        v3::RapidSecrets::seed(number)
+    } else {
+        v3::RapidSecrets::seed_cpp(number)
+    };
 }
