@@ -1,8 +1,8 @@
 /* The rapidhash family of hashes, from a library of which every function is proved.
  *
  * A call takes the bytes as a pointer and a length and returns their hash as a 64-bit number, the
- * same on every run. It allocates nothing, keeps no state, calls nothing but memmove, and may run in
- * any number of threads at once.
+ * same on every run. It allocates nothing, keeps no state, calls nothing but memmove (a start of a
+ * stream calls memset), and may run in any number of threads at once.
  *
  * The archive and the shared library are for x86-64 Linux. The numbers are the same on every machine
  * that computes these hashes, whatever its byte order. To store a hash so that it reads the same
@@ -60,13 +60,15 @@ struct rapidhash_secrets {
 /* Makes a seed and secrets from a number, each with bits set in its upper, its middle and its lower
  * part: the crate's RapidSecrets::seed. `secrets` points to a struct that may hold anything before the
  * call, and that nothing else reads or writes during it; it is not NULL. Make them once and keep
- * them: hashing with them costs no more than with the default ones. */
+ * them. */
 void rapidhash_v1_make_secrets(uint64_t number, struct rapidhash_v1_secrets *secrets);
 void rapidhash_make_secrets(uint64_t number, struct rapidhash_secrets *secrets);
 
 /* Makes the default secrets, and a seed from one seed word: the crate's RapidSecrets::seed_cpp. The
  * crate says that the C++ library takes its seed in this way. The default seed is that of word 0, but
- * in V1 that of 0xbdd89aa982704029. The preconditions are those above. */
+ * in V1 that of 0xbdd89aa982704029. The preconditions are those above. Whoever knows the default
+ * secrets can find messages that have the same hash for every seed word: if that matters, make secrets
+ * from a number that nobody knows. */
 void rapidhash_v1_seed_secrets(uint64_t seed, struct rapidhash_v1_secrets *secrets);
 void rapidhash_seed_secrets(uint64_t seed, struct rapidhash_secrets *secrets);
 
