@@ -124,6 +124,19 @@ def cases():
         yield f"no table has {name}"
 
 
+def statements():
+    """The definitions and the contract that docs/PROVED.md shows are those of the sources."""
+    crate = TOP / "crates" / "rapidhash_portable"
+    sources = "".join(file.read_text() for file in [*crate.glob("specs/*.antt"), *crate.glob("src/*.rt")])
+    page = (TOP / "docs" / "PROVED.md").read_text()
+    blocks = re.findall(r"^```(?:antt|rust)\n(.*?)^```$", page, re.MULTILINE | re.DOTALL)
+    for part in (part for block in blocks for part in block.split("\n\n")):
+        if part.rstrip() not in sources:
+            yield f"docs/PROVED.md shows what no source has: {part.splitlines()[0]}"
+    if len(blocks) != 2:
+        yield f"docs/PROVED.md shows {len(blocks)} blocks"
+
+
 def made_by(*command):
     """What a script that makes a page of the sources tells where the page is not current."""
     done = subprocess.run(command, cwd=TOP, stdout=subprocess.PIPE, stderr=subprocess.STDOUT, text=True)
@@ -182,7 +195,7 @@ def version():
 
 
 for name, check in [("links", links), ("paths", paths), ("limits", limits), ("names", names),
-                    ("edits", edits), ("cases", cases), ("lines of the programs", program_lines), ("version", version),
+                    ("edits", edits), ("cases", cases), ("lines of the programs", program_lines), ("version", version), ("statements", statements),
                     ("calls", calls), ("plot of the speed", plot_of_the_speed)]:
     tell(name, list(check()))
 print(f"{passed} passed, {failed} failed")
