@@ -11,8 +11,6 @@ trap 'rm -rf "$room"' EXIT
 header=$top/include/rapidhash_c.h
 archive=$top/crates/rapidhash_c/out/librapidhash_c.a
 shared=$top/build/librapidhash_c.so.1
-# The Rust crate: the .rlib that the variable names, or what cargo builds of the folder rust.
-rlib=${RAPIDHASH_RLIB:-$room/cargo/release/librapidhash.rlib}
 passed=0
 failed=0
 
@@ -83,26 +81,32 @@ by_pkg_config() {
   calls_from_c cc "$top/tests/c_library.c" $words
 }
 
+# The hashes of the Rust crate for a program in C. The crate is the .rlib that the variable names, or what cargo
+# builds of the folder rust.
 build_rust() {
+  local rlib=${RAPIDHASH_RLIB:-$room/cargo/release/librapidhash.rlib}
   [ -f "$rlib" ] || cargo build --release --offline --quiet --manifest-path "$top/rust/Cargo.toml" \
-    --target-dir "$room/cargo"
+    --target-dir "$room/cargo" || return 1
+  rustc -O --edition 2021 --crate-type staticlib "$top/tests/fuzz.rs" --extern "rapidhash=$rlib" -o "$room/librust.a"
+}
+
+# tests/fuzz.c over the C library and the Rust crate: COMPILER WORD..
+beside_rust() {
+  "$@" -Wall -Wextra -Werror "-I$top/include" "$top/tests/fuzz.c" "$archive" "$room/librust.a" \
+    -lpthread -ldl -lm -o "$room/beside_rust"
+}
+
+# Ten million random messages.
+random_messages() {
+  build_rust && beside_rust cc -O2 -DMESSAGES=10000000 && "$room/beside_rust"
 }
 
 # A million inputs that libFuzzer makes up, or as many as fit into RAPIDHASH_FUZZ_SECONDS.
 fuzz() {
   local runs=-runs=1000000
   [ -z "${RAPIDHASH_FUZZ_SECONDS:-}" ] || runs=-max_total_time=$RAPIDHASH_FUZZ_SECONDS
-  build_rust && rustc -O --edition 2021 --crate-type staticlib "$top/tests/fuzz.rs" --extern "rapidhash=$rlib" \
-    -o "$room/libfuzz.a" &&
-    clang -O1 -fsanitize=fuzzer,address,undefined -fno-sanitize-recover=all "-I$top/include" \
-      "$top/tests/fuzz.c" "$archive" "$room/libfuzz.a" -lpthread -ldl -lm -o "$room/fuzz" &&
-    (cd "$room" && ./fuzz -max_len=1200 -len_control=0 "$runs")
-}
-
-# The hashes of random messages from C and from Rust.
-rust_and_c() {
-  build_rust && rustc -O --edition 2021 "$top/tests/rust_and_c/main.rs" --extern "rapidhash=$rlib" \
-    -L "native=${archive%/*}" -l static=rapidhash_c -o "$room/rust_and_c" && "$room/rust_and_c"
+  beside_rust clang -O1 -fsanitize=fuzzer,address,undefined -fno-sanitize-recover=all &&
+    (cd "$room" && ./beside_rust -max_len=1200 -len_control=0 "$runs")
 }
 
 python_tests() {
@@ -154,7 +158,7 @@ try c_archive calls_from_c cc -std=c99 -I"$top/include" "$top/tests/c_library.c"
 try c_shared calls_from_c cc -std=c99 -I"$top/include" "$top/tests/c_library.c" "$shared"
 try c_by_pkg_config by_pkg_config
 try cpp_archive calls_from_c c++ -I"$top/include" -x c++ "$top/tests/c_library.c" -x none "$archive"
-try_with rust_and_c rustc rust_and_c
+try_with random_messages rustc random_messages
 try_with fuzz clang fuzz
 
 try_with python python3 python_tests

@@ -1,6 +1,7 @@
-/* Compares the C library with the Rust crate over what libFuzzer makes up: every form, with a seed
- * word and with made secrets, and streams in pieces that the input cuts. The message ends where a
- * page ends that nothing may touch, so a read past it is an error too. tests/bindings.sh builds it. */
+/* Compares the C library with the Rust crate: every form, with the default secrets, a seed word and
+ * made secrets, and streams in pieces that the input cuts. The message ends where a page ends that
+ * nothing may touch, so a read past it is an error too. tests/bindings.sh builds it in two ways: for
+ * what libFuzzer makes up, and with MESSAGES for so many random messages. */
 #include <stdbool.h>
 #include <stdio.h>
 #include <stdlib.h>
@@ -8,7 +9,11 @@
 
 #include "rapidhash_c.h"
 
+/* An input has a head and the message: whether the secrets are made, their number, and lengths. */
 enum { HEAD = 16, ROOM = 1 << 20, PAGE = 1 << 12 };
+
+/* The seed word of V1's default seed. */
+static const uint64_t word_of_v1 = 0xbdd89aa982704029;
 
 typedef uint64_t plain(const void *, size_t);
 typedef uint64_t with_seed(const void *, size_t, uint64_t);
@@ -16,7 +21,8 @@ typedef uint64_t seeded(const void *, size_t, const struct rapidhash_secrets *);
 
 uint64_t rust_hash(uint32_t form, const void *bytes, size_t len, const struct rapidhash_secrets *secrets);
 uint64_t rust_hash_v1(const void *bytes, size_t len, const struct rapidhash_v1_secrets *secrets);
-void rust_secrets(bool made, uint64_t number, struct rapidhash_v1_secrets *of_v1, struct rapidhash_secrets *others);
+void rust_secrets(
+    bool made, uint64_t number, struct rapidhash_v1_secrets *of_v1, struct rapidhash_secrets *others);
 
 static const struct {
     uint32_t form;
@@ -54,47 +60,92 @@ static const uint8_t *place(const uint8_t *bytes, size_t len)
     return memcpy(end - len, bytes, len);
 }
 
-/* A message in pieces: the head has their lengths. */
+/* A message in pieces, whose lengths the head has. */
 static uint64_t in_pieces(
     uint32_t lanes, const uint8_t *head, const uint8_t *bytes, size_t len, const struct rapidhash_secrets *secrets)
 {
     struct rapidhash_stream stream;
     rapidhash_stream_start(&stream, lanes, secrets);
     for (size_t at = 0, turn = 0; at < len; turn++) {
-        size_t wanted = head[9 + turn % 7] * (turn % 3 + 1), rest = len - at;
-        size_t piece = wanted < rest ? wanted + (turn % 7 == 6) : rest;
-        rapidhash_stream_write(&stream, bytes + at, piece < rest ? piece : rest);
-        at += piece < rest ? piece : rest;
+        size_t wanted = head[9 + turn % 7] * (turn % 3 + 1) + (turn % 7 == 6), rest = len - at;
+        size_t piece = wanted < rest ? wanted : rest;
+        rapidhash_stream_write(&stream, bytes + at, piece);
+        at += piece;
     }
     return rapidhash_stream_finish(&stream);
 }
 
+static void check_v1(bool made, uint64_t number, const uint8_t *bytes, size_t len)
+{
+    struct rapidhash_v1_secrets secrets, theirs;
+    struct rapidhash_secrets others;
+    (made ? rapidhash_v1_make_secrets : rapidhash_v1_seed_secrets)(number, &secrets);
+    rust_secrets(made, number, &theirs, &others);
+    check(!memcmp(&secrets, &theirs, sizeof secrets), "a secret", 1, 0);
+    uint64_t hash = rust_hash_v1(bytes, len, &secrets);
+    check(rapidhash_v1_seeded(bytes, len, &secrets) == hash, "a hash", 1, len);
+    check(made || rapidhash_v1_with_seed(bytes, len, number) == hash, "a seed word", 1, len);
+    check(made || number != word_of_v1 || rapidhash_v1(bytes, len) == hash, "a plain hash", 1, len);
+}
+
 int LLVMFuzzerTestOneInput(const uint8_t *data, size_t size)
 {
-    struct rapidhash_v1_secrets of_v1, their_v1;
-    struct rapidhash_secrets others, theirs;
+    struct rapidhash_v1_secrets of_v1;
+    struct rapidhash_secrets secrets, theirs;
     uint64_t number;
     if (size < HEAD || size > ROOM)
         return 0;
-    memcpy(&number, data + 1, 8);
     bool made = data[0] % 2;
-    (made ? rapidhash_v1_make_secrets : rapidhash_v1_seed_secrets)(number, &of_v1);
-    (made ? rapidhash_make_secrets : rapidhash_seed_secrets)(number, &others);
-    rust_secrets(made, number, &their_v1, &theirs);
-    check(!memcmp(&of_v1, &their_v1, sizeof of_v1) && !memcmp(&others, &theirs, sizeof others), "secrets", 0, 0);
-
+    uint32_t lanes = 3 + 2 * (data[9] % 3);
+    memcpy(&number, data + 1, 8);
     size_t len = size - HEAD;
     const uint8_t *bytes = place(data + HEAD, len);
-    uint64_t hash = rust_hash_v1(bytes, len, &of_v1);
-    check(rapidhash_v1_seeded(bytes, len, &of_v1) == hash, "a hash", 1, len);
-    check(made || rapidhash_v1_with_seed(bytes, len, number) == hash, "a seed word", 1, len);
+    check_v1(made, number, bytes, len);
+    (made ? rapidhash_make_secrets : rapidhash_seed_secrets)(number, &secrets);
+    rust_secrets(made, number, &of_v1, &theirs);
+    check(!memcmp(&secrets, &theirs, sizeof secrets), "a secret", 7, 0);
     for (size_t i = 0; i < sizeof forms / sizeof *forms; i++) {
         uint32_t form = forms[i].form;
-        hash = rust_hash(form, bytes, len, &others);
-        check(forms[i].seeded(bytes, len, &others) == hash, "a hash", form, len);
-        check(made || !forms[i].with_seed || forms[i].with_seed(bytes, len, number) == hash, "a seed word", form, len);
+        uint64_t hash = rust_hash(form, bytes, len, &secrets);
+        bool word = !made && forms[i].with_seed;
+        check(forms[i].seeded(bytes, len, &secrets) == hash, "a hash", form, len);
+        check(!word || forms[i].with_seed(bytes, len, number) == hash, "a seed word", form, len);
         check(made || number || forms[i].plain(bytes, len) == hash, "a plain hash", form, len);
-        check(form > 7 || in_pieces(form, data, bytes, len, &others) == hash, "a stream", form, len);
+        check(form != lanes || in_pieces(form, data, bytes, len, &secrets) == hash, "a stream", form, len);
     }
     return 0;
 }
+
+#ifdef MESSAGES
+static uint64_t state = 1;
+
+static uint64_t random_word(void)
+{
+    uint64_t word = state += 0x9e3779b97f4a7c15;
+    word = (word ^ word >> 30) * 0xbf58476d1ce4e5b9;
+    word = (word ^ word >> 27) * 0x94d049bb133111eb;
+    return word ^ word >> 31;
+}
+
+/* Messages of up to 300 bytes, and one of 1,024 longer, half of random bytes, half of words of zeros
+ * or ones. One of four has the default secrets. */
+int main(void)
+{
+    static uint64_t pool[1 << 17];
+    static uint8_t input[HEAD + 70000];
+    for (size_t i = 0; i < sizeof pool / 8; i++)
+        pool[i] = i % 8192 < 4096 ? random_word() : -(random_word() & 1);
+    for (long turn = 0; turn < MESSAGES; turn++) {
+        uint64_t word = random_word(), number = word % 8 ? random_word() : 0;
+        size_t size = HEAD + random_word() % (turn % 1024 ? 301 : 70001 - HEAD);
+        if (word % 8 == 1)
+            number = word_of_v1;
+        memcpy(input, (uint8_t *)pool + random_word() % (sizeof pool - size), size);
+        input[0] = word % 8 < 2 ? 0 : (uint8_t)(word >> 8);
+        memcpy(input + 1, &number, 8);
+        LLVMFuzzerTestOneInput(input, size);
+    }
+    printf("%ld messages agree\n", (long)MESSAGES);
+    return 0;
+}
+#endif

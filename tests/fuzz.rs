@@ -5,8 +5,22 @@ extern crate rapidhash;
 use rapidhash::{v1, v2, v3};
 use std::slice::from_raw_parts;
 
-/// The hash with secrets by a number that names the form: 20, 21 and 22 for the minors of V2, 7, 5 and 3 for
-/// the lanes of V3, micro and nano, 70 for V3 protected.
+/// The hash of a form: 20, 21 and 22 are the minors of V2, 7, 5 and 3 the lanes of V3, micro and nano, and 70
+/// is V3 protected.
+fn hash<const COMPACT: bool>(form: u32, bytes: &[u8], secrets: &v3::RapidSecrets) -> u64 {
+    match form {
+        20 => v2::rapidhash_v2_inline::<0, true, COMPACT, false>(bytes, secrets),
+        21 => v2::rapidhash_v2_inline::<1, true, COMPACT, false>(bytes, secrets),
+        22 => v2::rapidhash_v2_inline::<2, true, COMPACT, false>(bytes, secrets),
+        7 => v3::rapidhash_v3_inline::<true, COMPACT, false>(bytes, secrets),
+        5 => v3::rapidhash_v3_micro_inline::<true, false>(bytes, secrets),
+        3 => v3::rapidhash_v3_nano_inline::<true, false>(bytes, secrets),
+        70 => v3::rapidhash_v3_inline::<true, COMPACT, true>(bytes, secrets),
+        form => panic!("no form {}", form),
+    }
+}
+
+/// The hash of a form with secrets, by the compact code if the seed is odd.
 #[no_mangle]
 pub unsafe extern "C" fn rust_hash(
     form: u32,
@@ -15,26 +29,24 @@ pub unsafe extern "C" fn rust_hash(
     secrets: &v3::RapidSecrets,
 ) -> u64 {
     let bytes = from_raw_parts(bytes, len);
-    match form {
-        20 => v2::rapidhash_v2_inline::<0, true, false, false>(bytes, secrets),
-        21 => v2::rapidhash_v2_inline::<1, true, false, false>(bytes, secrets),
-        22 => v2::rapidhash_v2_inline::<2, true, false, false>(bytes, secrets),
-        7 => v3::rapidhash_v3_inline::<true, true, false>(bytes, secrets),
-        5 => v3::rapidhash_v3_micro_inline::<true, false>(bytes, secrets),
-        3 => v3::rapidhash_v3_nano_inline::<true, false>(bytes, secrets),
-        70 => v3::rapidhash_v3_inline::<true, true, true>(bytes, secrets),
-        form => panic!("no form {form}"),
+    match secrets.seed % 2 {
+        0 => hash::<false>(form, bytes, secrets),
+        _ => hash::<true>(form, bytes, secrets),
     }
 }
 
-/// The hash of V1 with secrets.
+/// The same of V1.
 #[no_mangle]
 pub unsafe extern "C" fn rust_hash_v1(
     bytes: *const u8,
     len: usize,
     secrets: &v1::RapidSecrets,
 ) -> u64 {
-    v1::rapidhash_v1_inline::<true, true, false, false>(from_raw_parts(bytes, len), secrets)
+    let bytes = from_raw_parts(bytes, len);
+    match secrets.seed % 2 {
+        0 => v1::rapidhash_v1_inline::<true, false, false, false>(bytes, secrets),
+        _ => v1::rapidhash_v1_inline::<true, true, false, false>(bytes, secrets),
+    }
 }
 
 /// The secrets of a number, or the default ones with a seed word.
@@ -45,14 +57,11 @@ pub extern "C" fn rust_secrets(
     of_v1: &mut v1::RapidSecrets,
     others: &mut v3::RapidSecrets,
 ) {
-    *of_v1 = if made {
-        v1::RapidSecrets::seed(number)
+    if made {
+        *of_v1 = v1::RapidSecrets::seed(number);
+        *others = v3::RapidSecrets::seed(number);
     } else {
-        v1::RapidSecrets::seed_cpp(number)
-    };
-    *others = if made {
-        v3::RapidSecrets::seed(number)
-    } else {
-        v3::RapidSecrets::seed_cpp(number)
-    };
+        *of_v1 = v1::RapidSecrets::seed_cpp(number);
+        *others = v3::RapidSecrets::seed_cpp(number);
+    }
 }
