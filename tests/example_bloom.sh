@@ -11,7 +11,7 @@ cd "$room" || exit 1
 passed=0
 failed=0
 
-# ended NAME STATUS ERR: compares the files out and wanted, the status and standard error.
+# ended NAME STATUS ERR: compares the files out and wanted, the status and standard error up to the usage.
 ended() {
   if [ "$(cat status)" != "$2" ]; then
     failed=$((failed + 1))
@@ -19,7 +19,7 @@ ended() {
   elif ! cmp -s out wanted; then
     failed=$((failed + 1))
     printf 'FAILED %s: it printed: %s\n' "$1" "$(head -c 200 out)"
-  elif [ "$(cat err)" != "$3" ]; then
+  elif [ "$(sed '/^usage: /,$d' err)" != "$3" ]; then
     failed=$((failed + 1))
     printf 'FAILED %s: standard error has: %s\n' "$1" "$(head -c 200 err)"
   else

@@ -114,7 +114,8 @@ pub fn rapidhash_v1_seeded(bytes: &[u8], secrets: &RapidSecrets) -> u64 {
 /// ```
 /// use rapidhash::v1::{DEFAULT_RAPID_SECRETS, rapidhash_v1_inline};
 ///
-/// let hash = rapidhash_v1_inline::<true, false, false, false>(b"something\n", &DEFAULT_RAPID_SECRETS);
+/// let secrets = &DEFAULT_RAPID_SECRETS;
+/// let hash = rapidhash_v1_inline::<true, false, false, false>(b"something\n", secrets);
 /// assert_eq!(hash, 15965596575264898037);
 /// ```
 #[inline(always)]

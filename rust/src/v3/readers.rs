@@ -76,7 +76,7 @@ pub fn rapidhash_v3_source_lanes<
     secrets: &RapidSecrets,
 ) -> io::Result<u64> {
     prove!(SIZE > 0, "SIZE must be at least 1");
-    // No array is larger than `isize::MAX`, so the `else` is dead. It spares callers a precondition.
+    // No array is larger than `isize::MAX`: the `else` is dead, and spares callers a precondition.
     if SIZE <= isize::MAX as usize {
         read_all::<R, LANES, SIZE, PROTECTED>(source, secrets)
     } else {

@@ -65,7 +65,7 @@ fn a_source_marks_a_failed_read() {
 }
 
 /// V3 of ten bytes that come one a read, over a source: if one of the eleven reads fails, its error
-/// is returned and the source is marked. A twelfth read is not made. The number is the Rust crate's.
+/// is returned and the source is marked. No twelfth read is made. The number is the Rust crate's.
 #[test]
 fn a_source_is_marked_by_each_read() {
     for fails_at in 1..13u64 {
