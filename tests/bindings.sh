@@ -6,37 +6,11 @@
 set -u
 
 top=$(cd "$(dirname "${BASH_SOURCE[0]}")/.." && pwd) || exit 1
-room=$(mktemp -d) || exit 1
-trap 'rm -rf "$room"' EXIT
+# shellcheck source=tests/cases.sh
+. "$top/tests/cases.sh"
 header=$top/include/rapidhash_c.h
 archive=$top/crates/rapidhash_c/out/librapidhash_c.a
 shared=$top/build/librapidhash_c.so.1
-passed=0
-failed=0
-
-# Counts a case by the status of a command: NAME COMMAND..
-try() {
-  local name=$1
-  shift
-  if "$@" >"$room/log" 2>&1; then
-    passed=$((passed + 1))
-    printf 'ok %s\n' "$name"
-  else
-    failed=$((failed + 1))
-    printf 'FAILED %s: %s\n' "$name" "$(tail -c 800 "$room/log")"
-  fi
-}
-
-# The same, where a program is on this machine: NAME PROGRAM COMMAND..
-try_with() {
-  local name=$1 program=$2
-  shift 2
-  if command -v "$program" >/dev/null; then
-    try "$name" "$@"
-  else
-    printf 'skipped %s: no %s\n' "$name" "$program"
-  fi
-}
 
 # Builds the library, and lays it out as an installed one, with a file for pkg-config.
 prepare() {
@@ -140,11 +114,7 @@ javascript_tests() {
   fi
 }
 
-if ! prepare >"$room/log" 2>&1; then
-  tail -n 5 "$room/log"
-  printf '0 passed, 1 failed\n'
-  exit 1
-fi
+prepare_by prepare
 
 for standard in c89 c99 c11 c17 c2x; do
   try "header_$standard" compiles_alone cc c "$standard"
@@ -165,5 +135,4 @@ try_with python python3 python_tests
 try_with go go go_tests
 javascript_tests
 
-printf '%s passed, %s failed\n' "$passed" "$failed"
-[ "$failed" -eq 0 ]
+finish

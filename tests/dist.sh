@@ -4,23 +4,8 @@
 set -u
 
 top=$(cd "$(dirname "${BASH_SOURCE[0]}")/.." && pwd) || exit 1
-room=$(mktemp -d) || exit 1
-trap 'rm -rf "$room"' EXIT
-passed=0
-failed=0
-
-# Counts a case by the status of a command: NAME COMMAND..
-try() {
-  local name=$1
-  shift
-  if "$@" >"$room/log" 2>&1; then
-    passed=$((passed + 1))
-    printf 'ok %s\n' "$name"
-  else
-    failed=$((failed + 1))
-    printf 'FAILED %s: %s\n' "$name" "$(tail -c 400 "$room/log")"
-  fi
-}
+# shellcheck source=tests/cases.sh
+. "$top/tests/cases.sh"
 
 makes_the_archive() {
   make -s -C "$top" dist </dev/null && tar -C "$room" -xzf "$top"/build/yervound-*.tar.gz &&
@@ -78,11 +63,6 @@ try vectors agrees_with_the_vectors
 try wrong_vector tells_a_wrong_vector
 try library links_where_it_stands
 try rust_crate builds_the_rust_crate
-if command -v node >/dev/null; then
-  try module loads_the_module
-else
-  printf 'skipped module: no node\n'
-fi
+try_with module node loads_the_module
 
-printf '%s passed, %s failed\n' "$passed" "$failed"
-[ "$failed" -eq 0 ]
+finish

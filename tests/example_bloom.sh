@@ -4,85 +4,48 @@
 set -u
 
 top=$(cd "$(dirname "${BASH_SOURCE[0]}")/.." && pwd) || exit 1
-program=$top/crates/example_bloom/out/example_bloom
-room=$(mktemp -d) || exit 1
-trap 'rm -rf "$room"' EXIT
-cd "$room" || exit 1
-passed=0
-failed=0
+name=example_bloom
+# shellcheck source=tests/example_lists.sh
+. "$top/tests/example_lists.sh"
 
-# ended NAME STATUS ERR: compares the files out and wanted, the status and standard error up to the usage.
-ended() {
-  if [ "$(cat status)" != "$2" ]; then
-    failed=$((failed + 1))
-    printf 'FAILED %s: its status is %s, and not %s\n' "$1" "$(cat status)" "$2"
-  elif ! cmp -s out wanted; then
-    failed=$((failed + 1))
-    printf 'FAILED %s: it printed: %s\n' "$1" "$(head -c 200 out)"
-  elif [ "$(sed '/^usage: /,$d' err)" != "$3" ]; then
-    failed=$((failed + 1))
-    printf 'FAILED %s: standard error has: %s\n' "$1" "$(head -c 200 err)"
-  else
-    passed=$((passed + 1))
-    printf 'ok %s\n' "$1"
-  fi
-  : >out
-  : >err
-  : >wanted
-}
-
-# Runs the program with these words, and leaves its status and what it wrote.
-run() {
-  "$program" "$@" >out 2>err
-  echo $? >status
-}
-
-# Help ends with status 0, so that another status is the build's.
-"$top/bin/build" example_bloom --help >"$room/build.log" 2>&1 || {
-  tail -n 5 build.log
-  printf '0 passed, 1 failed\n'
-  exit 1
-}
-
-: >wanted
 seq 1 2 19999 >odd
 seq 2 2 20000 >even
 printf 'pear\n\nplum' >fruit
 
-sed 's/^/maybe /' odd >wanted
+sed 's/^/maybe /' odd >wanted_out
 run odd <odd
 ended every-key-is-found 0 ''
 
-cat odd even | sed 's/^/maybe /' >wanted
+cat odd even | sed 's/^/maybe /' >wanted_out
 cat odd even | run --one-in 5 even odd
 ended every-key-of-two-lists-is-found 0 ''
 
-sed 's/^/no /' even >wanted
+sed 's/^/no /' even >wanted_out
 run --one-in 4294967295 odd <even
 ended no-other-key-is-found 0 ''
 
-sed 's/^/no /' even >wanted
+sed 's/^/no /' even >wanted_out
 run odd <even
 # A hundred of ten thousand may be found. Each line is printed, in order.
 [ "$(grep -c '^maybe ' out)" -le 100 ] && sed -i 's/^maybe /no /' out
 ended at-most-one-in-100-other-keys-is-found 0 ''
 
 split -n l/20 odd part.
-sed 's/^/no /' even >wanted
+sed 's/^/no /' even >wanted_out
 run part.* <even
 [ "$(grep -c '^maybe ' out)" -le 100 ] && sed -i 's/^maybe /no /' out
 ended at-most-one-in-100-with-20-lists 0 ''
 
-printf 'maybe plum\nmaybe \nno fig\n' >wanted
+printf 'maybe plum\nmaybe \nno fig\n' >wanted_out
 printf 'plum\n\nfig' | run --one-in 1000000 fruit
 ended last-lines-without-a-newline 0 ''
 
-printf 'maybe \377\nno \376\n' >wanted
+printf 'maybe \377\nno \376\n' >wanted_out
 printf '\377\n' >bytes
 printf '\377\n\376\n' | run --one-in 1000000 bytes
 ended lines-that-are-not-utf-8 0 ''
 
-printf 'no fig\nno \n' >wanted
+printf 'no fig\nno \n' >wanted_out
 printf 'fig\n\n' | run /dev/null
 ended an-empty-list-has-no-line 0 ''
 
@@ -122,5 +85,4 @@ ended memory-refused-to-a-list 1 'example_bloom: could not read large: out of me
 (ulimit -v 60000 && run fruit <large)
 ended memory-refused-to-a-line 1 'example_bloom: out of memory'
 
-printf '%s passed, %s failed\n' "$passed" "$failed"
-[ "$failed" -eq 0 ]
+finish

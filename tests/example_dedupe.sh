@@ -6,30 +6,13 @@ set -u
 
 top=$(cd "$(dirname "${BASH_SOURCE[0]}")/.." && pwd) || exit 1
 crate=$top/crates/example_dedupe
-room=$(mktemp -d) || exit 1
-trap 'chmod -R u+rwx "$room"; rm -rf "$room"' EXIT
-passed=0
-failed=0
+# shellcheck source=tests/cases.sh
+. "$top/tests/cases.sh"
 
-"$top/bin/build" example_dedupe "$crate/args" >"$room/build.log" 2>&1 || {
-  tail -n 5 "$room/build.log"
-  printf '0 passed, 1 failed\n'
-  exit 1
-}
+prepare_by "$top/bin/build" example_dedupe "$crate/args"
 program=$room/example_dedupe
 cp "$crate/out/example_dedupe" "$program" || exit 1
 mkdir "$room/at" && cd "$room/at" || exit 1
-
-# NAME, and whether it holds.
-tell() {
-  if [ "$2" -eq 0 ]; then
-    passed=$((passed + 1))
-    printf 'ok %s\n' "$1"
-  else
-    failed=$((failed + 1))
-    printf 'FAILED %s\n' "$1"
-  fi
-}
 
 # An error: NAME, the expected status and line on standard error, and the command.
 fault() {
@@ -131,5 +114,4 @@ fi
 )
 tell 'a folder and a file that cannot be read' $?
 
-printf '%s passed, %s failed\n' "$passed" "$failed"
-[ "$failed" -eq 0 ]
+finish

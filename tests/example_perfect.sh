@@ -4,87 +4,50 @@
 set -u
 
 top=$(cd "$(dirname "${BASH_SOURCE[0]}")/.." && pwd) || exit 1
-program=$top/crates/example_perfect/out/example_perfect
-room=$(mktemp -d) || exit 1
-trap 'rm -rf "$room"' EXIT
-cd "$room" || exit 1
-passed=0
-failed=0
-
-# ended NAME STATUS ERR: compares the files out and wanted, the status and standard error up to the usage.
-ended() {
-  if [ "$(cat status)" != "$2" ]; then
-    failed=$((failed + 1))
-    printf 'FAILED %s: its status is %s, and not %s\n' "$1" "$(cat status)" "$2"
-  elif ! cmp -s out wanted; then
-    failed=$((failed + 1))
-    printf 'FAILED %s: it printed: %s\n' "$1" "$(head -c 200 out)"
-  elif [ "$(sed '/^usage: /,$d' err)" != "$3" ]; then
-    failed=$((failed + 1))
-    printf 'FAILED %s: standard error has: %s\n' "$1" "$(head -c 200 err)"
-  else
-    passed=$((passed + 1))
-    printf 'ok %s\n' "$1"
-  fi
-  : >out
-  : >err
-  : >wanted
-}
-
-# Runs the program with these words, and leaves its status and what it wrote.
-run() {
-  "$program" "$@" >out 2>err
-  echo $? >status
-}
-
-# Help ends with status 0, so that another status is the build's.
-"$top/bin/build" example_perfect --help >"$room/build.log" 2>&1 || {
-  tail -n 5 build.log
-  printf '0 passed, 1 failed\n'
-  exit 1
-}
+name=example_perfect
+# shellcheck source=tests/example_lists.sh
+. "$top/tests/example_lists.sh"
 
 seq 1 2 39999 >odd
 seq 2 2 40000 >even
 printf 'pear\n\nplum' >fruit
 
-: >wanted
-awk '{ print NR " " $0 }' odd >wanted
+awk '{ print NR " " $0 }' odd >wanted_out
 run odd <odd
 ended every-key-is-found-by-its-number 0 ''
 
 sort odd >sorted
-awk 'NR == FNR { number[$0] = NR; next } { print number[$0] " " $0 }' odd sorted >wanted
+awk 'NR == FNR { number[$0] = NR; next } { print number[$0] " " $0 }' odd sorted >wanted_out
 run odd <sorted
 ended keys-in-another-order 0 ''
 
-sed 's/^/absent /' even >wanted
+sed 's/^/absent /' even >wanted_out
 run odd <even
 ended no-other-key-is-found 0 ''
 
 for count in 1 2 3 4 5 7 11 100; do
   head -n "$count" odd >few
-  (awk '{ print NR " " $0 }' few; tail -n +"$((count + 1))" odd | sed 's/^/absent /') >wanted
+  (awk '{ print NR " " $0 }' few; tail -n +"$((count + 1))" odd | sed 's/^/absent /') >wanted_out
   run few <odd
   ended "a-list-of-$count" 0 ''
 done
 
 # A list that takes more seeds than most: 15,887 for one group.
 seq 1 1000 >few
-(awk '{ print NR " " $0 }' few; seq 1001 2000 | sed 's/^/absent /') >wanted
+(awk '{ print NR " " $0 }' few; seq 1001 2000 | sed 's/^/absent /') >wanted_out
 seq 1 2000 | run few
 ended a-list-that-takes-many-seeds 0 ''
 
-printf '3 plum\n2 \nabsent fig\n' >wanted
+printf '3 plum\n2 \nabsent fig\n' >wanted_out
 printf 'plum\n\nfig' | run fruit
 ended last-lines-without-a-newline 0 ''
 
-printf '1 \377\nabsent \376\n' >wanted
+printf '1 \377\nabsent \376\n' >wanted_out
 printf '\377\n' >bytes
 printf '\377\n\376\n' | run bytes
 ended lines-that-are-not-utf-8 0 ''
 
-printf 'absent fig\nabsent \n' >wanted
+printf 'absent fig\nabsent \n' >wanted_out
 printf 'fig\n\n' | run /dev/null
 ended an-empty-list-has-no-line 0 ''
 
@@ -137,5 +100,4 @@ ended memory-refused-to-a-table 1 'example_perfect: no table of million: out of 
 (ulimit -v 60000 && run fruit <large)
 ended memory-refused-to-a-line 1 'example_perfect: out of memory'
 
-printf '%s passed, %s failed\n' "$passed" "$failed"
-[ "$failed" -eq 0 ]
+finish

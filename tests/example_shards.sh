@@ -6,28 +6,11 @@ set -u
 top=$(cd "$(dirname "${BASH_SOURCE[0]}")/.." && pwd) || exit 1
 crate=$top/crates/example_shards
 program=$crate/out/example_shards
-room=$(mktemp -d) || exit 1
-trap 'rm -rf "$room"' EXIT
-passed=0
-failed=0
+# shellcheck source=tests/cases.sh
+. "$top/tests/cases.sh"
 
-"$top/bin/build" example_shards red >"$room/build.log" 2>&1 || {
-  tail -n 5 "$room/build.log"
-  printf '0 passed, 1 failed\n'
-  exit 1
-}
+prepare_by "$top/bin/build" example_shards red
 cd "$room" || exit 1
-
-# NAME, and whether it holds.
-tell() {
-  if [ "$2" -eq 0 ]; then
-    passed=$((passed + 1))
-    printf 'ok %s\n' "$1"
-  else
-    failed=$((failed + 1))
-    printf 'FAILED %s\n' "$1"
-  fi
-}
 
 # An error: NAME, the expected status and line on standard error, and the command.
 fault() {
@@ -79,5 +62,4 @@ fault 'a closed pipe' 1 'could not write standard output: Broken pipe (os error 
 head -c 20000000 /dev/zero >wide
 fault 'memory refused' 1 'out of memory' bash -c 'ulimit -v 8000; exec "$1" red <wide' - "$program"
 
-printf '%s passed, %s failed\n' "$passed" "$failed"
-[ "$failed" -eq 0 ]
+finish

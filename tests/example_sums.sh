@@ -6,22 +6,9 @@ set -u
 
 top=$(cd "$(dirname "${BASH_SOURCE[0]}")/.." && pwd) || exit 1
 program=$top/crates/example_sums/out/example_sums
-room=$(mktemp -d) || exit 1
-trap 'rm -rf "$room"' EXIT
-passed=0
-failed=0
+# shellcheck source=tests/cases.sh
+. "$top/tests/cases.sh"
 export LC_ALL=C
-
-# Counts a case: NAME, and the status of what was compared.
-tell() {
-  if [ "$2" -eq 0 ]; then
-    passed=$((passed + 1))
-    printf 'ok %s\n' "$1"
-  else
-    failed=$((failed + 1))
-    printf 'FAILED %s: %s\n' "$1" "$(head -c 400 "$room/log")"
-  fi
-}
 
 # Makes the files of a case: three names, one of them with a newline, a backslash and a return.
 files() {
@@ -100,11 +87,7 @@ fi
 unreadable() { chmod 0 first && "${as_user[@]}" "$sum" first 'second name'; }
 check_of_an_unreadable_file() { list && chmod 0 first && "${as_user[@]}" "$sum" -c list; }
 
-"$top/bin/build" example_sums --version >"$room/build.log" 2>&1 || {
-  tail -n 5 "$room/build.log"
-  printf '0 passed, 1 failed\n'
-  exit 1
-}
+prepare_by "$top/bin/build" example_sums --version
 # The other user may not come to where the program was built.
 cp "$program" "$room/rapidsum" && program=$room/rapidsum
 
@@ -169,5 +152,4 @@ tell option-without-check $?
 [ $? -eq 1 ] && grep -q unknown log
 tell unknown-option $?
 
-printf '%s passed, %s failed\n' "$passed" "$failed"
-[ "$failed" -eq 0 ]
+finish

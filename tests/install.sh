@@ -4,24 +4,8 @@
 set -u
 
 top=$(cd "$(dirname "${BASH_SOURCE[0]}")/.." && pwd) || exit 1
-room=$(mktemp -d) || exit 1
-trap 'rm -rf "$room"' EXIT
-passed=0
-failed=0
-
-# Counts a case by the status of a command: NAME COMMAND..
-try() {
-  local name=$1
-  shift
-  if "$@" >"$room/log" 2>&1; then
-    passed=$((passed + 1))
-    printf 'ok %s\n' "$name"
-  else
-    failed=$((failed + 1))
-    printf 'FAILED %s: %s\n' "$name" "$(head -c 400 "$room/log")"
-  fi
-}
-
+# shellcheck source=tests/cases.sh
+. "$top/tests/cases.sh"
 prefix=$room/usr
 cd "$top" || exit 1
 
@@ -254,5 +238,4 @@ try old_programs wants_each_built
 try uninstall make -s -C "$top" uninstall PREFIX="$prefix"
 try nothing_left is_empty "$prefix"
 
-printf '%s passed, %s failed\n' "$passed" "$failed"
-[ "$failed" -eq 0 ]
+finish

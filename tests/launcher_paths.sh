@@ -5,10 +5,6 @@
 set -u
 
 top=$(cd "$(dirname "${BASH_SOURCE[0]}")/.." && pwd) || exit 1
-room=$(mktemp -d) || exit 1
-trap 'chmod -R u+rwx "$room"; rm -rf "$room"' EXIT
-chmod 755 "$room"
-cd "$room" || exit 1
 # shellcheck source=tests/launcher_room.sh
 . "$top/tests/launcher_room.sh"
 
@@ -78,7 +74,6 @@ mkdir -p lonely/bin
 cp repo/bin/rapidhash lonely/bin
 tool=lonely/bin/rapidhash run
 ended launcher_outside_of_the_repository 2 '' 0 'rapidhash: lonely/bin is not the folder bin of the repository*'
-tell nothing_made_outside_of_the_repository "$(find lonely/crates 2>/dev/null)"
+try nothing_made_outside_of_the_repository [ ! -e lonely/crates ]
 
-printf '%s passed, %s failed\n' "$passed" "$failed"
-[ "$failed" -eq 0 ]
+finish

@@ -1,23 +1,10 @@
-# What tests/launcher.sh reads first: its counts, its copies of the repository, and what a call has to
-# leave. `top` is the repository, and the current folder is the room for the cases.
+# What tests/launcher.sh and tests/launcher_paths.sh read first: copies of the repository, and what a call has
+# to leave. `top` is the repository, and the current folder is the room for the cases.
 # shellcheck shell=bash
-passed=0
-failed=0
-
-ok() {
-  passed=$((passed + 1))
-  printf 'ok %s\n' "$1"
-}
-
-fail() {
-  failed=$((failed + 1))
-  printf 'FAILED %s: %s\n' "$1" "$2"
-}
-
-# Counts a case, which passes where nothing was found: NAME FOUND.
-tell() {
-  if [ -z "$2" ]; then ok "$1"; else fail "$1" "$2"; fi
-}
+# shellcheck source=tests/cases.sh
+. "$top/tests/cases.sh"
+chmod 755 "$room"
+cd "$room" || exit 1
 
 mkdir kit
 cp "$top/tests/fake_rt" kit/rt

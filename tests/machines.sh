@@ -4,9 +4,6 @@
 # Each run replays all vector files, and hashes a million random messages, whose checksum has to be that
 # of x86_64. What a machine lacks is skipped and counted. The last line counts the cases.
 #
-#     tests/machines.sh                            all machines
-#     tests/machines.sh with cargo test --offline  a command in this folder, with the old rustc and cargo
-#
 # Debian's packages are unpacked in build/machines, or the folder that RAPIDHASH_MACHINES names, which
 # stays for later runs. Nothing is installed.
 set -u
@@ -31,9 +28,9 @@ machines=(
 )
 # How many of them are built and run at a time.
 jobs=2
-# The old compiler with the libraries that it, its cargo and the linkers need, and the emulators.
-compiler=(rustc cargo libstd-rust-1.63 libstd-rust-dev libllvm14 lib{z3-4,edit2,bsd0,md0,xml2,icu72,ffi8}
-  lib{jansson4,binutils,git2-1.5,http-parser2.9,mbedtls14,mbedcrypto7,mbedx509-1,ssh2-1} qemu-user-static)
+# The old compiler with the libraries that it and the linkers need, and the emulators.
+compiler=(rustc libstd-rust-1.63 libstd-rust-dev libllvm14 lib{z3-4,edit2,bsd0,md0,xml2,icu72,ffi8,jansson4,binutils}
+  qemu-user-static)
 
 # An apt with an index of its own, so that neither the packages nor the architectures of the system
 # change. No sandbox, since its user cannot write here.
@@ -75,7 +72,7 @@ fetch_compiler() {
     fetch compiler "${compiler[@]}" && with_old rustc --version
 }
 
-# A command with Debian's rustc, rustdoc and cargo.
+# A command with Debian's rustc.
 with_old() {
   env PATH="$root/usr/bin:$PATH" LD_LIBRARY_PATH="$root/usr/lib/x86_64-linux-gnu" "$@"
 }
@@ -151,11 +148,6 @@ same_checksum() {
 }
 
 fetch_compiler >"$room/compiler.log" 2>&1 && touch "$room/compiler"
-if [ "${1:-}" = with ]; then
-  [ -e "$room/compiler" ] || { tail -n 1 "$room/compiler.log" && exit 1; }
-  with_old CARGO_TARGET_DIR="$folder/target" "${@:2}"
-  exit
-fi
 for row in "${machines[@]}"; do
   while [ "$(jobs -rp | wc -l)" -ge "$jobs" ]; do wait -n; done
   read -ra words <<<"$row"

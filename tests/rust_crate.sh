@@ -5,24 +5,9 @@
 set -u
 
 top=$(cd "$(dirname "${BASH_SOURCE[0]}")/.." && pwd) || exit 1
-room=$(mktemp -d) || exit 1
-trap 'rm -rf "$room"' EXIT
+# shellcheck source=tests/cases.sh
+. "$top/tests/cases.sh"
 export CARGO_TARGET_DIR=$room/target CARGO_NET_OFFLINE=true
-passed=0
-failed=0
-
-# Counts a case by the status of a command: NAME COMMAND..
-try() {
-  local name=$1
-  shift
-  if "$@" >"$room/log" 2>&1; then
-    passed=$((passed + 1))
-    printf 'ok %s\n' "$name"
-  else
-    failed=$((failed + 1))
-    printf 'FAILED %s: %s\n' "$name" "$(tail -c 800 "$room/log")"
-  fi
-}
 
 # Debian's cargo, with its compiler.
 debian() {
@@ -52,10 +37,6 @@ has_the_licences() {
 
 has_no_dependency() {
   [ "$(cargo tree | wc -l)" -eq 1 ]
-}
-
-has_no_unsafe() {
-  grep -q '^#!\[forbid(unsafe_code)\]' src/lib.rs && ! grep -rnE '\bunsafe\b[^_]' src
 }
 
 documents_itself() {
@@ -91,7 +72,7 @@ for features in --all-features --no-default-features; do
 done
 try examples tests_pass cargo test --doc
 try no_dependency has_no_dependency
-try no_unsafe has_no_unsafe
+try no_unsafe grep -x '#!\[forbid(unsafe_code)\]' src/lib.rs
 try package packages
 try readme readme_runs cargo
 if [ -x /usr/bin/rustc ] && [ -x /usr/bin/cargo ]; then
@@ -103,5 +84,4 @@ else
   printf "skipped Debian's compiler: no /usr/bin/rustc and /usr/bin/cargo\n"
 fi
 
-printf '%s passed, %s failed\n' "$passed" "$failed"
-[ "$failed" -eq 0 ]
+finish

@@ -7,26 +7,11 @@
 set -u
 
 top=$(cd "$(dirname "${BASH_SOURCE[0]}")/.." && pwd) || exit 1
-room=$(mktemp -d) || exit 1
-trap 'rm -rf "$room"' EXIT
+# shellcheck source=tests/cases.sh
+. "$top/tests/cases.sh"
 exec </dev/null
 library=$room/library
 vendor=$library/bin/vendor
-passed=0
-failed=0
-
-# Counts a case by the status of a command: NAME COMMAND..
-try() {
-  local name=$1
-  shift
-  if "$@" >"$room/log" 2>&1; then
-    passed=$((passed + 1))
-    printf 'ok %s\n' "$name"
-  else
-    failed=$((failed + 1))
-    printf 'FAILED %s: %s\n' "$name" "$(tail -c 600 "$room/log")"
-  fi
-}
 
 # A clone of the repository, with what stands for a large folder of proofs.
 clone() {
@@ -138,5 +123,4 @@ if [ "${1:-}" = ci ]; then
   try gate passes_the_gate
 fi
 
-printf '%s passed, %s failed\n' "$passed" "$failed"
-[ "$failed" -eq 0 ]
+finish

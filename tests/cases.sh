@@ -1,0 +1,73 @@
+# What a script of tests reads first: `room`, a folder of its own that goes when the script ends, and the
+# counts of its cases. `top` is the repository.
+# shellcheck shell=bash
+room=$(mktemp -d) || exit 1
+trap 'chmod -R u+rwx "$room"; rm -rf "$room"' EXIT
+passed=0
+failed=0
+
+ok() {
+  passed=$((passed + 1))
+  printf 'ok %s\n' "$1"
+}
+
+fail() {
+  failed=$((failed + 1))
+  printf 'FAILED %s: %s\n' "$1" "$2"
+}
+
+# Counts a case by a status, where what was compared may be in the file log: NAME STATUS.
+tell() {
+  if [ "$2" -eq 0 ]; then ok "$1"; else fail "$1" "$(tail -c 800 "$room/log" 2>/dev/null)"; fi
+}
+
+# Counts a case by the status of a command: NAME COMMAND..
+try() {
+  local name=$1
+  shift
+  "$@" >"$room/log" 2>&1
+  tell "$name" $?
+}
+
+# The same, if a program is on this machine: NAME PROGRAM COMMAND..
+try_with() {
+  local name=$1 program=$2
+  shift 2
+  if command -v "$program" >/dev/null; then
+    try "$name" "$@"
+  else
+    printf 'skipped %s: no %s\n' "$name" "$program"
+  fi
+}
+
+# Compares the files status, out and err of a run with a status and the files wanted_out and wanted_err:
+# NAME STATUS.
+compare_run() {
+  if [ "$(cat status)" != "$2" ]; then
+    fail "$1" "its status is $(cat status), and not $2"
+  elif ! cmp -s out wanted_out; then
+    fail "$1" "it printed: $(head -c 200 out)"
+  elif ! cmp -s err wanted_err; then
+    fail "$1" "standard error has: $(head -c 200 err)"
+  else
+    ok "$1"
+  fi
+  rm -f status out err
+}
+
+# Prints the counts, and ends with their status.
+finish() {
+  printf '%s passed, %s failed\n' "$passed" "$failed"
+  [ "$failed" -eq 0 ]
+  exit
+}
+
+# Runs a command that prepares the cases, and ends here if it fails: COMMAND..
+prepare_by() {
+  if "$@" >"$room/log" 2>&1; then
+    rm "$room/log"
+  else
+    fail prepare "$(tail -n 5 "$room/log")"
+    finish
+  fi
+}
