@@ -1,4 +1,4 @@
-//! Maps from integers, and from keys of 20 bytes, to integers, as `bench_memory` has them.
+//! Maps from integers and from 20-byte keys to integers, like those of `bench_memory`.
 
 use rapidhash::fast;
 use rapidhash::rng::RapidRng;

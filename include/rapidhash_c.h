@@ -66,8 +66,8 @@ void rapidhash_make_secrets(uint64_t number, struct rapidhash_secrets *secrets);
 
 /* Makes the default secrets, and a seed from one seed word: the crate's RapidSecrets::seed_cpp. The
  * crate says that the C++ library takes its seed in this way. The default seed is that of word 0, but
- * in V1 that of 0xbdd89aa982704029. The preconditions are those above. Whoever knows the default
- * secrets can find messages that have the same hash for every seed word: if that matters, make secrets
+ * in V1 that of 0xbdd89aa982704029. The preconditions are those above. Anyone who knows the default
+ * secrets can find messages with the same hash for every seed word: if that matters, make secrets
  * from a number that nobody knows. */
 void rapidhash_v1_seed_secrets(uint64_t seed, struct rapidhash_v1_secrets *secrets);
 void rapidhash_seed_secrets(uint64_t seed, struct rapidhash_secrets *secrets);

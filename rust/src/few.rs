@@ -29,10 +29,10 @@ fn fold_few_rows<
 
 /// As [`crate::lanes::wide_lanes`], where there are `ROWS` rows.
 #[inline(always)]
-pub(crate) fn few_wide_rows<
+pub(crate) fn wide_lanes_of<
     'x,
     const LANES: usize,
-    const KEPT: usize,
+    const LEAST: usize,
     const ROWS: usize,
     const PROTECTED: bool,
 >(
@@ -47,7 +47,7 @@ pub(crate) fn few_wide_rows<
 
 /// As [`crate::lanes::mixed_lanes`], where there are `ROWS` rows, all of three pairs.
 #[inline(always)]
-pub(crate) fn few_narrow_rows<'x, const ROWS: usize, const PROTECTED: bool>(
+pub(crate) fn mixed_lanes_of<'x, const ROWS: usize, const PROTECTED: bool>(
     bytes: &'x [u8],
     seed: u64,
     secrets: &[u64; 7],

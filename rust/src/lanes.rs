@@ -61,14 +61,14 @@ pub(crate) fn fold_two_rows_by_lane<
 }
 
 /// Folds all rows of `WIDTH` pairs into the first `WIDTH` lanes, and returns the bytes after them,
-/// of which there are at least `KEPT`. The lanes may have folded a prefix of the message before.
+/// of which there are at least `LEAST`. The lanes may have folded a prefix of the message before.
 /// Without `COMPACT` the loop takes two rows at a time, and then at most one more.
 #[inline(always)]
 pub(crate) fn fold_rows<
     'x,
     const LANES: usize,
     const WIDTH: usize,
-    const KEPT: usize,
+    const LEAST: usize,
     const COMPACT: bool,
     const PROTECTED: bool,
 >(
@@ -78,12 +78,12 @@ pub(crate) fn fold_rows<
 ) -> &'x [u8] {
     let mut rest = bytes;
     if !COMPACT {
-        while rest.len() >= 32 * WIDTH + KEPT {
+        while rest.len() >= 32 * WIDTH + LEAST {
             fold_two_rows::<LANES, WIDTH, PROTECTED>(lanes, rest, secrets);
             rest = &rest[32 * WIDTH..];
         }
     }
-    while rest.len() >= 16 * WIDTH + KEPT {
+    while rest.len() >= 16 * WIDTH + LEAST {
         fold_row::<LANES, WIDTH, PROTECTED>(lanes, rest, secrets);
         rest = &rest[16 * WIDTH..];
     }
@@ -105,7 +105,7 @@ pub(crate) fn join<const LANES: usize, const WIDTH: usize>(lanes: &[u64; LANES])
 pub(crate) fn wide_lanes<
     'x,
     const LANES: usize,
-    const KEPT: usize,
+    const LEAST: usize,
     const COMPACT: bool,
     const PROTECTED: bool,
 >(
@@ -114,7 +114,7 @@ pub(crate) fn wide_lanes<
     secrets: &[u64],
 ) -> (u64, &'x [u8]) {
     let mut lanes = [seed; LANES];
-    join_wide::<LANES, KEPT, COMPACT, PROTECTED>(&mut lanes, bytes, secrets)
+    join_wide::<LANES, LEAST, COMPACT, PROTECTED>(&mut lanes, bytes, secrets)
 }
 
 /// The seed after all rows of seven pairs and then of three, which the first three lanes fold, and
@@ -135,7 +135,7 @@ pub(crate) fn mixed_lanes<'x, const COMPACT: bool, const PROTECTED: bool>(
 pub(crate) fn join_wide<
     'x,
     const LANES: usize,
-    const KEPT: usize,
+    const LEAST: usize,
     const COMPACT: bool,
     const PROTECTED: bool,
 >(
@@ -143,7 +143,7 @@ pub(crate) fn join_wide<
     bytes: &'x [u8],
     secrets: &[u64],
 ) -> (u64, &'x [u8]) {
-    let rest = fold_rows::<LANES, LANES, KEPT, COMPACT, PROTECTED>(lanes, bytes, secrets);
+    let rest = fold_rows::<LANES, LANES, LEAST, COMPACT, PROTECTED>(lanes, bytes, secrets);
     (join::<LANES, LANES>(lanes), rest)
 }
 

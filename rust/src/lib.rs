@@ -47,6 +47,8 @@ mod few;
 pub mod inner;
 #[cfg(feature = "std")]
 mod io;
+#[cfg(feature = "std")]
+mod known_length;
 mod lanes;
 mod memory;
 pub mod quality;
@@ -57,8 +59,6 @@ pub mod reader;
 pub mod rng;
 mod secrets;
 mod seeding;
-#[cfg(feature = "std")]
-mod sized;
 mod tail;
 pub mod util;
 pub mod v1;

@@ -37,8 +37,8 @@ impl<R: Read> Source<R> {
         }
     }
 
-    /// Reads once, and returns the reader's own result. Any error turns the mark on, also that of
-    /// an interrupted read.
+    /// Reads once and returns the reader's own result. Any error turns the mark on, including that
+    /// of an interrupted read.
     pub fn read(&mut self, buf: &mut [u8]) -> io::Result<usize> {
         match read_once(&mut self.reader, buf) {
             Ok(n) => Ok(n),

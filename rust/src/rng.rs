@@ -67,8 +67,7 @@ pub fn rapidrng_fast_not_portable(state: &mut u64) -> u64 {
 ///
 /// # Panics
 ///
-/// In Rust, if the nanoseconds are a second or more. In Rattle that they are less is a
-/// precondition.
+/// In Rust, if the nanoseconds are a second or more. Rattle's checker refuses such a call.
 pub fn rapidrng_time(seed: &mut u64, secs: u64, nanos: u32) -> u64 {
     prove!(
         nanos < 1_000_000_000,
@@ -106,8 +105,7 @@ impl RapidRng {
     ///
     /// # Panics
     ///
-    /// In Rust, if the nanoseconds are a second or more. In Rattle that they are less is a
-    /// precondition.
+    /// In Rust, if the nanoseconds are a second or more. Rattle's checker refuses such a call.
     pub fn from_moment(secs: u64, nanos: u32) -> RapidRng {
         let mut seed = MOMENT_SEED;
         RapidRng::new(rapidrng_time(&mut seed, secs, nanos))

@@ -62,8 +62,8 @@ impl RapidSecrets {
     }
 
     /// Returns the default secrets with a seed made from a number as the C++ library makes it.
-    /// Whoever knows the default secrets can find messages that have the same hash for every seed:
-    /// if that matters, see [`RapidSecrets::seed`].
+    /// Anyone who knows the default secrets can find messages with the same hash for every seed: if
+    /// that matters, see [`RapidSecrets::seed`].
     pub const fn seed_cpp(seed: u64) -> Self {
         RapidSecrets {
             seed: cpp_seed_of(seed, 2),

@@ -5,7 +5,7 @@
 #[cfg(feature = "std")]
 mod readers;
 
-use crate::few::few_wide_rows;
+use crate::few::wide_lanes_of;
 use crate::lanes::wide_lanes;
 use crate::secrets::{DEFAULT_SECRETS, chain, cpp_seed_of, reseed_of, seed_of};
 use crate::tail::{close, fold_tail};
@@ -70,8 +70,8 @@ impl RapidSecrets {
     }
 
     /// Returns the default secrets with a seed made from a number as the C++ library makes it.
-    /// Whoever knows the default secrets can find messages that have the same hash for every seed:
-    /// if that matters, see [`RapidSecrets::seed`].
+    /// Anyone who knows the default secrets can find messages with the same hash for every seed: if
+    /// that matters, see [`RapidSecrets::seed`].
     pub const fn seed_cpp(seed: u64) -> Self {
         RapidSecrets {
             seed: cpp_seed_of(seed, 0),
@@ -181,7 +181,7 @@ fn few_rows<const ROWS: usize, const AVALANCHE: bool, const PROTECTED: bool, con
 ) -> u64 {
     let len = bytes.len() as u64;
     let s = &secrets.secrets;
-    let (joined, tail) = few_wide_rows::<3, 0, ROWS, PROTECTED>(bytes, secrets.seed ^ len, s);
+    let (joined, tail) = wide_lanes_of::<3, 0, ROWS, PROTECTED>(bytes, secrets.seed ^ len, s);
     close_tail::<AVALANCHE, PROTECTED>(tail, bytes, len, joined, s)
 }
 

@@ -5,7 +5,7 @@
 #[cfg(feature = "std")]
 mod readers;
 
-use crate::few::few_narrow_rows;
+use crate::few::mixed_lanes_of;
 use crate::lanes::mixed_lanes;
 pub use crate::secrets::{DEFAULT_RAPID_SECRETS, RapidSecrets};
 use crate::tail::{close, fold_tail};
@@ -59,7 +59,7 @@ pub fn rapidhash_v2_2_seeded(bytes: &[u8], secrets: &RapidSecrets) -> u64 {
 ///
 /// # Panics
 ///
-/// In Rust, if `MINOR` is above 2. In Rattle that it is not is a precondition.
+/// In Rust, if `MINOR` is above 2. Rattle's checker refuses such a call.
 #[inline(always)]
 pub fn rapidhash_v2_inline<
     const MINOR: u8,
@@ -146,7 +146,7 @@ fn few_rows<const MINOR: u8, const ROWS: usize, const AVALANCHE: bool, const PRO
 ) -> u64 {
     let len = bytes.len() as u64;
     let s = &secrets.secrets;
-    let (joined, tail) = few_narrow_rows::<ROWS, PROTECTED>(bytes, secrets.seed ^ len, s);
+    let (joined, tail) = mixed_lanes_of::<ROWS, PROTECTED>(bytes, secrets.seed ^ len, s);
     close_tail::<AVALANCHE, PROTECTED>(tail, bytes, len, joined, s)
 }
 

@@ -2,13 +2,13 @@
 use Rattle.std.specs.Prelude.{◌≡◌, ℕ, ◌<◌, ◌+◌, ◌*◌, ◌%◌, ◌/◌, List, true, false, length, slice_index, ◌⊎◌}
 use Rattle.std.specs.Int.{bit_at}
 use Rattle.rapidhash.specs.Form.{v3}
-use Rattle.rapidhash.specs.Options.{options}
+use Rattle.rapidhash.specs.Options.{standard}
 use Rattle.rapidhash.specs.Seeded.{default_hash}
 use Rattle.example_bloom.specs.declared.filter.Filter.{Filter}
 
 -- the hash of a key
 abbrev pub hash_of : List ℕ → ℕ
-hash_of key = default_hash v3 (options true false) key
+hash_of key = default_hash v3 standard key
 
 -- where mark number `i` of a hash lies, before the count of bits is known
 unfoldable pub step_of : ℕ → ℕ → ℕ

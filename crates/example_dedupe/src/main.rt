@@ -16,7 +16,7 @@ mod tests;
 
 ghost use Rattle.std.specs.Prelude.{true, false};
 ghost use Rattle.rapidhash_portable.specs.Form.{v3};
-ghost use Rattle.rapidhash_portable.specs.Options.{options};
+ghost use Rattle.rapidhash_portable.specs.Options.{standard};
 ghost use Rattle.rapidhash_portable.specs.Seeded.{default_hash};
 
 use fault::Fault;
@@ -35,7 +35,7 @@ use store::Fingerprint;
 struct Rapidhash;
 
 impl Fingerprint for Rapidhash {
-    ghost number = { λ _ bytes. default_hash v3 (options true false) bytes };
+    ghost number = { λ _ bytes. default_hash v3 standard bytes };
 
     fn of<R: Read + Drop>(&self, reader: R) -> io::Result<u64> {
         rapidhash_v3_file(reader)

@@ -2,7 +2,7 @@
 use Rattle.std.specs.Prelude.{◌≡◌, ℕ, ◌<◌, ◌%◌, List, true, false, length, map, max, slice_index, slice_get, Some}
 use Rattle.rapidhash.specs.Form.{v3}
 use Rattle.rapidhash.specs.Hash.{portable_hash}
-use Rattle.rapidhash.specs.Options.{options}
+use Rattle.rapidhash.specs.Options.{standard}
 use Rattle.rapidhash.specs.Secrets.{cpp_seeded, default_secrets}
 use Rattle.rapidhash.specs.Seeded.{default_hash}
 use Rattle.example_perfect.specs.declared.displace.Displaced.{Displaced}
@@ -10,11 +10,11 @@ use Rattle.example_perfect.specs.declared.table.Table.{Table}
 
 -- the bucket of a key
 unfoldable pub bucket_of : List ℕ → ℕ → ℕ
-bucket_of key buckets = default_hash v3 (options true false) key % buckets
+bucket_of key buckets = default_hash v3 standard key % buckets
 
 -- the place that a seed gives a key
 unfoldable pub place_of : List ℕ → ℕ → ℕ → ℕ
-place_of key seed places = portable_hash v3 (options true false) (cpp_seeded seed 2) default_secrets key % places
+place_of key seed places = portable_hash v3 standard (cpp_seeded seed 2) default_secrets key % places
 
 -- the place of a key: the one that the seed of its bucket gives it
 abbrev pub place_in : Table → List ℕ → ℕ

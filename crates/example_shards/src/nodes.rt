@@ -3,7 +3,7 @@
 ghost use Rattle.std.specs.Prelude.{◌≡◌, true, false};
 ghost use Rattle.std.specs.String.{string_bytes};
 ghost use Rattle.rapidhash_portable.specs.Form.{v3};
-ghost use Rattle.rapidhash_portable.specs.Options.{options};
+ghost use Rattle.rapidhash_portable.specs.Options.{standard};
 ghost use Rattle.rapidhash_portable.specs.Seeded.{default_hash};
 ghost use Rattle.rapidhash_portable.specs.Secrets.{seeded, seeded_secrets};
 
@@ -23,9 +23,9 @@ impl Node {
     pub fn new(name: String) -> Node
         ensures name { result.name ≡ name }
         ensures seed { result.secrets.seed ≡
-            seeded (default_hash v3 (options true false) (string_bytes name)) }
+            seeded (default_hash v3 standard (string_bytes name)) }
         ensures secrets { result.secrets.secrets ≡
-            seeded_secrets 7 (default_hash v3 (options true false) (string_bytes name)) }
+            seeded_secrets 7 (default_hash v3 standard (string_bytes name)) }
     {
         let hash = rapidhash_v3(name.as_bytes());
         Node {

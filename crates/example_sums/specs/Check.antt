@@ -1,7 +1,7 @@
 -- What a check reports.
 use Rattle.std.specs.Prelude.{ℕ, ◌≡◌, ◌≢◌, ⊤, Bool, true, false, List, [], ◌∷◌, Option, IfSome}
 use Rattle.rapidhash.specs.Form.{v3}
-use Rattle.rapidhash.specs.Options.{options}
+use Rattle.rapidhash.specs.Options.{standard}
 use Rattle.rapidhash.specs.Seeded.{default_hash}
 use Rattle.example_sums.specs.declared.line.Entry.{Entry}
 use Rattle.example_sums.specs.declared.check.Verdict.{Verdict}
@@ -9,7 +9,7 @@ use Rattle.example_sums.specs.declared.check.Verdict.TheVariants.{Different, Mis
 
 -- the V3 hash of a file's bytes, with the default seed and secrets
 abbrev pub hash_of : List ℕ → ℕ
-hash_of bytes = default_hash v3 (options true false) bytes
+hash_of bytes = default_hash v3 standard bytes
 
 -- whether a verdict is right of a line that says a hash, where the bytes of its file are known: the same hash, or another one
 abbrev pub IsRight : Verdict → Bool → Option (List ℕ) → ℕ → Type 0

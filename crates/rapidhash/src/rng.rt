@@ -81,8 +81,7 @@ pub fn rapidrng_fast_not_portable(state: &mut u64) -> u64
 ///
 /// # Panics
 ///
-/// In Rust, if the nanoseconds are a second or more. In Rattle that they are less is a
-/// precondition.
+/// In Rust, if the nanoseconds are a second or more. Rattle's checker refuses such a call.
 pub fn rapidrng_time(seed: &mut u64, secs: u64, nanos: u32) -> u64
     requires { nanos < 1000000000 }
     ensures seed { seed.new ≡ seed_at_moment seed.old secs nanos }
@@ -134,8 +133,7 @@ impl RapidRng {
     ///
     /// # Panics
     ///
-    /// In Rust, if the nanoseconds are a second or more. In Rattle that they are less is a
-    /// precondition.
+    /// In Rust, if the nanoseconds are a second or more. Rattle's checker refuses such a call.
     pub fn from_moment(secs: u64, nanos: u32) -> RapidRng
         requires { nanos < 1000000000 }
         ensures { result ≡ word_at_moment v1_number secs nanos }

@@ -5,7 +5,7 @@
 
 ghost use Rattle.std.specs.Prelude.{◌≡◌, ◌<◌, ◌∷◌, All, true, false};
 ghost use Rattle.rapidhash.specs.Form.{v1, v2, v3, micro, nano};
-ghost use Rattle.rapidhash.specs.Options.{options};
+ghost use Rattle.rapidhash.specs.Options.{guarded, standard};
 ghost use Rattle.rapidhash.specs.Secrets.{IsGood, seeded, seeded_secrets};
 ghost use Rattle.rapidhash.specs.Seeded.{default_hash, seeded_hash, seeded_hash_v1};
 
@@ -28,7 +28,7 @@ pub extern "C" fn rapidhash_c_version() -> u32
 /// The hash of `bytes` by V1, with the default seed and secrets.
 #[unsafe(no_mangle)]
 pub extern "C" fn rapidhash_v1(bytes: &[u8]) -> u64
-    ensures { result ≡ default_hash v1 (options true false) bytes.now }
+    ensures { result ≡ default_hash v1 standard bytes.now }
 {
     if bytes.len() > 16 {
         return long_v1(bytes, v1::RapidSecrets::default_ref());
@@ -39,7 +39,7 @@ pub extern "C" fn rapidhash_v1(bytes: &[u8]) -> u64
 /// The hash of `bytes` by V1, with a seed and secrets of the caller's.
 #[unsafe(no_mangle)]
 pub extern "C" fn rapidhash_v1_seeded(bytes: &[u8], secrets: &v1::RapidSecrets) -> u64
-    ensures { result ≡ seeded_hash_v1 false (options true false) secrets.now bytes.now }
+    ensures { result ≡ seeded_hash_v1 false standard secrets.now bytes.now }
 {
     if bytes.len() > 16 {
         return long_v1(bytes, secrets);
@@ -50,7 +50,7 @@ pub extern "C" fn rapidhash_v1_seeded(bytes: &[u8], secrets: &v1::RapidSecrets) 
 /// The hash of `bytes` by V2.0, with the default seed and secrets.
 #[unsafe(no_mangle)]
 pub extern "C" fn rapidhash_v2_0(bytes: &[u8]) -> u64
-    ensures { result ≡ default_hash (v2 0) (options true false) bytes.now }
+    ensures { result ≡ default_hash (v2 0) standard bytes.now }
 {
     if bytes.len() > 16 {
         return long_v2::<0>(bytes, v2::RapidSecrets::default_ref());
@@ -61,7 +61,7 @@ pub extern "C" fn rapidhash_v2_0(bytes: &[u8]) -> u64
 /// The hash of `bytes` by V2.0, with a seed and secrets of the caller's.
 #[unsafe(no_mangle)]
 pub extern "C" fn rapidhash_v2_0_seeded(bytes: &[u8], secrets: &v2::RapidSecrets) -> u64
-    ensures { result ≡ seeded_hash (v2 0) (options true false) secrets.now bytes.now }
+    ensures { result ≡ seeded_hash (v2 0) standard secrets.now bytes.now }
 {
     if bytes.len() > 16 {
         return long_v2::<0>(bytes, secrets);
@@ -72,7 +72,7 @@ pub extern "C" fn rapidhash_v2_0_seeded(bytes: &[u8], secrets: &v2::RapidSecrets
 /// The hash of `bytes` by V2.1, with the default seed and secrets.
 #[unsafe(no_mangle)]
 pub extern "C" fn rapidhash_v2_1(bytes: &[u8]) -> u64
-    ensures { result ≡ default_hash (v2 1) (options true false) bytes.now }
+    ensures { result ≡ default_hash (v2 1) standard bytes.now }
 {
     if bytes.len() > 16 {
         return long_v2::<1>(bytes, v2::RapidSecrets::default_ref());
@@ -83,7 +83,7 @@ pub extern "C" fn rapidhash_v2_1(bytes: &[u8]) -> u64
 /// The hash of `bytes` by V2.1, with a seed and secrets of the caller's.
 #[unsafe(no_mangle)]
 pub extern "C" fn rapidhash_v2_1_seeded(bytes: &[u8], secrets: &v2::RapidSecrets) -> u64
-    ensures { result ≡ seeded_hash (v2 1) (options true false) secrets.now bytes.now }
+    ensures { result ≡ seeded_hash (v2 1) standard secrets.now bytes.now }
 {
     if bytes.len() > 16 {
         return long_v2::<1>(bytes, secrets);
@@ -94,7 +94,7 @@ pub extern "C" fn rapidhash_v2_1_seeded(bytes: &[u8], secrets: &v2::RapidSecrets
 /// The hash of `bytes` by V2.2, with the default seed and secrets.
 #[unsafe(no_mangle)]
 pub extern "C" fn rapidhash_v2_2(bytes: &[u8]) -> u64
-    ensures { result ≡ default_hash (v2 2) (options true false) bytes.now }
+    ensures { result ≡ default_hash (v2 2) standard bytes.now }
 {
     if bytes.len() > 16 {
         return long_v2::<2>(bytes, v2::RapidSecrets::default_ref());
@@ -105,7 +105,7 @@ pub extern "C" fn rapidhash_v2_2(bytes: &[u8]) -> u64
 /// The hash of `bytes` by V2.2, with a seed and secrets of the caller's.
 #[unsafe(no_mangle)]
 pub extern "C" fn rapidhash_v2_2_seeded(bytes: &[u8], secrets: &v2::RapidSecrets) -> u64
-    ensures { result ≡ seeded_hash (v2 2) (options true false) secrets.now bytes.now }
+    ensures { result ≡ seeded_hash (v2 2) standard secrets.now bytes.now }
 {
     if bytes.len() > 16 {
         return long_v2::<2>(bytes, secrets);
@@ -116,7 +116,7 @@ pub extern "C" fn rapidhash_v2_2_seeded(bytes: &[u8], secrets: &v2::RapidSecrets
 /// The hash of `bytes` by V3, with the default seed and secrets.
 #[unsafe(no_mangle)]
 pub extern "C" fn rapidhash_v3(bytes: &[u8]) -> u64
-    ensures { result ≡ default_hash v3 (options true false) bytes.now }
+    ensures { result ≡ default_hash v3 standard bytes.now }
 {
     if bytes.len() > 16 {
         return long_v3(bytes);
@@ -127,7 +127,7 @@ pub extern "C" fn rapidhash_v3(bytes: &[u8]) -> u64
 /// The hash of `bytes` by V3, with a seed and secrets of the caller's.
 #[unsafe(no_mangle)]
 pub extern "C" fn rapidhash_v3_seeded(bytes: &[u8], secrets: &v3::RapidSecrets) -> u64
-    ensures { result ≡ seeded_hash v3 (options true false) secrets.now bytes.now }
+    ensures { result ≡ seeded_hash v3 standard secrets.now bytes.now }
 {
     v3::rapidhash_v3_seeded(bytes, secrets)
 }
@@ -135,7 +135,7 @@ pub extern "C" fn rapidhash_v3_seeded(bytes: &[u8], secrets: &v3::RapidSecrets) 
 /// The hash of `bytes` by V3 micro, with the default seed and secrets.
 #[unsafe(no_mangle)]
 pub extern "C" fn rapidhash_v3_micro(bytes: &[u8]) -> u64
-    ensures { result ≡ default_hash micro (options true false) bytes.now }
+    ensures { result ≡ default_hash micro standard bytes.now }
 {
     if bytes.len() > 16 {
         return long_micro(bytes);
@@ -146,7 +146,7 @@ pub extern "C" fn rapidhash_v3_micro(bytes: &[u8]) -> u64
 /// The hash of `bytes` by V3 micro, with a seed and secrets of the caller's.
 #[unsafe(no_mangle)]
 pub extern "C" fn rapidhash_v3_micro_seeded(bytes: &[u8], secrets: &v3::RapidSecrets) -> u64
-    ensures { result ≡ seeded_hash micro (options true false) secrets.now bytes.now }
+    ensures { result ≡ seeded_hash micro standard secrets.now bytes.now }
 {
     v3::rapidhash_v3_micro_inline::<true, false>(bytes, secrets)
 }
@@ -154,7 +154,7 @@ pub extern "C" fn rapidhash_v3_micro_seeded(bytes: &[u8], secrets: &v3::RapidSec
 /// The hash of `bytes` by V3 nano, with the default seed and secrets.
 #[unsafe(no_mangle)]
 pub extern "C" fn rapidhash_v3_nano(bytes: &[u8]) -> u64
-    ensures { result ≡ default_hash nano (options true false) bytes.now }
+    ensures { result ≡ default_hash nano standard bytes.now }
 {
     if bytes.len() > 16 {
         return long_nano(bytes, v3::RapidSecrets::default_ref());
@@ -165,7 +165,7 @@ pub extern "C" fn rapidhash_v3_nano(bytes: &[u8]) -> u64
 /// The hash of `bytes` by V3 nano, with a seed and secrets of the caller's.
 #[unsafe(no_mangle)]
 pub extern "C" fn rapidhash_v3_nano_seeded(bytes: &[u8], secrets: &v3::RapidSecrets) -> u64
-    ensures { result ≡ seeded_hash nano (options true false) secrets.now bytes.now }
+    ensures { result ≡ seeded_hash nano standard secrets.now bytes.now }
 {
     if bytes.len() > 16 {
         return long_nano(bytes, secrets);
@@ -176,7 +176,7 @@ pub extern "C" fn rapidhash_v3_nano_seeded(bytes: &[u8], secrets: &v3::RapidSecr
 /// The hash of `bytes` by V3 with PROTECTED, with the default seed and secrets.
 #[unsafe(no_mangle)]
 pub extern "C" fn rapidhash_v3_protected(bytes: &[u8]) -> u64
-    ensures { result ≡ default_hash v3 (options true true) bytes.now }
+    ensures { result ≡ default_hash v3 guarded bytes.now }
 {
     v3::rapidhash_v3_inline::<true, false, true>(bytes, v3::RapidSecrets::default_ref())
 }
@@ -184,7 +184,7 @@ pub extern "C" fn rapidhash_v3_protected(bytes: &[u8]) -> u64
 /// The hash of `bytes` by V3 with PROTECTED, with a seed and secrets of the caller's.
 #[unsafe(no_mangle)]
 pub extern "C" fn rapidhash_v3_protected_seeded(bytes: &[u8], secrets: &v3::RapidSecrets) -> u64
-    ensures { result ≡ seeded_hash v3 (options true true) secrets.now bytes.now }
+    ensures { result ≡ seeded_hash v3 guarded secrets.now bytes.now }
 {
     v3::rapidhash_v3_inline::<true, false, true>(bytes, secrets)
 }

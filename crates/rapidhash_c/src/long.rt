@@ -4,7 +4,7 @@
 
 ghost use Rattle.std.specs.Prelude.{◌≡◌, ◌≤◌, true, false};
 ghost use Rattle.rapidhash.specs.Form.{v2, v3, micro, nano};
-ghost use Rattle.rapidhash.specs.Options.{options};
+ghost use Rattle.rapidhash.specs.Options.{standard};
 ghost use Rattle.rapidhash.specs.Seeded.{default_hash, seeded_hash, seeded_hash_v1};
 
 use rapidhash::{v1, v2, v3};
@@ -20,7 +20,7 @@ pub(crate) const TAIL_V2: usize = 64;
 #[cold]
 #[inline(never)]
 pub(crate) fn long_v1(bytes: &[u8], secrets: &v1::RapidSecrets) -> u64
-    ensures { result ≡ seeded_hash_v1 false (options true false) secrets.now bytes.now }
+    ensures { result ≡ seeded_hash_v1 false standard secrets.now bytes.now }
 {
     if bytes.len() > TAIL {
         return rows_v1(bytes, secrets);
@@ -33,7 +33,7 @@ pub(crate) fn long_v1(bytes: &[u8], secrets: &v1::RapidSecrets) -> u64
 #[inline(never)]
 pub(crate) fn long_v2<const MINOR: u8>(bytes: &[u8], secrets: &v2::RapidSecrets) -> u64
     requires { MINOR ≤ 2 }
-    ensures { result ≡ seeded_hash (v2 MINOR) (options true false) secrets.now bytes.now }
+    ensures { result ≡ seeded_hash (v2 MINOR) standard secrets.now bytes.now }
 {
     if bytes.len() > if MINOR == 0 { TAIL_V2_0 } else { TAIL_V2 } {
         return rows_v2::<MINOR>(bytes, secrets);
@@ -45,7 +45,7 @@ pub(crate) fn long_v2<const MINOR: u8>(bytes: &[u8], secrets: &v2::RapidSecrets)
 #[cold]
 #[inline(never)]
 pub(crate) fn long_v3(bytes: &[u8]) -> u64
-    ensures { result ≡ default_hash v3 (options true false) bytes.now }
+    ensures { result ≡ default_hash v3 standard bytes.now }
 {
     v3::rapidhash_v3(bytes)
 }
@@ -54,7 +54,7 @@ pub(crate) fn long_v3(bytes: &[u8]) -> u64
 #[cold]
 #[inline(never)]
 pub(crate) fn long_micro(bytes: &[u8]) -> u64
-    ensures { result ≡ default_hash micro (options true false) bytes.now }
+    ensures { result ≡ default_hash micro standard bytes.now }
 {
     v3::rapidhash_v3_micro_inline::<true, false>(bytes, v3::RapidSecrets::default_ref())
 }
@@ -63,7 +63,7 @@ pub(crate) fn long_micro(bytes: &[u8]) -> u64
 #[cold]
 #[inline(never)]
 pub(crate) fn long_nano(bytes: &[u8], secrets: &v3::RapidSecrets) -> u64
-    ensures { result ≡ seeded_hash nano (options true false) secrets.now bytes.now }
+    ensures { result ≡ seeded_hash nano standard secrets.now bytes.now }
 {
     if bytes.len() > TAIL {
         return rows_nano(bytes, secrets);
@@ -74,7 +74,7 @@ pub(crate) fn long_nano(bytes: &[u8], secrets: &v3::RapidSecrets) -> u64
 /// The hash of a message that has a row, by V1.
 #[inline(never)]
 pub(crate) fn rows_v1(bytes: &[u8], secrets: &v1::RapidSecrets) -> u64
-    ensures { result ≡ seeded_hash_v1 false (options true false) secrets.now bytes.now }
+    ensures { result ≡ seeded_hash_v1 false standard secrets.now bytes.now }
 {
     v1::rapidhash_v1_seeded(bytes, secrets)
 }
@@ -83,7 +83,7 @@ pub(crate) fn rows_v1(bytes: &[u8], secrets: &v1::RapidSecrets) -> u64
 #[inline(never)]
 pub(crate) fn rows_v2<const MINOR: u8>(bytes: &[u8], secrets: &v2::RapidSecrets) -> u64
     requires { MINOR ≤ 2 }
-    ensures { result ≡ seeded_hash (v2 MINOR) (options true false) secrets.now bytes.now }
+    ensures { result ≡ seeded_hash (v2 MINOR) standard secrets.now bytes.now }
 {
     v2::rapidhash_v2_inline::<MINOR, true, false, false>(bytes, secrets)
 }
@@ -91,7 +91,7 @@ pub(crate) fn rows_v2<const MINOR: u8>(bytes: &[u8], secrets: &v2::RapidSecrets)
 /// The hash of a message that has a row, by V3 nano.
 #[inline(never)]
 pub(crate) fn rows_nano(bytes: &[u8], secrets: &v3::RapidSecrets) -> u64
-    ensures { result ≡ seeded_hash nano (options true false) secrets.now bytes.now }
+    ensures { result ≡ seeded_hash nano standard secrets.now bytes.now }
 {
     v3::rapidhash_v3_nano_inline::<true, false>(bytes, secrets)
 }

@@ -4,7 +4,7 @@
 ghost use Rattle.std.specs.Prelude.{◌≡◌, ◌≤◌, true, false};
 ghost use Rattle.rapidhash.specs.Form.{v1, v2, v3, micro, nano};
 ghost use Rattle.rapidhash.specs.Hash.{portable_hash};
-ghost use Rattle.rapidhash.specs.Options.{options};
+ghost use Rattle.rapidhash.specs.Options.{standard};
 ghost use Rattle.rapidhash.specs.Secrets.{cpp_seeded, default_secrets, default_secrets_v1};
 
 use crate::long::{TAIL, TAIL_V2, TAIL_V2_0};
@@ -15,7 +15,7 @@ use rapidhash::{v1, v2, v3};
 #[inline(never)]
 pub(crate) fn long_v1(bytes: &[u8], seed: u64) -> u64
     ensures { result
-        ≡ portable_hash v1 (options true false) (cpp_seeded seed 0) default_secrets_v1 bytes.now }
+        ≡ portable_hash v1 standard (cpp_seeded seed 0) default_secrets_v1 bytes.now }
 {
     if bytes.len() > TAIL {
         return rows_v1(bytes, seed);
@@ -29,7 +29,7 @@ pub(crate) fn long_v1(bytes: &[u8], seed: u64) -> u64
 pub(crate) fn long_v2<const MINOR: u8>(bytes: &[u8], seed: u64) -> u64
     requires { MINOR ≤ 2 }
     ensures { result
-        ≡ portable_hash (v2 MINOR) (options true false) (cpp_seeded seed 2) default_secrets
+        ≡ portable_hash (v2 MINOR) standard (cpp_seeded seed 2) default_secrets
         bytes.now }
 {
     if bytes.len() > if MINOR == 0 { TAIL_V2_0 } else { TAIL_V2 } {
@@ -43,7 +43,7 @@ pub(crate) fn long_v2<const MINOR: u8>(bytes: &[u8], seed: u64) -> u64
 #[inline(never)]
 pub(crate) fn long_v3(bytes: &[u8], seed: u64) -> u64
     ensures { result
-        ≡ portable_hash v3 (options true false) (cpp_seeded seed 2) default_secrets bytes.now }
+        ≡ portable_hash v3 standard (cpp_seeded seed 2) default_secrets bytes.now }
 {
     if bytes.len() > 112 {
         return rows_v3(bytes, seed);
@@ -56,7 +56,7 @@ pub(crate) fn long_v3(bytes: &[u8], seed: u64) -> u64
 #[inline(never)]
 pub(crate) fn long_micro(bytes: &[u8], seed: u64) -> u64
     ensures { result
-        ≡ portable_hash micro (options true false) (cpp_seeded seed 2) default_secrets bytes.now }
+        ≡ portable_hash micro standard (cpp_seeded seed 2) default_secrets bytes.now }
 {
     if bytes.len() > 80 {
         return rows_micro(bytes, seed);
@@ -69,7 +69,7 @@ pub(crate) fn long_micro(bytes: &[u8], seed: u64) -> u64
 #[inline(never)]
 pub(crate) fn long_nano(bytes: &[u8], seed: u64) -> u64
     ensures { result
-        ≡ portable_hash nano (options true false) (cpp_seeded seed 2) default_secrets bytes.now }
+        ≡ portable_hash nano standard (cpp_seeded seed 2) default_secrets bytes.now }
 {
     if bytes.len() > TAIL {
         return rows_nano(bytes, seed);
@@ -81,7 +81,7 @@ pub(crate) fn long_nano(bytes: &[u8], seed: u64) -> u64
 #[inline(never)]
 fn rows_v1(bytes: &[u8], seed: u64) -> u64
     ensures { result
-        ≡ portable_hash v1 (options true false) (cpp_seeded seed 0) default_secrets_v1 bytes.now }
+        ≡ portable_hash v1 standard (cpp_seeded seed 0) default_secrets_v1 bytes.now }
 {
     v1::rapidhash_v1_seeded(bytes, &v1::RapidSecrets::seed_cpp(seed))
 }
@@ -91,7 +91,7 @@ fn rows_v1(bytes: &[u8], seed: u64) -> u64
 fn rows_v2<const MINOR: u8>(bytes: &[u8], seed: u64) -> u64
     requires { MINOR ≤ 2 }
     ensures { result
-        ≡ portable_hash (v2 MINOR) (options true false) (cpp_seeded seed 2) default_secrets
+        ≡ portable_hash (v2 MINOR) standard (cpp_seeded seed 2) default_secrets
         bytes.now }
 {
     v2::rapidhash_v2_inline::<MINOR, true, false, false>(bytes, &v2::RapidSecrets::seed_cpp(seed))
@@ -101,7 +101,7 @@ fn rows_v2<const MINOR: u8>(bytes: &[u8], seed: u64) -> u64
 #[inline(never)]
 fn rows_v3(bytes: &[u8], seed: u64) -> u64
     ensures { result
-        ≡ portable_hash v3 (options true false) (cpp_seeded seed 2) default_secrets bytes.now }
+        ≡ portable_hash v3 standard (cpp_seeded seed 2) default_secrets bytes.now }
 {
     v3::rapidhash_v3_seeded(bytes, &v3::RapidSecrets::seed_cpp(seed))
 }
@@ -110,7 +110,7 @@ fn rows_v3(bytes: &[u8], seed: u64) -> u64
 #[inline(never)]
 fn rows_micro(bytes: &[u8], seed: u64) -> u64
     ensures { result
-        ≡ portable_hash micro (options true false) (cpp_seeded seed 2) default_secrets bytes.now }
+        ≡ portable_hash micro standard (cpp_seeded seed 2) default_secrets bytes.now }
 {
     v3::rapidhash_v3_micro_inline::<true, false>(bytes, &v3::RapidSecrets::seed_cpp(seed))
 }
@@ -119,7 +119,7 @@ fn rows_micro(bytes: &[u8], seed: u64) -> u64
 #[inline(never)]
 fn rows_nano(bytes: &[u8], seed: u64) -> u64
     ensures { result
-        ≡ portable_hash nano (options true false) (cpp_seeded seed 2) default_secrets bytes.now }
+        ≡ portable_hash nano standard (cpp_seeded seed 2) default_secrets bytes.now }
 {
     v3::rapidhash_v3_nano_inline::<true, false>(bytes, &v3::RapidSecrets::seed_cpp(seed))
 }

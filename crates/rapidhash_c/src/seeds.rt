@@ -4,7 +4,7 @@
 ghost use Rattle.std.specs.Prelude.{◌≡◌, true, false};
 ghost use Rattle.rapidhash.specs.Form.{v1, v2, v3, micro, nano};
 ghost use Rattle.rapidhash.specs.Hash.{portable_hash};
-ghost use Rattle.rapidhash.specs.Options.{options};
+ghost use Rattle.rapidhash.specs.Options.{standard};
 ghost use Rattle.rapidhash.specs.Secrets.{cpp_seeded, default_secrets, default_secrets_v1};
 
 use crate::long_seeds::{long_micro, long_nano, long_v1, long_v2, long_v3};
@@ -14,7 +14,7 @@ use rapidhash::{v1, v2, v3};
 #[unsafe(no_mangle)]
 pub extern "C" fn rapidhash_v1_with_seed(bytes: &[u8], seed: u64) -> u64
     ensures { result
-        ≡ portable_hash v1 (options true false) (cpp_seeded seed 0) default_secrets_v1 bytes.now }
+        ≡ portable_hash v1 standard (cpp_seeded seed 0) default_secrets_v1 bytes.now }
 {
     if bytes.len() > 16 {
         return long_v1(bytes, seed);
@@ -26,7 +26,7 @@ pub extern "C" fn rapidhash_v1_with_seed(bytes: &[u8], seed: u64) -> u64
 #[unsafe(no_mangle)]
 pub extern "C" fn rapidhash_v2_0_with_seed(bytes: &[u8], seed: u64) -> u64
     ensures { result
-        ≡ portable_hash (v2 0) (options true false) (cpp_seeded seed 2) default_secrets bytes.now }
+        ≡ portable_hash (v2 0) standard (cpp_seeded seed 2) default_secrets bytes.now }
 {
     if bytes.len() > 16 {
         return long_v2::<0>(bytes, seed);
@@ -38,7 +38,7 @@ pub extern "C" fn rapidhash_v2_0_with_seed(bytes: &[u8], seed: u64) -> u64
 #[unsafe(no_mangle)]
 pub extern "C" fn rapidhash_v2_1_with_seed(bytes: &[u8], seed: u64) -> u64
     ensures { result
-        ≡ portable_hash (v2 1) (options true false) (cpp_seeded seed 2) default_secrets bytes.now }
+        ≡ portable_hash (v2 1) standard (cpp_seeded seed 2) default_secrets bytes.now }
 {
     if bytes.len() > 16 {
         return long_v2::<1>(bytes, seed);
@@ -50,7 +50,7 @@ pub extern "C" fn rapidhash_v2_1_with_seed(bytes: &[u8], seed: u64) -> u64
 #[unsafe(no_mangle)]
 pub extern "C" fn rapidhash_v2_2_with_seed(bytes: &[u8], seed: u64) -> u64
     ensures { result
-        ≡ portable_hash (v2 2) (options true false) (cpp_seeded seed 2) default_secrets bytes.now }
+        ≡ portable_hash (v2 2) standard (cpp_seeded seed 2) default_secrets bytes.now }
 {
     if bytes.len() > 16 {
         return long_v2::<2>(bytes, seed);
@@ -62,7 +62,7 @@ pub extern "C" fn rapidhash_v2_2_with_seed(bytes: &[u8], seed: u64) -> u64
 #[unsafe(no_mangle)]
 pub extern "C" fn rapidhash_v3_with_seed(bytes: &[u8], seed: u64) -> u64
     ensures { result
-        ≡ portable_hash v3 (options true false) (cpp_seeded seed 2) default_secrets bytes.now }
+        ≡ portable_hash v3 standard (cpp_seeded seed 2) default_secrets bytes.now }
 {
     if bytes.len() > 16 {
         return long_v3(bytes, seed);
@@ -74,7 +74,7 @@ pub extern "C" fn rapidhash_v3_with_seed(bytes: &[u8], seed: u64) -> u64
 #[unsafe(no_mangle)]
 pub extern "C" fn rapidhash_v3_micro_with_seed(bytes: &[u8], seed: u64) -> u64
     ensures { result
-        ≡ portable_hash micro (options true false) (cpp_seeded seed 2) default_secrets bytes.now }
+        ≡ portable_hash micro standard (cpp_seeded seed 2) default_secrets bytes.now }
 {
     if bytes.len() > 16 {
         return long_micro(bytes, seed);
@@ -86,7 +86,7 @@ pub extern "C" fn rapidhash_v3_micro_with_seed(bytes: &[u8], seed: u64) -> u64
 #[unsafe(no_mangle)]
 pub extern "C" fn rapidhash_v3_nano_with_seed(bytes: &[u8], seed: u64) -> u64
     ensures { result
-        ≡ portable_hash nano (options true false) (cpp_seeded seed 2) default_secrets bytes.now }
+        ≡ portable_hash nano standard (cpp_seeded seed 2) default_secrets bytes.now }
 {
     if bytes.len() > 16 {
         return long_nano(bytes, seed);

@@ -1,7 +1,7 @@
 //! A message in pieces, for V3, micro or nano. The header's inline functions start a stream.
 
 ghost use Rattle.std.specs.Prelude.{◌≡◌, ◌++◌, ℕ, List, true, false};
-ghost use Rattle.rapidhash.specs.Options.{options};
+ghost use Rattle.rapidhash.specs.Options.{standard};
 ghost use Rattle.rapidhash.specs.Seeded.{seeded_hash};
 ghost use Rattle.rapidhash.specs.Stream.{StandsByLanes, StartsByLanes, lanes_of, secrets_by_lanes};
 ghost use Rattle.rapidhash_portable.specs.declared.form.Form.TheVariants.{V3};
@@ -31,7 +31,7 @@ pub extern "C" fn rapidhash_stream_write(stream: &mut RapidStream<'_>, bytes: &[
 #[unsafe(no_mangle)]
 pub extern "C" fn rapidhash_stream_finish(stream: &RapidStream<'_>) -> u64
     ensures { (x : List ℕ) → StandsByLanes stream.now x → result
-        ≡ seeded_hash (V3 (lanes_of stream.now)) (options true false)
+        ≡ seeded_hash (V3 (lanes_of stream.now)) standard
         (secrets_by_lanes stream.now) x }
 {
     stream.finish()

@@ -5,7 +5,7 @@ use Rattle.rapidhash_portable.specs.Lanes.{rows_in}
 use Rattle.rapidhash_portable.specs.declared.secrets.RapidSecrets.{RapidSecrets}
 use Rattle.rapidhash_portable.specs.declared.v3.stream.parts.Parts.{Parts}
 use Rattle.rapidhash_portable.specs.declared.v3.stream.RapidStreamHasherLanes.{RapidStreamHasherLanes}
-use Rattle.rapidhash_portable.specs.declared.v3.stream.of_c.RapidStream.{RapidStream}
+use Rattle.rapidhash_portable.specs.declared.v3.stream.c_stream.RapidStream.{RapidStream}
 
 -- how many chunks, rows of a pair for each lane, are folded of `n` bytes, of which the last one is in no folded chunk
 abbrev pub chunk_count : ℕ → ℕ → ℕ

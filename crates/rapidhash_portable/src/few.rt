@@ -34,18 +34,18 @@ fn fold_few_rows<
 
 /// As [`crate::lanes::wide_lanes`], where there are `ROWS` rows.
 #[inline(always)]
-pub(crate) fn few_wide_rows<
+pub(crate) fn wide_lanes_of<
     'x,
     const LANES: usize,
-    const KEPT: usize,
+    const LEAST: usize,
     const ROWS: usize,
     const PROTECTED: bool,
 >(bytes: &'x [u8], seed: u64, secrets: &[u64]) -> (u64, &'x [u8])
     requires secrets { LANES ≤ length secrets.now }
     requires small { LANES ≤ 7 }
-    requires enough { 16 * (LANES * ROWS) + KEPT ≤ length bytes.now }
-    requires few { length bytes.now < 16 * (LANES * (ROWS + 1)) + KEPT }
-    ensures { let shape = wide_shape LANES KEPT (length bytes.now) in
+    requires enough { 16 * (LANES * ROWS) + LEAST ≤ length bytes.now }
+    requires few { length bytes.now < 16 * (LANES * (ROWS + 1)) + LEAST }
+    ensures { let shape = wide_shape LANES LEAST (length bytes.now) in
         AfterRows PROTECTED secrets.now bytes.now shape seed result.0 result.1.now }
 {
     let mut lanes = [seed; LANES];
@@ -55,7 +55,7 @@ pub(crate) fn few_wide_rows<
 
 /// As [`crate::lanes::mixed_lanes`], where there are `ROWS` rows, all of three pairs.
 #[inline(always)]
-pub(crate) fn few_narrow_rows<'x, const ROWS: usize, const PROTECTED: bool>(
+pub(crate) fn mixed_lanes_of<'x, const ROWS: usize, const PROTECTED: bool>(
     bytes: &'x [u8],
     seed: u64,
     secrets: &[u64; 7],

@@ -79,14 +79,14 @@ pub(crate) fn fold_two_rows_by_lane<const LANES: usize, const WIDTH: usize, cons
 }
 
 /// Folds all rows of `WIDTH` pairs into the first `WIDTH` lanes, and returns the bytes after them,
-/// of which there are at least `KEPT`. The lanes may have folded a prefix of the message before.
+/// of which there are at least `LEAST`. The lanes may have folded a prefix of the message before.
 /// Without `COMPACT` the loop takes two rows at a time, and then at most one more.
 #[inline(always)]
 pub(crate) fn fold_rows<
     'x,
     const LANES: usize,
     const WIDTH: usize,
-    const KEPT: usize,
+    const LEAST: usize,
     const COMPACT: bool,
     const PROTECTED: bool,
 >(lanes: &mut [u64; LANES], bytes: &'x [u8], secrets: &[u64]) -> &'x [u8]
@@ -94,21 +94,21 @@ pub(crate) fn fold_rows<
     requires narrow { WIDTH ≤ LANES }
     requires some { 0 < WIDTH }
     requires small { WIDTH ≤ 7 }
-    requires keeps { KEPT ≤ length bytes.now }
-    requires keeps_few { KEPT ≤ 1 }
+    requires keeps { LEAST ≤ length bytes.now }
+    requires keeps_few { LEAST ≤ 1 }
     ensures on { (x starts : List ℕ) →
-        PrefixIsFolded PROTECTED secrets.now x WIDTH KEPT starts lanes.old bytes.now →
-        PrefixIsFolded PROTECTED secrets.now x WIDTH KEPT starts lanes.new result.now }
-    ensures all { length result.now < 16 * WIDTH + KEPT }
+        PrefixIsFolded PROTECTED secrets.now x WIDTH LEAST starts lanes.old bytes.now →
+        PrefixIsFolded PROTECTED secrets.now x WIDTH LEAST starts lanes.new result.now }
+    ensures all { length result.now < 16 * WIDTH + LEAST }
 {
     let mut rest = bytes;
     if !COMPACT {
-        while rest.len() >= 32 * WIDTH + KEPT {
+        while rest.len() >= 32 * WIDTH + LEAST {
             fold_two_rows::<LANES, WIDTH, PROTECTED>(lanes, rest, secrets);
             rest = &rest[32 * WIDTH..];
         }
     }
-    while rest.len() >= 16 * WIDTH + KEPT {
+    while rest.len() >= 16 * WIDTH + LEAST {
         fold_row::<LANES, WIDTH, PROTECTED>(lanes, rest, secrets);
         rest = &rest[16 * WIDTH..];
     }
@@ -134,20 +134,20 @@ pub(crate) fn join<const LANES: usize, const WIDTH: usize>(lanes: &[u64; LANES])
 pub(crate) fn wide_lanes<
     'x,
     const LANES: usize,
-    const KEPT: usize,
+    const LEAST: usize,
     const COMPACT: bool,
     const PROTECTED: bool,
 >(bytes: &'x [u8], seed: u64, secrets: &[u64]) -> (u64, &'x [u8])
     requires secrets { LANES ≤ length secrets.now }
     requires some { 0 < LANES }
     requires small { LANES ≤ 7 }
-    requires keeps { KEPT ≤ length bytes.now }
-    requires keeps_few { KEPT ≤ 1 }
-    ensures { let shape = wide_shape LANES KEPT (length bytes.now) in
+    requires keeps { LEAST ≤ length bytes.now }
+    requires keeps_few { LEAST ≤ 1 }
+    ensures { let shape = wide_shape LANES LEAST (length bytes.now) in
         AfterRows PROTECTED secrets.now bytes.now shape seed result.0 result.1.now }
 {
     let mut lanes = [seed; LANES];
-    join_wide::<LANES, KEPT, COMPACT, PROTECTED>(&mut lanes, bytes, secrets)
+    join_wide::<LANES, LEAST, COMPACT, PROTECTED>(&mut lanes, bytes, secrets)
 }
 
 /// The seed after all rows of seven pairs and then of three, which the first three lanes fold, and
@@ -171,21 +171,21 @@ pub(crate) fn mixed_lanes<'x, const COMPACT: bool, const PROTECTED: bool>(
 pub(crate) fn join_wide<
     'x,
     const LANES: usize,
-    const KEPT: usize,
+    const LEAST: usize,
     const COMPACT: bool,
     const PROTECTED: bool,
 >(lanes: &mut [u64; LANES], bytes: &'x [u8], secrets: &[u64]) -> (u64, &'x [u8])
     requires secrets { LANES ≤ length secrets.now }
     requires some { 0 < LANES }
     requires small { LANES ≤ 7 }
-    requires keeps { KEPT ≤ length bytes.now }
-    requires keeps_few { KEPT ≤ 1 }
+    requires keeps { LEAST ≤ length bytes.now }
+    requires keeps_few { LEAST ≤ 1 }
     ensures { (x : List ℕ) (seed : ℕ) → let starts = replicate LANES seed in
-        PrefixIsFolded PROTECTED secrets.now x LANES KEPT starts lanes.old bytes.now →
-        let shape = wide_shape LANES KEPT (length x) in
+        PrefixIsFolded PROTECTED secrets.now x LANES LEAST starts lanes.old bytes.now →
+        let shape = wide_shape LANES LEAST (length x) in
         AfterRows PROTECTED secrets.now x shape seed result.0 result.1.now }
 {
-    let rest = fold_rows::<LANES, LANES, KEPT, COMPACT, PROTECTED>(lanes, bytes, secrets);
+    let rest = fold_rows::<LANES, LANES, LEAST, COMPACT, PROTECTED>(lanes, bytes, secrets);
     (join::<LANES, LANES>(lanes), rest)
 }
 

@@ -9,18 +9,18 @@
 //! - [`memory`] is the core of the in-memory hasher of the crate `rapidhash`.
 //!
 //! The row kernel (`lanes`), messages with few rows (`few`), what follows the rows (`tail`), the
-//! words that a message ends in (`words`), the reads of a known length (`sized`) and the arithmetic
-//! of secrets (`secrets`) are private.
+//! words that a message ends in (`words`), the reads of a known length (`known_length`) and the
+//! arithmetic of secrets (`secrets`) are private.
 #![tactic(auto)]
 
 mod few;
 pub mod form;
+mod known_length;
 mod lanes;
 pub mod memory;
 pub mod reader;
 mod secrets;
 pub mod seeding;
-mod sized;
 mod tail;
 pub mod util;
 pub mod v1;

@@ -61,7 +61,7 @@ pub const fn rapid_mix<const PROTECTED: bool>(a: u64, b: u64) -> u64
 ///
 /// # Panics
 ///
-/// In Rust, if the 8 bytes do not lie in `bytes`. In Rattle that they do is a precondition.
+/// In Rust, if the 8 bytes do not lie in `bytes`. Rattle's checker refuses such a call.
 #[inline]
 #[tactic(auto, unfolding(crate::specs::Bytes::word64))]
 pub fn read_u64(bytes: &[u8], offset: usize) -> u64
@@ -81,7 +81,7 @@ pub fn read_u64(bytes: &[u8], offset: usize) -> u64
 ///
 /// # Panics
 ///
-/// In Rust, if the 4 bytes do not lie in `bytes`. In Rattle that they do is a precondition.
+/// In Rust, if the 4 bytes do not lie in `bytes`. Rattle's checker refuses such a call.
 #[inline]
 #[tactic(auto, unfolding(crate::specs::Bytes::word32))]
 pub fn read_u32(bytes: &[u8], offset: usize) -> u32
@@ -91,7 +91,7 @@ pub fn read_u32(bytes: &[u8], offset: usize) -> u32
     u32::from_le_bytes(bytes[offset..offset + 4].try_into().unwrap())
 }
 
-/// Returns two numbers of 4 bytes in one of 8: the number at `top` in the upper half, the number at
+/// Returns two 4-byte numbers in a `u64`: the number at `top` in the upper half, the number at
 /// `bot` in the lower half.
 ///
 /// ```
@@ -102,7 +102,7 @@ pub fn read_u32(bytes: &[u8], offset: usize) -> u32
 ///
 /// # Panics
 ///
-/// In Rust, if one of the two does not lie in `bytes`. In Rattle that both do is a precondition.
+/// In Rust, if one of the two does not lie in `bytes`. Rattle's checker refuses such a call.
 #[inline]
 pub fn read_u32_combined(bytes: &[u8], top: usize, bot: usize) -> u64
     requires top_inside { top + 4 ≤ length bytes.now }

@@ -5,14 +5,14 @@ ghost use Rattle.rapidhash_portable.specs.declared.form.Form.TheVariants.{V1};
 ghost use Rattle.rapidhash_portable.specs.Folded.{AfterRows};
 ghost use Rattle.rapidhash_portable.specs.Form.{least_row_v1, shape_of, start_seed};
 ghost use Rattle.rapidhash_portable.specs.Hash.{portable_hash};
-ghost use Rattle.rapidhash_portable.specs.Options.{options};
+ghost use Rattle.rapidhash_portable.specs.Options.{options, standard};
 ghost use Rattle.rapidhash_portable.specs.Secrets.{IsGood, cpp_seeded, default_secrets_v1, default_seed_v1, reseeded, seeded, seeded_secrets};
 ghost use Rattle.rapidhash_portable.specs.Seeded.{default_hash, seeded_hash_v1};
 ghost use Rattle.rapidhash_portable.specs.Words.{last_16, short_words};
 
 mod readers;
 
-use crate::few::few_wide_rows;
+use crate::few::wide_lanes_of;
 use crate::lanes::wide_lanes;
 use crate::secrets::{DEFAULT_SECRETS, chain, cpp_seed_of, reseed_of, seed_of};
 use crate::tail::{close, fold_tail};
@@ -88,8 +88,8 @@ impl RapidSecrets {
     }
 
     /// Returns the default secrets with a seed made from a number as the C++ library makes it.
-    /// Whoever knows the default secrets can find messages that have the same hash for every seed:
-    /// if that matters, see [`RapidSecrets::seed`].
+    /// Anyone who knows the default secrets can find messages with the same hash for every seed: if
+    /// that matters, see [`RapidSecrets::seed`].
     pub const fn seed_cpp(seed: u64) -> Self
         ensures seed { result.seed ≡ cpp_seeded seed 0 }
         ensures secrets { result.secrets ≡ default_secrets_v1 }
@@ -110,7 +110,7 @@ impl RapidSecrets {
 /// ```
 #[inline(always)]
 pub fn rapidhash_v1(bytes: &[u8]) -> u64
-    ensures { result ≡ default_hash (V1 false) (options true false) bytes.now }
+    ensures { result ≡ default_hash (V1 false) standard bytes.now }
 {
     rapidhash_v1_inline::<true, false, false, false>(bytes, RapidSecrets::default_ref())
 }
@@ -124,7 +124,7 @@ pub fn rapidhash_v1(bytes: &[u8]) -> u64
 /// ```
 #[inline(always)]
 pub fn rapidhash_v1_seeded(bytes: &[u8], secrets: &RapidSecrets) -> u64
-    ensures { result ≡ seeded_hash_v1 false (options true false) secrets.now bytes.now }
+    ensures { result ≡ seeded_hash_v1 false standard secrets.now bytes.now }
 {
     rapidhash_v1_inline::<true, false, false, false>(bytes, secrets)
 }
@@ -217,7 +217,7 @@ fn few_rows<const ROWS: usize, const AVALANCHE: bool, const PROTECTED: bool, con
 {
     let len = bytes.len() as u64;
     let s = &secrets.secrets;
-    let (joined, tail) = few_wide_rows::<3, 0, ROWS, PROTECTED>(bytes, secrets.seed ^ len, s);
+    let (joined, tail) = wide_lanes_of::<3, 0, ROWS, PROTECTED>(bytes, secrets.seed ^ len, s);
     close_tail::<AVALANCHE, PROTECTED>(tail, bytes, len, joined, s)
 }
 

@@ -5,13 +5,13 @@ ghost use Rattle.rapidhash_portable.specs.declared.form.Form.TheVariants.{V2};
 ghost use Rattle.rapidhash_portable.specs.Folded.{AfterRows};
 ghost use Rattle.rapidhash_portable.specs.Form.{masks, shape_of, start_seed, v2_limit};
 ghost use Rattle.rapidhash_portable.specs.Hash.{close, portable_hash};
-ghost use Rattle.rapidhash_portable.specs.Options.{options};
+ghost use Rattle.rapidhash_portable.specs.Options.{options, standard};
 ghost use Rattle.rapidhash_portable.specs.Seeded.{default_hash, seeded_hash};
 ghost use Rattle.rapidhash_portable.specs.Words.{last_16, short_words};
 
 mod readers;
 
-use crate::few::few_narrow_rows;
+use crate::few::mixed_lanes_of;
 use crate::lanes::mixed_lanes;
 pub use crate::secrets::{DEFAULT_RAPID_SECRETS, RapidSecrets};
 use crate::tail::{close, fold_tail};
@@ -31,7 +31,7 @@ pub use readers::{
 /// ```
 #[inline(always)]
 pub fn rapidhash_v2_2(bytes: &[u8]) -> u64
-    ensures { result ≡ default_hash (V2 2) (options true false) bytes.now }
+    ensures { result ≡ default_hash (V2 2) standard bytes.now }
 {
     rapidhash_v2_inline::<2, true, false, false>(bytes, RapidSecrets::default_ref())
 }
@@ -46,7 +46,7 @@ pub fn rapidhash_v2_2(bytes: &[u8]) -> u64
 /// ```
 #[inline(always)]
 pub fn rapidhash_v2_2_seeded(bytes: &[u8], secrets: &RapidSecrets) -> u64
-    ensures { result ≡ seeded_hash (V2 2) (options true false) secrets.now bytes.now }
+    ensures { result ≡ seeded_hash (V2 2) standard secrets.now bytes.now }
 {
     rapidhash_v2_inline::<2, true, false, false>(bytes, secrets)
 }
@@ -68,7 +68,7 @@ pub fn rapidhash_v2_2_seeded(bytes: &[u8], secrets: &RapidSecrets) -> u64
 ///
 /// # Panics
 ///
-/// In Rust, if `MINOR` is above 2. In Rattle that it is not is a precondition.
+/// In Rust, if `MINOR` is above 2. Rattle's checker refuses such a call.
 #[inline(always)]
 pub fn rapidhash_v2_inline<
     const MINOR: u8,
@@ -174,7 +174,7 @@ fn few_rows<const MINOR: u8, const ROWS: usize, const AVALANCHE: bool, const PRO
 {
     let len = bytes.len() as u64;
     let s = &secrets.secrets;
-    let (joined, tail) = few_narrow_rows::<ROWS, PROTECTED>(bytes, secrets.seed ^ len, s);
+    let (joined, tail) = mixed_lanes_of::<ROWS, PROTECTED>(bytes, secrets.seed ^ len, s);
     close_tail::<AVALANCHE, PROTECTED>(tail, bytes, len, joined, s)
 }
 

@@ -5,14 +5,14 @@ ghost use Rattle.rapidhash_portable.specs.declared.form.Form.TheVariants.{V3};
 ghost use Rattle.rapidhash_portable.specs.Folded.{AfterRows};
 ghost use Rattle.rapidhash_portable.specs.Form.{v3, micro, nano, shape_of, start_seed};
 ghost use Rattle.rapidhash_portable.specs.Hash.{portable_hash};
-ghost use Rattle.rapidhash_portable.specs.Options.{options};
+ghost use Rattle.rapidhash_portable.specs.Options.{options, standard};
 ghost use Rattle.rapidhash_portable.specs.Seeded.{default_hash, seeded_hash};
 ghost use Rattle.rapidhash_portable.specs.Words.{last_16, short_words};
 
 mod readers;
 mod stream;
 
-use crate::few::few_wide_rows;
+use crate::few::wide_lanes_of;
 use crate::lanes::wide_lanes;
 pub use crate::secrets::{DEFAULT_RAPID_SECRETS, RapidSecrets};
 use crate::tail::{close, fold_tail};
@@ -38,7 +38,7 @@ pub use stream::{
 /// ```
 #[inline(always)]
 pub fn rapidhash_v3(bytes: &[u8]) -> u64
-    ensures { result ≡ default_hash v3 (options true false) bytes.now }
+    ensures { result ≡ default_hash v3 standard bytes.now }
 {
     hash::<7, 1, true, false, false>(bytes, RapidSecrets::default_ref())
 }
@@ -53,7 +53,7 @@ pub fn rapidhash_v3(bytes: &[u8]) -> u64
 /// ```
 #[inline(always)]
 pub fn rapidhash_v3_seeded(bytes: &[u8], secrets: &RapidSecrets) -> u64
-    ensures { result ≡ seeded_hash v3 (options true false) secrets.now bytes.now }
+    ensures { result ≡ seeded_hash v3 standard secrets.now bytes.now }
 {
     rapidhash_v3_inline::<true, false, false>(bytes, secrets)
 }
@@ -118,14 +118,14 @@ pub fn rapidhash_v3_nano_inline<const AVALANCHE: bool, const PROTECTED: bool>(
     hash::<3, 2, AVALANCHE, false, PROTECTED>(bytes, secrets)
 }
 
-/// The hash of `bytes` with an odd number of lanes. Messages of up to `INLINED` rows make no call,
+/// The hash of `bytes` with an odd number of lanes. Messages of up to `FEW` rows make no call,
 /// where it is 0, 1 or 2. A row of seven pairs is inlined only with the default secrets: with
 /// others it makes shorter messages slower.
 #[inline(always)]
 #[tactic(auto, using(crate::proofs::Cases::tests), unfolding(crate::specs::Form::start_seed))]
 pub(crate) fn hash<
     const LANES: usize,
-    const INLINED: usize,
+    const FEW: usize,
     const AVALANCHE: bool,
     const COMPACT: bool,
     const PROTECTED: bool,
@@ -136,7 +136,7 @@ pub(crate) fn hash<
 {
     let (n, seed) = (bytes.len(), secrets.seed);
     if n > 16 {
-        return long::<LANES, INLINED, AVALANCHE, COMPACT, PROTECTED>(bytes, secrets);
+        return long::<LANES, FEW, AVALANCHE, COMPACT, PROTECTED>(bytes, secrets);
     }
     // Each class has its own close: with one close for all lengths a caller's loop would load the
     // default secrets for each message. Nano is faster with 8 bytes asked for first.
@@ -182,7 +182,7 @@ fn close_short<const LANES: usize, const AVALANCHE: bool, const PROTECTED: bool>
 #[inline(always)]
 fn long<
     const LANES: usize,
-    const INLINED: usize,
+    const FEW: usize,
     const AVALANCHE: bool,
     const COMPACT: bool,
     const PROTECTED: bool,
@@ -195,9 +195,9 @@ fn long<
     let n = bytes.len();
     if n <= 16 * LANES {
         without_rows::<LANES, AVALANCHE, PROTECTED>(bytes, secrets)
-    } else if INLINED >= 1 && n <= 32 * LANES {
+    } else if FEW >= 1 && n <= 32 * LANES {
         few_rows::<LANES, 1, AVALANCHE, PROTECTED>(bytes, secrets)
-    } else if INLINED >= 2 && n <= 48 * LANES {
+    } else if FEW >= 2 && n <= 48 * LANES {
         few_rows::<LANES, 2, AVALANCHE, PROTECTED>(bytes, secrets)
     } else {
         with_rows::<LANES, AVALANCHE, COMPACT, PROTECTED>(bytes, secrets)
@@ -231,7 +231,7 @@ fn few_rows<const LANES: usize, const ROWS: usize, const AVALANCHE: bool, const 
     ensures { result ≡ seeded_hash (V3 LANES) (options AVALANCHE PROTECTED) secrets.now bytes.now }
 {
     let s = &secrets.secrets;
-    let (joined, tail) = few_wide_rows::<LANES, 1, ROWS, PROTECTED>(bytes, secrets.seed, s);
+    let (joined, tail) = wide_lanes_of::<LANES, 1, ROWS, PROTECTED>(bytes, secrets.seed, s);
     close_tail::<AVALANCHE, PROTECTED>(tail, bytes, joined, s)
 }
 

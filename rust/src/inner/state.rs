@@ -189,7 +189,7 @@ impl<'s, const AVALANCHE: bool, const SPONGE: bool, const COMPACT: bool, const P
     }
 
     /// Returns the state of the default seed and the default secrets, the same in every run of every program.
-    /// Whoever knows them can find keys that all have the same hash.
+    /// Anyone who knows them can find keys that all have the same hash.
     #[inline]
     pub fn fixed() -> Self {
         let default = RapidSecrets::default_ref();

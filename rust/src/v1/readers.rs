@@ -3,9 +3,9 @@
 //! V1 of the next bytes of a reader, whose number is known.
 
 use super::{RapidSecrets, close_tail, rapidhash_v1_inline};
+use crate::known_length::{BUFFER, SHORT, fill, fold_front};
 use crate::lanes::join_wide;
 use crate::reader::{Source, Stop};
-use crate::sized::{BUFFER, SHORT, fill, fold_front};
 use std::io;
 use std::io::Read;
 

@@ -3,9 +3,9 @@
 //! V2 of the next bytes of a reader, whose number is known.
 
 use super::{RapidSecrets, close_tail, rapidhash_v2_inline};
+use crate::known_length::{BUFFER, SHORT, fill, fold_front};
 use crate::lanes::join_mixed;
 use crate::reader::{Source, Stop};
-use crate::sized::{BUFFER, SHORT, fill, fold_front};
 use std::io;
 use std::io::Read;
 
@@ -32,7 +32,7 @@ use std::io::Read;
 ///
 /// # Panics
 ///
-/// In Rust, if `MINOR` is above 2. In Rattle that it is not is a precondition.
+/// In Rust, if `MINOR` is above 2. Rattle's checker refuses such a call.
 pub fn rapidhash_v2_source<R: Read, const MINOR: u8, const PROTECTED: bool>(
     source: &mut Source<R>,
     len: u64,
@@ -76,7 +76,7 @@ pub fn rapidhash_v2_2_file_seeded<R: Read>(
 ///
 /// # Panics
 ///
-/// In Rust, if `MINOR` is above 2. In Rattle that it is not is a precondition.
+/// In Rust, if `MINOR` is above 2. Rattle's checker refuses such a call.
 pub fn rapidhash_v2_file_inline<R: Read, const MINOR: u8, const PROTECTED: bool>(
     data: &mut R,
     len: u64,

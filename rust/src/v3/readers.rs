@@ -11,6 +11,9 @@ use crate::secrets::RapidSecrets;
 use std::io;
 use std::io::{ErrorKind, Read};
 
+/// The buffer of the calls that name no size, in bytes.
+const BUFFER: usize = 8192;
+
 /// Returns the hash of all that the reader still has, up to the first read that returns 0. It reads
 /// 8192 bytes at a time, into a buffer on the stack.
 ///
@@ -33,15 +36,15 @@ pub fn rapidhash_v3_source<R: Read, const PROTECTED: bool>(
     source: &mut Source<R>,
     secrets: &RapidSecrets,
 ) -> io::Result<u64> {
-    rapidhash_v3_source_sized::<R, 8192, PROTECTED>(source, secrets)
+    rapidhash_v3_source_sized::<R, BUFFER, PROTECTED>(source, secrets)
 }
 
 /// Returns the hash of [`rapidhash_v3_source`], with a buffer of `SIZE` bytes on the stack: no read
-/// asks for more.
+/// requests more.
 ///
 /// # Panics
 ///
-/// In Rust, if `SIZE` is 0. In Rattle that it is not is a precondition.
+/// In Rust, if `SIZE` is 0. Rattle's checker refuses such a call.
 pub fn rapidhash_v3_source_sized<R: Read, const SIZE: usize, const PROTECTED: bool>(
     source: &mut Source<R>,
     secrets: &RapidSecrets,
@@ -64,8 +67,7 @@ pub fn rapidhash_v3_source_sized<R: Read, const SIZE: usize, const PROTECTED: bo
 ///
 /// # Panics
 ///
-/// In Rust, if `LANES` is not 7, 5 or 3, or `SIZE` is 0. In Rattle that neither is so is a
-/// precondition.
+/// In Rust, if `LANES` is not 7, 5 or 3, or `SIZE` is 0. Rattle's checker refuses such a call.
 pub fn rapidhash_v3_source_lanes<
     R: Read,
     const LANES: usize,
@@ -80,7 +82,7 @@ pub fn rapidhash_v3_source_lanes<
     if SIZE <= isize::MAX as usize {
         read_all::<R, LANES, SIZE, PROTECTED>(source, secrets)
     } else {
-        read_all::<R, LANES, 8192, PROTECTED>(source, secrets)
+        read_all::<R, LANES, BUFFER, PROTECTED>(source, secrets)
     }
 }
 
@@ -131,15 +133,15 @@ pub fn rapidhash_v3_file_inline<R: Read, const PROTECTED: bool>(
     data: R,
     secrets: &RapidSecrets,
 ) -> io::Result<u64> {
-    rapidhash_v3_file_sized::<R, 8192, PROTECTED>(data, secrets)
+    rapidhash_v3_file_sized::<R, BUFFER, PROTECTED>(data, secrets)
 }
 
 /// Returns the hash of [`rapidhash_v3_file_inline`], with a buffer of `SIZE` bytes on the stack: no
-/// read asks for more.
+/// read requests more.
 ///
 /// # Panics
 ///
-/// In Rust, if `SIZE` is 0. In Rattle that it is not is a precondition.
+/// In Rust, if `SIZE` is 0. Rattle's checker refuses such a call.
 pub fn rapidhash_v3_file_sized<R: Read, const SIZE: usize, const PROTECTED: bool>(
     data: R,
     secrets: &RapidSecrets,
@@ -151,8 +153,7 @@ pub fn rapidhash_v3_file_sized<R: Read, const SIZE: usize, const PROTECTED: bool
 ///
 /// # Panics
 ///
-/// In Rust, if `LANES` is not 7, 5 or 3, or `SIZE` is 0. In Rattle that neither is so is a
-/// precondition.
+/// In Rust, if `LANES` is not 7, 5 or 3, or `SIZE` is 0. Rattle's checker refuses such a call.
 pub fn rapidhash_v3_file_lanes<
     R: Read,
     const LANES: usize,

@@ -2,15 +2,15 @@
 
 ghost use Rattle.std.specs.Prelude.{◌<◌, false, true};
 ghost use Rattle.rapidhash_portable.specs.declared.form.Form.TheVariants.{V1};
-ghost use Rattle.rapidhash_portable.specs.Options.{options};
+ghost use Rattle.rapidhash_portable.specs.Options.{options, standard};
 ghost use Rattle.rapidhash_portable.specs.Reading.{HashesNext, MarksFailures};
 ghost use Rattle.rapidhash_portable.specs.Seeded.{default_hash, seeded_hash_v1};
 ghost use Rattle.rapidhash_portable.specs.Source.{is_failed, is_marked, reader_of};
 
 use super::{RapidSecrets, close_tail, rapidhash_v1_inline};
+use crate::known_length::{BUFFER, SHORT, fill, fold_front};
 use crate::lanes::join_wide;
 use crate::reader::{Source, Stop};
-use crate::sized::{BUFFER, SHORT, fill, fold_front};
 use std::io;
 use std::io::{ErrorKind, Read};
 
@@ -66,7 +66,7 @@ pub fn rapidhash_v1_source<R: Read, const PROTECTED: bool>(
 /// The reader's own error, or `ErrorKind::UnexpectedEof` if it had fewer bytes.
 pub fn rapidhash_v1_file<R: Read>(data: &mut R, len: u64) -> io::Result<u64>
     ensures { HashesNext (R.remaining «data».old) (R.remaining «data».new) len result (λ _. true)
-        (default_hash (V1 false) (options true false)) }
+        (default_hash (V1 false) standard) }
 {
     rapidhash_v1_file_inline::<R, false>(data, len, RapidSecrets::default_ref())
 }
@@ -79,7 +79,7 @@ pub fn rapidhash_v1_file_seeded<R: Read>(
     secrets: &RapidSecrets,
 ) -> io::Result<u64>
     ensures { HashesNext (R.remaining «data».old) (R.remaining «data».new) len result (λ _. true)
-        (seeded_hash_v1 false (options true false) secrets.now) }
+        (seeded_hash_v1 false standard secrets.now) }
 {
     rapidhash_v1_file_inline::<R, false>(data, len, secrets)
 }

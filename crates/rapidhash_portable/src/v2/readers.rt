@@ -2,15 +2,15 @@
 
 ghost use Rattle.std.specs.Prelude.{◌<◌, ◌≤◌, false, true};
 ghost use Rattle.rapidhash_portable.specs.declared.form.Form.TheVariants.{V2};
-ghost use Rattle.rapidhash_portable.specs.Options.{options};
+ghost use Rattle.rapidhash_portable.specs.Options.{options, standard};
 ghost use Rattle.rapidhash_portable.specs.Reading.{HashesNext, MarksFailures};
 ghost use Rattle.rapidhash_portable.specs.Seeded.{default_hash, seeded_hash};
 ghost use Rattle.rapidhash_portable.specs.Source.{is_failed, is_marked, reader_of};
 
 use super::{RapidSecrets, close_tail, rapidhash_v2_inline};
+use crate::known_length::{BUFFER, SHORT, fill, fold_front};
 use crate::lanes::join_mixed;
 use crate::reader::{Source, Stop};
-use crate::sized::{BUFFER, SHORT, fill, fold_front};
 use std::io;
 use std::io::{ErrorKind, Read};
 
@@ -37,7 +37,7 @@ use std::io::{ErrorKind, Read};
 ///
 /// # Panics
 ///
-/// In Rust, if `MINOR` is above 2. In Rattle that it is not is a precondition.
+/// In Rust, if `MINOR` is above 2. Rattle's checker refuses such a call.
 pub fn rapidhash_v2_source<R: Read, const MINOR: u8, const PROTECTED: bool>(
     source: &mut Source<R>,
     len: u64,
@@ -70,7 +70,7 @@ pub fn rapidhash_v2_source<R: Read, const MINOR: u8, const PROTECTED: bool>(
 /// The reader's own error, or `ErrorKind::UnexpectedEof` if it had fewer bytes.
 pub fn rapidhash_v2_2_file<R: Read>(data: &mut R, len: u64) -> io::Result<u64>
     ensures { HashesNext (R.remaining «data».old) (R.remaining «data».new) len result (λ _. true)
-        (default_hash (V2 2) (options true false)) }
+        (default_hash (V2 2) standard) }
 {
     rapidhash_v2_file_inline::<R, 2, false>(data, len, RapidSecrets::default_ref())
 }
@@ -83,7 +83,7 @@ pub fn rapidhash_v2_2_file_seeded<R: Read>(
     secrets: &RapidSecrets,
 ) -> io::Result<u64>
     ensures { HashesNext (R.remaining «data».old) (R.remaining «data».new) len result (λ _. true)
-        (seeded_hash (V2 2) (options true false) secrets.now) }
+        (seeded_hash (V2 2) standard secrets.now) }
 {
     rapidhash_v2_file_inline::<R, 2, false>(data, len, secrets)
 }
@@ -93,7 +93,7 @@ pub fn rapidhash_v2_2_file_seeded<R: Read>(
 ///
 /// # Panics
 ///
-/// In Rust, if `MINOR` is above 2. In Rattle that it is not is a precondition.
+/// In Rust, if `MINOR` is above 2. Rattle's checker refuses such a call.
 pub fn rapidhash_v2_file_inline<R: Read, const MINOR: u8, const PROTECTED: bool>(
     data: &mut R,
     len: u64,

@@ -7,7 +7,7 @@ ghost use Rattle.std.specs.Prelude.{◌<◌, ◌^◌, false, true};
 ghost use Rattle.rapidhash_portable.specs.declared.form.Form.TheVariants.{V3};
 ghost use Rattle.rapidhash_portable.specs.Form.{v3};
 ghost use Rattle.rapidhash_portable.specs.Lanes.{IsLaneCount};
-ghost use Rattle.rapidhash_portable.specs.Options.{options};
+ghost use Rattle.rapidhash_portable.specs.Options.{options, standard};
 ghost use Rattle.rapidhash_portable.specs.Reading.{HashesAll, HashesKnown, MarksFailures};
 ghost use Rattle.rapidhash_portable.specs.Seeded.{default_hash, seeded_hash};
 ghost use Rattle.rapidhash_portable.specs.Source.{is_marked, reader_of};
@@ -17,6 +17,9 @@ use crate::reader::Source;
 use crate::secrets::RapidSecrets;
 use std::io;
 use std::io::{ErrorKind, Read};
+
+/// The buffer of the calls that name no size, in bytes.
+const BUFFER: usize = 8192;
 
 /// Returns the hash of all that the reader still has, up to the first read that returns 0. It reads
 /// 8192 bytes at a time, into a buffer on the stack.
@@ -45,15 +48,15 @@ pub fn rapidhash_v3_source<R: Read, const PROTECTED: bool>(
         (λ _. is_marked source.new) (seeded_hash v3 (options true PROTECTED) secrets.now) }
     ensures mark { MarksFailures result (is_marked source.new) ErrorKind.Other }
 {
-    rapidhash_v3_source_sized::<R, 8192, PROTECTED>(source, secrets)
+    rapidhash_v3_source_sized::<R, BUFFER, PROTECTED>(source, secrets)
 }
 
 /// Returns the hash of [`rapidhash_v3_source`], with a buffer of `SIZE` bytes on the stack: no read
-/// asks for more.
+/// requests more.
 ///
 /// # Panics
 ///
-/// In Rust, if `SIZE` is 0. In Rattle that it is not is a precondition.
+/// In Rust, if `SIZE` is 0. Rattle's checker refuses such a call.
 pub fn rapidhash_v3_source_sized<R: Read, const SIZE: usize, const PROTECTED: bool>(
     source: &mut Source<R>,
     secrets: &RapidSecrets,
@@ -82,8 +85,7 @@ pub fn rapidhash_v3_source_sized<R: Read, const SIZE: usize, const PROTECTED: bo
 ///
 /// # Panics
 ///
-/// In Rust, if `LANES` is not 7, 5 or 3, or `SIZE` is 0. In Rattle that neither is so is a
-/// precondition.
+/// In Rust, if `LANES` is not 7, 5 or 3, or `SIZE` is 0. Rattle's checker refuses such a call.
 pub fn rapidhash_v3_source_lanes<
     R: Read,
     const LANES: usize,
@@ -102,7 +104,7 @@ pub fn rapidhash_v3_source_lanes<
     if SIZE <= isize::MAX as usize {
         read_all::<R, LANES, SIZE, PROTECTED>(source, secrets)
     } else {
-        read_all::<R, LANES, 8192, PROTECTED>(source, secrets)
+        read_all::<R, LANES, BUFFER, PROTECTED>(source, secrets)
     }
 }
 
@@ -146,7 +148,7 @@ fn read_all<R: Read, const LANES: usize, const SIZE: usize, const PROTECTED: boo
 ///
 /// The reader's own error, or `ErrorKind::Other` after 2^64 - 1 reads that returned bytes.
 pub fn rapidhash_v3_file<R: Read + Drop>(data: R) -> io::Result<u64>
-    ensures { HashesKnown (R.remaining «data») result (default_hash v3 (options true false)) }
+    ensures { HashesKnown (R.remaining «data») result (default_hash v3 standard) }
 {
     rapidhash_v3_file_inline::<R, false>(data, RapidSecrets::default_ref())
 }
@@ -155,7 +157,7 @@ pub fn rapidhash_v3_file<R: Read + Drop>(data: R) -> io::Result<u64>
 /// of [`rapidhash_v3_file`].
 pub fn rapidhash_v3_file_seeded<R: Read + Drop>(data: R, secrets: &RapidSecrets) -> io::Result<u64>
     ensures { HashesKnown (R.remaining «data») result
-        (seeded_hash v3 (options true false) secrets.now) }
+        (seeded_hash v3 standard secrets.now) }
 {
     rapidhash_v3_file_inline::<R, false>(data, secrets)
 }
@@ -169,15 +171,15 @@ pub fn rapidhash_v3_file_inline<R: Read + Drop, const PROTECTED: bool>(
     ensures { HashesKnown (R.remaining «data») result
         (seeded_hash v3 (options true PROTECTED) secrets.now) }
 {
-    rapidhash_v3_file_sized::<R, 8192, PROTECTED>(data, secrets)
+    rapidhash_v3_file_sized::<R, BUFFER, PROTECTED>(data, secrets)
 }
 
 /// Returns the hash of [`rapidhash_v3_file_inline`], with a buffer of `SIZE` bytes on the stack: no
-/// read asks for more.
+/// read requests more.
 ///
 /// # Panics
 ///
-/// In Rust, if `SIZE` is 0. In Rattle that it is not is a precondition.
+/// In Rust, if `SIZE` is 0. Rattle's checker refuses such a call.
 pub fn rapidhash_v3_file_sized<R: Read + Drop, const SIZE: usize, const PROTECTED: bool>(
     data: R,
     secrets: &RapidSecrets,
@@ -193,8 +195,7 @@ pub fn rapidhash_v3_file_sized<R: Read + Drop, const SIZE: usize, const PROTECTE
 ///
 /// # Panics
 ///
-/// In Rust, if `LANES` is not 7, 5 or 3, or `SIZE` is 0. In Rattle that neither is so is a
-/// precondition.
+/// In Rust, if `LANES` is not 7, 5 or 3, or `SIZE` is 0. Rattle's checker refuses such a call.
 pub fn rapidhash_v3_file_lanes<
     R: Read + Drop,
     const LANES: usize,

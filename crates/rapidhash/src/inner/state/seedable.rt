@@ -69,7 +69,7 @@ impl<
     }
 
     /// A state of the default seed and the default secrets, the same in every run of every program.
-    /// Whoever knows them can find keys that all have one hash.
+    /// Anyone who knows them can find keys that all have the same hash.
     #[inline(always)]
     pub fn fixed() -> Self
         ensures seed { seed_of_seedable result ≡ default_seed }

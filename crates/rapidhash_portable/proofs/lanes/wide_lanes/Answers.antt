@@ -6,4 +6,4 @@ pub returns : goal.returns
 returns g c =
     let x = c.args.bytes.now in
     c.join_wide.ensures x c.args.seed
-    (PrefixIsFolded-none (not (nat_eq g.row.PROTECTED 0)) c.args.secrets.now x g.row.LANES g.row.KEPT (replicate g.row.LANES c.args.seed) c.requires.keeps)
+    (PrefixIsFolded-none (not (nat_eq g.row.PROTECTED 0)) c.args.secrets.now x g.row.LANES g.row.LEAST (replicate g.row.LANES c.args.seed) c.requires.keeps)

@@ -10,4 +10,4 @@ returns g c =
     let x = c.args.bytes.now in
     let bug = not (nat_eq g.row.V1_BUG 0) in
     let shape = shape_of-v1-some bug (length x) c.requires.some in
-    c.close_tail.ensures bug c.args.secrets.now.seed x (grind (arith, tests)) refl refl (rw shape c.few_wide_rows-joined.ensures)
+    c.close_tail.ensures bug c.args.secrets.now.seed x (grind (arith, tests)) refl refl (rw shape c.wide_lanes_of-joined.ensures)

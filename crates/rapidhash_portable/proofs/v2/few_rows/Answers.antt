@@ -8,4 +8,4 @@ unfolding start_seed
 returns g c =
     let x = c.args.bytes.now in
     let shape = shape_of-v2-some g.row.MINOR (length x) c.requires.some in
-    c.close_tail.ensures g.row.MINOR c.args.secrets.now.seed x c.requires.some refl refl (rw shape c.few_narrow_rows-joined.ensures)
+    c.close_tail.ensures g.row.MINOR c.args.secrets.now.seed x c.requires.some refl refl (rw shape c.mixed_lanes_of-joined.ensures)

@@ -5,7 +5,7 @@ use Rattle.rapidhash_portable.specs.Lanes.{rows_in}
 use Rattle.rapidhash_portable.proofs.FoldedLemmas.{PrefixIsFolded-append}
 use Rattle.rapidhash_portable.proofs.ListLemmas.{refilled_room}
 use Rattle.rapidhash_portable.proofs.ReadingLemmas.{FellShort-front, FrontIsFolded-last, FrontIsFolded-more, FrontIsFolded-none}
-use Rattle.rapidhash_portable.proofs.sized.fold_front.Goals as goal
+use Rattle.rapidhash_portable.proofs.known_length.fold_front.Goals as goal
 
 pub loop-left-init : goal.loop-left-init
 loop-left-init g c = record {

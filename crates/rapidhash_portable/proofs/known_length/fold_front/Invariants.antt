@@ -1,6 +1,6 @@
 use Rattle.std.proofs.Common.{◌≡◌, ◌-◌, ◌≤◌, [], length, not, nat_eq}
 use Rattle.rapidhash_portable.specs.Reading.{FrontIsFolded}
-use Rattle.rapidhash_portable.proofs.sized.fold_front.Given as goal
+use Rattle.rapidhash_portable.proofs.known_length.fold_front.Given as goal
 
 abbrev pub invariant-loop-left : goal.invariant-loop-left
 invariant-loop-left g l = record {

@@ -1,4 +1,4 @@
-// Made by bin/rust_crate from crates/rapidhash_portable/src/v3/stream/of_c.rt: change that file.
+// Made by bin/rust_crate from crates/rapidhash_portable/src/v3/stream/c_stream.rt: change that file.
 
 //! A stream hasher that C can hold: the number of lanes is a field, not a parameter of the type.
 
@@ -29,7 +29,7 @@ impl<'a> RapidStream<'a> {
     ///
     /// # Panics
     ///
-    /// In Rust, if `lanes` is not 7, 5 or 3. In Rattle that it is one of them is a precondition.
+    /// In Rust, if `lanes` is not 7, 5 or 3. Rattle's checker refuses such a call.
     pub fn new(lanes: usize, secrets: &'a RapidSecrets) -> Self {
         prove!(
             lanes == 7 || lanes == 5 || lanes == 3,

@@ -3,7 +3,7 @@ use Rattle.std.proofs.lemmas.Grind.{common_steps}
 use Rattle.std.specs.Io.KnownBytes.{Consumes}
 use Rattle.std.proofs.KnownBytes.{Consumes-trans}
 use Rattle.rapidhash_portable.proofs.ListLemmas.{filled_more}
-use Rattle.rapidhash_portable.proofs.sized.fill.Goals as goal
+use Rattle.rapidhash_portable.proofs.known_length.fill.Goals as goal
 
 pub loop-at-preserved : goal.loop-at-preserved
 loop-at-preserved g c =

@@ -1,6 +1,6 @@
 use Rattle.std.proofs.Common.{ℕ, ◌*◌, ap, length, not, nat_eq, replicate, arith, length-drop}
 use Rattle.rapidhash_portable.proofs.FoldedLemmas.{AfterRows-mixed, PrefixIsFolded-more, PrefixIsFolded-none}
-use Rattle.rapidhash_portable.proofs.few.few_narrow_rows.Goals as goal
+use Rattle.rapidhash_portable.proofs.few.mixed_lanes_of.Goals as goal
 
 pub returns : goal.returns
 returns g c =

@@ -1,4 +1,4 @@
-// Made by bin/rust_crate from crates/rapidhash_portable/src/sized.rt: change that file.
+// Made by bin/rust_crate from crates/rapidhash_portable/src/known_length.rt: change that file.
 
 //! Reads of a known length: what the hashes of V1 and V2 over a reader share.
 //!
