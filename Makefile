@@ -28,23 +28,41 @@ name = yervound-1.0-x86_64-linux
 # The linker of the kit, beside the page that rt names.
 linker = $(dir $(shell rt doc))toolchain/bin/ld.lld
 
-.PHONY: all tool sums library wasm check quick test fmt bench install uninstall clean dist vendor always
+.PHONY: all tool sums library wasm check quick test fmt bench install uninstall clean dist vendor \
+  rapidhash_c rapidhash_cli example_sums example_bloom example_perfect example_shards example_dedupe
 .DELETE_ON_ERROR:
+MAKEFLAGS += --no-builtin-rules
 
 all: tool sums library
 
-# bin/build goes by the sums of the sources, and says nothing where there is nothing to build. Its
-# second word is one at which the program ends at once.
-tool:
-	@bin/build rapidhash_cli --help
-
-sums:
-	@bin/build example_sums --version
-
+tool: rapidhash_cli
+sums: example_sums
 library: $(shared)
 
-$(archive): always
-	@bin/build rapidhash_c
+# A product is old if one of its sources, or a folder of them, is newer than the start of its build: so
+# an edit during a build counts. Two builds of a crate cannot meet, since rt makes the second wait.
+sources := $(shell find crates.txt crates/*/src crates/*/specs crates/*/proofs 2>/dev/null)
+
+# The rule of a crate's product: CRATE, PRODUCT, the words for rt.
+define product
+$(1): $(2)
+$(2): $$(filter crates.txt crates/rapidhash% crates/test_fakes/% crates/$(1)/%,$$(sources))
+	@command -v rt >/dev/null || { echo 'make: rt, the command of the Rattle kit, is not on PATH' >&2; exit 2; }
+	@echo 'make: proving and building $(1), some minutes the first time' >&2
+	@mkdir -p build && touch build/$(1).begun
+	@(cd crates/$(1) && rt $(3)) </dev/null >build/$(1).log 2>&1 || { grep -m 20 -E 'error|not proved' build/$(1).log || \
+	  tail -n 5 build/$(1).log; echo 'make: the build failed; all that rt said is in build/$(1).log'; exit 2; } >&2
+	@touch -r build/$(1).begun $(2)
+endef
+program = $(call product,$(1),crates/$(1)/out/$(1),run -- $(2))
+$(eval $(call product,rapidhash_c,$(archive),lib))
+# Each program with a word at which it ends at once, since rt runs what it has built.
+$(eval $(call program,rapidhash_cli,--help))
+$(eval $(call program,example_sums,--version))
+$(eval $(call program,example_bloom,--help))
+$(eval $(call program,example_perfect,--help))
+$(eval $(call program,example_shards,red))
+$(eval $(call program,example_dedupe,args))
 
 $(shared): $(archive) share/librapidhash_c.map
 	@command -v rt >/dev/null || { echo 'make: rt, whose kit has the linker, is not on PATH' >&2; exit 2; }
@@ -68,7 +86,7 @@ quick: fmt
 
 test:
 	@rt all test
-	@for script in tests/end_to_end*.sh tests/launcher.sh tests/launcher_paths.sh tests/example_*.sh; do \
+	@for script in tests/end_to_end*.sh tests/launcher.sh tests/example_*.sh; do \
 	  echo $$script; $$script || exit 1; \
 	done
 

@@ -9,7 +9,7 @@ crate=$top/crates/example_dedupe
 # shellcheck source=tests/cases.sh
 . "$top/tests/cases.sh"
 
-prepare_by "$top/bin/build" example_dedupe "$crate/args"
+prepare_by make -s -C "$top" example_dedupe
 program=$room/example_dedupe
 cp "$crate/out/example_dedupe" "$program" || exit 1
 mkdir "$room/at" && cd "$room/at" || exit 1

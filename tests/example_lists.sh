@@ -5,7 +5,7 @@
 . "$top/tests/cases.sh"
 program=$top/crates/$name/out/$name
 # Help ends with status 0, so that another status is the build's.
-prepare_by "$top/bin/build" "$name" --help
+prepare_by make -s -C "$top" "$name"
 cd "$room" || exit 1
 
 # Runs the program with these words, and leaves its status and what it wrote.

@@ -9,7 +9,7 @@ program=$crate/out/example_shards
 # shellcheck source=tests/cases.sh
 . "$top/tests/cases.sh"
 
-prepare_by "$top/bin/build" example_shards red
+prepare_by make -s -C "$top" example_shards
 cd "$room" || exit 1
 
 # An error: NAME, the expected status and line on standard error, and the command.

@@ -87,7 +87,7 @@ fi
 unreadable() { chmod 0 first && "${as_user[@]}" "$sum" first 'second name'; }
 check_of_an_unreadable_file() { list && chmod 0 first && "${as_user[@]}" "$sum" -c list; }
 
-prepare_by "$top/bin/build" example_sums --version
+prepare_by make -s -C "$top" example_sums
 # The other user may not come to where the program was built.
 cp "$program" "$room/rapidsum" && program=$room/rapidsum
 

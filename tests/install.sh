@@ -161,18 +161,6 @@ wants_a_build_first() {
     [ ! -e "$room/none" ] && grep '^make install: .*: run make first$' <<<"$said"
 }
 
-# Where the shared library is older than the archive that it is linked from, nothing is copied either.
-wants_a_new_shared_library() {
-  local stale=$room/stale said
-  mkdir -p "$stale"/{bin,build,crates/rapidhash_c/out} && cp "$top/bin/install" "$stale/bin" &&
-    printf '#!/bin/sh\n' >"$stale/bin/build" && chmod +x "$stale/bin/build" &&
-    : >"$stale/crates/rapidhash_c/out/librapidhash_c.a" &&
-    touch -d 2020-01-01 "$stale/build/librapidhash_c.so.1" &&
-    ! said=$(PREFIX=$room/none BINDIR=$room/none LIBDIR=$room/none INCLUDEDIR=$room/none \
-      DATADIR=$room/none "$stale/bin/install" 2>&1) && [ ! -e "$room/none" ] &&
-    [ "$said" = 'make install: the shared library is not linked: run make first' ]
-}
-
 # A folder whose name the file for pkg-config cannot hold: the script's own check, since make expands some.
 refuses_characters() {
   local character said
@@ -183,15 +171,20 @@ refuses_characters() {
   done
 }
 
-# Nothing is copied if one of the programs or the library is older than its sources.
+# Nothing is copied if a program or the library is older than its sources, or the shared library than the
+# static one.
 wants_each_built() {
-  local stale=$room/each crate said
-  mkdir -p "$stale/bin" && cp "$top/bin/install" "$stale/bin" || return 1
-  for crate in rapidhash_cli example_sums rapidhash_c; do
-    printf '#!/bin/sh\n[ "$2" != %s ]\n' "$crate" >"$stale/bin/build" && chmod +x "$stale/bin/build" || return 1
+  local stale=$room/each program=crates/rapidhash_cli/out/rapidhash_cli sums=crates/example_sums/out/example_sums
+  local archive=crates/rapidhash_c/out/librapidhash_c.a shared=build/librapidhash_c.so.1 row said
+  mkdir -p "$stale"/{bin,build,share} "$stale"/crates/{rapidhash_cli,example_sums,rapidhash_c}/{src,out} &&
+    cp "$top/Makefile" "$stale" && cp "$top/bin/install" "$stale/bin" && cd "$stale" &&
+    : >share/librapidhash_c.map && : >crates.txt || return 1
+  for row in "tool $program" "sums $sums" "library $archive" "library $shared"; do
+    touch -d 2021-01-01 crates.txt share/* crates/*/src && touch -d 2022-01-01 "$program" "$sums" "$archive" &&
+      touch -d 2023-01-01 "$shared" && make -q tool sums library && touch -d 2020-01-01 "${row#* }" || return 1
     said=$(PREFIX=$room/none BINDIR=$room/none LIBDIR=$room/none INCLUDEDIR=$room/none \
-      DATADIR=$room/none "$stale/bin/install" 2>&1) && return 1
-    [ "$said" = "make install: $crate is not built of what is here: run make first" ] || return 1
+      DATADIR=$room/none bin/install 2>&1) && return 1
+    [ "$said" = "make install: the ${row% *} is old or missing: run make first" ] || return 1
   done
   [ ! -e "$room/none" ]
 }
@@ -232,9 +225,8 @@ try relative_folder_of_libraries refuses PREFIX=/usr LIBDIR=lib
 try folder_with_a_quote refuses PREFIX='/usr/a"b'
 try folders_of_a_packager serves_a_packager
 try nothing_built wants_a_build_first
-try old_shared_library wants_a_new_shared_library
 try characters_of_folders refuses_characters
-try old_programs wants_each_built
+try old_products wants_each_built
 try uninstall make -s -C "$top" uninstall PREFIX="$prefix"
 try nothing_left is_empty "$prefix"
 
