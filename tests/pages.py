@@ -3,11 +3,15 @@
 code, counts are those of the files, pages and lines keep their limits, and what a script makes of the
 sources is current. The last line counts the cases."""
 
+import contextlib
+import io
 import re
+import runpy
 import subprocess
 import sys
 from pathlib import Path
 
+sys.dont_write_bytecode = True
 TOP = Path(__file__).resolve().parent.parent
 PAGES = sorted([*TOP.glob("*.md"), *TOP.glob("docs/*.md"), TOP / "share" / "dist.md", TOP / "rust" / "README.md"])
 # Folders that builds make, and what lies in an archive or in an installed copy alone.
@@ -152,6 +156,23 @@ def plot_of_the_speed():
     return made_by("bench/plot", "--check")
 
 
+def ratios():
+    """Where the crate takes 3 and ours 2, each bench must print 1.500."""
+    sys.path.insert(0, str(TOP / "bench"))
+    harness, bulk, slices = (runpy.run_path(TOP / "bench" / name) for name in ("harness.py", "bulk", "slices"))
+    best = {"ours": 2, "rust": 4, "crate": 3}
+    for call, words, means in (
+        (harness["print_table"], ("", list(best), [("", best)], "ms", 1, 0), ["ours 1.500", "rust 0.750"]),
+        (slices["print_form"], (False, "v3", {16: best}), ["ours 1.500", "rust 0.750"]),
+        (bulk["print_rows"], ("v3", ["ours", "crate"], {16: [2, 3]}), ["ours 1.500"]),
+    ):
+        with contextlib.redirect_stdout(io.StringIO()) as printed:
+            call(*words)
+        found = re.findall(r"crate/(\w+ [\d.]+)", printed.getvalue())
+        if found != means:
+            yield f"{call.__name__} of a bench prints {found}, and not {means}"
+
+
 def code_lines(files, comment):
     lines = [line.strip() for file in files for line in file.read_text().splitlines()]
     return sum(1 for line in lines if line and not line.startswith(comment))
@@ -195,8 +216,9 @@ def version():
 
 
 for name, check in [("links", links), ("paths", paths), ("limits", limits), ("names", names),
-                    ("edits", edits), ("cases", cases), ("lines of the programs", program_lines), ("version", version), ("statements", statements),
-                    ("calls", calls), ("plot of the speed", plot_of_the_speed)]:
+                    ("edits", edits), ("cases", cases), ("lines of the programs", program_lines), ("version", version),
+                    ("statements", statements), ("ratios", ratios), ("calls", calls),
+                    ("plot of the speed", plot_of_the_speed)]:
     tell(name, list(check()))
 print(f"{passed} passed, {failed} failed")
 sys.exit(failed > 0)
