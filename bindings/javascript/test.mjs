@@ -107,6 +107,13 @@ test("hashers do not disturb each other", () => {
   assert.equal(right.digest(), 13105958653737073913n);
 });
 
+test("a hasher keeps its secrets when the caller's change", () => {
+  const secrets = own.slice();
+  const hasher = new V3({ secrets }).update(data);
+  secrets.fill(0n);
+  assert.equal(hasher.digest(), 13105958653737073913n);
+});
+
 test("views of all kinds", () => {
   const { buffer } = Uint8Array.from({ length: 400 }, (_, at) => at);
   const views = [buffer, new Uint32Array(buffer), new Float64Array(buffer, 8, 20)];

@@ -77,6 +77,7 @@ fn states_without_words() {
     assert_eq!(hash_of(&one), hash_of(&one.clone()));
     assert!(quality::GlobalState::new() == quality::GlobalState::default());
     assert!(fast::SeedableState::random() != fast::SeedableState::default());
+    assert!(fast::SeedableState::default() != fast::SeedableState::default());
     assert!(fast::SeedableState::new(5) == fast::SeedableState::new(5));
     assert!(fast::SeedableState::new(5) != fast::SeedableState::new(6));
     let own = RapidSecrets::random().secrets;
