@@ -197,4 +197,17 @@ echo $? >status
 : >out
 ended help_to_a_full_output 1 '' "$write_fault"
 
+# The replay that rt ci has built: it holds each body with each of its options, so it compares the compact
+# code too. The names have the options as numbers; V2.1 and V2.2 share their code for rows.
+replay=$top/crates/test_replay/out/test_replay
+if [ -e "$replay" ]; then
+  bodies=$(nm "$replay" | grep -oE '(memory|v[123])::with_(wide_)?rows::<[^>]*>' | sort -u | sed 's/::<.*//' | uniq -c)
+  # shellcheck disable=SC2086
+  [ "$(echo $bodies)" = \
+    '8 memory::with_rows 8 memory::with_wide_rows 16 v1::with_rows 16 v2::with_rows 16 v3::with_rows' ]
+  tell replay_has_all_options $?
+else
+  printf 'skipped replay_has_all_options: test_replay is not built\n'
+fi
+
 finish

@@ -73,6 +73,12 @@ ended removed_file 7 $'second\ninput' 4 "$told"
 touch repo/crates.txt
 run
 ended list_of_crates 7 $'second\ninput' 5 "$told"
+builds=5
+for crate in rapidhash_portable rapidhash_tool rapidhash_cli; do
+  mkdir -p "repo/crates/$crate/proofs"
+  run
+  ended "new_folder_of_$crate" 7 $'second\ninput' $((builds += 1)) "$told"
+done
 
 new_repository
 echo 'echo third >../rapidhash/src/lib.rt' >during
