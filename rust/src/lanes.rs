@@ -1,7 +1,7 @@
 // Made by bin/rust_crate from crates/rapidhash_portable/src/lanes.rt: change that file.
 
-//! The row kernel of every hash: rows of 16-byte pairs folded into lanes, and the lanes joined. It
-//! is generic in the number of lanes and is proved once.
+//! The rows of every hash: 16-byte pairs folded into lanes, and the lanes joined. They are generic
+//! in the number of lanes and proved once.
 //!
 //! The callers are thin: a form is its row widths, its tail's table and what goes into its close
 //! (module `tail`). The speed of the hashes depends on the loops here: after a change look at the

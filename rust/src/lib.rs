@@ -47,6 +47,7 @@ mod few;
 pub mod inner;
 #[cfg(feature = "std")]
 mod io;
+mod kernel;
 #[cfg(feature = "std")]
 mod known_length;
 mod lanes;

@@ -111,8 +111,5 @@ impl Stop {
 /// One read of `reader`.
 #[inline(always)]
 pub(crate) fn read_once<R: Read>(reader: &mut R, buf: &mut [u8]) -> Result<usize, FailedRead> {
-    match reader.read(buf) {
-        Ok(n) => Ok(n),
-        Err(error) => Err(FailedRead { error }),
-    }
+    reader.read(buf).map_err(|error| FailedRead { error })
 }

@@ -5,11 +5,9 @@
 #[cfg(feature = "std")]
 mod readers;
 
-use crate::few::wide_lanes_of;
-use crate::lanes::wide_lanes;
+use crate::kernel::v1::hash;
+use crate::kernel::{MIXED, PLAIN, UNROLLED};
 use crate::secrets::{DEFAULT_SECRETS, chain, cpp_seed_of, reseed_of, seed_of};
-use crate::tail::{close, fold_tail};
-use crate::words::{last_16, words_to_3_v1, words_to_16_v1};
 #[cfg(feature = "std")]
 pub use readers::{
     rapidhash_v1_file, rapidhash_v1_file_inline, rapidhash_v1_file_seeded, rapidhash_v1_source,
@@ -89,7 +87,7 @@ impl RapidSecrets {
 /// ```
 #[inline(always)]
 pub fn rapidhash_v1(bytes: &[u8]) -> u64 {
-    rapidhash_v1_inline::<true, false, false, false>(bytes, RapidSecrets::default_ref())
+    rapidhash_v1_inline::<MIXED, UNROLLED, PLAIN, false>(bytes, RapidSecrets::default_ref())
 }
 
 /// Returns the hash of `bytes` with the caller's seed and secrets.
@@ -101,7 +99,7 @@ pub fn rapidhash_v1(bytes: &[u8]) -> u64 {
 /// ```
 #[inline(always)]
 pub fn rapidhash_v1_seeded(bytes: &[u8], secrets: &RapidSecrets) -> u64 {
-    rapidhash_v1_inline::<true, false, false, false>(bytes, secrets)
+    rapidhash_v1_inline::<MIXED, UNROLLED, PLAIN, false>(bytes, secrets)
 }
 
 /// Returns the hash of `bytes` with every option.
@@ -128,100 +126,5 @@ pub fn rapidhash_v1_inline<
     bytes: &[u8],
     secrets: &RapidSecrets,
 ) -> u64 {
-    let n = bytes.len();
-    if n > 16 {
-        return long::<AVALANCHE, COMPACT, PROTECTED, V1_BUG>(bytes, secrets);
-    }
-    // One close for all lengths would make a caller's loop load the default secrets each time.
-    if n >= 4 {
-        close_short::<AVALANCHE, PROTECTED>(bytes, words_to_16_v1(bytes), secrets)
-    } else if n > 0 {
-        close_short::<AVALANCHE, PROTECTED>(bytes, words_to_3_v1(bytes), secrets)
-    } else {
-        close_short::<AVALANCHE, PROTECTED>(bytes, (0, 0), secrets)
-    }
-}
-
-/// The hash of at most 16 bytes, made of their two words.
-#[inline(always)]
-fn close_short<const AVALANCHE: bool, const PROTECTED: bool>(
-    bytes: &[u8],
-    words: (u64, u64),
-    secrets: &RapidSecrets,
-) -> u64 {
-    let len = bytes.len() as u64;
-    let [first, second, _] = secrets.secrets;
-    close::<AVALANCHE, PROTECTED>(words, secrets.seed ^ len, second, (first ^ len, second))
-}
-
-/// The hash above 16 bytes. Messages of up to two rows make no call.
-#[inline(always)]
-fn long<const AVALANCHE: bool, const COMPACT: bool, const PROTECTED: bool, const V1_BUG: bool>(
-    bytes: &[u8],
-    secrets: &RapidSecrets,
-) -> u64 {
-    let n = bytes.len();
-    if n < least_row::<V1_BUG>() {
-        let (len, s) = (n as u64, &secrets.secrets);
-        close_tail::<AVALANCHE, PROTECTED>(bytes, bytes, len, secrets.seed ^ len, s)
-    } else if !COMPACT && n < 96 {
-        few_rows::<1, AVALANCHE, PROTECTED, V1_BUG>(bytes, secrets)
-    } else if !COMPACT && n < 144 {
-        few_rows::<2, AVALANCHE, PROTECTED, V1_BUG>(bytes, secrets)
-    } else {
-        with_rows::<AVALANCHE, COMPACT, PROTECTED, V1_BUG>(bytes, secrets)
-    }
-}
-
-/// The hash of a message that has `ROWS` rows, at least one.
-#[inline(always)]
-fn few_rows<const ROWS: usize, const AVALANCHE: bool, const PROTECTED: bool, const V1_BUG: bool>(
-    bytes: &[u8],
-    secrets: &RapidSecrets,
-) -> u64 {
-    let len = bytes.len() as u64;
-    let s = &secrets.secrets;
-    let (joined, tail) = wide_lanes_of::<3, 0, ROWS, PROTECTED>(bytes, secrets.seed ^ len, s);
-    close_tail::<AVALANCHE, PROTECTED>(tail, bytes, len, joined, s)
-}
-
-/// The hash of a message that has a row, out of line.
-#[inline(never)]
-fn with_rows<
-    const AVALANCHE: bool,
-    const COMPACT: bool,
-    const PROTECTED: bool,
-    const V1_BUG: bool,
->(
-    bytes: &[u8],
-    secrets: &RapidSecrets,
-) -> u64 {
-    let len = bytes.len() as u64;
-    let s = &secrets.secrets;
-    let (joined, tail) = wide_lanes::<3, 0, COMPACT, PROTECTED>(bytes, secrets.seed ^ len, s);
-    close_tail::<AVALANCHE, PROTECTED>(tail, bytes, len, joined, s)
-}
-
-/// The hash of `len` bytes, more than 16, made of the joined lanes, the tail, and bytes that end in
-/// the message's last 16.
-#[inline(always)]
-fn close_tail<const AVALANCHE: bool, const PROTECTED: bool>(
-    tail: &[u8],
-    ending: &[u8],
-    len: u64,
-    joined: u64,
-    secrets: &[u64; 3],
-) -> u64 {
-    let (s, mut seed) = (secrets, joined);
-    if tail.len() > 16 {
-        seed ^= s[1];
-    }
-    seed = fold_tail::<2, PROTECTED>(tail, &[s[2], s[2]], seed);
-    close::<AVALANCHE, PROTECTED>(last_16(ending), seed, s[1], (s[0] ^ len, s[1]))
-}
-
-/// The smallest length at which a row is folded.
-#[inline(always)]
-fn least_row<const V1_BUG: bool>() -> usize {
-    if V1_BUG { 48 } else { 49 }
+    hash::<AVALANCHE, COMPACT, PROTECTED, V1_BUG>(bytes, secrets.seed, &secrets.secrets)
 }

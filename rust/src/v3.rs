@@ -6,12 +6,9 @@
 mod readers;
 mod stream;
 
-use crate::few::wide_lanes_of;
-use crate::lanes::wide_lanes;
+use crate::kernel::v3::hash;
+use crate::kernel::{MIXED, PLAIN, UNROLLED};
 pub use crate::secrets::{DEFAULT_RAPID_SECRETS, RapidSecrets};
-use crate::tail::{close, fold_tail};
-use crate::util::ALTERNATING_BITS;
-use crate::words::{last_16, words_to_3_v3, words_to_7, words_to_16};
 #[cfg(feature = "std")]
 pub use readers::{
     rapidhash_v3_file, rapidhash_v3_file_inline, rapidhash_v3_file_lanes, rapidhash_v3_file_seeded,
@@ -33,7 +30,8 @@ pub use stream::{
 /// ```
 #[inline(always)]
 pub fn rapidhash_v3(bytes: &[u8]) -> u64 {
-    hash::<7, 1, true, false, false>(bytes, RapidSecrets::default_ref())
+    let secrets = RapidSecrets::default_ref();
+    hash::<7, 1, MIXED, UNROLLED, PLAIN>(bytes, secrets.seed, &secrets.secrets)
 }
 
 /// Returns the hash of `bytes` with the caller's seed and secrets.
@@ -46,7 +44,7 @@ pub fn rapidhash_v3(bytes: &[u8]) -> u64 {
 /// ```
 #[inline(always)]
 pub fn rapidhash_v3_seeded(bytes: &[u8], secrets: &RapidSecrets) -> u64 {
-    rapidhash_v3_inline::<true, false, false>(bytes, secrets)
+    rapidhash_v3_inline::<MIXED, UNROLLED, PLAIN>(bytes, secrets)
 }
 
 /// Returns the hash of `bytes` with every option.
@@ -66,7 +64,7 @@ pub fn rapidhash_v3_inline<const AVALANCHE: bool, const COMPACT: bool, const PRO
     bytes: &[u8],
     secrets: &RapidSecrets,
 ) -> u64 {
-    hash::<7, 0, AVALANCHE, COMPACT, PROTECTED>(bytes, secrets)
+    hash::<7, 0, AVALANCHE, COMPACT, PROTECTED>(bytes, secrets.seed, &secrets.secrets)
 }
 
 /// Returns the hash of `bytes` with five lanes. Up to 80 bytes it is V3's. The options are those of
@@ -83,7 +81,7 @@ pub fn rapidhash_v3_micro_inline<const AVALANCHE: bool, const PROTECTED: bool>(
     bytes: &[u8],
     secrets: &RapidSecrets,
 ) -> u64 {
-    hash::<5, 1, AVALANCHE, false, PROTECTED>(bytes, secrets)
+    hash::<5, 1, AVALANCHE, UNROLLED, PROTECTED>(bytes, secrets.seed, &secrets.secrets)
 }
 
 /// Returns the hash of `bytes` with three lanes: the least code in a program that calls it once. Up
@@ -100,134 +98,5 @@ pub fn rapidhash_v3_nano_inline<const AVALANCHE: bool, const PROTECTED: bool>(
     bytes: &[u8],
     secrets: &RapidSecrets,
 ) -> u64 {
-    hash::<3, 2, AVALANCHE, false, PROTECTED>(bytes, secrets)
-}
-
-/// The hash of `bytes` with an odd number of lanes. Messages of up to `FEW` rows make no call,
-/// where it is 0, 1 or 2. A row of seven pairs is inlined only with the default secrets: with
-/// others it makes shorter messages slower.
-#[inline(always)]
-pub(crate) fn hash<
-    const LANES: usize,
-    const FEW: usize,
-    const AVALANCHE: bool,
-    const COMPACT: bool,
-    const PROTECTED: bool,
->(
-    bytes: &[u8],
-    secrets: &RapidSecrets,
-) -> u64 {
-    let (n, seed) = (bytes.len(), secrets.seed);
-    if n > 16 {
-        return long::<LANES, FEW, AVALANCHE, COMPACT, PROTECTED>(bytes, secrets);
-    }
-    // Each class has its own close: with one close for all lengths a caller's loop would load the
-    // default secrets for each message. Nano is faster with 8 bytes asked for first.
-    if LANES == 3 && n >= 8 {
-        let words = words_to_16(bytes);
-        return close_short::<LANES, AVALANCHE, PROTECTED>(bytes, words, seed ^ n as u64, secrets);
-    }
-    if n >= 4 {
-        if n < 8 {
-            let words = words_to_7(bytes);
-            close_short::<LANES, AVALANCHE, PROTECTED>(bytes, words, seed ^ n as u64, secrets)
-        } else {
-            let words = words_to_16(bytes);
-            close_short::<LANES, AVALANCHE, PROTECTED>(bytes, words, seed ^ n as u64, secrets)
-        }
-    } else if n == 0 {
-        close_short::<LANES, AVALANCHE, PROTECTED>(bytes, (0, 0), seed, secrets)
-    } else {
-        close_short::<LANES, AVALANCHE, PROTECTED>(bytes, words_to_3_v3(bytes), seed, secrets)
-    }
-}
-
-/// The hash of at most 16 bytes, made of their two words and the seed that they start from.
-#[inline(always)]
-fn close_short<const LANES: usize, const AVALANCHE: bool, const PROTECTED: bool>(
-    bytes: &[u8],
-    words: (u64, u64),
-    seed: u64,
-    secrets: &RapidSecrets,
-) -> u64 {
-    let second = secrets.secrets[1];
-    let masks = (ALTERNATING_BITS, second ^ bytes.len() as u64);
-    close::<AVALANCHE, PROTECTED>(words, seed, second, masks)
-}
-
-/// The hash above 16 bytes.
-#[inline(always)]
-fn long<
-    const LANES: usize,
-    const FEW: usize,
-    const AVALANCHE: bool,
-    const COMPACT: bool,
-    const PROTECTED: bool,
->(
-    bytes: &[u8],
-    secrets: &RapidSecrets,
-) -> u64 {
-    let n = bytes.len();
-    if n <= 16 * LANES {
-        without_rows::<LANES, AVALANCHE, PROTECTED>(bytes, secrets)
-    } else if FEW >= 1 && n <= 32 * LANES {
-        few_rows::<LANES, 1, AVALANCHE, PROTECTED>(bytes, secrets)
-    } else if FEW >= 2 && n <= 48 * LANES {
-        few_rows::<LANES, 2, AVALANCHE, PROTECTED>(bytes, secrets)
-    } else {
-        with_rows::<LANES, AVALANCHE, COMPACT, PROTECTED>(bytes, secrets)
-    }
-}
-
-/// The hash above 16 bytes of a message that has no row.
-#[inline(always)]
-fn without_rows<const LANES: usize, const AVALANCHE: bool, const PROTECTED: bool>(
-    bytes: &[u8],
-    secrets: &RapidSecrets,
-) -> u64 {
-    close_tail::<AVALANCHE, PROTECTED>(bytes, bytes, secrets.seed, &secrets.secrets)
-}
-
-/// The hash above 16 bytes of a message that has `ROWS` rows.
-#[inline(always)]
-fn few_rows<const LANES: usize, const ROWS: usize, const AVALANCHE: bool, const PROTECTED: bool>(
-    bytes: &[u8],
-    secrets: &RapidSecrets,
-) -> u64 {
-    let s = &secrets.secrets;
-    let (joined, tail) = wide_lanes_of::<LANES, 1, ROWS, PROTECTED>(bytes, secrets.seed, s);
-    close_tail::<AVALANCHE, PROTECTED>(tail, bytes, joined, s)
-}
-
-/// The hash of a message that has a row, out of line.
-#[inline(never)]
-fn with_rows<
-    const LANES: usize,
-    const AVALANCHE: bool,
-    const COMPACT: bool,
-    const PROTECTED: bool,
->(
-    bytes: &[u8],
-    secrets: &RapidSecrets,
-) -> u64 {
-    let s = &secrets.secrets;
-    let (joined, tail) = wide_lanes::<LANES, 1, COMPACT, PROTECTED>(bytes, secrets.seed, s);
-    close_tail::<AVALANCHE, PROTECTED>(tail, bytes, joined, s)
-}
-
-/// The hash above 16 bytes, made of the joined lanes, the tail, and bytes that end in the message's
-/// last 16.
-#[inline(always)]
-pub(crate) fn close_tail<const AVALANCHE: bool, const PROTECTED: bool>(
-    tail: &[u8],
-    ending: &[u8],
-    joined: u64,
-    secrets: &[u64; 7],
-) -> u64 {
-    let (second, third) = (secrets[1], secrets[2]);
-    let table = [third, third, second, second, third, second];
-    let seed = fold_tail::<6, PROTECTED>(tail, &table, joined);
-    let t = tail.len() as u64;
-    let (a, b) = last_16(ending);
-    close::<AVALANCHE, PROTECTED>((a ^ t, b), seed, second, (ALTERNATING_BITS, second ^ t))
+    hash::<3, 2, AVALANCHE, UNROLLED, PROTECTED>(bytes, secrets.seed, &secrets.secrets)
 }

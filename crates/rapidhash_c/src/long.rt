@@ -2,96 +2,76 @@
 //! jump to the code of short messages. Messages that have a row are out of line once more, so that
 //! those of 17 bytes up to a row save no register either.
 
-ghost use Rattle.std.specs.Prelude.{◌≡◌, ◌≤◌, true, false};
-ghost use Rattle.rapidhash.specs.Form.{v2, v3, micro, nano};
+ghost use Rattle.std.specs.Prelude.{◌≡◌, ◌<◌, ◌≤◌, ◌%◌, true, false};
+ghost use Rattle.rapidhash.specs.Form.{v1, v2};
+ghost use Rattle.rapidhash.specs.Hash.{portable_hash};
 ghost use Rattle.rapidhash.specs.Options.{standard};
-ghost use Rattle.rapidhash.specs.Seeded.{default_hash, seeded_hash, seeded_hash_v1};
+ghost use Rattle.rapidhash_portable.specs.declared.form.Form.TheVariants.{V3};
 
-use rapidhash::{v1, v2, v3};
-
-/// The longest message without a row, by V1 and nano.
-pub(crate) const TAIL: usize = 48;
-/// The longest message without a row, by V2.0.
-pub(crate) const TAIL_V2_0: usize = 56;
-/// The longest message without a row, by V2.1 and V2.2.
-pub(crate) const TAIL_V2: usize = 64;
+use rapidhash_portable::kernel::{MIXED, PLAIN, UNROLLED, v1, v2, v3};
 
 /// The hash by V1.
 #[cold]
 #[inline(never)]
-pub(crate) fn long_v1(bytes: &[u8], secrets: &v1::RapidSecrets) -> u64
-    ensures { result ≡ seeded_hash_v1 false standard secrets.now bytes.now }
+pub(crate) fn long_v1(bytes: &[u8], seed: u64, secrets: &[u64; 3]) -> u64
+    ensures { result ≡ portable_hash v1 standard seed secrets.now bytes.now }
 {
-    if bytes.len() > TAIL {
-        return rows_v1(bytes, secrets);
+    if bytes.len() > v1::longest_rowless::<false>() {
+        return rows_v1(bytes, seed, secrets);
     }
-    v1::rapidhash_v1_seeded(bytes, secrets)
+    v1::hash::<MIXED, UNROLLED, PLAIN, false>(bytes, seed, secrets)
 }
 
 /// The hash by V2, of a minor.
 #[cold]
 #[inline(never)]
-pub(crate) fn long_v2<const MINOR: u8>(bytes: &[u8], secrets: &v2::RapidSecrets) -> u64
+pub(crate) fn long_v2<const MINOR: u8>(bytes: &[u8], seed: u64, secrets: &[u64; 7]) -> u64
     requires { MINOR ≤ 2 }
-    ensures { result ≡ seeded_hash (v2 MINOR) standard secrets.now bytes.now }
+    ensures { result ≡ portable_hash (v2 MINOR) standard seed secrets.now bytes.now }
 {
-    if bytes.len() > if MINOR == 0 { TAIL_V2_0 } else { TAIL_V2 } {
-        return rows_v2::<MINOR>(bytes, secrets);
+    if bytes.len() > v2::longest_rowless::<MINOR>() {
+        return rows_v2::<MINOR>(bytes, seed, secrets);
     }
-    v2::rapidhash_v2_inline::<MINOR, true, false, false>(bytes, secrets)
+    v2::hash::<MINOR, MIXED, UNROLLED, PLAIN>(bytes, seed, secrets)
 }
 
-/// The hash by V3, with the default secrets.
+/// The hash by V3, micro or nano.
 #[cold]
 #[inline(never)]
-pub(crate) fn long_v3(bytes: &[u8]) -> u64
-    ensures { result ≡ default_hash v3 standard bytes.now }
+pub(crate) fn long_v3<const LANES: usize, const FEW: usize>(bytes: &[u8], seed: u64, secrets: &[u64; 7]) -> u64
+    requires few { LANES ≤ 7 }
+    requires odd { LANES % 2 ≡ 1 }
+    ensures { result ≡ portable_hash (V3 LANES) standard seed secrets.now bytes.now }
 {
-    v3::rapidhash_v3(bytes)
-}
-
-/// The hash by V3 micro, with the default secrets.
-#[cold]
-#[inline(never)]
-pub(crate) fn long_micro(bytes: &[u8]) -> u64
-    ensures { result ≡ default_hash micro standard bytes.now }
-{
-    v3::rapidhash_v3_micro_inline::<true, false>(bytes, v3::RapidSecrets::default_ref())
-}
-
-/// The hash by V3 nano.
-#[cold]
-#[inline(never)]
-pub(crate) fn long_nano(bytes: &[u8], secrets: &v3::RapidSecrets) -> u64
-    ensures { result ≡ seeded_hash nano standard secrets.now bytes.now }
-{
-    if bytes.len() > TAIL {
-        return rows_nano(bytes, secrets);
+    if bytes.len() > v3::longest_rowless::<LANES>() {
+        return rows_v3::<LANES, FEW>(bytes, seed, secrets);
     }
-    v3::rapidhash_v3_nano_inline::<true, false>(bytes, secrets)
+    v3::hash::<LANES, FEW, MIXED, UNROLLED, PLAIN>(bytes, seed, secrets)
 }
 
 /// The hash of a message that has a row, by V1.
 #[inline(never)]
-pub(crate) fn rows_v1(bytes: &[u8], secrets: &v1::RapidSecrets) -> u64
-    ensures { result ≡ seeded_hash_v1 false standard secrets.now bytes.now }
+fn rows_v1(bytes: &[u8], seed: u64, secrets: &[u64; 3]) -> u64
+    ensures { result ≡ portable_hash v1 standard seed secrets.now bytes.now }
 {
-    v1::rapidhash_v1_seeded(bytes, secrets)
+    v1::hash::<MIXED, UNROLLED, PLAIN, false>(bytes, seed, secrets)
 }
 
 /// The hash of a message that has a row, by V2, of a minor.
 #[inline(never)]
-pub(crate) fn rows_v2<const MINOR: u8>(bytes: &[u8], secrets: &v2::RapidSecrets) -> u64
+fn rows_v2<const MINOR: u8>(bytes: &[u8], seed: u64, secrets: &[u64; 7]) -> u64
     requires { MINOR ≤ 2 }
-    ensures { result ≡ seeded_hash (v2 MINOR) standard secrets.now bytes.now }
+    ensures { result ≡ portable_hash (v2 MINOR) standard seed secrets.now bytes.now }
 {
-    v2::rapidhash_v2_inline::<MINOR, true, false, false>(bytes, secrets)
+    v2::hash::<MINOR, MIXED, UNROLLED, PLAIN>(bytes, seed, secrets)
 }
 
-/// The hash of a message that has a row, by V3 nano.
+/// The hash of a message that has a row, by V3, micro or nano.
 #[inline(never)]
-pub(crate) fn rows_nano(bytes: &[u8], secrets: &v3::RapidSecrets) -> u64
-    ensures { result ≡ seeded_hash nano standard secrets.now bytes.now }
+fn rows_v3<const LANES: usize, const FEW: usize>(bytes: &[u8], seed: u64, secrets: &[u64; 7]) -> u64
+    requires few { LANES ≤ 7 }
+    requires odd { LANES % 2 ≡ 1 }
+    ensures { result ≡ portable_hash (V3 LANES) standard seed secrets.now bytes.now }
 {
-    v3::rapidhash_v3_nano_inline::<true, false>(bytes, secrets)
+    v3::hash::<LANES, FEW, MIXED, UNROLLED, PLAIN>(bytes, seed, secrets)
 }

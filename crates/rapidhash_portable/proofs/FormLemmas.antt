@@ -7,7 +7,7 @@ use Rattle.rapidhash_portable.specs.Folded.{AfterRows}
 use Rattle.rapidhash_portable.specs.Lanes.{rows_in, no_rows, wide_shape, mixed_shape}
 use Rattle.rapidhash_portable.specs.declared.form.Form.{Form}
 use Rattle.rapidhash_portable.specs.declared.form.Form.TheVariants.{V1, V2, V3}
-use Rattle.rapidhash_portable.specs.Form.{least_row_v1, v2_limit, v2_row_places, v2_rowless_places, shape_of, start_seed, tail_seed, tail_places}
+use Rattle.rapidhash_portable.specs.Form.{longest_rowless, v2_row_places, v2_rowless_places, shape_of, start_seed, tail_seed, tail_places}
 use Rattle.rapidhash_portable.proofs.FoldedLemmas.{AfterRows-none}
 use Rattle.rapidhash_portable.proofs.LanesLemmas.{cond_same}
 
@@ -18,57 +18,57 @@ shape_of-v1-few bug n h =
     let none : rows_in 3 0 n ≡ 0 = omega arith in
     rw none (cond_same _ _)
 
--- V1 below its shortest message with a row has none
-pub shape_of-v1-none : (bug : Bool) (n : ℕ) → n < least_row_v1 bug → shape_of (V1 bug) n ≡ no_rows 3
+-- V1 up to its longest message without a row
+pub shape_of-v1-none : (bug : Bool) (n : ℕ) → n ≤ longest_rowless (V1 bug) → shape_of (V1 bug) n ≡ no_rows 3
 unfolding shape_of
-shape_of-v1-none true n h = shape_of-v1-few true n h
+shape_of-v1-none true n h = shape_of-v1-few true n (omega arith)
 shape_of-v1-none false n h =
     ⊎_elim (λ few. shape_of-v1-few false n few) (λ many. let at : n ≡ 48 = omega arith in rw at refl) (cases_lt n 48)
 
--- V1 from there on has rows of three
-pub shape_of-v1-some : (bug : Bool) (n : ℕ) → least_row_v1 bug ≤ n → shape_of (V1 bug) n ≡ wide_shape 3 0 n
+-- V1 above it has rows of three
+pub shape_of-v1-some : (bug : Bool) (n : ℕ) → longest_rowless (V1 bug) < n → shape_of (V1 bug) n ≡ wide_shape 3 0 n
 unfolding shape_of
 shape_of-v1-some true n h = grind (arith, nat_tests)
 shape_of-v1-some false n h = grind (arith, nat_tests)
 
 -- V2 above both its limits
-pub above_limit : (minor n : ℕ) → 64 < n → v2_limit minor < n
+pub above_limit : (minor n : ℕ) → 64 < n → longest_rowless (V2 minor) < n
 above_limit minor n h = grind (arith, nat_tests)
 
 -- V2 up to both its limits
-pub below_limit : (minor n : ℕ) → n ≤ 56 → n ≤ v2_limit minor
+pub below_limit : (minor n : ℕ) → n ≤ 56 → n ≤ longest_rowless (V2 minor)
 below_limit minor n h = grind (arith, nat_tests)
 
 -- a message above V2's limit is long
-pub long-v2 : (minor n : ℕ) → v2_limit minor < n → 16 < n
+pub long-v2 : (minor n : ℕ) → longest_rowless (V2 minor) < n → 16 < n
 long-v2 minor n h = grind (arith, nat_tests)
 
 -- V2 up to its limit has no row
-pub shape_of-v2-none : (minor n : ℕ) → n ≤ v2_limit minor → shape_of (V2 minor) n ≡ no_rows 7
+pub shape_of-v2-none : (minor n : ℕ) → n ≤ longest_rowless (V2 minor) → shape_of (V2 minor) n ≡ no_rows 7
 unfolding shape_of
-shape_of-v2-none minor n h = rw (le-ltb (v2_limit minor) n h) refl
+shape_of-v2-none minor n h = rw (le-ltb (longest_rowless (V2 minor)) n h) refl
 
 -- V2 above its limit has rows of seven and of three
-pub shape_of-v2-some : (minor n : ℕ) → v2_limit minor < n → shape_of (V2 minor) n ≡ mixed_shape 7 n
+pub shape_of-v2-some : (minor n : ℕ) → longest_rowless (V2 minor) < n → shape_of (V2 minor) n ≡ mixed_shape 7 n
 unfolding shape_of
-shape_of-v2-some minor n h = rw (lt-ltb (v2_limit minor) n h) refl
+shape_of-v2-some minor n h = rw (lt-ltb (longest_rowless (V2 minor)) n h) refl
 
 -- V2 up to 16 bytes has no row
 pub shape_of-v2-few : (minor n : ℕ) → n ≤ 16 → shape_of (V2 minor) n ≡ no_rows 7
 shape_of-v2-few minor n h = shape_of-v2-none minor n (grind (arith, nat_tests))
 
 -- the places of a tail of V2 with no row
-pub tail_places-v2-none : (minor n : ℕ) → n ≤ v2_limit minor → tail_places (V2 minor) n ≡ v2_rowless_places minor
+pub tail_places-v2-none : (minor n : ℕ) → n ≤ longest_rowless (V2 minor) → tail_places (V2 minor) n ≡ v2_rowless_places minor
 unfolding tail_places
-tail_places-v2-none minor n h = rw (le-ltb (v2_limit minor) n h) refl
+tail_places-v2-none minor n h = rw (le-ltb (longest_rowless (V2 minor)) n h) refl
 
 -- and behind rows
-pub tail_places-v2-some : (minor n : ℕ) → v2_limit minor < n → tail_places (V2 minor) n ≡ v2_row_places
+pub tail_places-v2-some : (minor n : ℕ) → longest_rowless (V2 minor) < n → tail_places (V2 minor) n ≡ v2_row_places
 unfolding tail_places
-tail_places-v2-some minor n h = rw (lt-ltb (v2_limit minor) n h) refl
+tail_places-v2-some minor n h = rw (lt-ltb (longest_rowless (V2 minor)) n h) refl
 
 -- V3 has no row where every lane would need a byte more
-pub shape_of-v3-none : (lanes n : ℕ) → 0 < lanes → n ≤ 16 * lanes → shape_of (V3 lanes) n ≡ no_rows lanes
+pub shape_of-v3-none : (lanes n : ℕ) → 0 < lanes → n ≤ longest_rowless (V3 lanes) → shape_of (V3 lanes) n ≡ no_rows lanes
 unfolding shape_of
 shape_of-v3-none lanes n h k =
     let e : n - 1 ≡ 0 * (16 * lanes) + (n - 1) = omega arith in

@@ -1,5 +1,5 @@
 -- The forms of the portable hash: what each says of lengths, seeds, secrets and words, a line each.
-use Rattle.std.specs.Prelude.{ℕ, Bool, false, ◌<◌, ◌≤◌, ◌∷◌, [], not, ◌&&◌, List, slice_index, bit_xor, if◌then◌else◌, nat_lt, ◌==◌}
+use Rattle.std.specs.Prelude.{ℕ, false, ◌*◌, ◌<◌, ◌≤◌, ◌∷◌, [], not, ◌&&◌, List, slice_index, bit_xor, if◌then◌else◌, nat_lt, ◌==◌}
 use Rattle.rapidhash_portable.specs.declared.form.Form.{Form}
 use Rattle.rapidhash_portable.specs.declared.form.Form.TheVariants.{V1, V2, V3}
 use Rattle.rapidhash_portable.specs.declared.form.Shape.{Shape}
@@ -26,18 +26,16 @@ IsForm (V1 bug) = Unit {0}
 IsForm (V2 minor) = minor ≤ 2
 IsForm (V3 lanes) = (0 < lanes) × (lanes ≤ 7)
 
--- the shortest message of which V1 folds a row
-abbrev pub least_row_v1 : Bool → ℕ
-least_row_v1 bug = if bug then 48 else 49
-
--- the longest message that V2 takes with no row
-abbrev pub v2_limit : ℕ → ℕ
-v2_limit minor = if minor == 0 then 56 else 64
+-- the longest message without a row
+abbrev pub longest_rowless : Form → ℕ
+longest_rowless (V1 bug) = if bug then 47 else 48
+longest_rowless (V2 minor) = if minor == 0 then 56 else 64
+longest_rowless (V3 lanes) = 16 * lanes
 
 -- how a message of `n` bytes is cut into rows and a tail
 unfoldable pub shape_of : Form → ℕ → Shape
 shape_of (V1 bug) n = if n == 48 && not bug then no_rows 3 else wide_shape 3 0 n
-shape_of (V2 minor) n = if nat_lt (v2_limit minor) n then mixed_shape 7 n else no_rows 7
+shape_of (V2 minor) n = if nat_lt (longest_rowless (V2 minor)) n then mixed_shape 7 n else no_rows 7
 shape_of (V3 lanes) n = wide_shape lanes 1 n
 
 -- the seed that every lane starts from
@@ -62,7 +60,7 @@ v2_rowless_places minor = 0 ∷ 1 ∷ (if nat_lt minor 2 then 0 else 1) ∷ []
 -- which secrets the pairs of a tail use, in turn
 unfoldable pub tail_places : Form → ℕ → List ℕ
 tail_places (V1 bug) n = 2 ∷ 2 ∷ []
-tail_places (V2 minor) n = if nat_lt (v2_limit minor) n then v2_row_places else v2_rowless_places minor
+tail_places (V2 minor) n = if nat_lt (longest_rowless (V2 minor)) n then v2_row_places else v2_rowless_places minor
 tail_places (V3 lanes) n = 2 ∷ 2 ∷ 1 ∷ 1 ∷ 2 ∷ 1 ∷ []
 
 -- every other bit, from the highest on

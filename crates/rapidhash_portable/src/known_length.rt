@@ -12,6 +12,7 @@ ghost use Rattle.rapidhash_portable.specs.Lanes.{rows_in};
 ghost use Rattle.rapidhash_portable.specs.Reading.{FellShort, FrontIsFolded};
 ghost use Rattle.rapidhash_portable.specs.Source.{is_failed};
 
+use crate::kernel::UNROLLED;
 use crate::lanes::fold_rows;
 use crate::reader::{Stop, read_once};
 use std::io::Read;
@@ -68,7 +69,7 @@ pub(crate) fn fold_front<R: Read, const LANES: usize, const PROTECTED: bool>(
     while left >= room as u64 + 16 {
         let piece = &mut buffer[..room];
         fill(reader, piece)?;
-        fold_rows::<LANES, LANES, 0, false, PROTECTED>(&mut lanes, piece, secrets);
+        fold_rows::<LANES, LANES, 0, UNROLLED, PROTECTED>(&mut lanes, piece, secrets);
         left -= room as u64;
     }
     let last = left as usize;

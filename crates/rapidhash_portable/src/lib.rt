@@ -1,20 +1,22 @@
 //! The portable hashes of rapidhash, each proved equal to one definition in which every lane folds
 //! its own 16-byte pairs alone (`specs/Hash.antt`).
 //!
-//! - [`v1`], [`v2`] and [`v3`] hold the hashes: of a slice, of pieces, of a reader.
+//! - [`v1`] and [`v2`] hold the hashes of a slice and of a reader, [`v3`] those of pieces too.
 //! - [`reader`] holds the reader with a mark that the hashes of a reader take.
 //! - [`seeding`] makes secrets and seeds from random words.
 //! - [`util`] holds the reads and the multiply that all of it uses.
 //! - [`form`] holds the types that the definition uses.
+//! - [`kernel`] holds the hashes of a slice as the definition has them, with a seed and secrets.
 //! - [`memory`] is the core of the in-memory hasher of the crate `rapidhash`.
 //!
-//! The row kernel (`lanes`), messages with few rows (`few`), what follows the rows (`tail`), the
+//! The rows (`lanes`), messages with few rows (`few`), what follows the rows (`tail`), the
 //! words that a message ends in (`words`), the reads of a known length (`known_length`) and the
 //! arithmetic of secrets (`secrets`) are private.
 #![tactic(auto)]
 
 mod few;
 pub mod form;
+pub mod kernel;
 mod known_length;
 mod lanes;
 pub mod memory;

@@ -145,8 +145,5 @@ pub(crate) fn read_once<R: Read>(reader: &mut R, buf: &mut [u8]) -> Result<usize
     ensures bound { ReadsAtMost result buf.new }
     ensures bytes { ReadConsumes (R.remaining reader.old) (R.remaining reader.new) result buf.new }
 {
-    match reader.read(buf) {
-        Ok(n) => Ok(n),
-        Err(error) => Err(FailedRead { error }),
-    }
+    reader.read(buf).map_err(|error| FailedRead { error })
 }

@@ -1,22 +1,16 @@
 //! rapidhash V1.
 
-ghost use Rattle.std.specs.Prelude.{◌≡◌, ◌+◌, ◌*◌, ◌<◌, ◌≤◌, ◌∷◌, ℕ, All, Bool, List, false, true, length, slice_index, drop};
+ghost use Rattle.std.specs.Prelude.{◌≡◌, ◌∷◌, All, false, true};
 ghost use Rattle.rapidhash_portable.specs.declared.form.Form.TheVariants.{V1};
-ghost use Rattle.rapidhash_portable.specs.Folded.{AfterRows};
-ghost use Rattle.rapidhash_portable.specs.Form.{least_row_v1, shape_of, start_seed};
-ghost use Rattle.rapidhash_portable.specs.Hash.{portable_hash};
 ghost use Rattle.rapidhash_portable.specs.Options.{options, standard};
 ghost use Rattle.rapidhash_portable.specs.Secrets.{IsGood, cpp_seeded, default_secrets_v1, default_seed_v1, reseeded, seeded, seeded_secrets};
 ghost use Rattle.rapidhash_portable.specs.Seeded.{default_hash, seeded_hash_v1};
-ghost use Rattle.rapidhash_portable.specs.Words.{last_16, short_words};
 
 mod readers;
 
-use crate::few::wide_lanes_of;
-use crate::lanes::wide_lanes;
+use crate::kernel::v1::hash;
+use crate::kernel::{MIXED, PLAIN, UNROLLED};
 use crate::secrets::{DEFAULT_SECRETS, chain, cpp_seed_of, reseed_of, seed_of};
-use crate::tail::{close, fold_tail};
-use crate::words::{last_16, words_to_3_v1, words_to_16_v1};
 pub use readers::{
     rapidhash_v1_file, rapidhash_v1_file_inline, rapidhash_v1_file_seeded, rapidhash_v1_source,
 };
@@ -112,7 +106,7 @@ impl RapidSecrets {
 pub fn rapidhash_v1(bytes: &[u8]) -> u64
     ensures { result ≡ default_hash (V1 false) standard bytes.now }
 {
-    rapidhash_v1_inline::<true, false, false, false>(bytes, RapidSecrets::default_ref())
+    rapidhash_v1_inline::<MIXED, UNROLLED, PLAIN, false>(bytes, RapidSecrets::default_ref())
 }
 
 /// Returns the hash of `bytes` with the caller's seed and secrets.
@@ -126,7 +120,7 @@ pub fn rapidhash_v1(bytes: &[u8]) -> u64
 pub fn rapidhash_v1_seeded(bytes: &[u8], secrets: &RapidSecrets) -> u64
     ensures { result ≡ seeded_hash_v1 false standard secrets.now bytes.now }
 {
-    rapidhash_v1_inline::<true, false, false, false>(bytes, secrets)
+    rapidhash_v1_inline::<MIXED, UNROLLED, PLAIN, false>(bytes, secrets)
 }
 
 /// Returns the hash of `bytes` with every option.
@@ -152,120 +146,5 @@ pub fn rapidhash_v1_inline<
 >(bytes: &[u8], secrets: &RapidSecrets) -> u64
     ensures { result ≡ seeded_hash_v1 V1_BUG (options AVALANCHE PROTECTED) secrets.now bytes.now }
 {
-    let n = bytes.len();
-    if n > 16 {
-        return long::<AVALANCHE, COMPACT, PROTECTED, V1_BUG>(bytes, secrets);
-    }
-    // One close for all lengths would make a caller's loop load the default secrets each time.
-    if n >= 4 {
-        close_short::<AVALANCHE, PROTECTED>(bytes, words_to_16_v1(bytes), secrets)
-    } else if n > 0 {
-        close_short::<AVALANCHE, PROTECTED>(bytes, words_to_3_v1(bytes), secrets)
-    } else {
-        close_short::<AVALANCHE, PROTECTED>(bytes, (0, 0), secrets)
-    }
-}
-
-/// The hash of at most 16 bytes, made of their two words.
-#[inline(always)]
-fn close_short<const AVALANCHE: bool, const PROTECTED: bool>(
-    bytes: &[u8],
-    words: (u64, u64),
-    secrets: &RapidSecrets,
-) -> u64
-    requires { length bytes.now ≤ 16 }
-    ensures { (bug : Bool) → words ≡ short_words (V1 bug) bytes.now →
-        result ≡ seeded_hash_v1 bug (options AVALANCHE PROTECTED) secrets.now bytes.now }
-{
-    let len = bytes.len() as u64;
-    let [first, second, _] = secrets.secrets;
-    close::<AVALANCHE, PROTECTED>(words, secrets.seed ^ len, second, (first ^ len, second))
-}
-
-/// The hash above 16 bytes. Messages of up to two rows make no call.
-#[inline(always)]
-fn long<const AVALANCHE: bool, const COMPACT: bool, const PROTECTED: bool, const V1_BUG: bool>(
-    bytes: &[u8],
-    secrets: &RapidSecrets,
-) -> u64
-    requires { 16 < length bytes.now }
-    ensures { result ≡ seeded_hash_v1 V1_BUG (options AVALANCHE PROTECTED) secrets.now bytes.now }
-{
-    let n = bytes.len();
-    if n < least_row::<V1_BUG>() {
-        let (len, s) = (n as u64, &secrets.secrets);
-        close_tail::<AVALANCHE, PROTECTED>(bytes, bytes, len, secrets.seed ^ len, s)
-    } else if !COMPACT && n < 96 {
-        few_rows::<1, AVALANCHE, PROTECTED, V1_BUG>(bytes, secrets)
-    } else if !COMPACT && n < 144 {
-        few_rows::<2, AVALANCHE, PROTECTED, V1_BUG>(bytes, secrets)
-    } else {
-        with_rows::<AVALANCHE, COMPACT, PROTECTED, V1_BUG>(bytes, secrets)
-    }
-}
-
-/// The hash of a message that has `ROWS` rows, at least one.
-#[inline(always)]
-fn few_rows<const ROWS: usize, const AVALANCHE: bool, const PROTECTED: bool, const V1_BUG: bool>(
-    bytes: &[u8],
-    secrets: &RapidSecrets,
-) -> u64
-    requires some { least_row_v1 V1_BUG ≤ length bytes.now }
-    requires enough { 48 * ROWS ≤ length bytes.now }
-    requires few { length bytes.now < 48 * ROWS + 48 }
-    ensures { result ≡ seeded_hash_v1 V1_BUG (options AVALANCHE PROTECTED) secrets.now bytes.now }
-{
-    let len = bytes.len() as u64;
-    let s = &secrets.secrets;
-    let (joined, tail) = wide_lanes_of::<3, 0, ROWS, PROTECTED>(bytes, secrets.seed ^ len, s);
-    close_tail::<AVALANCHE, PROTECTED>(tail, bytes, len, joined, s)
-}
-
-/// The hash of a message that has a row, out of line.
-#[inline(never)]
-fn with_rows<const AVALANCHE: bool, const COMPACT: bool, const PROTECTED: bool, const V1_BUG: bool>(
-    bytes: &[u8],
-    secrets: &RapidSecrets,
-) -> u64
-    requires { least_row_v1 V1_BUG ≤ length bytes.now }
-    ensures { result ≡ seeded_hash_v1 V1_BUG (options AVALANCHE PROTECTED) secrets.now bytes.now }
-{
-    let len = bytes.len() as u64;
-    let s = &secrets.secrets;
-    let (joined, tail) = wide_lanes::<3, 0, COMPACT, PROTECTED>(bytes, secrets.seed ^ len, s);
-    close_tail::<AVALANCHE, PROTECTED>(tail, bytes, len, joined, s)
-}
-
-/// The hash of `len` bytes, more than 16, made of the joined lanes, the tail, and bytes that end in
-/// the message's last 16.
-#[inline(always)]
-fn close_tail<const AVALANCHE: bool, const PROTECTED: bool>(
-    tail: &[u8],
-    ending: &[u8],
-    len: u64,
-    joined: u64,
-    secrets: &[u64; 3],
-) -> u64
-    requires { 16 ≤ length ending.now }
-    ensures { (bug : Bool) (seed : ℕ) (x : List ℕ) → 16 < length x → length x ≡ len →
-        last_16 ending.now ≡ last_16 x →
-        AfterRows PROTECTED secrets.now x (shape_of (V1 bug) (length x))
-        (start_seed (V1 bug) (length x) seed) joined tail.now →
-        result ≡ portable_hash (V1 bug) (options AVALANCHE PROTECTED) seed secrets.now x }
-{
-    let (s, mut seed) = (secrets, joined);
-    if tail.len() > 16 {
-        seed ^= s[1];
-    }
-    seed = fold_tail::<2, PROTECTED>(tail, &[s[2], s[2]], seed);
-    close::<AVALANCHE, PROTECTED>(last_16(ending), seed, s[1], (s[0] ^ len, s[1]))
-}
-
-/// The smallest length at which a row is folded.
-#[inline(always)]
-#[tactic(auto, using(crate::proofs::Cases::tests))]
-fn least_row<const V1_BUG: bool>() -> usize
-    ensures { result ≡ least_row_v1 V1_BUG }
-{
-    if V1_BUG { 48 } else { 49 }
+    hash::<AVALANCHE, COMPACT, PROTECTED, V1_BUG>(bytes, secrets.seed, &secrets.secrets)
 }

@@ -2,15 +2,18 @@
 
 //! V2 of the next bytes of a reader, whose number is known.
 
-use super::{RapidSecrets, close_tail, rapidhash_v2_inline};
+use super::RapidSecrets;
+use crate::kernel::v2::{close_tail, hash};
+use crate::kernel::{MIXED, UNROLLED};
 use crate::known_length::{BUFFER, SHORT, fill, fold_front};
 use crate::lanes::join_mixed;
 use crate::reader::{Source, Stop};
 use std::io;
 use std::io::Read;
 
-/// Returns the hash of the next `len` bytes of the reader: that of [`rapidhash_v2_inline`] with
-/// `AVALANCHE`. It reads no byte after them, and nothing at all for a `len` of 0.
+/// Returns the hash of the next `len` bytes of the reader: that of
+/// [`rapidhash_v2_inline`](super::rapidhash_v2_inline) with `AVALANCHE`. It reads no byte after
+/// them, and nothing at all for a `len` of 0.
 ///
 /// It uses 8 KiB of stack, and above 8192 bytes 64 KiB more.
 ///
@@ -39,7 +42,8 @@ pub fn rapidhash_v2_source<R: Read, const MINOR: u8, const PROTECTED: bool>(
     secrets: &RapidSecrets,
 ) -> io::Result<u64> {
     source.clear();
-    let answer = next_of::<R, MINOR, PROTECTED>(source.reader_mut(), len, secrets);
+    let (seed, s) = (secrets.seed, &secrets.secrets);
+    let answer = next_of::<R, MINOR, PROTECTED>(source.reader_mut(), len, seed, s);
     source.settle(answer)
 }
 
@@ -82,27 +86,26 @@ pub fn rapidhash_v2_file_inline<R: Read, const MINOR: u8, const PROTECTED: bool>
     len: u64,
     secrets: &RapidSecrets,
 ) -> io::Result<u64> {
-    match next_of::<R, MINOR, PROTECTED>(data, len, secrets) {
-        Ok(hash) => Ok(hash),
-        Err(stop) => Err(stop.into_error()),
-    }
+    let (seed, s) = (secrets.seed, &secrets.secrets);
+    next_of::<R, MINOR, PROTECTED>(data, len, seed, s).map_err(Stop::into_error)
 }
 
 /// The body of every hash here.
 fn next_of<R: Read, const MINOR: u8, const PROTECTED: bool>(
     reader: &mut R,
     len: u64,
-    secrets: &RapidSecrets,
+    seed: u64,
+    secrets: &[u64; 7],
 ) -> Result<u64, Stop> {
     prove!(MINOR <= 2, "MINOR must be 0, 1 or 2");
     if len > SHORT as u64 {
-        return long::<R, MINOR, PROTECTED>(reader, len, secrets);
+        return long::<R, MINOR, PROTECTED>(reader, len, seed, secrets);
     }
     let mut buffer = [0u8; SHORT];
     let bytes = &mut buffer[..len as usize];
     fill(reader, bytes)?;
-    Ok(rapidhash_v2_inline::<MINOR, true, false, PROTECTED>(
-        bytes, secrets,
+    Ok(hash::<MINOR, MIXED, UNROLLED, PROTECTED>(
+        bytes, seed, secrets,
     ))
 }
 
@@ -112,13 +115,15 @@ fn next_of<R: Read, const MINOR: u8, const PROTECTED: bool>(
 fn long<R: Read, const MINOR: u8, const PROTECTED: bool>(
     reader: &mut R,
     len: u64,
-    secrets: &RapidSecrets,
+    seed: u64,
+    secrets: &[u64; 7],
 ) -> Result<u64, Stop> {
-    let s = &secrets.secrets;
-    let start = secrets.seed ^ len;
+    let start = seed ^ len;
     let mut buffer = [0u8; BUFFER];
-    let (mut lanes, n) = fold_front::<R, 7, PROTECTED>(reader, &mut buffer, len, start, s)?;
+    let (mut lanes, n) = fold_front::<R, 7, PROTECTED>(reader, &mut buffer, len, start, secrets)?;
     let last = &buffer[..n];
-    let (joined, tail) = join_mixed::<false, PROTECTED>(&mut lanes, last, s);
-    Ok(close_tail::<true, PROTECTED>(tail, last, len, joined, s))
+    let (joined, tail) = join_mixed::<UNROLLED, PROTECTED>(&mut lanes, last, secrets);
+    Ok(close_tail::<MIXED, PROTECTED>(
+        tail, last, len, joined, secrets,
+    ))
 }

@@ -11,8 +11,9 @@ ghost use Rattle.rapidhash_portable.specs.Options.{options};
 ghost use Rattle.rapidhash_portable.specs.Seeded.{seeded_hash};
 
 use super::folded::Folded;
+use crate::kernel::UNROLLED;
+use crate::kernel::v3::{close_tail, hash};
 use crate::secrets::RapidSecrets;
-use crate::v3::{close_tail, hash};
 
 /// The data of a stream hasher.
 #[repr(C)]
@@ -156,7 +157,8 @@ impl<'a> Parts<'a> {
         let kept: &[u8] = &self.kept;
         let new = &kept[16..16 + self.len];
         if !self.any {
-            return hash::<LANES, 0, AVALANCHE, false, PROTECTED>(new, self.secrets);
+            let (seed, secrets) = (self.secrets.seed, &self.secrets.secrets);
+            return hash::<LANES, 0, AVALANCHE, UNROLLED, PROTECTED>(new, seed, secrets);
         }
         let joined = self.folded.joined::<LANES>();
         let ending = &kept[..16 + self.len];

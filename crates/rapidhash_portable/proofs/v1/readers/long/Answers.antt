@@ -7,7 +7,7 @@ use Rattle.rapidhash_portable.proofs.v1.readers.long.Goals as goal
 pub returns : goal.returns
 unfolding start_seed
 returns g c =
-    let seed = c.args.secrets.now.seed in
+    let seed = c.args.seed in
     let f = c.in_ok-lanes.ensures.ok in
     let x = f.bytes in
     let size = f.count in

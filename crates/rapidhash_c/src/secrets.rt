@@ -1,0 +1,45 @@
+//! Secrets made of a number, and the default secrets with a seed made of one seed word, as the C++
+//! library takes it.
+
+ghost use Rattle.std.specs.Prelude.{◌≡◌, ◌∷◌, All};
+ghost use Rattle.rapidhash.specs.Secrets.{IsGood, cpp_seeded, default_secrets, default_secrets_v1, seeded, seeded_secrets};
+
+use rapidhash::{v1, v3};
+
+/// A seed and secrets made of a number, for V1.
+#[unsafe(no_mangle)]
+pub extern "C" fn rapidhash_v1_make_secrets(number: u64, secrets: &mut v1::RapidSecrets)
+    ensures seed { secrets.new.seed ≡ seeded number }
+    ensures secrets { secrets.new.secrets ≡ seeded_secrets 3 number }
+    ensures good { All IsGood (secrets.new.seed ∷ secrets.new.secrets) }
+{
+    *secrets = v1::RapidSecrets::seed(number);
+}
+
+/// A seed and secrets made of a number, for the others.
+#[unsafe(no_mangle)]
+pub extern "C" fn rapidhash_make_secrets(number: u64, secrets: &mut v3::RapidSecrets)
+    ensures seed { secrets.new.seed ≡ seeded number }
+    ensures secrets { secrets.new.secrets ≡ seeded_secrets 7 number }
+    ensures good { All IsGood (secrets.new.seed ∷ secrets.new.secrets) }
+{
+    *secrets = v3::RapidSecrets::seed(number);
+}
+
+/// The default secrets, and a seed made of one seed word, for V1.
+#[unsafe(no_mangle)]
+pub extern "C" fn rapidhash_v1_seed_secrets(seed: u64, secrets: &mut v1::RapidSecrets)
+    ensures seed { secrets.new.seed ≡ cpp_seeded seed 0 }
+    ensures secrets { secrets.new.secrets ≡ default_secrets_v1 }
+{
+    *secrets = v1::RapidSecrets::seed_cpp(seed);
+}
+
+/// The default secrets, and a seed made of one seed word, for the others.
+#[unsafe(no_mangle)]
+pub extern "C" fn rapidhash_seed_secrets(seed: u64, secrets: &mut v3::RapidSecrets)
+    ensures seed { secrets.new.seed ≡ cpp_seeded seed 2 }
+    ensures secrets { secrets.new.secrets ≡ default_secrets }
+{
+    *secrets = v3::RapidSecrets::seed_cpp(seed);
+}
