@@ -165,9 +165,12 @@ class Module:
         }
 
     def attach(self):
-        """Hands each impl block to its type, which stands in its module or in one above."""
+        """Hands each impl block to its type, which stands in its module or in one above. A block of a type with
+        certain parameters goes to the alias of that type, if its module has one."""
         for block in self.blocks:
-            module, (block.name, name) = self, parts_of(block.signature)
+            module, (block.name, whole) = self, parts_of(block.signature)
+            alias = [item for item in self.items if item.signature.endswith(f" = {whole}")]
+            name = alias[0].name if alias else re.match(r"\w+", whole)[0]
             while not any(item.name == name for item in module.items):
                 module = module.parent
             next(item for item in module.items if item.name == name).impls.append(block)
@@ -205,14 +208,14 @@ class Module:
 
 
 def parts_of(block):
-    """The trait of an impl block, empty where it has none, and the name of its type."""
+    """The trait of an impl block, empty where it has none, and its type."""
     depth, end = 0, len("impl")
     for end, letter in enumerate(block):
         depth += (letter == "<") - (letter == ">" and block[end - 1] != "-")
         if letter == " " and depth == 0:
             break
-    trait, _, name = block[end:].strip().rpartition(" for ")
-    return trait, re.match(r"\w+", name)[0]
+    trait, _, whole = block[end:].strip().rpartition(" for ")
+    return trait, whole
 
 
 def read_crate(folder):

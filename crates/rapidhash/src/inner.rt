@@ -21,4 +21,4 @@ mod state;
 
 pub use hasher::RapidHasher;
 pub use rapidhash_portable::seeding::{GlobalSecrets, SeedSource};
-pub use state::{GlobalState, RandomState, SeedableState};
+pub use state::{GlobalState, RandomState, SeedableState, State};

@@ -1,14 +1,19 @@
 //! A state of the seed that a program made once.
 
-ghost use Rattle.std.specs.Prelude.{◌≡◌, ◌↔◌, [], IsTrue};
-ghost use Rattle.std.specs.Cmp.Rules.{comparing};
-ghost use Rattle.std.proofs.Common.{rules};
+ghost use Rattle.std.specs.Prelude.{◌≡◌};
 
-use crate::inner::hasher::RapidHasher;
-use crate::inner::state::seeded::Seeded;
+use super::{Kind, State};
 use rapidhash_portable::seeding::GlobalSecrets;
-use std::fmt::{Debug, Formatter, Write};
-use std::hash::BuildHasher;
+
+/// The kind of a [`GlobalState`].
+#[derive(Debug, Clone, Copy)]
+pub struct Global;
+
+impl Kind for Global {
+    fn shown() -> &'static str {
+        "GlobalState { .. }"
+    }
+}
 
 /// Makes hashers of the seed and the secrets that a program made once: all its maps hash in the
 /// same way.
@@ -17,16 +22,13 @@ use std::hash::BuildHasher;
 /// let state = GlobalState::<false, true, false, false>::new(&secrets);
 /// let mut hasher = state.build_hasher();
 /// ```
-#[derive(Clone, Copy)]
-pub struct GlobalState<
+pub type GlobalState<
     's,
     const AVALANCHE: bool,
     const SPONGE: bool,
     const COMPACT: bool,
     const PROTECTED: bool,
-> {
-    seeded: Seeded<'s>,
-}
+> = State<'s, Global, AVALANCHE, SPONGE, COMPACT, PROTECTED>;
 
 impl<
     's,
@@ -34,87 +36,16 @@ impl<
     const SPONGE: bool,
     const COMPACT: bool,
     const PROTECTED: bool,
-> GlobalState<'s, AVALANCHE, SPONGE, COMPACT, PROTECTED> {
-    ghost use Rattle.rapidhash.specs.States.{seed_of_global, secrets_of_global};
+> State<'s, Global, AVALANCHE, SPONGE, COMPACT, PROTECTED> {
+    ghost use Rattle.rapidhash.specs.States.{secrets_of_state, seed_of_state};
     ghost use Rattle.rapidhash_portable.specs.Seeding.{secrets_of, seed_of};
 
     /// A state of the seed and the secrets of `secrets`.
     #[inline(always)]
     pub fn new(secrets: &'s GlobalSecrets) -> Self
-        ensures seed { seed_of_global result ≡ seed_of secrets.now }
-        ensures secrets { secrets_of_global result ≡ secrets_of secrets.now }
+        ensures seed { seed_of_state result ≡ seed_of secrets.now }
+        ensures secrets { secrets_of_state result ≡ secrets_of secrets.now }
     {
-        GlobalState {
-            seeded: Seeded {
-                seed: secrets.get_global_seed(),
-                secrets: secrets.get(),
-            },
-        }
-    }
-}
-
-impl<
-    's,
-    const AVALANCHE: bool,
-    const SPONGE: bool,
-    const COMPACT: bool,
-    const PROTECTED: bool,
-> PartialEq for GlobalState<'s, AVALANCHE, SPONGE, COMPACT, PROTECTED> {
-    ghost use Rattle.rapidhash.specs.States.{global_state_eq, seed_of_global, secrets_of_global};
-
-    ghost eq = { global_state_eq };
-
-    ghost laws = { Prim.search (comparing, rules) };
-
-    #[inline]
-    fn eq(&self, other: &Self) -> bool
-        ensures eq { result ≡ global_state_eq self.now other.now }
-        ensures same { IsTrue result
-            ↔ (seed_of_global self.now ≡ seed_of_global other.now)
-            × (secrets_of_global self.now ≡ secrets_of_global other.now) }
-    {
-        self.seeded == other.seeded
-    }
-}
-
-impl<'s, const AVALANCHE: bool, const SPONGE: bool, const COMPACT: bool, const PROTECTED: bool> Eq
-    for GlobalState<'s, AVALANCHE, SPONGE, COMPACT, PROTECTED> {
-    ghost laws = { Prim.search (comparing, rules) };
-}
-
-impl<
-    's,
-    const AVALANCHE: bool,
-    const SPONGE: bool,
-    const COMPACT: bool,
-    const PROTECTED: bool,
-> BuildHasher for GlobalState<'s, AVALANCHE, SPONGE, COMPACT, PROTECTED> {
-    ghost use Rattle.rapidhash.specs.RapidHasher.{Stands, secrets_of};
-    ghost use Rattle.rapidhash.specs.States.{built_by_global, seed_of_global, secrets_of_global};
-
-    type Hasher = RapidHasher<'s, AVALANCHE, SPONGE, COMPACT, PROTECTED>;
-
-    ghost build_hasher = { built_by_global };
-
-    /// A hasher of the state's seed and secrets that has absorbed nothing.
-    #[inline(always)]
-    fn build_hasher(&self) -> RapidHasher<'s, AVALANCHE, SPONGE, COMPACT, PROTECTED>
-        ensures value { result ≡ built_by_global self.now }
-        ensures secrets { secrets_of result ≡ secrets_of_global self.now }
-        ensures stands { Stands result (seed_of_global self.now) [] }
-    {
-        self.seeded.hasher()
-    }
-}
-
-impl<
-    's,
-    const AVALANCHE: bool,
-    const SPONGE: bool,
-    const COMPACT: bool,
-    const PROTECTED: bool,
-> Debug for GlobalState<'s, AVALANCHE, SPONGE, COMPACT, PROTECTED> {
-    fn fmt<W: Write>(&self, f: &mut Formatter<W>) -> std::fmt::Result {
-        f.write_str("GlobalState { .. }")
+        State::of(secrets.get_global_seed(), secrets.get())
     }
 }
