@@ -2,10 +2,12 @@
 
 //! Secrets made from a seed: the arithmetic of every `RapidSecrets`, and the type of V2 and V3.
 
+pub mod v1;
+
 use crate::util::rapid_mix;
 
 /// A seed and the seven secrets of V2 and V3. Make one once and keep it: making it costs eight
-/// multiplies, and using it none.
+/// multiplies.
 #[repr(C)]
 #[derive(Debug, Clone, Copy, PartialEq, Eq, Hash)]
 pub struct RapidSecrets {

@@ -1,9 +1,8 @@
 -- What a filter finds.
 use Rattle.std.specs.Prelude.{◌≡◌, ℕ, ◌<◌, ◌+◌, ◌*◌, ◌%◌, ◌/◌, List, true, false, length, slice_index, ◌⊎◌}
 use Rattle.std.specs.Int.{bit_at}
-use Rattle.rapidhash.specs.Form.{v3}
-use Rattle.rapidhash.specs.Options.{standard}
-use Rattle.rapidhash.specs.Seeded.{default_hash}
+use Rattle.rapidhash.specs.Form.{standard, v3}
+use Rattle.rapidhash.specs.Hash.{default_hash}
 use Rattle.example_bloom.specs.declared.filter.Filter.{Filter}
 
 -- the hash of a key

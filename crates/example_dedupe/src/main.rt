@@ -15,9 +15,8 @@ mod store;
 mod tests;
 
 ghost use Rattle.std.specs.Prelude.{true, false};
-ghost use Rattle.rapidhash_portable.specs.Form.{v3};
-ghost use Rattle.rapidhash_portable.specs.Options.{standard};
-ghost use Rattle.rapidhash_portable.specs.Seeded.{default_hash};
+ghost use Rattle.rapidhash_portable.specs.Form.{standard, v3};
+ghost use Rattle.rapidhash_portable.specs.Hash.{default_hash};
 
 use fault::Fault;
 use names::{Names, Search};

@@ -1,10 +1,8 @@
 -- What a table finds.
 use Rattle.std.specs.Prelude.{◌≡◌, ℕ, ◌<◌, ◌%◌, List, true, false, length, map, max, slice_index, slice_get, Some}
-use Rattle.rapidhash.specs.Form.{v3}
-use Rattle.rapidhash.specs.Hash.{portable_hash}
-use Rattle.rapidhash.specs.Options.{standard}
+use Rattle.rapidhash.specs.Form.{standard, v3}
+use Rattle.rapidhash.specs.Hash.{default_hash, portable_hash}
 use Rattle.rapidhash.specs.Secrets.{cpp_seeded, default_secrets}
-use Rattle.rapidhash.specs.Seeded.{default_hash}
 use Rattle.example_perfect.specs.declared.displace.Displaced.{Displaced}
 use Rattle.example_perfect.specs.declared.table.Table.{Table}
 

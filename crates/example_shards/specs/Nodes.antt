@@ -1,8 +1,7 @@
 -- Which node has a key.
 use Rattle.std.specs.Prelude.{ℕ, true, false, List, Option}
-use Rattle.rapidhash_portable.specs.Form.{v3}
-use Rattle.rapidhash_portable.specs.Options.{standard}
-use Rattle.rapidhash_portable.specs.Seeded.{seeded_hash}
+use Rattle.rapidhash_portable.specs.Form.{standard, v3}
+use Rattle.rapidhash_portable.specs.Hash.{seeded_hash}
 use Rattle.example_shards.specs.Greatest.{greatest}
 use Rattle.example_shards.specs.declared.nodes.Node.{Node}
 

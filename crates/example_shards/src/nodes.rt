@@ -2,9 +2,8 @@
 
 ghost use Rattle.std.specs.Prelude.{◌≡◌, true, false};
 ghost use Rattle.std.specs.String.{string_bytes};
-ghost use Rattle.rapidhash_portable.specs.Form.{v3};
-ghost use Rattle.rapidhash_portable.specs.Options.{standard};
-ghost use Rattle.rapidhash_portable.specs.Seeded.{default_hash};
+ghost use Rattle.rapidhash_portable.specs.Form.{standard, v3};
+ghost use Rattle.rapidhash_portable.specs.Hash.{default_hash};
 ghost use Rattle.rapidhash_portable.specs.Secrets.{seeded, seeded_secrets};
 
 use rapidhash::v3::{RapidSecrets, rapidhash_v3, rapidhash_v3_seeded};

@@ -1,8 +1,7 @@
 -- What a check reports.
 use Rattle.std.specs.Prelude.{ℕ, ◌≡◌, ◌≢◌, ⊤, Bool, true, false, List, [], ◌∷◌, Option, IfSome}
-use Rattle.rapidhash.specs.Form.{v3}
-use Rattle.rapidhash.specs.Options.{standard}
-use Rattle.rapidhash.specs.Seeded.{default_hash}
+use Rattle.rapidhash.specs.Form.{standard, v3}
+use Rattle.rapidhash.specs.Hash.{default_hash}
 use Rattle.example_sums.specs.declared.line.Entry.{Entry}
 use Rattle.example_sums.specs.declared.check.Verdict.{Verdict}
 use Rattle.example_sums.specs.declared.check.Verdict.TheVariants.{Different, Missing, Same, Unreadable}

@@ -2,15 +2,14 @@ pub use Rattle.rapidhash_portable.specs.Absorbed
 pub use Rattle.rapidhash_portable.specs.Bytes
 pub use Rattle.rapidhash_portable.specs.Folded
 pub use Rattle.rapidhash_portable.specs.Form
+pub use Rattle.rapidhash_portable.specs.GlobalSecrets
 pub use Rattle.rapidhash_portable.specs.Hash
 pub use Rattle.rapidhash_portable.specs.Lanes
 pub use Rattle.rapidhash_portable.specs.Memory
 pub use Rattle.rapidhash_portable.specs.Multiply
-pub use Rattle.rapidhash_portable.specs.Options
 pub use Rattle.rapidhash_portable.specs.Reading
 pub use Rattle.rapidhash_portable.specs.Secrets
-pub use Rattle.rapidhash_portable.specs.Seeded
-pub use Rattle.rapidhash_portable.specs.Seeding
+pub use Rattle.rapidhash_portable.specs.SeedSource
 pub use Rattle.rapidhash_portable.specs.Source
 pub use Rattle.rapidhash_portable.specs.Stream
 pub use Rattle.rapidhash_portable.specs.Tail

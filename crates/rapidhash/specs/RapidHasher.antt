@@ -3,7 +3,7 @@ use Rattle.std.specs.Prelude.{ℕ, ◌≡◌, Bool, not, nat_eq, List, [], ◌�
 use Rattle.std.specs.Borrow.{Bor}
 use Rattle.rapidhash_portable.specs.declared.form.Options.{Options}
 use Rattle.rapidhash_portable.specs.Memory.{memory_hash}
-use Rattle.rapidhash_portable.specs.Options.{options}
+use Rattle.rapidhash_portable.specs.Form.{options}
 use Rattle.rapidhash.specs.Sponge.{Item, empty_sponge}
 use Rattle.rapidhash.specs.Hasher.{StandsFor, closed, finished}
 use Rattle.rapidhash.specs.declared.inner.hasher.RapidHasher.{RapidHasher}

@@ -3,7 +3,7 @@ use Rattle.std.specs.Prelude.{ℕ, List, [], ◌∷◌, ◌++◌}
 use Rattle.rapidhash_portable.specs.declared.form.Form.TheVariants.{V3}
 use Rattle.rapidhash_portable.specs.declared.form.Options.{Options}
 use Rattle.rapidhash_portable.specs.declared.secrets.RapidSecrets.{RapidSecrets}
-use Rattle.rapidhash_portable.specs.Seeded.{seeded_hash}
+use Rattle.rapidhash_portable.specs.Hash.{seeded_hash}
 use Rattle.rapidhash.specs.declared.laws.StreamOp.{StreamOp}
 use Rattle.rapidhash.specs.declared.laws.StreamOp.TheVariants.{Write, Finish, Reset}
 

@@ -10,7 +10,7 @@
 
 ghost use Rattle.std.specs.Prelude.{◌≡◌, IfOk};
 ghost use Rattle.rapidhash_portable.specs.Lanes.{IsLaneCount};
-ghost use Rattle.rapidhash_portable.specs.Options.{options};
+ghost use Rattle.rapidhash_portable.specs.Form.{options};
 ghost use Rattle.rapidhash.specs.Replay.{finishes};
 
 mod blocks;

@@ -2,11 +2,9 @@
 //! one seed word. Messages above 16 bytes are hashed in `long`, so that shorter ones are not slower.
 
 ghost use Rattle.std.specs.Prelude.{◌≡◌, ◌<◌, ◌≤◌, ◌%◌, false, true};
-ghost use Rattle.rapidhash.specs.Form.{v1, v2, v3, micro, nano};
-ghost use Rattle.rapidhash.specs.Hash.{portable_hash};
-ghost use Rattle.rapidhash.specs.Options.{guarded, standard};
+ghost use Rattle.rapidhash.specs.Form.{guarded, micro, nano, standard, v1, v2, v3};
+ghost use Rattle.rapidhash.specs.Hash.{default_hash, portable_hash, seeded_hash, seeded_hash_v1};
 ghost use Rattle.rapidhash.specs.Secrets.{cpp_seeded, default_secrets, default_secrets_v1};
-ghost use Rattle.rapidhash.specs.Seeded.{default_hash, seeded_hash, seeded_hash_v1};
 ghost use Rattle.rapidhash_portable.specs.declared.form.Form.TheVariants.{V3};
 
 use crate::long::{long_v1, long_v2, long_v3};

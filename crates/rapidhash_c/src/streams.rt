@@ -1,8 +1,8 @@
 //! A message in pieces, for V3, micro or nano. The header's inline functions start a stream.
 
 ghost use Rattle.std.specs.Prelude.{◌≡◌, ◌++◌, ℕ, List, true, false};
-ghost use Rattle.rapidhash.specs.Options.{standard};
-ghost use Rattle.rapidhash.specs.Seeded.{seeded_hash};
+ghost use Rattle.rapidhash.specs.Form.{standard};
+ghost use Rattle.rapidhash.specs.Hash.{seeded_hash};
 ghost use Rattle.rapidhash.specs.Stream.{StandsByLanes, StartsByLanes, lanes_of, secrets_by_lanes};
 ghost use Rattle.rapidhash_portable.specs.declared.form.Form.TheVariants.{V3};
 

@@ -1,7 +1,8 @@
--- The forms of the portable hash: what each says of lengths, seeds, secrets and words, a line each.
-use Rattle.std.specs.Prelude.{ℕ, false, ◌*◌, ◌<◌, ◌≤◌, ◌∷◌, [], not, ◌&&◌, List, slice_index, bit_xor, if◌then◌else◌, nat_lt, ◌==◌}
+-- The forms of the portable hash: what each says of lengths, seeds, secrets and words, a line each; and its options.
+use Rattle.std.specs.Prelude.{ℕ, Bool, true, false, ◌*◌, ◌<◌, ◌≤◌, ◌∷◌, [], not, ◌&&◌, List, slice_index, bit_xor, if◌then◌else◌, nat_lt, ◌==◌}
 use Rattle.rapidhash_portable.specs.declared.form.Form.{Form}
 use Rattle.rapidhash_portable.specs.declared.form.Form.TheVariants.{V1, V2, V3}
+use Rattle.rapidhash_portable.specs.declared.form.Options.{Options}
 use Rattle.rapidhash_portable.specs.declared.form.Shape.{Shape}
 use Rattle.rapidhash_portable.specs.Lanes.{no_rows, wide_shape, mixed_shape}
 
@@ -19,6 +20,18 @@ micro = V3 5
 
 abbrev pub nano : Form
 nano = V3 3
+
+-- the options of a call, by its const parameters: whether the last product is mixed once more, and whether each product is mixed with its factors
+abbrev pub options : Bool → Bool → Options
+options avalanche protected = record { avalanche = avalanche; protected = protected }
+
+-- the options of a call that names none: with the last mix, and without the other
+abbrev pub standard : Options
+standard = options true false
+
+-- the same with both
+abbrev pub guarded : Options
+guarded = options true true
 
 -- the forms that plain programs run: V3 with any number of lanes up to seven, of which 7, 5 and 3 are in use
 abbrev pub IsForm : Form → Type 0

@@ -1,11 +1,15 @@
--- The one definition of all portable hashes.
-use Rattle.std.specs.Prelude.{ℕ, List, length, ◌-◌, slice_index, bit_xor, if◌then◌else◌}
+-- The one definition of all portable hashes, and its short names.
+use Rattle.std.specs.Prelude.{ℕ, Bool, List, length, ◌-◌, slice_index, bit_xor, if◌then◌else◌}
 use Rattle.rapidhash_portable.specs.Multiply.{multiply, mix}
 use Rattle.rapidhash_portable.specs.Lanes.{row_bytes, row_pairs, pair_of, after_lanes}
 use Rattle.rapidhash_portable.specs.Tail.{after_tail, picked}
 use Rattle.rapidhash_portable.specs.declared.form.Form.{Form}
+use Rattle.rapidhash_portable.specs.declared.form.Form.TheVariants.{V1, V2, V3}
 use Rattle.rapidhash_portable.specs.declared.form.Options.{Options}
+use Rattle.rapidhash_portable.specs.declared.secrets.RapidSecrets.{RapidSecrets}
+use Rattle.rapidhash_portable.specs.declared.secrets.v1.RapidSecrets.{RapidSecrets as RapidSecretsV1}
 use Rattle.rapidhash_portable.specs.Form.{shape_of, start_seed, tail_seed, tail_places, masks}
+use Rattle.rapidhash_portable.specs.Secrets.{default_secrets, default_secrets_v1, default_seed, default_seed_v1}
 use Rattle.rapidhash_portable.specs.Words.{last_words, mixed_words}
 
 -- the value of the last two words and the seed
@@ -28,3 +32,17 @@ value form options seed secrets n pair words =
 -- the one definition, of a message
 abbrev pub portable_hash : Form → Options → ℕ → List ℕ → List ℕ → ℕ
 portable_hash form options seed secrets x = value form options seed secrets (length x) (pair_of x) (last_words form x)
+
+-- the hash of a message by V2 or V3, with a caller's seed and secrets
+abbrev pub seeded_hash : Form → Options → RapidSecrets → List ℕ → ℕ
+seeded_hash form options secrets x = portable_hash form options secrets.seed secrets.secrets x
+
+-- the same by V1, with its historical fault or without it
+abbrev pub seeded_hash_v1 : Bool → Options → RapidSecretsV1 → List ℕ → ℕ
+seeded_hash_v1 bug options secrets x = portable_hash (V1 bug) options secrets.seed secrets.secrets x
+
+-- the hash of a message by any form, with the form's default seed and secrets
+abbrev pub default_hash : Form → Options → List ℕ → ℕ
+default_hash (V1 bug) options x = portable_hash (V1 bug) options default_seed_v1 default_secrets_v1 x
+default_hash (V2 minor) options x = portable_hash (V2 minor) options default_seed default_secrets x
+default_hash (V3 lanes) options x = portable_hash (V3 lanes) options default_seed default_secrets x

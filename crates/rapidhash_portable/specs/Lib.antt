@@ -2,15 +2,14 @@ pub mod Absorbed
 pub mod Bytes
 pub mod Folded
 pub mod Form
+pub mod GlobalSecrets
 pub mod Hash
 pub mod Lanes
 pub mod Memory
 pub mod Multiply
-pub mod Options
 pub mod Reading
 pub mod Secrets
-pub mod Seeded
-pub mod Seeding
+pub mod SeedSource
 pub mod Source
 pub mod Stream
 pub mod Tail

@@ -6,7 +6,7 @@ ghost use Rattle.std.specs.Prelude.{◌≡◌, ◌≤◌, ◌<◌, ℕ, length, 
 ghost use Rattle.rapidhash_portable.specs.declared.form.Form.TheVariants.{V3};
 ghost use Rattle.rapidhash_portable.specs.Folded.{AfterRows};
 ghost use Rattle.rapidhash_portable.specs.Memory.{after_pairs, longest_narrow, longest_rowless, memory_hash, memory_shape};
-ghost use Rattle.rapidhash_portable.specs.Options.{options};
+ghost use Rattle.rapidhash_portable.specs.Form.{options};
 ghost use Rattle.rapidhash_portable.specs.Words.{last_words, short_words};
 
 use crate::lanes::{mixed_lanes, wide_lanes};

@@ -3,11 +3,13 @@
 ghost use Rattle.std.specs.Prelude.{◌≡◌, ◌<◌, ◌≤◌, ◌∷◌, All};
 ghost use Rattle.rapidhash_portable.specs.Secrets.{IsGood, chained_secrets, cpp_seeded, default_secrets, default_seed, global_seed, made_secrets, premixed, repaired, seeded, seeded_secrets, reseeded, with_bit};
 
+pub mod v1;
+
 use crate::seeding::{GlobalSecrets, SeedSource};
 use crate::util::rapid_mix;
 
 /// A seed and the seven secrets of V2 and V3. Make one once and keep it: making it costs eight
-/// multiplies, and using it none.
+/// multiplies.
 #[repr(C)]
 #[derive(Debug, Clone, Copy, PartialEq, Eq, Hash)]
 pub struct RapidSecrets {
@@ -24,7 +26,8 @@ pub const DEFAULT_RAPID_SECRETS: RapidSecrets = RapidSecrets {
 };
 
 impl RapidSecrets {
-    ghost use Rattle.rapidhash_portable.specs.Seeding.{Draws, secrets_of};
+    ghost use Rattle.rapidhash_portable.specs.GlobalSecrets.{secrets_of};
+    ghost use Rattle.rapidhash_portable.specs.SeedSource.{Draws};
 
     /// Returns the default seed and secrets, [`DEFAULT_RAPID_SECRETS`], by reference.
     ///

@@ -23,7 +23,7 @@ pub struct GlobalSecrets {
 }
 
 impl GlobalSecrets {
-    ghost use Rattle.rapidhash_portable.specs.Seeding.{seed_of, secrets_of};
+    ghost use Rattle.rapidhash_portable.specs.GlobalSecrets.{seed_of, secrets_of};
     ghost use Rattle.rapidhash_portable.specs.Secrets.{IsGood, global_seed, made_secrets};
 
     /// Returns the seed and secrets of a random word. Two calls with the same word return the same
@@ -74,7 +74,8 @@ pub struct SeedSource {
 }
 
 impl SeedSource {
-    ghost use Rattle.rapidhash_portable.specs.Seeding.{Draws, counter_of, random_of, seed_of};
+    ghost use Rattle.rapidhash_portable.specs.GlobalSecrets.{seed_of};
+    ghost use Rattle.rapidhash_portable.specs.SeedSource.{Draws, counter_of, random_of};
     ghost use Rattle.rapidhash_portable.specs.Secrets.{source_start};
 
     /// Returns the source of a seed and a second random word.

@@ -4,7 +4,7 @@
 ghost use Rattle.std.specs.Prelude.{◌≡◌, ◌≤◌, length};
 ghost use Rattle.rapidhash_portable.specs.Hash.{close};
 ghost use Rattle.rapidhash_portable.specs.Lanes.{pair_of};
-ghost use Rattle.rapidhash_portable.specs.Options.{options};
+ghost use Rattle.rapidhash_portable.specs.Form.{options};
 ghost use Rattle.rapidhash_portable.specs.Tail.{after_tail};
 
 use crate::util::{rapid_mix, rapid_mum, read_u64};

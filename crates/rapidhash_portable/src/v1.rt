@@ -1,99 +1,18 @@
 //! rapidhash V1.
 
-ghost use Rattle.std.specs.Prelude.{◌≡◌, ◌∷◌, All, false, true};
+ghost use Rattle.std.specs.Prelude.{◌≡◌, false, true};
 ghost use Rattle.rapidhash_portable.specs.declared.form.Form.TheVariants.{V1};
-ghost use Rattle.rapidhash_portable.specs.Options.{options, standard};
-ghost use Rattle.rapidhash_portable.specs.Secrets.{IsGood, cpp_seeded, default_secrets_v1, default_seed_v1, reseeded, seeded, seeded_secrets};
-ghost use Rattle.rapidhash_portable.specs.Seeded.{default_hash, seeded_hash_v1};
+ghost use Rattle.rapidhash_portable.specs.Form.{options, standard};
+ghost use Rattle.rapidhash_portable.specs.Hash.{default_hash, seeded_hash_v1};
 
 mod readers;
 
 use crate::kernel::v1::hash;
 use crate::kernel::{MIXED, PLAIN, UNROLLED};
-use crate::secrets::{DEFAULT_SECRETS, chain, cpp_seed_of, reseed_of, seed_of};
+pub use crate::secrets::v1::{DEFAULT_RAPID_SECRETS, RapidSecrets};
 pub use readers::{
     rapidhash_v1_file, rapidhash_v1_file_inline, rapidhash_v1_file_seeded, rapidhash_v1_source,
 };
-
-/// A seed and the three secrets of V1. Make one once and keep it: making it costs four multiplies
-/// or more, and using it none. It is laid out as C lays it out, since the C library takes it.
-#[repr(C)]
-#[derive(Debug, Clone, Copy, PartialEq, Eq, Hash)]
-pub struct RapidSecrets {
-    /// What every lane starts from.
-    pub seed: u64,
-    /// What the words of a message are mixed with.
-    pub secrets: [u64; 3],
-}
-
-/// The secrets of [`rapidhash_v1`]: `RapidSecrets::seed_cpp(0xbdd89aa982704029)`, as numbers.
-pub const DEFAULT_RAPID_SECRETS: RapidSecrets = RapidSecrets {
-    seed: 0x7633_05bb_e7be_a536,
-    secrets: [
-        0x2d35_8dcc_aa6c_78a5,
-        0x8bb8_4b93_962e_acc9,
-        0x4b33_a62e_d433_d4a3,
-    ],
-};
-
-impl RapidSecrets {
-    /// Returns the default seed and secrets, [`DEFAULT_RAPID_SECRETS`], by reference.
-    #[inline(always)]
-    #[tactic(auto, using(crate::proofs::SecretsLemmas::default_number_v1))]
-    pub fn default_ref() -> &'static Self
-        ensures seed { result.now.seed ≡ default_seed_v1 }
-        ensures secrets { result.now.secrets ≡ default_secrets_v1 }
-    {
-        &DEFAULT_RAPID_SECRETS
-    }
-
-    /// Returns a seed and secrets made from a number. Each has a set bit in its upper, its middle
-    /// and its lower part, so none is 0.
-    ///
-    /// ```
-    /// use rapidhash::v1::{RapidSecrets, rapidhash_v1_seeded};
-    ///
-    /// let secrets = RapidSecrets::seed(0x1234_5678);
-    /// let hash = rapidhash_v1_seeded(b"hello", &secrets);
-    /// ```
-    pub const fn seed(seed: u64) -> Self
-        ensures seed { result.seed ≡ seeded seed }
-        ensures secrets { result.secrets ≡ seeded_secrets 3 seed }
-        ensures good { All IsGood (result.seed ∷ result.secrets) }
-    {
-        let seed = seed_of(seed);
-        RapidSecrets {
-            seed,
-            secrets: chain::<3>(seed),
-        }
-    }
-
-    /// Returns the same secrets with a new seed, made from the old one with V1's last default
-    /// secret.
-    pub const fn reseed(&self) -> Self
-        ensures seed { result.seed ≡ reseeded self.now.seed 2 }
-        ensures secrets { result.secrets ≡ self.now.secrets }
-        ensures good { IsGood result.seed }
-    {
-        RapidSecrets {
-            seed: reseed_of(self.seed, 2),
-            secrets: self.secrets,
-        }
-    }
-
-    /// Returns the default secrets with a seed made from a number as the C++ library makes it.
-    /// Anyone who knows the default secrets can find messages with the same hash for every seed: if
-    /// that matters, see [`RapidSecrets::seed`].
-    pub const fn seed_cpp(seed: u64) -> Self
-        ensures seed { result.seed ≡ cpp_seeded seed 0 }
-        ensures secrets { result.secrets ≡ default_secrets_v1 }
-    {
-        RapidSecrets {
-            seed: cpp_seed_of(seed, 0),
-            secrets: [DEFAULT_SECRETS[0], DEFAULT_SECRETS[1], DEFAULT_SECRETS[2]],
-        }
-    }
-}
 
 /// Returns the hash of `bytes` with the default seed and secrets.
 ///

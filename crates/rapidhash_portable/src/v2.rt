@@ -2,8 +2,8 @@
 
 ghost use Rattle.std.specs.Prelude.{◌≡◌, ◌≤◌, true, false};
 ghost use Rattle.rapidhash_portable.specs.declared.form.Form.TheVariants.{V2};
-ghost use Rattle.rapidhash_portable.specs.Options.{options, standard};
-ghost use Rattle.rapidhash_portable.specs.Seeded.{default_hash, seeded_hash};
+ghost use Rattle.rapidhash_portable.specs.Form.{options, standard};
+ghost use Rattle.rapidhash_portable.specs.Hash.{default_hash, seeded_hash};
 
 mod readers;
 

@@ -1,9 +1,8 @@
 //! rapidhash V3, and its relatives micro and nano, which differ from it in the number of lanes.
 
 ghost use Rattle.std.specs.Prelude.{◌≡◌, true, false};
-ghost use Rattle.rapidhash_portable.specs.Form.{v3, micro, nano};
-ghost use Rattle.rapidhash_portable.specs.Options.{options, standard};
-ghost use Rattle.rapidhash_portable.specs.Seeded.{default_hash, seeded_hash};
+ghost use Rattle.rapidhash_portable.specs.Form.{micro, nano, options, standard, v3};
+ghost use Rattle.rapidhash_portable.specs.Hash.{default_hash, seeded_hash};
 
 mod readers;
 mod stream;

@@ -3,9 +3,9 @@
 ghost use Rattle.std.specs.Prelude.{◌≡◌, true, IfErr, IfOk, IfSome};
 ghost use Rattle.rapidhash_portable.specs.declared.form.Form.TheVariants.{V3};
 ghost use Rattle.rapidhash.specs.Lanes.{IsLaneCount};
-ghost use Rattle.rapidhash.specs.Options.{options};
+ghost use Rattle.rapidhash.specs.Form.{options};
 ghost use Rattle.rapidhash.specs.Reading.{HashesKnown, HashesNext};
-ghost use Rattle.rapidhash.specs.Seeded.{default_hash};
+ghost use Rattle.rapidhash.specs.Hash.{default_hash};
 ghost use Rattle.rapidhash_tool.specs.Faults.{MayStopFile, MayStopStdin};
 ghost use Rattle.rapidhash_tool.specs.Hashes.{hash_of, read_of, HasLength};
 

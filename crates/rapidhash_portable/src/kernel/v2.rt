@@ -3,9 +3,8 @@
 ghost use Rattle.std.specs.Prelude.{◌≡◌, ◌+◌, ◌*◌, ◌<◌, ◌≤◌, ℕ, List, if◌then◌else◌, nat_lt, drop, length, slice_index};
 ghost use Rattle.rapidhash_portable.specs.declared.form.Form.TheVariants.{V2};
 ghost use Rattle.rapidhash_portable.specs.Folded.{AfterRows};
-ghost use Rattle.rapidhash_portable.specs.Form.{longest_rowless, masks, shape_of, start_seed};
+ghost use Rattle.rapidhash_portable.specs.Form.{longest_rowless, masks, options, shape_of, start_seed};
 ghost use Rattle.rapidhash_portable.specs.Hash.{close, portable_hash};
-ghost use Rattle.rapidhash_portable.specs.Options.{options};
 ghost use Rattle.rapidhash_portable.specs.Words.{last_16, short_words};
 
 use crate::few::mixed_lanes_of;

@@ -3,9 +3,8 @@
 ghost use Rattle.std.specs.Prelude.{◌≡◌, ◌<◌, ◌≤◌, ◌+◌, ◌*◌, ◌%◌, ℕ, List, length, drop};
 ghost use Rattle.rapidhash_portable.specs.declared.form.Form.TheVariants.{V3};
 ghost use Rattle.rapidhash_portable.specs.Folded.{AfterRows};
-ghost use Rattle.rapidhash_portable.specs.Form.{longest_rowless, shape_of, start_seed};
+ghost use Rattle.rapidhash_portable.specs.Form.{longest_rowless, options, shape_of, start_seed};
 ghost use Rattle.rapidhash_portable.specs.Hash.{portable_hash};
-ghost use Rattle.rapidhash_portable.specs.Options.{options};
 ghost use Rattle.rapidhash_portable.specs.Words.{last_16, short_words};
 
 use crate::few::wide_lanes_of;

@@ -2,10 +2,9 @@
 
 ghost use Rattle.std.specs.Prelude.{◌<◌, ◌≤◌, false, true};
 ghost use Rattle.rapidhash_portable.specs.declared.form.Form.TheVariants.{V2};
-ghost use Rattle.rapidhash_portable.specs.Hash.{portable_hash};
-ghost use Rattle.rapidhash_portable.specs.Options.{options, standard};
+ghost use Rattle.rapidhash_portable.specs.Hash.{default_hash, portable_hash, seeded_hash};
+ghost use Rattle.rapidhash_portable.specs.Form.{options, standard};
 ghost use Rattle.rapidhash_portable.specs.Reading.{HashesNext, MarksFailures};
-ghost use Rattle.rapidhash_portable.specs.Seeded.{default_hash, seeded_hash};
 ghost use Rattle.rapidhash_portable.specs.Source.{is_failed, is_marked, reader_of};
 
 use super::RapidSecrets;

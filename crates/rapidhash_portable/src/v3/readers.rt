@@ -5,11 +5,10 @@
 
 ghost use Rattle.std.specs.Prelude.{◌<◌, ◌^◌, false, true};
 ghost use Rattle.rapidhash_portable.specs.declared.form.Form.TheVariants.{V3};
-ghost use Rattle.rapidhash_portable.specs.Form.{v3};
+ghost use Rattle.rapidhash_portable.specs.Form.{options, standard, v3};
 ghost use Rattle.rapidhash_portable.specs.Lanes.{IsLaneCount};
-ghost use Rattle.rapidhash_portable.specs.Options.{options, standard};
 ghost use Rattle.rapidhash_portable.specs.Reading.{HashesAll, HashesKnown, MarksFailures};
-ghost use Rattle.rapidhash_portable.specs.Seeded.{default_hash, seeded_hash};
+ghost use Rattle.rapidhash_portable.specs.Hash.{default_hash, seeded_hash};
 ghost use Rattle.rapidhash_portable.specs.Source.{is_marked, reader_of};
 
 use super::stream::RapidStreamHasherLanes;

@@ -1,8 +1,8 @@
 use Rattle.std.proofs.Common.{◌≡◌, ◌+◌, ◌++◌, ◌∷◌, [], not, nat_eq, subst, sym, ap, ◌∙◌, arith, append_assoc, drop}
 use Rattle.std.proofs.lemmas.List.{append-nil, drop_all}
 use Rattle.rapidhash_portable.specs.declared.form.Form.TheVariants.{V3}
-use Rattle.rapidhash_portable.specs.Options.{options}
-use Rattle.rapidhash_portable.specs.Seeded.{seeded_hash}
+use Rattle.rapidhash_portable.specs.Form.{options}
+use Rattle.rapidhash_portable.specs.Hash.{seeded_hash}
 use Rattle.rapidhash_portable.specs.Stream.{StreamStandsFor, secrets_of}
 use Rattle.rapidhash.specs.Replay.{finishes_from}
 use Rattle.rapidhash.proofs.ReplayLemmas.{finishes_from-step}

@@ -1,5 +1,5 @@
 use Rattle.std.proofs.Common.{◌≡◌, ◌++◌, ℕ, List, not, nat_eq, drop}
-use Rattle.rapidhash_portable.specs.Options.{options}
+use Rattle.rapidhash_portable.specs.Form.{options}
 use Rattle.rapidhash_portable.specs.Stream.{StreamStandsFor, secrets_of}
 use Rattle.rapidhash.specs.Replay.{finishes, finishes_from}
 use Rattle.rapidhash.proofs.laws.replay_lanes.Given as goal

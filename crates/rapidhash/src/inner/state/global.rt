@@ -38,7 +38,7 @@ impl<
     const PROTECTED: bool,
 > State<'s, Global, AVALANCHE, SPONGE, COMPACT, PROTECTED> {
     ghost use Rattle.rapidhash.specs.States.{secrets_of_state, seed_of_state};
-    ghost use Rattle.rapidhash_portable.specs.Seeding.{secrets_of, seed_of};
+    ghost use Rattle.rapidhash_portable.specs.GlobalSecrets.{secrets_of, seed_of};
 
     /// A state of the seed and the secrets of `secrets`.
     #[inline(always)]

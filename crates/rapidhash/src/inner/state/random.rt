@@ -39,7 +39,8 @@ impl<
     const PROTECTED: bool,
 > State<'s, Random, AVALANCHE, SPONGE, COMPACT, PROTECTED> {
     ghost use Rattle.rapidhash.specs.States.{secrets_of_state, seed_of_state};
-    ghost use Rattle.rapidhash_portable.specs.Seeding.{Draws, secrets_of};
+    ghost use Rattle.rapidhash_portable.specs.GlobalSecrets.{secrets_of};
+    ghost use Rattle.rapidhash_portable.specs.SeedSource.{Draws};
 
     /// A state of the next seed of `source` and of the secrets of `secrets`.
     #[inline(always)]

@@ -49,7 +49,8 @@ impl<
     const PROTECTED: bool,
 > State<'s, Seedable, AVALANCHE, SPONGE, COMPACT, PROTECTED> {
     ghost use Rattle.rapidhash.specs.States.{secrets_of_state, seed_of_state};
-    ghost use Rattle.rapidhash_portable.specs.Seeding.{Draws, secrets_of};
+    ghost use Rattle.rapidhash_portable.specs.GlobalSecrets.{secrets_of};
+    ghost use Rattle.rapidhash_portable.specs.SeedSource.{Draws};
 
     /// A state of the secrets of `secrets`, and of a seed made of `seed` as
     /// `v3::RapidSecrets::seed_cpp` makes it.

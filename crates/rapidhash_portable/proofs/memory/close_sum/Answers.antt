@@ -1,6 +1,6 @@
 use Rattle.std.proofs.Common.{not, nat_eq, sym, ◌∙◌}
 use Rattle.rapidhash_portable.specs.declared.form.Form.TheVariants.{V3}
-use Rattle.rapidhash_portable.specs.Options.{options}
+use Rattle.rapidhash_portable.specs.Form.{options}
 use Rattle.rapidhash_portable.proofs.MemoryLemmas.{after_pairs-short, memory_hash-is}
 use Rattle.rapidhash_portable.proofs.WordsLemmas.{last_words-short}
 use Rattle.rapidhash_portable.proofs.memory.close_sum.Goals as goal

@@ -1,8 +1,7 @@
 use Rattle.std.proofs.Common.{◌≡◌, ◌+◌, ◌++◌, ◌∷◌, [], sym, ap, ◌∙◌, arith, append_assoc, drop}
 use Rattle.std.proofs.lemmas.List.{append-nil, drop_all}
 use Rattle.rapidhash_portable.specs.declared.form.Form.TheVariants.{V3}
-use Rattle.rapidhash_portable.specs.Hash.{portable_hash}
-use Rattle.rapidhash_portable.specs.Seeded.{seeded_hash}
+use Rattle.rapidhash_portable.specs.Hash.{portable_hash, seeded_hash}
 use Rattle.rapidhash.specs.Replay.{finishes_from}
 use Rattle.rapidhash.proofs.ReplayLemmas.{finishes_from-step}
 use Rattle.test_definitions.proofs.streams.finishes.Goals as goal

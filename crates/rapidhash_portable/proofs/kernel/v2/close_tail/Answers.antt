@@ -1,8 +1,7 @@
 use Rattle.std.proofs.Common.{not, nat_eq, length, sym, ap, ◌∙◌}
 use Rattle.rapidhash_portable.specs.declared.form.Form.TheVariants.{V2}
-use Rattle.rapidhash_portable.specs.Form.{tail_seed}
+use Rattle.rapidhash_portable.specs.Form.{options, tail_seed}
 use Rattle.rapidhash_portable.specs.Lanes.{pair_of}
-use Rattle.rapidhash_portable.specs.Options.{options}
 use Rattle.rapidhash_portable.specs.Tail.{after_tail, picked}
 use Rattle.rapidhash_portable.specs.Words.{mixed_words}
 use Rattle.rapidhash_portable.proofs.FormLemmas.{long-v2, tail_places-v2-some}

@@ -1,8 +1,7 @@
 use Rattle.std.proofs.Common.{ℕ, List, not, nat_eq, length, bit_xor, sym, ap, ◌∙◌, arith}
 use Rattle.rapidhash_portable.specs.declared.form.Form.TheVariants.{V2}
-use Rattle.rapidhash_portable.specs.Form.{start_seed, tail_seed}
+use Rattle.rapidhash_portable.specs.Form.{options, start_seed, tail_seed}
 use Rattle.rapidhash_portable.specs.Lanes.{pair_of}
-use Rattle.rapidhash_portable.specs.Options.{options}
 use Rattle.rapidhash_portable.specs.Tail.{after_tail, picked}
 use Rattle.rapidhash_portable.specs.Words.{mixed_words}
 use Rattle.rapidhash_portable.proofs.FormLemmas.{rows-none, shape_of-v2-none, tail_places-v2-none}

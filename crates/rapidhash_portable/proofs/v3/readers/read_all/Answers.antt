@@ -5,8 +5,8 @@ use Rattle.std.proofs.lemmas.Grind.{common_steps}
 use Rattle.std.proofs.lemmas.List.{append-nil}
 use Rattle.std.proofs.lemmas.Result.{err_from_is_err_and}
 use Rattle.rapidhash_portable.specs.declared.form.Form.TheVariants.{V3}
-use Rattle.rapidhash_portable.specs.Options.{options}
-use Rattle.rapidhash_portable.specs.Seeded.{seeded_hash}
+use Rattle.rapidhash_portable.specs.Form.{options}
+use Rattle.rapidhash_portable.specs.Hash.{seeded_hash}
 use Rattle.rapidhash_portable.specs.Source.{is_marked}
 use Rattle.rapidhash_portable.specs.Stream.{StreamStandsFor}
 use Rattle.rapidhash_portable.proofs.ReadingLemmas.{HaveRead-more}

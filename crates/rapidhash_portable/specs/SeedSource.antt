@@ -1,16 +1,7 @@
--- Secrets and sources of random words, seen from outside.
-use Rattle.std.specs.Prelude.{ℕ, ◌≡◌, List}
-use Rattle.rapidhash_portable.specs.declared.seeding.GlobalSecrets.{GlobalSecrets}
+-- A source of seeds, seen from outside.
+use Rattle.std.specs.Prelude.{ℕ, ◌≡◌}
 use Rattle.rapidhash_portable.specs.declared.seeding.SeedSource.{SeedSource}
 use Rattle.rapidhash_portable.specs.Secrets.{source_answer, source_next}
-
--- the global seed
-abbrev pub seed_of : GlobalSecrets → ℕ
-seed_of secrets = secrets.seed
-
--- the seven made secrets
-abbrev pub secrets_of : GlobalSecrets → List ℕ
-secrets_of secrets = secrets.secrets
 
 -- the counter of a source, and its random word
 abbrev pub counter_of : SeedSource → ℕ
