@@ -10,7 +10,7 @@ ghost use Rattle.rapidhash_portable.specs.declared.form.Form.TheVariants.{V3};
 use crate::long::{long_v1, long_v2, long_v3};
 use rapidhash::v1::RapidSecrets as RapidSecretsV1;
 use rapidhash::v3::{RapidSecrets, rapidhash_v3_inline};
-use rapidhash_portable::kernel::{MIXED, PLAIN, UNROLLED, v1, v2, v3};
+use rapidhash_portable::kernel::{GUARDED, MIXED, PLAIN, UNROLLED, v1, v2, v3};
 
 /// The hash of `bytes` by V1, with the default seed and secrets.
 #[unsafe(no_mangle)]
@@ -233,7 +233,7 @@ pub extern "C" fn rapidhash_v3_nano_with_seed(bytes: &[u8], seed: u64) -> u64
 pub extern "C" fn rapidhash_v3_protected(bytes: &[u8]) -> u64
     ensures { result ≡ default_hash v3 guarded bytes.now }
 {
-    rapidhash_v3_inline::<MIXED, UNROLLED, true>(bytes, RapidSecrets::default_ref())
+    rapidhash_v3_inline::<MIXED, UNROLLED, GUARDED>(bytes, RapidSecrets::default_ref())
 }
 
 /// The hash of `bytes` by V3 with PROTECTED, with a seed and secrets of the caller's.
@@ -241,5 +241,5 @@ pub extern "C" fn rapidhash_v3_protected(bytes: &[u8]) -> u64
 pub extern "C" fn rapidhash_v3_protected_seeded(bytes: &[u8], secrets: &RapidSecrets) -> u64
     ensures { result ≡ seeded_hash v3 guarded secrets.now bytes.now }
 {
-    rapidhash_v3_inline::<MIXED, UNROLLED, true>(bytes, secrets)
+    rapidhash_v3_inline::<MIXED, UNROLLED, GUARDED>(bytes, secrets)
 }

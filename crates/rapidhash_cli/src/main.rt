@@ -28,10 +28,8 @@ fn length(version: &RapidhashVersion, file: &File) -> Result<u64, CliFault> {
     if !version.needs_length() {
         return Ok(0);
     }
-    match file.metadata() {
-        Ok(metadata) => Ok(metadata.len()),
-        Err(_) => Err(CliFault::File),
-    }
+    let metadata = file.metadata().map_err(|_| CliFault::File)?;
+    Ok(metadata.len())
 }
 
 fn hash_named(rt: &HostRuntime, version: &RapidhashVersion, path: &str) -> Result<(), CliFault> {

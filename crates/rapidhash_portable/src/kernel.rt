@@ -15,3 +15,5 @@ pub const MIXED: bool = true;
 pub const UNROLLED: bool = false;
 /// For `PROTECTED`: no product is mixed with its factors.
 pub const PLAIN: bool = false;
+/// For `PROTECTED`: each product is mixed with its factors.
+pub const GUARDED: bool = true;

@@ -1,7 +1,7 @@
 -- The errors: their numbers, their texts, and which of them a call may return.
 use Rattle.std.specs.Prelude.{ℕ, ◌<◌, codes, List}
-use Rattle.rapidhash_tool.specs.declared.fault.CliFault.{CliFault}
-use Rattle.rapidhash_tool.specs.declared.fault.CliFault.TheVariants.{File, Memory, Open, Stdin, Versions, Write}
+use Rattle.rapidhash_tool.specs.declared.faults.CliFault.{CliFault}
+use Rattle.rapidhash_tool.specs.declared.faults.CliFault.TheVariants.{File, Memory, Open, Stdin, Versions, Write}
 use Rattle.rapidhash_tool.specs.declared.version.RapidhashVersion.{RapidhashVersion}
 use Rattle.rapidhash_tool.specs.declared.version.RapidhashVersion.TheVariants.{V1, V2, V3, V3Micro, V3Nano}
 

@@ -1,8 +1,8 @@
 -- What the tool writes.
 use Rattle.std.specs.Prelude.{ℕ, ◌≡◌, ◌<◌, List, [], ◌∷◌, ◌++◌, length, take, decimal, Option, IfSome, Result, MatchResult}
 use Rattle.std.specs.Io.KnownBytes.{Appends, Keeps}
-use Rattle.rapidhash_tool.specs.declared.fault.CliFault.{CliFault}
-use Rattle.rapidhash_tool.specs.declared.fault.CliFault.TheVariants.{Write}
+use Rattle.rapidhash_tool.specs.declared.faults.CliFault.{CliFault}
+use Rattle.rapidhash_tool.specs.declared.faults.CliFault.TheVariants.{Write}
 use Rattle.rapidhash_tool.specs.declared.version.RapidhashVersion.{RapidhashVersion}
 use Rattle.rapidhash_tool.specs.Hashes.{hash_of, read_of}
 

@@ -1,6 +1,7 @@
-//! The hash by each version.
+//! The hash by each version, and how the bytes are read.
 
-ghost use Rattle.std.specs.Prelude.{◌≡◌, true, IfErr, IfOk, IfSome};
+ghost use Rattle.std.specs.Prelude.{◌≡◌, ◌⊎◌, ◌++◌, true, if◌then◌else◌, is_ok, IfErr, IfOk, IfSome, OnOk};
+ghost use Rattle.std.specs.Io.KnownBytes.{Consumes, IsAtEnd};
 ghost use Rattle.rapidhash_portable.specs.declared.form.Form.TheVariants.{V3};
 ghost use Rattle.rapidhash.specs.Lanes.{IsLaneCount};
 ghost use Rattle.rapidhash.specs.Form.{options};
@@ -9,16 +10,19 @@ ghost use Rattle.rapidhash.specs.Hash.{default_hash};
 ghost use Rattle.rapidhash_tool.specs.Faults.{MayStopFile, MayStopStdin};
 ghost use Rattle.rapidhash_tool.specs.Hashes.{hash_of, read_of, HasLength};
 
-use crate::fault::CliFault;
-use crate::input::{PIECE, read_whole};
+use crate::faults::CliFault;
 use crate::version::{Minor, RapidhashVersion};
 use rapidhash::v1::{rapidhash_v1_file_inline, rapidhash_v1_inline};
 use rapidhash::v2::{rapidhash_v2_file_inline, rapidhash_v2_inline};
 use rapidhash::v3::rapidhash_v3_file_lanes;
 use rapidhash::{v1, v2, v3};
-use std::alloc::Allocator;
+use rapidhash_portable::kernel::{GUARDED, MIXED, PLAIN, UNROLLED};
+use std::alloc::{AllocError, Allocator};
 use std::io;
 use std::io::Read;
+
+// How many bytes a read asks for: the capacity of a Linux pipe.
+const PIECE: usize = 65536;
 
 impl RapidhashVersion {
     /// The hash of all that a reader has left, with the version's default seed and secrets.
@@ -49,10 +53,7 @@ impl RapidhashVersion {
             RapidhashVersion::V3Micro { protected } => hash_v3::<R, 5>(protected, input),
             RapidhashVersion::V3Nano { protected } => hash_v3::<R, 3>(protected, input),
         };
-        match streamed {
-            Ok(hash) => Ok(hash),
-            Err(_) => Err(CliFault::Stdin),
-        }
+        streamed.map_err(|_| CliFault::Stdin)
     }
 
     /// The hash of a file's bytes, with the version's default seed and secrets. It allocates
@@ -83,10 +84,7 @@ impl RapidhashVersion {
             RapidhashVersion::V3Micro { protected } => hash_v3::<R, 5>(protected, reader),
             RapidhashVersion::V3Nano { protected } => hash_v3::<R, 3>(protected, reader),
         };
-        match hash {
-            Ok(hash) => Ok(hash),
-            Err(_) => Err(CliFault::File),
-        }
+        hash.map_err(|_| CliFault::File)
     }
 }
 
@@ -95,9 +93,9 @@ fn hash_v1(protected: bool, bytes: &[u8]) -> u64
 {
     let secrets = v1::RapidSecrets::default_ref();
     if protected {
-        rapidhash_v1_inline::<true, false, true, false>(bytes, secrets)
+        rapidhash_v1_inline::<MIXED, UNROLLED, GUARDED, false>(bytes, secrets)
     } else {
-        rapidhash_v1_inline::<true, false, false, false>(bytes, secrets)
+        rapidhash_v1_inline::<MIXED, UNROLLED, PLAIN, false>(bytes, secrets)
     }
 }
 
@@ -106,12 +104,12 @@ fn hash_v2(version: Minor, protected: bool, bytes: &[u8]) -> u64
 {
     let secrets = v2::RapidSecrets::default_ref();
     match (version, protected) {
-        (Minor::M0, false) => rapidhash_v2_inline::<0, true, false, false>(bytes, secrets),
-        (Minor::M0, true) => rapidhash_v2_inline::<0, true, false, true>(bytes, secrets),
-        (Minor::M1, false) => rapidhash_v2_inline::<1, true, false, false>(bytes, secrets),
-        (Minor::M1, true) => rapidhash_v2_inline::<1, true, false, true>(bytes, secrets),
-        (Minor::M2, false) => rapidhash_v2_inline::<2, true, false, false>(bytes, secrets),
-        (Minor::M2, true) => rapidhash_v2_inline::<2, true, false, true>(bytes, secrets),
+        (Minor::M0, false) => rapidhash_v2_inline::<0, MIXED, UNROLLED, PLAIN>(bytes, secrets),
+        (Minor::M0, true) => rapidhash_v2_inline::<0, MIXED, UNROLLED, GUARDED>(bytes, secrets),
+        (Minor::M1, false) => rapidhash_v2_inline::<1, MIXED, UNROLLED, PLAIN>(bytes, secrets),
+        (Minor::M1, true) => rapidhash_v2_inline::<1, MIXED, UNROLLED, GUARDED>(bytes, secrets),
+        (Minor::M2, false) => rapidhash_v2_inline::<2, MIXED, UNROLLED, PLAIN>(bytes, secrets),
+        (Minor::M2, true) => rapidhash_v2_inline::<2, MIXED, UNROLLED, GUARDED>(bytes, secrets),
     }
 }
 
@@ -121,9 +119,9 @@ fn hash_v1_file<R: Read>(protected: bool, reader: &mut R, len: u64) -> io::Resul
 {
     let secrets = v1::RapidSecrets::default_ref();
     if protected {
-        rapidhash_v1_file_inline::<R, true>(reader, len, secrets)
+        rapidhash_v1_file_inline::<R, GUARDED>(reader, len, secrets)
     } else {
-        rapidhash_v1_file_inline::<R, false>(reader, len, secrets)
+        rapidhash_v1_file_inline::<R, PLAIN>(reader, len, secrets)
     }
 }
 
@@ -138,12 +136,12 @@ fn hash_v2_file<R: Read>(
 {
     let secrets = v2::RapidSecrets::default_ref();
     match (version, protected) {
-        (Minor::M0, false) => rapidhash_v2_file_inline::<R, 0, false>(reader, len, secrets),
-        (Minor::M0, true) => rapidhash_v2_file_inline::<R, 0, true>(reader, len, secrets),
-        (Minor::M1, false) => rapidhash_v2_file_inline::<R, 1, false>(reader, len, secrets),
-        (Minor::M1, true) => rapidhash_v2_file_inline::<R, 1, true>(reader, len, secrets),
-        (Minor::M2, false) => rapidhash_v2_file_inline::<R, 2, false>(reader, len, secrets),
-        (Minor::M2, true) => rapidhash_v2_file_inline::<R, 2, true>(reader, len, secrets),
+        (Minor::M0, false) => rapidhash_v2_file_inline::<R, 0, PLAIN>(reader, len, secrets),
+        (Minor::M0, true) => rapidhash_v2_file_inline::<R, 0, GUARDED>(reader, len, secrets),
+        (Minor::M1, false) => rapidhash_v2_file_inline::<R, 1, PLAIN>(reader, len, secrets),
+        (Minor::M1, true) => rapidhash_v2_file_inline::<R, 1, GUARDED>(reader, len, secrets),
+        (Minor::M2, false) => rapidhash_v2_file_inline::<R, 2, PLAIN>(reader, len, secrets),
+        (Minor::M2, true) => rapidhash_v2_file_inline::<R, 2, GUARDED>(reader, len, secrets),
     }
 }
 
@@ -155,8 +153,47 @@ fn hash_v3<R: Read + Drop, const LANES: usize>(protected: bool, reader: R) -> io
 {
     let secrets = v3::RapidSecrets::default_ref();
     if protected {
-        rapidhash_v3_file_lanes::<R, LANES, PIECE, true>(reader, secrets)
+        rapidhash_v3_file_lanes::<R, LANES, PIECE, GUARDED>(reader, secrets)
     } else {
-        rapidhash_v3_file_lanes::<R, LANES, PIECE, false>(reader, secrets)
+        rapidhash_v3_file_lanes::<R, LANES, PIECE, PLAIN>(reader, secrets)
     }
+}
+
+// Reads all that is left. Each piece is read before memory for it is allocated, and an interrupted
+// read is an error like any other. It is out of line because of its large array.
+#[inline(never)]
+fn read_whole<A: Allocator, R: Read>(alloc: A, input: &mut R) -> Result<Vec<u8, A>, CliFault>
+    ensures whole { IfOk result (λ bytes.
+        Consumes (R.remaining input.old) (R.remaining input.new) bytes.items) }
+    ensures end { OnOk result (IsAtEnd (R.remaining input.new)) }
+    ensures fault { IfErr result (λ fault. (fault ≡ CliFault.Stdin) ⊎ (fault ≡ CliFault.Memory)) }
+{
+    let mut whole = Vec::new(alloc);
+    let mut piece = [0u8; PIECE];
+    for _ in 0..u64::MAX {
+        match input.read(&mut piece) {
+            Ok(0) => return Ok(whole),
+            Ok(count) => {
+                if append(&mut whole, &piece[..count]).is_err() {
+                    return Err(CliFault::Memory);
+                }
+            }
+            Err(_) => return Err(CliFault::Stdin),
+        }
+    }
+    Err(CliFault::Stdin)
+}
+
+// Adds a piece. The vector doubles its capacity; if that allocation fails, it allocates only what
+// the piece needs.
+#[inline(always)]
+fn append<A: Allocator>(whole: &mut Vec<u8, A>, piece: &[u8]) -> Result<(), AllocError>
+    ensures { whole.new.items
+        ≡ (if is_ok result then whole.old.items ++ piece.now else whole.old.items) }
+{
+    if whole.extend_from_slice(piece).is_ok() {
+        return Ok(());
+    }
+    whole.reserve_exact(piece.len())?;
+    whole.extend_from_slice(piece)
 }

@@ -6,18 +6,15 @@
 //! that line or with one [`CliFault`].
 #![tactic(auto)]
 
-mod fault;
+mod command_line;
+mod faults;
 mod hashes;
-mod input;
-mod output;
-mod plans;
-mod run;
+mod lines;
 mod usage;
 mod version;
-mod words;
 
-pub use fault::CliFault;
-pub use plans::plan;
-pub use run::{run_file, run_help, run_stdin};
+pub use command_line::plan;
+pub use faults::CliFault;
+pub use lines::{run_file, run_help, run_stdin};
 pub use usage::help;
 pub use version::{Minor, Plan, RapidhashVersion};

@@ -4,7 +4,7 @@ ghost use Rattle.std.specs.Prelude.{◌≡◌, ◌↔◌, map, string_bytes, IsT
 ghost use Rattle.rapidhash_tool.specs.CommandLine.{version_of, versions, word_of};
 ghost use Rattle.rapidhash_tool.specs.Faults.{NeedsLength};
 
-use crate::words::has;
+use crate::command_line::has;
 
 /// A minor version of V2.
 #[derive(Debug, Clone, Copy, PartialEq, Eq)]
@@ -70,13 +70,13 @@ impl RapidhashVersion {
     /// The version that the arguments after the program's name select: V3 if they name none, and
     /// `None` if they name two. A version named twice counts once, `--protected` may be at any
     /// place, and all other arguments are ignored, also `--help`.
-    pub fn new(words: &[String]) -> Option<Self>
-        ensures { result ≡ version_of (map string_bytes words.now) }
+    pub fn new(args: &[String]) -> Option<Self>
+        ensures { result ≡ version_of (map string_bytes args.now) }
     {
-        let protected = has(words, "--protected");
+        let protected = has(args, "--protected");
         let mut chosen = None;
         for version in RapidhashVersion::all(protected) {
-            if has(words, version.word()) {
+            if has(args, version.word()) {
                 if chosen.is_some() {
                     return None;
                 }

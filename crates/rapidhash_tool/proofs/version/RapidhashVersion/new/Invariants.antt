@@ -5,4 +5,4 @@ use Rattle.rapidhash_tool.proofs.version.RapidhashVersion.new.Given as goal
 
 -- the versions before this one of which the words name one
 abbrev pub invariant-loop-version : goal.invariant-loop-version
-invariant-loop-version l = named (map string_bytes l.words) (take l.version-index l.version-items) ≡ list_of l.chosen
+invariant-loop-version l = named (map string_bytes l.args) (take l.version-index l.version-items) ≡ list_of l.chosen

@@ -1,6 +1,6 @@
 use Rattle.std.proofs.Common.{arith, length-drop}
 use Rattle.rapidhash_tool.proofs.Bytes.{Appends_more, rest_of}
-use Rattle.rapidhash_tool.proofs.output.write_whole.Goals as goal
+use Rattle.rapidhash_tool.proofs.lines.write_whole.Goals as goal
 
 pub loop-at-preserved : goal.loop-at-preserved
 loop-at-preserved g c = (

@@ -2,10 +2,10 @@ use Rattle.std.proofs.Common.{rules, tests, ◌∙◌, string_bytes, bytes_eq}
 use Rattle.std.proofs.lemmas.Iterator.{YieldsList-from_slice}
 use Rattle.std.proofs.lemmas.Iterator.Search.{any_from_yields_List}
 use Rattle.rapidhash_tool.proofs.Mapped.{list_any-map}
-use Rattle.rapidhash_tool.proofs.words.has.Goals as goal
+use Rattle.rapidhash_tool.proofs.command_line.has.Goals as goal
 
 pub returns : goal.returns
 returns c =
     any_from_yields_List (λ s. bytes_eq (string_bytes s) c.args.word.now) _ _ c.any.result c.any.ensures.ran
-    (YieldsList-from_slice c.args.words.now cc) (λ x b q k. search (rules, tests))
-    ∙ list_any-map (λ x. bytes_eq x c.args.word.now) string_bytes c.args.words.now
+    (YieldsList-from_slice c.args.args.now cc) (λ x b q k. search (rules, tests))
+    ∙ list_any-map (λ x. bytes_eq x c.args.word.now) string_bytes c.args.args.now

@@ -2,7 +2,7 @@ use Rattle.std.proofs.Common.{◌∙◌, ◌++◌, ◌∷◌, ap, arith, length-
 use Rattle.std.proofs.lemmas.Fmt.{length-decimal-le}
 use Rattle.std.proofs.lemmas.List.{drop-set, drop_all}
 use Rattle.std.specs.Fmt.{decimal}
-use Rattle.rapidhash_tool.proofs.output.fill_line.Goals as goal
+use Rattle.rapidhash_tool.proofs.lines.fill_line.Goals as goal
 
 pub write_digits-requires : goal.write_digits-requires
 write_digits-requires c = (length-decimal-le 20 c.args.number (omega arith) (omega arith) c.ranges.number.fits, simp length-set (omega arith))
