@@ -1,7 +1,7 @@
 #!/usr/bin/env python3
 """Checks what the pages say against the repository: links and paths lead somewhere, names stand in the
 code, counts are those of the files, pages and lines keep their limits, and what a script makes of the
-sources is current. The last line counts the cases."""
+sources is current."""
 
 import contextlib
 import io
@@ -9,28 +9,15 @@ import re
 import runpy
 import subprocess
 import sys
-from pathlib import Path
 
-sys.dont_write_bytecode = True
-TOP = Path(__file__).resolve().parent.parent
+from cases import TOP, finish, tell
+
 PAGES = sorted([*TOP.glob("*.md"), *TOP.glob("docs/*.md"), *TOP.glob("*/NOTES.md"), TOP / "share" / "dist.md",
                 TOP / "rust" / "README.md"])
 # Folders that builds make, and what lies in an archive or in an installed copy alone.
 BUILT = ("build/", "crates/example_NAME", "tests/example_NAME")
 PATH = re.compile(r"`((?:crates|docs|tests|bench|bin|include|bindings|share|\.ci)/[^` ]*)`")
 NAME = re.compile(r"`([A-Za-z]\w*(?:::\w+)*)`")
-passed = failed = 0
-
-
-def tell(name, findings):
-    """Counts a case, which passes where nothing was found."""
-    global passed, failed
-    if findings:
-        failed += 1
-        print(f"FAILED {name}:", *findings[:20], sep="\n  ")
-    else:
-        passed += 1
-        print(f"ok {name}")
 
 
 def prose(page):
@@ -175,9 +162,6 @@ def version():
         yield f"rapidhash_c_version has no clause {clause}"
 
 
-for name, check in [("links", links), ("paths", paths), ("limits", limits), ("names", names), ("vectors", vectors),
-                    ("version", version), ("statements", statements), ("ratios", ratios), ("calls", calls),
-                    ("figures", figures)]:
-    tell(name, list(check()))
-print(f"{passed} passed, {failed} failed")
-sys.exit(failed > 0)
+for check in (links, paths, limits, names, vectors, version, statements, ratios, calls, figures):
+    tell(check.__name__, *check())
+finish()
