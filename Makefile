@@ -114,6 +114,7 @@ install uninstall: export DATADIR := $(DATADIR)
 install uninstall: export DESTDIR := $(DESTDIR)
 
 install:
+	@$(MAKE) -q all || { echo 'make install: something is old or missing: run make first' >&2; exit 2; }
 	@bin/install
 
 uninstall:
