@@ -3,7 +3,7 @@
 # make quick       lays the sources out, writes the Rust crate, checks the pages, and proves what changed
 # make test        proves and runs the tests of all crates, and runs the programs from end to end
 # make fmt         lays the sources out
-# make bench       measures the hashes, beside the Rust crate where RAPIDHASH_CRATE names its folder
+# make bench       takes the figures of bench/ and docs/ anew, beside the Rust crate that RAPIDHASH_CRATE names
 # make library     proves and builds the library for C, static and shared
 # make wasm        proves and builds the same library for WebAssembly, which bindings/javascript loads
 # make install     copies what make has built, with manual pages and completions, under PREFIX
@@ -90,12 +90,20 @@ test:
 	  echo $$script; $$script || exit 1; \
 	done
 
-bench:
-	@bench/slices default seeded
-	@bench/bulk
-	@bench/files
-	@bench/memory
-	@bench/tool
+# Each bench by its file of figures, with its words. A bench that fails leaves the figures as they are.
+bench: bench/slices.tsv bench/speed.tsv bench/c.tsv bench/files.tsv bench/memory.tsv bench/tool.tsv
+	@bench/figures --write
+
+bench/slices.tsv: measured = slices default seeded
+bench/speed.tsv: measured = slices v3 plot
+bench/c.tsv: measured = slices c seed stream
+bench/files.tsv: measured = files
+bench/memory.tsv: measured = memory
+bench/tool.tsv: measured = tool
+
+.PHONY: always
+bench/%.tsv: always
+	@mkdir -p build && bench/$(measured) >build/$*.tsv && mv build/$*.tsv $@
 
 # The folders go to bin/install as variables, so that no character of theirs is one of the shell's.
 install uninstall: export PREFIX := $(PREFIX)
@@ -106,6 +114,7 @@ install uninstall: export DATADIR := $(DATADIR)
 install uninstall: export DESTDIR := $(DESTDIR)
 
 install:
+	@$(MAKE) -q all || { echo 'make install: something is old or missing: run make first' >&2; exit 2; }
 	@bin/install
 
 uninstall:

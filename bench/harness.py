@@ -1,62 +1,160 @@
-"""Programs that do the same work: builds them, runs them in turns, and prints the least times as a table."""
+"""Programs that do the same work: builds them, runs them in turns on a quiet processor, and prints the least times
+as bench/*.tsv keeps them."""
 
+import argparse
+import datetime
 import math
 import os
+import re
 import subprocess
 import sys
 from pathlib import Path
 
-from quiet import machine_and_date
+from quiet import Processors
 
 TOP = Path(__file__).resolve().parent.parent
+ROOM = TOP / "build" / "bench"
+# This library in Rattle or C, its Rust crate, the crate rapidhash where RAPIDHASH_CRATE names its folder, and XXH3.
+LIBRARIES = "ours rust crate xxh3".split()
+CRATES = {"rust": TOP / "rust"}
+if "RAPIDHASH_CRATE" in os.environ:
+    CRATES["crate"] = Path(os.environ["RAPIDHASH_CRATE"]).resolve()
+MANIFEST = """[package]
+name = "program"
+version = "0.0.0"
+edition = "2024"
+
+[[bin]]
+name = "program"
+path = "{source}"
+
+[features]
+c = []
+further = []
+seed = []
+seeded = []
+yervound = []
+
+[dependencies]
+rapidhash = {{ package = "{package}", path = "{crate}" }}
+
+[profile.release]
+opt-level = 3
+lto = "fat"
+codegen-units = 1
+
+[workspace]
+"""
 
 
-def build(crate, *sources):
-    """Builds the programs and returns their paths: this library in Rattle, the Rust crate in rust/, and the
-    crate rapidhash if RAPIDHASH_CRATE names its folder."""
-    room = TOP / "build" / crate
+def run(*words, folder=ROOM, **settings):
+    """Runs a command that builds something, and ends where it fails."""
+    ROOM.mkdir(parents=True, exist_ok=True)
+    done = subprocess.run(words, cwd=folder, stdin=subprocess.DEVNULL, capture_output=True, text=True, **settings)
+    if done.returncode != 0:
+        sys.exit((done.stdout + done.stderr)[-4000:])
+    return done.stdout.strip()
+
+
+def build_rattle(crate):
+    """This library's program."""
+    run("rt", "run", folder=TOP / "crates" / crate)
+    return TOP / "crates" / crate / "out" / crate
+
+
+def build_rust(name, source, features=(), flags=""):
+    """The program of a source over the crate of this name."""
+    room, crate = ROOM / "_".join([Path(source).stem, name, *features]), CRATES[name]
     room.mkdir(parents=True, exist_ok=True)
-    folder = TOP / "crates" / crate
-    with open(room / "build.log", "w") as log:
-        subprocess.run(["rt", "run"], cwd=folder, stdin=subprocess.DEVNULL, stdout=log, stderr=log, check=True)
-    programs = {"ours": folder / "out" / crate}
-    for name, over in (("rust", TOP / "rust"), ("crate", os.environ.get("RAPIDHASH_CRATE"))):
-        if over:
-            words = [TOP / "bench" / "cargo_program", room / name, over, ""]
-            words += [TOP / "bench" / source for source in sources]
-            programs[name] = subprocess.run(words, stdout=subprocess.PIPE, check=True, text=True).stdout.strip()
-    return programs
+    package = re.search(r'^name = "(.*)"', (crate / "Cargo.toml").read_text(), re.MULTILINE)[1]
+    manifest = MANIFEST.format(source=TOP / "bench" / source, package=package, crate=crate)
+    (room / "Cargo.toml").write_text(manifest)
+    features = [*features, *["yervound"] * (package != "rapidhash")]
+    words = ["cargo", "build", "--release", "--offline", "--quiet", "--features", ",".join(features)]
+    run(*words, folder=room, env=dict(os.environ, RUSTFLAGS=flags))
+    return room / "target" / "release" / "program"
 
 
-def turn(programs, words, best):
-    """Runs each program once. It prints a value, which must be the same for all, and its time, which goes into
-    `best` if it is the least so far."""
-    value = None
-    for name, program in programs.items():
+def build(crate, source):
+    """The programs of a bench by their libraries."""
+    programs = {"ours": [build_rattle(crate)]}
+    return programs | {name: [build_rust(name, source)] for name in CRATES}
+
+
+def take(programs, words, scale):
+    """Runs each program once. It prints a value, which must be the same for all but XXH3, and its time."""
+    values, times = {}, {}
+    for name, program in ((name, program) for name in programs for program in programs[name]):
         found, time = subprocess.run([program, *words], stdout=subprocess.PIPE, check=True, text=True).stdout.split()
-        value = value or found
-        if found != value:
-            sys.exit(f"{' '.join(map(str, words))}: {name} prints {found}, and not {value}")
-        best[name] = min(int(time), best.get(name, int(time)))
+        times[name] = min(times.get(name, math.inf), int(time) / scale)
+        if name != "xxh3" and values.setdefault("all", found) != found:
+            sys.exit(f"{' '.join(map(str, words))}: {name} prints {found}, and not {values['all']}")
+    return times
 
 
-def ratio(theirs, ours):
-    """How many times as long theirs takes."""
-    return theirs / ours
+def asked(usage, known, turns):
+    """What the command line asks for, or all that is known, and how many turns."""
+    parser = argparse.ArgumentParser(description=usage, formatter_class=argparse.RawDescriptionHelpFormatter)
+    parser.add_argument("words", nargs="*", metavar="WORD", help=f"any of: {' '.join(known)}")
+    parser.add_argument("--turns", type=int, default=turns, help="how many turns, of which the least counts")
+    parsed = parser.parse_args()
+    for word in parsed.words:
+        if word not in known and not word.isdecimal():
+            parser.error(f"{word} is no word of this bench")
+    return parsed.words, parsed.turns
 
 
-def mean_ratio(rows, name):
-    """The geometric mean of the crate's times over those of `name`."""
-    return math.exp(sum(math.log(ratio(best["crate"], best[name])) for best in rows) / len(rows))
+def machine_and_date():
+    """The processor, as a reader may compare it with another, and today's date."""
+    told = Path("/proc/cpuinfo").read_text()
+    name = re.search(r"model name\s*: (.*)", told)[1]
+    words = (re.search(rf"^{word}\s*: (\d+)", told, re.M)[1] for word in ("cpu family", "model", "stepping"))
+    where = "family {}, model {}, stepping {}".format(*words)
+    return f"{name} ({where}), {os.cpu_count()} cores, {datetime.date.today()}"
 
 
-def print_table(title, names, rows, unit, scale, digits):
-    """Prints what bench/*.tsv keeps: a row for each `(what, best)`, and the means of the ratios to the crate."""
-    print(f"# {title}: the least of several turns.\n# {machine_and_date()}")
-    print("what", "unit", *names, sep="\t", flush=True)
-    kept = []
-    for what, best in rows:
-        print(what, unit, *(f"{best[name] / scale:.{digits}f}" for name in names), sep="\t", flush=True)
-        kept.append(best)
-    for name in (name for name in names if name != "crate" and "crate" in names):
-        print(f"# mean of crate/{name} {mean_ratio(kept, name):.3f}")
+def measure(title, unit, rows, work, turns):
+    """Prints the least times of all turns. For each of the ROWS, in each turn, WORK returns a name and times by
+    their libraries: so a slow moment of the machine meets a row in few of its turns."""
+    run("cc", "-O2", TOP / "bench" / "quiet.c", "-o", "quiet")
+    processors, best = Processors(ROOM / "quiet"), {}
+    for _ in range(turns):
+        for row in rows:
+            what, times = processors.measure(work, *row)
+            least = best.setdefault(what, {})
+            least.update({name: min(time, least.get(name, time)) for name, time in times.items()})
+    print(f"# {title}, the least of {turns} turns.\n# {machine_and_date()}")
+    print(f"# {processors.disturbed} of {processors.measured} measurements were on a processor that was not quiet.")
+    print_table(unit, best)
+
+
+def ratio(times, theirs="crate", ours="ours"):
+    """How many times as long theirs takes as ours."""
+    return times[theirs] / times[ours]
+
+
+def mean_ratio(rows, ours="ours"):
+    """The geometric mean of the crate's ratios."""
+    return math.exp(sum(math.log(ratio(times, ours=ours)) for times in rows) / len(rows))
+
+
+def print_table(unit, best):
+    """The rows of a file of figures, and a mean for the rows that differ only in their last word."""
+    names = [name for name in LIBRARIES if any(name in times for times in best.values())]
+    print("what", "unit", *names, sep="\t")
+    groups = {}
+    for what, times in best.items():
+        print(what, unit, *(f"{times[name]:.2f}" if name in times else "" for name in names), sep="\t")
+        groups.setdefault(what.rpartition(" ")[0], []).append(times)
+    for group, rows in groups.items():
+        for name in ("ours", "rust"):
+            if group and len(rows) > 1 and all(name in times and "crate" in times for times in rows):
+                print(f"# {group}: mean of crate/{name} {mean_ratio(rows, name):.3f}")
+
+
+def read_figures(name):
+    """What the comments of a file of figures say, and its times by rows and libraries."""
+    lines = (TOP / "bench" / f"{name}.tsv").read_text().splitlines()
+    told = [line.removeprefix("# ") for line in lines if line.startswith("#")]
+    head, *rows = (line.split("\t") for line in lines if not line.startswith("#"))
+    return told, {row[0]: {key: float(time) for key, time in zip(head[2:], row[2:]) if time} for row in rows}

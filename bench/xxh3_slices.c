@@ -1,5 +1,6 @@
 /* What the programs of bench/slices do, by XXH3's 64 bits: xxh3_slices FORM LENGTH PLACE NUMBER PASSES
- * REPEATS [call]. The form is not looked at. Texts, places, loop and sum are those of their_slices.rs. */
+ * REPEATS [call]. The form is not looked at. Texts, places, loop and sum are those of slices.rs. SEED is a
+ * seed word, if the hash is to have one. */
 #define _POSIX_C_SOURCE 200809L
 #define XXH_INLINE_ALL
 #include <inttypes.h>
@@ -59,7 +60,12 @@ static inline __attribute__((always_inline)) uint64_t fold(
 
 static inline __attribute__((always_inline)) uint64_t xxh3(struct text text)
 {
+#ifdef SEED
+    static volatile uint64_t seed = SEED;
+    return XXH3_64bits_withSeed(text.bytes, text.length, seed);
+#else
     return XXH3_64bits(text.bytes, text.length);
+#endif
 }
 
 /* The loop once for each place, behind as many steps. */

@@ -40,20 +40,29 @@ try_with() {
   fi
 }
 
-# Compares the files status, out and err of a run with a status and the files wanted_out and wanted_err:
-# NAME STATUS.
-compare_run() {
-  if [ "$(cat status)" != "$2" ]; then
-    fail "$1" "its status is $(cat status), and not $2"
-  elif ! cmp -s out wanted_out; then
-    fail "$1" "it printed: $(head -c 200 out)"
-  elif ! cmp -s err wanted_err; then
-    fail "$1" "standard error has: $(head -c 200 err)"
+# Runs a command, which has to end so and write this: NAME STATUS OUT ERR COMMAND..
+runs() {
+  local name=$1 wanted=$2 out=$3 err=$4 status
+  shift 4
+  : >out
+  "$@" >out 2>err
+  status=$?
+  if [ "$status" != "$wanted" ]; then
+    fail "$name" "its status is $status, and not $wanted"
+  elif ! printf %s "$out" | cmp -s - out; then
+    fail "$name" "it printed: $(head -c 200 out)"
+  elif ! printf %s "$err" | cmp -s - err; then
+    fail "$name" "standard error has: $(head -c 200 err)"
   else
-    ok "$1"
+    ok "$name"
   fi
-  rm -f status out err
 }
+
+# Commands that fail to write, or have only so much memory.
+to_a_full_disk() { "$@" >/dev/full; }
+to_no_output() { "$@" >&-; }
+to_a_closed_pipe() { "$top/tests/closed_pipe" "$@"; }
+in_kibibytes() (ulimit -v "$1" && exec "${@:2}")
 
 # Prints the counts, and ends with their status.
 finish() {

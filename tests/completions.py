@@ -1,22 +1,17 @@
 #!/usr/bin/env python3
 """Presses the tab key in bash, zsh and fish after lines that begin with rapidhash and rapidsum, and compares
-what the line becomes, or what is offered. A shell that is not installed has no cases. The last line
-counts them."""
+what the line becomes, or what is offered. A shell that is not installed has no cases."""
 
 import os
 import pty
 import select
 import shutil
 import subprocess
-import sys
-import tempfile
 import time
-from pathlib import Path
 
-TOP = Path(__file__).resolve().parent.parent
+from cases import ROOM, TOP, compare, finish
+
 SHARE = TOP / "share"
-ROOM = Path(tempfile.mkdtemp())
-passed = failed = 0
 
 # A line before the tab key and after it, in a folder with the files `only` and `-dash`. Words of a
 # line are printed with a bar between them.
@@ -61,17 +56,6 @@ ZSH = (["zsh", "-f", "-i"],
 SHOW = "show() { printf '<<'; printf '%s|' \"$@\"; printf '>>\\n'; }"
 
 
-def tell(name, is_right, seen):
-    """Counts a case."""
-    global passed, failed
-    if is_right:
-        passed += 1
-        print(f"ok {name}", flush=True)
-    else:
-        failed += 1
-        print(f"FAILED {name}: {seen}", flush=True)
-
-
 class Terminal:
     """A shell at a terminal of its own."""
 
@@ -114,8 +98,7 @@ def press_tabs(shell, start):
         return
     terminal = Terminal(*start)
     for name, line, wanted in LINES:
-        words = terminal.words_after_tab(line)
-        tell(f"{shell}: {name}", words == wanted, f"{line!r} became {words!r}, and not {wanted!r}")
+        compare(f"{shell}: {name}", terminal.words_after_tab(line), wanted)
     terminal.close()
 
 
@@ -126,20 +109,15 @@ def ask_fish():
     for name, line, wanted in OFFERS:
         done = subprocess.run(["fish", "--no-config", "-c", f"{sources} complete -C '{line}'"], cwd=ROOM,
                               stdout=subprocess.PIPE, stderr=subprocess.STDOUT, text=True)
-        offered = [row.partition("\t")[0] for row in done.stdout.splitlines()]
-        tell(f"fish: {name}", offered == wanted, f"{line!r} offers {offered}, and not {wanted}")
+        compare(f"fish: {name}", [row.partition("\t")[0] for row in done.stdout.splitlines()], wanted)
 
 
-try:
-    for made in ("only", "-dash"):
-        (ROOM / made).touch()
-    (ROOM / "functions").mkdir()
-    for program in ("rapidhash", "rapidsum"):
-        shutil.copy(SHARE / f"{program}.zsh", ROOM / "functions" / f"_{program}")
-    press_tabs("bash", BASH)
-    press_tabs("zsh", ZSH)
-    ask_fish()
-finally:
-    shutil.rmtree(ROOM, ignore_errors=True)
-print(f"{passed} passed, {failed} failed")
-sys.exit(failed > 0)
+for made in ("only", "-dash"):
+    (ROOM / made).touch()
+(ROOM / "functions").mkdir()
+for program in ("rapidhash", "rapidsum"):
+    shutil.copy(SHARE / f"{program}.zsh", ROOM / "functions" / f"_{program}")
+press_tabs("bash", BASH)
+press_tabs("zsh", ZSH)
+ask_fish()
+finish()

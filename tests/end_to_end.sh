@@ -1,7 +1,6 @@
 #!/usr/bin/env bash
 # Runs the built tool as its users do, and compares what it prints and how it ends: the hashes of each
-# version, however the bytes come, the words, and the help. It prints a line for each case, and at last
-# how many passed.
+# version, however the bytes come, the words, and the help. The last line counts the cases.
 set -u
 
 top=$(cd "$(dirname "${BASH_SOURCE[0]}")/.." && pwd) || exit 1
@@ -72,96 +71,60 @@ every_version() {
 
 # three_ways NAME HASH WORDS..: the hash of the file `part`, however it is given.
 three_ways() {
-  local name=$1 wanted=$2
-  shift 2
-  run "$@" <part
-  ended "$name-of-stdin" 0 "$wanted"$'\n' ''
-  cat part | run "$@"
-  ended "$name-of-a-pipe" 0 "$wanted"$'\n' ''
-  run "$@" part </dev/null
-  ended "$name-of-a-file" 0 "$wanted"$'\n' ''
+  hashes "$1-of-stdin" "$2" "${@:3}" <part
+  hashes "$1-of-a-pipe" "$2" "${@:3}" < <(cat part)
+  hashes "$1-of-a-file" "$2" "${@:3}" part
 }
 
+exec </dev/null
 for bytes in 0 60 65537 100000000; do
   every_version "$bytes"
 done
-
-echo something | run --v1
-ended stored_run 0 "$line" ''
-
-echo | run --v1 --v1 --strange -
-ended words_that_count_for_nothing 0 $'5006746792674864303\n' ''
+hashes stored_run "$known" --v1 <something
+hashes words_that_count_for_nothing 5006746792674864303 --v1 --v1 --strange - < <(echo)
 
 # What the manual says of words that are ignored: standard input is hashed by V3, with status 0.
 for word in --V1 --version -hx --protected=true - --; do
-  echo something | run "$word"
-  ended "ignored_$word" 0 "$line_of_v3" ''
+  hashes "ignored_$word" "$known_by_v3" "$word" <something
 done
-echo something | run -- --no-file
-ended ignored_after_two_hyphens 0 "$line_of_v3" ''
+hashes ignored_after_two_hyphens "$known_by_v3" -- --no-file <something
 
-echo something >'a file with spaces'
-run --v1 'a file with spaces'
-ended file_with_spaces 0 "$line" ''
-
-cp 'a file with spaces' ./--v3
-run ./--v3 --v1
-ended file_named_as_an_option 0 "$line" ''
-
-run 'a file with spaces' missing --v1
-ended first_of_two_files 0 "$line" ''
-
-{ printf some; sleep 0.1; echo thing; } | run --v1
-ended two_pieces 0 "$line" ''
-
-slowly ten_million | run
-mv out of_a_slow_pipe
-run ten_million
-ended slow_pipe 0 "$(cat of_a_slow_pipe)"$'\n' ''
+cp something 'a file with spaces'
+hashes file_with_spaces "$known" --v1 'a file with spaces'
+cp something ./--v3
+hashes file_named_as_an_option "$known" ./--v3 --v1
+hashes first_of_two_files "$known" 'a file with spaces' missing --v1
+hashes two_pieces "$known" --v1 < <(printf some; sleep 0.1; echo thing)
+hashes slow_pipe "$("$tool" ten_million)" < <(slowly ten_million)
 
 # More than 128 MiB, which V1 and V2 keep in memory.
-head -c 140000000 /dev/zero | run --v1
-ended v1_of_140_million_bytes 0 $'15042570400923500380\n' ''
-head -c 140000000 /dev/zero | run --v2.2
-ended v2_2_of_140_million_bytes 0 $'1949155381881807616\n' ''
+hashes v1_of_140_million_bytes 15042570400923500380 --v1 < <(head -c 140000000 /dev/zero)
+hashes v2_2_of_140_million_bytes 1949155381881807616 --v2.2 < <(head -c 140000000 /dev/zero)
 
 mkfifo fifo
 cat large >fifo &
-run --v3 fifo
-ended file_that_is_a_pipe 0 $'17274253787457370873\n' ''
+hashes file_that_is_a_pipe 17274253787457370873 --v3 fifo
 wait
 
 # What the manual says of files whose metadata says 0 bytes: V1 and V2 hash no byte of them.
 for version in --v1 --v2.0 --v2.1 --v2.2; do
-  run "$version" </dev/null
-  mv out of_no_bytes
+  of_no_bytes=$("$tool" "$version")
   for file in /dev/zero /proc/version; do
-    run "$version" "$file" </dev/null
-    ended "no_bytes_of_$file$version" 0 "$(cat of_no_bytes)"$'\n' ''
+    hashes "no_bytes_of_$file$version" "$of_no_bytes" "$version" "$file"
   done
-  run "$version" <(echo something) </dev/null
-  ended "no_bytes_of_a_pipe$version" 0 "$(cat of_no_bytes)"$'\n' ''
+  hashes "no_bytes_of_a_pipe$version" "$of_no_bytes" "$version" <(echo something)
 done
-run --v1 </proc/version
-mv out of_proc
-cat /proc/version | run --v1
-ended file_of_proc_on_standard_input 0 "$(cat of_proc)"$'\n' ''
-run --v3 /proc/version
-mv out of_proc
-run --v3 </proc/version
-ended file_of_proc_by_v3 0 "$(cat of_proc)"$'\n' ''
+hashes file_of_proc_on_standard_input "$("$tool" --v1 </proc/version)" --v1 < <(cat /proc/version)
+of_proc=$("$tool" --v3 /proc/version)
+hashes file_of_proc_by_v3 "$of_proc" --v3 </proc/version
 
 # By a link, from another folder, by the name that the link has.
 ln -s "$tool" linked
-echo something | ./linked --v1 >out 2>err
-echo $? >status
-ended by_a_link 0 "$line" ''
+runs by_a_link 0 "$known"$'\n' '' ./linked --v1 <something
 
 # Five thousand words, of which the last one chooses.
-words=()
-for i in $(seq 1 4999); do words+=("--word$i"); done
-echo something | run "${words[@]}" --v1
-ended many_words 0 "$line" ''
+mapfile -t words < <(seq -f '--word%g' 4999)
+hashes many_words "$known" "${words[@]}" --v1 <something
 
 # The help, wherever its word stands.
 cat >help <<'HELP'
@@ -185,25 +148,16 @@ buffering the entire input in memory.
 
 Docs: https://github.com/hoxxep/rapidhash?tab=readme-ov-file#cli
 HELP
-help=$(cat help)$'\n'
-run --help </dev/null
-ended help 0 "$help" ''
-
-run missing --v1 --v3 -h </dev/null
-ended help_last 0 "$help" ''
-
-"$tool" --help 2>err >/dev/full
-echo $? >status
-: >out
-ended help_to_a_full_output 1 '' "$write_fault"
+runs help 0 "$(cat help)"$'\n' '' "$tool" --help
+runs help_last 0 "$(cat help)"$'\n' '' "$tool" missing --v1 --v3 -h
+runs help_to_a_full_output 1 '' "$write_fault" to_a_full_disk "$tool" --help
 
 # The replay that rt ci has built: it holds each body with each of its options, so it compares the compact
 # code too. The names have the options as numbers; V2.1 and V2.2 share their code for rows.
 replay=$top/crates/test_replay/out/test_replay
 if [ -e "$replay" ]; then
   bodies=$(nm "$replay" | grep -oE '(memory|v[123])::with_(wide_)?rows::<[^>]*>' | sort -u | sed 's/::<.*//' | uniq -c)
-  # shellcheck disable=SC2086
-  [ "$(echo $bodies)" = \
+  [ "$(xargs <<<"$bodies")" = \
     '8 memory::with_rows 8 memory::with_wide_rows 16 v1::with_rows 16 v2::with_rows 16 v3::with_rows' ]
   tell replay_has_all_options $?
 else

@@ -1,17 +1,15 @@
 #!/usr/bin/env python3
 """Tests bin/eraser.py: each ghost form, what it must keep, and what it must refuse. Then checks each source of
 the Rust crate against the Rattle source that it was made from, by a walk of its own: the tokens of the one
-stand in the other in the same order, and each gap is a known ghost form or a row of bin/rust_crate. The last
-line counts the cases."""
+stand in the other in the same order, and each gap is a known ghost form or a row of bin/rust_crate."""
 
 import re
 import sys
 from importlib.machinery import SourceFileLoader
 from importlib.util import module_from_spec, spec_from_loader
-from pathlib import Path
 
-sys.dont_write_bytecode = True
-TOP = Path(__file__).resolve().parent.parent
+from cases import TOP, compare, finish, tell
+
 sys.path.insert(0, str(TOP / "bin"))
 from eraser import Eraser, Refused  # noqa: E402
 
@@ -115,7 +113,7 @@ def behind_gaps(words, at, left_out):
 
 
 def difference(rattle, rust, left_out):
-    """Where the two texts part, or nothing."""
+    """Where the two texts part."""
     theirs, ours = words_of(rattle), words_of(rust)
     at, place = behind_gaps(theirs, 0, left_out), 0
     while at < len(theirs) and place < len(ours):
@@ -126,7 +124,7 @@ def difference(rattle, rust, left_out):
             break
         at = following
     left = " ".join(theirs[at : at + 8]), " ".join(ours[place : place + 8])
-    return "{!r} is not {!r}".format(*left) if any(left) else ""
+    return ["{!r} is not {!r}".format(*left)] if any(left) else []
 
 
 def sources():
@@ -148,19 +146,12 @@ def erased(text):
         return refused
 
 
-def main():
-    findings = {name: "" if erased(old) == new else f"{erased(old)!r}" for name, (old, new) in ERASED.items()}
-    findings |= {f"{name} is kept": "" if erased(text) == text else f"{erased(text)!r}" for name, text in KEPT.items()}
-    for name, text in REFUSED.items():
-        findings[f"{name} is refused"] = "" if isinstance(erased(text), Refused) else f"{erased(text)!r}"
-    for name, rattle, rust, left_out in sources():
-        findings[f"{name}.rs is {name}.rt without its contracts"] = difference(rattle, rust, left_out)
-    for name, finding in findings.items():
-        print(f"FAILED {name}: {finding}" if finding else f"ok {name}")
-    failed = sum(map(bool, findings.values()))
-    print(f"{len(findings) - failed} passed, {failed} failed")
-    sys.exit(failed > 0)
-
-
-if __name__ == "__main__":
-    main()
+for name, (old, new) in ERASED.items():
+    compare(name, erased(old), new)
+for name, text in KEPT.items():
+    compare(f"{name} is kept", erased(text), text)
+for name, text in REFUSED.items():
+    tell(f"{name} is refused", *[f"{erased(text)!r}"] * (not isinstance(erased(text), Refused)))
+for name, rattle, rust, left_out in sources():
+    tell(f"{name}.rs is {name}.rt without its contracts", *difference(rattle, rust, left_out))
+finish()

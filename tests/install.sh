@@ -60,16 +60,6 @@ has_the_licences() {
     cmp LICENSE-APACHE "$prefix/share/doc/rapidhash/LICENSE-APACHE"
 }
 
-# Completes a word of a program with bash, and compares the answers: PROGRAM WORD ANSWERS.
-completes() {
-  bash -c '
-    . "$1/share/bash-completion/completions/$2"
-    COMP_WORDS=("$2" "$3") COMP_CWORD=1
-    "_$2" 2>/dev/null
-    echo "${COMPREPLY[*]}"
-  ' - "$prefix" "$1" "$2" | grep -qx -- "$3"
-}
-
 # Every option that the help of a program names stands in a file: PROGRAM, how many there are, FILE.
 names_every_option() {
   local program=$1 count=$2 file=$3 option options pattern
@@ -81,7 +71,7 @@ names_every_option() {
   for option in $options; do
     pattern=${option//./[.]}
     case $file in
-    */_*) pattern="$pattern[}']*\\[" ;; # zsh offers what has a description, and excludes other options.
+    */_*) pattern="${pattern}[}']*\\[" ;; # zsh offers what has a description, and excludes other options.
     *) pattern="(^|[^a-z0-9.-]|--)${pattern#--}([^a-z0-9.-]|[.] |\$)" ;;
     esac
     sed 's/\\//g' "$file" | grep -qE -e "$pattern" || {
@@ -171,24 +161,6 @@ refuses_characters() {
   done
 }
 
-# Nothing is copied if a program or the library is older than its sources, or the shared library than the
-# static one.
-wants_each_built() {
-  local stale=$room/each program=crates/rapidhash_cli/out/rapidhash_cli sums=crates/example_sums/out/example_sums
-  local archive=crates/rapidhash_c/out/librapidhash_c.a shared=build/librapidhash_c.so.1 row said
-  mkdir -p "$stale"/{bin,build,share} "$stale"/crates/{rapidhash_cli,example_sums,rapidhash_c}/{src,out} &&
-    cp "$top/Makefile" "$stale" && cp "$top/bin/install" "$stale/bin" && cd "$stale" &&
-    : >share/librapidhash_c.map && : >crates.txt || return 1
-  for row in "tool $program" "sums $sums" "library $archive" "library $shared"; do
-    touch -d 2021-01-01 crates.txt share/* crates/*/src && touch -d 2022-01-01 "$program" "$sums" "$archive" &&
-      touch -d 2023-01-01 "$shared" && make -q tool sums library && touch -d 2020-01-01 "${row#* }" || return 1
-    said=$(PREFIX=$room/none BINDIR=$room/none LIBDIR=$room/none INCLUDEDIR=$room/none \
-      DATADIR=$room/none bin/install 2>&1) && return 1
-    [ "$said" = "make install: the ${row% *} is old or missing: run make first" ] || return 1
-  done
-  [ ! -e "$room/none" ]
-}
-
 # Programs and the shared library may be run by all, and every other file may be read by all.
 has_the_modes() {
   [ -z "$(find "$prefix" -type f ! -perm 644 ! -perm 755)" ] &&
@@ -209,8 +181,6 @@ try manual is_a_clean_manual rapidhash
 try manual_of_sums is_a_clean_manual rapidsum
 try example_of_the_manual compares_by_the_manual
 cd "$top" || exit 1
-try bash_completion completes rapidhash --v3- '--v3-micro --v3-nano'
-try bash_completion_of_sums completes rapidsum --s '--status --strict'
 for file in man/man1/NAME.1 bash-completion/completions/NAME zsh/site-functions/_NAME \
   fish/vendor_completions.d/NAME.fish; do
   for program in 'rapidhash 8' 'rapidsum 8'; do
@@ -222,11 +192,9 @@ done
 try folder_of_any_name serves_a_folder_of_any_name
 try relative_folder refuses PREFIX=usr
 try relative_folder_of_libraries refuses PREFIX=/usr LIBDIR=lib
-try folder_with_a_quote refuses PREFIX='/usr/a"b'
 try folders_of_a_packager serves_a_packager
 try nothing_built wants_a_build_first
 try characters_of_folders refuses_characters
-try old_products wants_each_built
 try uninstall make -s -C "$top" uninstall PREFIX="$prefix"
 try nothing_left is_empty "$prefix"
 

@@ -1,7 +1,7 @@
 #!/usr/bin/env python3
 """Checks what the pages say against the repository: links and paths lead somewhere, names stand in the
 code, counts are those of the files, pages and lines keep their limits, and what a script makes of the
-sources is current. The last line counts the cases."""
+sources is current."""
 
 import contextlib
 import io
@@ -9,27 +9,15 @@ import re
 import runpy
 import subprocess
 import sys
-from pathlib import Path
 
-sys.dont_write_bytecode = True
-TOP = Path(__file__).resolve().parent.parent
-PAGES = sorted([*TOP.glob("*.md"), *TOP.glob("docs/*.md"), TOP / "share" / "dist.md", TOP / "rust" / "README.md"])
+from cases import TOP, finish, tell
+
+PAGES = sorted([*TOP.glob("*.md"), *TOP.glob("docs/*.md"), *TOP.glob("*/NOTES.md"), TOP / "share" / "dist.md",
+                TOP / "rust" / "README.md"])
 # Folders that builds make, and what lies in an archive or in an installed copy alone.
 BUILT = ("build/", "crates/example_NAME", "tests/example_NAME")
 PATH = re.compile(r"`((?:crates|docs|tests|bench|bin|include|bindings|share|\.ci)/[^` ]*)`")
 NAME = re.compile(r"`([A-Za-z]\w*(?:::\w+)*)`")
-passed = failed = 0
-
-
-def tell(name, findings):
-    """Counts a case, which passes where nothing was found."""
-    global passed, failed
-    if findings:
-        failed += 1
-        print(f"FAILED {name}:", *findings[:20], sep="\n  ")
-    else:
-        passed += 1
-        print(f"ok {name}")
 
 
 def prose(page):
@@ -100,32 +88,12 @@ def names():
                         yield f"{place(page, number)}: no {part} of {name} in the code"
 
 
-def edits():
-    count = len(list(TOP.glob("crates/*/must-fail/*.edit")))
-    if f"{count} must-fail edits" not in " ".join((TOP / "docs" / "PROVED.md").read_text().split()):
-        yield f"there are {count} must-fail edits, and docs/PROVED.md says another number"
-
-
-def cases():
-    """Compares what the page on the vector files says of each file and of each table with the files."""
+def vectors():
+    """Each vector file stands in a table of the page beside it, and nothing else does."""
     data = TOP / "crates" / "test_replay" / "data"
-    listed, promised, found = set(), 0, 0
-    for line in (data / "README.md").read_text().splitlines() + ["0 cases"]:
-        row, head = re.match(r"\| (`.*?) \| (\d+)", line), re.match(r"([\d,]+) cases", line)
-        if head:
-            if found != promised:
-                yield f"the files of a table have {found} cases, and its heading says {promised}"
-            promised, found = int(head[1].replace(",", "")), 0
-        for name in re.findall(r"`(\w+\.tsv)`", row[1]) if row else []:
-            lines = (data / name).read_text().splitlines()
-            # The first line without a # has the names of the columns.
-            count = sum(1 for text in lines if not text.startswith("#")) - 1
-            listed.add(name)
-            found += count
-            if count != int(row[2]):
-                yield f"{name} has {count} cases, and the page says {row[2]}"
-    for name in {file.name for file in data.glob("*.tsv")} - listed:
-        yield f"no table has {name}"
+    rows = re.findall(r"^\| (`[^|]*)", (data / "README.md").read_text(), re.MULTILINE)
+    for name in {file.name for file in data.glob("*.tsv")} ^ set(re.findall(r"`(\w+\.tsv)`", "".join(rows))):
+        yield f"{name} stands in the page or in the folder alone"
 
 
 def statements():
@@ -152,42 +120,21 @@ def calls():
     return made_by("bin/api", "--check")
 
 
-def plot_of_the_speed():
-    return made_by("bench/plot", "--check")
+def figures():
+    return made_by("bench/figures", "--check")
 
 
 def ratios():
-    """Where the crate takes 3 and ours 2, each bench must print 1.500."""
+    """Where the crate takes 3 and ours 2, the benches and the tables of figures have 1.50."""
     sys.path.insert(0, str(TOP / "bench"))
-    harness, bulk, slices = (runpy.run_path(TOP / "bench" / name) for name in ("harness.py", "bulk", "slices"))
-    best = {"ours": 2, "rust": 4, "crate": 3}
-    for call, words, means in (
-        (harness["print_table"], ("", list(best), [("", best)], "ms", 1, 0), ["ours 1.500", "rust 0.750"]),
-        (slices["print_form"], (False, "v3", {16: best}), ["ours 1.500", "rust 0.750"]),
-        (bulk["print_rows"], ("v3", ["ours", "crate"], {16: [2, 3]}), ["ours 1.500"]),
-    ):
-        with contextlib.redirect_stdout(io.StringIO()) as printed:
-            call(*words)
-        found = re.findall(r"crate/(\w+ [\d.]+)", printed.getvalue())
-        if found != means:
-            yield f"{call.__name__} of a bench prints {found}, and not {means}"
-
-
-def code_lines(files, comment):
-    lines = [line.strip() for file in files for line in file.read_text().splitlines()]
-    return sum(1 for line in lines if line and not line.startswith(comment))
-
-
-def program_lines():
-    readme = (TOP / "README.md").read_text()
-    for program in ("bloom", "dedupe", "perfect", "shards", "sums"):
-        crate = TOP / "crates" / f"example_{program}"
-        code = code_lines([f for f in crate.glob("src/*.rt") if "tests" not in f.name], "//")
-        specs = code_lines(crate.glob("specs/**/*.antt"), "--")
-        proofs = code_lines(crate.glob("proofs/**/*.antt"), "--")
-        row = next(line for line in readme.splitlines() if line.startswith(f"| `example_{program}`"))
-        if not row.endswith(f"| {code}, {specs}, {proofs} |"):
-            yield f"example_{program} has {code}, {specs}, {proofs} lines"
+    harness, made = (runpy.run_path(TOP / "bench" / name) for name in ("harness.py", "figures"))
+    times = {"ours": 2, "rust": 4, "crate": 3}
+    with contextlib.redirect_stdout(io.StringIO()) as printed:
+        harness["print_table"]("ms", {"v3 1": times, "v3 2": times})
+    found = re.findall(r"crate/(\w+ [\d.]+)", printed.getvalue())
+    found += [made["cell"](times, "ours", "crate"), made["means"]({"v3 1": times}, {"v3": "v3"})]
+    if found != ["ours 1.500", "rust 0.750", "2.00 (1.50)", {"v3": 1.5}]:
+        yield f"the ratios are {found}"
 
 
 VERSIONS = {
@@ -215,10 +162,6 @@ def version():
         yield f"rapidhash_c_version has no clause {clause}"
 
 
-for name, check in [("links", links), ("paths", paths), ("limits", limits), ("names", names),
-                    ("edits", edits), ("cases", cases), ("lines of the programs", program_lines), ("version", version),
-                    ("statements", statements), ("ratios", ratios), ("calls", calls),
-                    ("plot of the speed", plot_of_the_speed)]:
-    tell(name, list(check()))
-print(f"{passed} passed, {failed} failed")
-sys.exit(failed > 0)
+for check in (links, paths, limits, names, vectors, version, statements, ratios, calls, figures):
+    tell(check.__name__, *check())
+finish()

@@ -1,20 +1,17 @@
 #!/usr/bin/env python3
 """Runs what README.md shows: each command of its shell blocks, and its two programs in a new repository
 that the library was copied into. A command or a block that this test does not know is a failure, so
-nothing in README.md goes untried. The values are those of the Rust crate. The last line counts the
-cases. With the words --repository FOLDER it only writes that repository, for tests/vendor.sh."""
+nothing in README.md goes untried. The values are those of the Rust crate. With the words --repository FOLDER it
+only writes that repository, for tests/vendor.sh."""
 
 import os
 import re
 import shutil
 import subprocess
 import sys
-import tempfile
 from pathlib import Path
 
-TOP = Path(__file__).resolve().parent.parent
-ROOM = Path(tempfile.mkdtemp())
-passed = failed = 0
+from cases import ROOM, TOP, compare, finish, tell
 
 # Commands that other tests run: the gate itself, and tests/install.sh.
 ELSEWHERE = ('make && make install PREFIX="$HOME/.local"', "make check")
@@ -61,17 +58,6 @@ fn main(rt: HostRuntime) -> Result<()> {{
 PRINTED = "43 14860858794976638546 43 11612086640089003834 2\n"
 
 
-def tell(name, is_right, seen=""):
-    """Counts a case."""
-    global passed, failed
-    if is_right:
-        passed += 1
-        print(f"ok {name}", flush=True)
-    else:
-        failed += 1
-        print(f"FAILED {name}: {seen[-600:]}", flush=True)
-
-
 def blocks():
     """The code blocks of README.md, each with its language."""
     return re.findall(r"^```(\w+)\n(.*?)^```$", (TOP / "README.md").read_text(), re.MULTILINE | re.DOTALL)
@@ -93,7 +79,7 @@ def run_command(command, comment, programs):
     is_right = done.returncode == 0 and (said is None or done.stdout.strip() == said[1])
     if command.startswith("cc "):
         is_right = is_right and shell("build/c_library", TOP).returncode == 0
-    tell(command, is_right, done.stdout)
+    tell(command, *[done.stdout[-600:]] * (not is_right))
 
 
 def run_shell_blocks():
@@ -121,14 +107,14 @@ def parted(text):
 def write_repository(place):
     """A repository of a user's own, with both programs in one crate and the library by make vendor."""
     programs = [text for language, text in blocks() if language == "rust"]
-    tell("two programs", len(programs) == 2)
+    compare("two programs", len(programs), 2)
     crate = place / "crates" / "readme"
     (crate / "src").mkdir(parents=True)
     (crate / "data").mkdir()
     (crate / "data" / "something").write_text("something\n")
     (crate / "stdout").write_text(PRINTED)
     done = shell(f"make -s vendor INTO='{place}'", TOP)
-    tell("make vendor", done.returncode == 0, done.stdout)
+    tell("make vendor", *[done.stdout[-600:]] * (done.returncode != 0))
     lines = [line for line in done.stdout.splitlines() if re.match(r"^\w+:", line)]
     wanted = [line.replace("YOUR_CRATE", "readme") + (" anyhow" if "YOUR" in line else "") for line in lines]
     (place / "crates.txt").write_text("\n".join(wanted) + "\n")
@@ -147,16 +133,12 @@ def run_programs():
     shell("rt run -- 2>/dev/null", crate)
     shutil.copy(crate / "data" / "something", ROOM)
     done = shell(f"{crate}/out/readme", ROOM)
-    tell("the programs of README.md", done.stdout == PRINTED, done.stdout)
+    compare("the programs of README.md", done.stdout, PRINTED)
 
 
-try:
-    if sys.argv[1:2] == ["--repository"]:
-        write_repository(Path(sys.argv[2]))
-    else:
-        run_shell_blocks()
-        run_programs()
-finally:
-    shutil.rmtree(ROOM, ignore_errors=True)
-print(f"{passed} passed, {failed} failed")
-sys.exit(failed > 0)
+if sys.argv[1:2] == ["--repository"]:
+    write_repository(Path(sys.argv[2]))
+else:
+    run_shell_blocks()
+    run_programs()
+finish()

@@ -6,23 +6,20 @@ tool=$top/bin/rapidhash
 . "$top/tests/cases.sh"
 cd "$room" || exit 1
 
-# ended NAME STATUS OUT ERR: compares the files status, out and err with what a run has to leave.
-ended() {
-  printf '%s' "$3" >wanted_out
-  printf '%s' "$4" >wanted_err
-  compare_run "$1" "$2"
+# A run of the tool that prints a hash and nothing else: NAME HASH WORDS..
+hashes() {
+  runs "$1" 0 "$2"$'\n' '' "$tool" "${@:3}"
 }
 
-# Runs the tool with these words, and leaves its status and what it wrote.
-run() {
-  "$tool" "$@" >out 2>err
-  echo $? >status
+# A run that writes nothing but a message, with status 1: NAME MESSAGE WORDS..
+fault() {
+  runs "$1" 1 '' "$2" "$tool" "${@:3}"
 }
 
 # shellcheck disable=SC2034
 {
-  line=$'15965596575264898037\n'
-  line_of_v3=$'11612086640089003834\n'
+  known=15965596575264898037
+  known_by_v3=11612086640089003834
   versions_fault=$'You must specify a single rapidhash version to use. See --help for more.\n'
   open_fault=$'Could not open file.\n'
   stdin_fault=$'Could not read from stdin.\n'
@@ -32,9 +29,7 @@ run() {
 }
 
 # The first call builds the tool where it must, and says so on standard error.
-if ! "$tool" --v1 </dev/null >/dev/null; then
-  fail build 'the tool was not built'
-  finish
-fi
+prepare_by "$tool" --help
+echo something >something
 seq 1 20000000 | head -c 100000000 >large
 head -c 10000000 large >ten_million

@@ -1,4 +1,4 @@
-//! Does what `bench_memory` does, by the Rust crate: it prints a number that all its work
+//! Does what `bench_memory` does, by a crate: it prints a number that all its work
 //! goes into, and the nanoseconds it took. As there, what is timed is not inlined, so that what stands
 //! beside it changes nothing.
 

@@ -1,4 +1,4 @@
-//! Hashes a file by the Rust crate's file forms, and prints the hash and how many microseconds it
+//! Hashes a file by a crate's file forms, and prints the hash and how many microseconds it
 //! took. The forms `read-Nk` only read the file, by pieces of N KiB, and the forms `hash-Nk` only hash
 //! as many pieces in memory: both print the number of bytes in the place of a hash.
 

@@ -1,0 +1,45 @@
+# What the tests of the example programs read first: a copy of the built program in a folder of its own, ways to run it,
+# and the cases that programs share. `top` is the repository, `name` the program.
+# shellcheck shell=bash
+# shellcheck source=tests/cases.sh
+. "$top/tests/cases.sh"
+prepare_by make -s -C "$top" "$name"
+program=$room/$name
+cp "$top/crates/$name/out/$name" "$program" && mkdir "$room/at" && cd "$room/at" || exit 1
+
+# A run that ends well and prints the file wanted: NAME COMMAND..
+prints() {
+  local case=$1
+  shift
+  "$@" >out 2>"$room/log" && [ ! -s "$room/log" ] && cmp out wanted >"$room/log"
+  tell "$case" $?
+}
+
+# A run that prints nothing but a message, and perhaps the usage after it: NAME STATUS MESSAGE COMMAND..
+fault() {
+  local case=$1 status=$2 message=$3
+  shift 3
+  "$@" >out 2>"$room/log"
+  [ $? -eq "$status" ] && [ ! -s out ] && [ "$(sed '/^usage: /,$d' "$room/log")" = "$name: $message" ]
+  tell "$case" $?
+}
+
+# The failures of reading standard input and of writing standard output: COMMAND..
+fails_to_read() {
+  fault folder_as_input 1 'could not read standard input: Is a directory (os error 21)' "$@" </
+  fault no_input 1 'could not read standard input: Bad file descriptor (os error 9)' "$@" <&-
+}
+fails_to_write() {
+  fault full_disk 1 'could not write standard output: No space left on device (os error 28)' to_a_full_disk "$@"
+  fault closed_pipe 1 'could not write standard output: Broken pipe (os error 32)' to_a_closed_pipe "$@"
+  fault no_output 1 'could not write standard output: Bad file descriptor (os error 9)' to_no_output "$@"
+}
+
+# Another user, if this one may read all: then what is unreadable shows only to that one.
+# shellcheck disable=SC2034
+as_user=()
+if [ "$(id -u)" -eq 0 ]; then
+  chmod 755 "$room" && chmod 777 "$room/at"
+  # shellcheck disable=SC2034
+  as_user=(setpriv --reuid=65534 --regid=65534 --clear-groups)
+fi
