@@ -6,7 +6,7 @@
 #![tactic(auto)]
 
 mod compare;
-mod fault;
+mod error;
 mod groups;
 mod names;
 mod print;
@@ -18,7 +18,7 @@ ghost use Rattle.std.specs.Prelude.{true, false};
 ghost use Rattle.rapidhash_portable.specs.Form.{standard, v3};
 ghost use Rattle.rapidhash_portable.specs.Hash.{default_hash};
 
-use fault::Fault;
+use error::Error;
 use names::{Names, Search};
 use rapidhash::inner::{GlobalSecrets, SeedSource};
 use rapidhash::v3::rapidhash_v3_file;
@@ -41,36 +41,36 @@ impl Fingerprint for Rapidhash {
     }
 }
 
-fn random_word(rt: &HostRuntime) -> Result<u64, Fault> {
+fn random_word(rt: &HostRuntime) -> Result<u64, Error> {
     let mut bytes = [0; 8];
-    rt.fill_bytes(&mut bytes).map_err(Fault::Random)?;
+    rt.fill_bytes(&mut bytes).map_err(Error::Random)?;
     Ok(u64::from_le_bytes(bytes))
 }
 
 // The names in the arguments.
-fn gather(rt: &HostRuntime) -> Result<Vec<String>, Fault> {
-    let words = match env::args(rt) {
-        Ok(words) => words,
+fn gather(rt: &HostRuntime) -> Result<Vec<String>, Error> {
+    let args = match env::args(rt) {
+        Ok(args) => args,
         Err(error) if error.kind() == ErrorKind::OutOfMemory => {
-            return Err(Fault::Memory(AllocError));
+            return Err(Error::Memory(AllocError));
         }
-        Err(_) => return Err(Fault::Words),
+        Err(_) => return Err(Error::Args),
     };
     let mut names = Vec::new(rt.alloc());
-    for word in words.skip(1) {
-        if word.as_str().starts_with("--") {
-            return Err(Fault::Option(word));
+    for arg in args.skip(1) {
+        if arg.as_str().starts_with("--") {
+            return Err(Error::Option(arg));
         }
-        names.push(word)?;
+        names.push(arg)?;
     }
     if names.is_empty() {
-        return Err(Fault::NoName);
+        return Err(Error::NoName);
     }
     Ok(names)
 }
 
 // Whether everything that was named could be read.
-fn run(rt: &HostRuntime) -> Result<bool, Fault> {
+fn run(rt: &HostRuntime) -> Result<bool, Error> {
     let names = gather(rt)?;
     let secrets = GlobalSecrets::new(random_word(rt)?);
     let mut source = SeedSource::new(&secrets, random_word(rt)?);
@@ -83,7 +83,7 @@ fn run(rt: &HostRuntime) -> Result<bool, Fault> {
     let files = search.files.as_slice();
     let store = Names { rt, files };
     let places = groups::groups(&store, &Rapidhash, files.len(), rt.alloc(), state)?;
-    let mut out = BufWriter::new(rt.alloc(), io::writer(rt)).map_err(Fault::of_write)?;
+    let mut out = BufWriter::new(rt.alloc(), io::writer(rt)).map_err(Error::of_write)?;
     let failures = print::print_groups(rt, &mut out, files, places.as_slice())?;
     Ok(search.failures == 0 && failures == 0)
 }
@@ -92,10 +92,10 @@ fn main(rt: HostRuntime) -> ExitCode {
     match run(&rt) {
         Ok(true) => ExitCode::SUCCESS,
         Ok(false) => ExitCode::FAILURE,
-        Err(fault) => {
+        Err(error) => {
             // If standard error cannot be written, the status still reports the error.
-            let _ = eprintln!(rt; "example_dedupe: {fault}");
-            fault.status()
+            let _ = eprintln!(rt; "example_dedupe: {error}");
+            error.status()
         }
     }
 }

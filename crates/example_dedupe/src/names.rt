@@ -2,7 +2,7 @@
 
 ghost use Rattle.std.specs.Prelude.{None};
 
-use crate::fault::Fault;
+use crate::error::Error;
 use crate::store::Store;
 use rapidhash::RapidHashSet;
 use std::alloc::AllocError;
@@ -74,9 +74,9 @@ impl<'s> Search<'s> {
     }
 
     // A failure to read a name does not stop the search, but a failed allocation does.
-    fn fail(&mut self, rt: &HostRuntime, name: &str, error: io::Error) -> Result<(), Fault> {
+    fn fail(&mut self, rt: &HostRuntime, name: &str, error: io::Error) -> Result<(), Error> {
         if error.kind() == ErrorKind::OutOfMemory {
-            return Err(Fault::Memory(AllocError));
+            return Err(Error::Memory(AllocError));
         }
         tell(rt, name, &error);
         self.failures = self.failures.saturating_add(1);
@@ -85,7 +85,7 @@ impl<'s> Search<'s> {
 
     // A file is used once, however many names it has. What is neither a file nor a folder, such as
     // a symbolic link below a folder, is left out.
-    fn visit(&mut self, name: String, metadata: Metadata) -> Result<(), Fault> {
+    fn visit(&mut self, name: String, metadata: Metadata) -> Result<(), Error> {
         if metadata.is_dir() {
             self.folders.push(name)?;
         } else if metadata.is_file() && self.seen.insert((metadata.dev(), metadata.ino()))? {
@@ -96,7 +96,7 @@ impl<'s> Search<'s> {
     }
 
     // The names of one folder.
-    fn visit_folder(&mut self, rt: &HostRuntime, folder: &str) -> Result<(), Fault> {
+    fn visit_folder(&mut self, rt: &HostRuntime, folder: &str) -> Result<(), Error> {
         let entries = match fs::read_dir(rt, folder) {
             Ok(entries) => entries,
             Err(error) => return self.fail(rt, folder, error),
@@ -125,7 +125,7 @@ impl<'s> Search<'s> {
 
     /// Finds the files of a name, and of all folders below it. A name that is a symbolic link is
     /// followed; one below a folder is not.
-    pub fn find(&mut self, rt: &HostRuntime, name: String) -> Result<(), Fault> {
+    pub fn find(&mut self, rt: &HostRuntime, name: String) -> Result<(), Error> {
         match fs::metadata(rt, name.as_str()) {
             Ok(metadata) => self.visit(name, metadata)?,
             Err(error) => self.fail(rt, name.as_str(), error)?,

@@ -1,6 +1,6 @@
 //! How groups are printed.
 
-use crate::fault::Fault;
+use crate::error::Error;
 use crate::names::{Named, tell};
 use std::alloc::{AllocError, Global};
 use std::io;
@@ -26,13 +26,13 @@ fn print_group<W: Write>(
     out: &mut W,
     files: &[Named],
     group: &[(usize, usize)],
-) -> Result<(), Fault> {
+) -> Result<(), Error> {
     for (_, file) in group {
         if let Some(named) = files.get(*file) {
-            writeln!(out, "{}", named.name.as_str()).map_err(Fault::of_write)?;
+            writeln!(out, "{}", named.name.as_str()).map_err(Error::of_write)?;
         }
     }
-    writeln!(out, "").map_err(Fault::of_write)
+    writeln!(out, "").map_err(Error::of_write)
 }
 
 /// Prints each group of two or more files: a name a line, and an empty line after the group. Each
@@ -43,7 +43,7 @@ pub fn print_groups<W: Write>(
     out: &mut W,
     files: &[Named],
     places: &[io::Result<usize>],
-) -> Result<u64, Fault> {
+) -> Result<u64, Error> {
     let pairs = in_order(rt.alloc(), places)?;
     for group in pairs
         .as_slice()
@@ -53,7 +53,7 @@ pub fn print_groups<W: Write>(
             print_group(out, files, group)?;
         }
     }
-    out.flush().map_err(Fault::of_write)?;
+    out.flush().map_err(Error::of_write)?;
     let mut failures = 0u64;
     for (named, place) in files.iter().zip(places) {
         if let Err(error) = place {

@@ -6,27 +6,27 @@
 //! lines each node has. `--without NODE` removes a node that was named before it.
 #![tactic(auto)]
 
-mod fault;
+mod args;
+mod error;
 mod nodes;
 mod shards;
 mod spread;
 #[cfg(test)]
 mod tests;
-mod words;
 
-use fault::Fault;
+use args::gather;
+use error::Error;
 use std::io;
 use std::io::{BufReader, BufWriter};
 use std::process::ExitCode;
-use words::gather;
 
-fn run(rt: &HostRuntime) -> Result<(), Fault> {
-    let words = gather(rt)?;
-    let nodes = words.nodes.as_slice();
-    let mut input = BufReader::new(rt.alloc(), rt.reader()).map_err(Fault::of_read)?;
-    let mut out = BufWriter::new(rt.alloc(), io::writer(rt)).map_err(Fault::of_write)?;
+fn run(rt: &HostRuntime) -> Result<(), Error> {
+    let args = gather(rt)?;
+    let nodes = args.nodes.as_slice();
+    let mut input = BufReader::new(rt.alloc(), rt.reader()).map_err(Error::of_read)?;
+    let mut out = BufWriter::new(rt.alloc(), io::writer(rt)).map_err(Error::of_write)?;
     let mut line = Vec::new(rt.alloc());
-    if !words.counts {
+    if !args.counts {
         return spread::spread(&mut input, &mut out, &mut line, nodes);
     }
     let mut counts = vec![in rt.alloc(); 0u64; nodes.len()]?;
@@ -37,10 +37,10 @@ fn run(rt: &HostRuntime) -> Result<(), Fault> {
 fn main(rt: HostRuntime) -> ExitCode {
     match run(&rt) {
         Ok(()) => ExitCode::SUCCESS,
-        Err(fault) => {
+        Err(error) => {
             // If standard error cannot be written, the status still reports the error.
-            let _ = eprintln!(rt; "example_shards: {fault}");
-            fault.status()
+            let _ = eprintln!(rt; "example_shards: {error}");
+            error.status()
         }
     }
 }

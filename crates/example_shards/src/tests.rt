@@ -1,6 +1,6 @@
 //! Lines of three nodes. The expected nodes come from the Rust crate `rapidhash` 4.5.1.
 
-use crate::fault::Fault;
+use crate::error::Error;
 use crate::nodes::Node;
 use crate::shards::{pick, put_in, take_out};
 use crate::spread::{count, print_counts, spread};
@@ -16,7 +16,7 @@ fn nodes(alloc: Global) -> Result<Vec<Node>, AllocError> {
     Ok(nodes)
 }
 
-fn spread_lines(alloc: Global, nodes: &[Node]) -> Result<Vec<u8>, Fault> {
+fn spread_lines(alloc: Global, nodes: &[Node]) -> Result<Vec<u8>, Error> {
     let mut input = LINES;
     let mut out = Vec::new(alloc);
     let mut line = Vec::new(alloc);

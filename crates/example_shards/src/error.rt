@@ -4,14 +4,13 @@ use std::alloc::AllocError;
 use std::io;
 use std::io::ErrorKind;
 use std::process::ExitCode;
-use thiserror::Error;
 
 /// Why the program stopped.
-#[derive(Debug, Drop, Error)]
-pub enum Fault {
+#[derive(Debug, Drop, thiserror::Error)]
+pub enum Error {
     /// `env::args` returns no argument at all if one of them is not UTF-8.
     #[error("an argument is not UTF-8")]
-    Words,
+    Args,
     #[error("no option has the name {0}")]
     Option(String),
     #[error("no node is named")]
@@ -30,28 +29,28 @@ pub enum Fault {
     Memory(#[from(alloc)] AllocError),
 }
 
-impl Fault {
+impl Error {
     /// The exit status: 2 for wrong arguments, and 1 for a run that failed.
     pub fn status(&self) -> ExitCode {
         match self {
-            Fault::Read(_) | Fault::Write(_) | Fault::Memory(_) => ExitCode::from(1),
+            Error::Read(_) | Error::Write(_) | Error::Memory(_) => ExitCode::from(1),
             _ => ExitCode::from(2),
         }
     }
 
     /// A failed read or allocation.
-    pub fn of_read(error: io::Error) -> Fault {
+    pub fn of_read(error: io::Error) -> Error {
         if error.kind() == ErrorKind::OutOfMemory {
-            return Fault::Memory(AllocError);
+            return Error::Memory(AllocError);
         }
-        Fault::Read(error)
+        Error::Read(error)
     }
 
     /// A failed write or allocation.
-    pub fn of_write(error: io::Error) -> Fault {
+    pub fn of_write(error: io::Error) -> Error {
         if error.kind() == ErrorKind::OutOfMemory {
-            return Fault::Memory(AllocError);
+            return Error::Memory(AllocError);
         }
-        Fault::Write(error)
+        Error::Write(error)
     }
 }

@@ -1,6 +1,6 @@
 //! What the arguments ask for.
 
-use crate::fault::Fault;
+use crate::error::Error;
 use crate::nodes::Node;
 use crate::shards::{put_in, take_out};
 use std::alloc::AllocError;
@@ -10,7 +10,7 @@ use std::rt::Env;
 
 /// What the arguments ask for.
 #[derive(Drop)]
-pub struct Words {
+pub struct Args {
     /// Whether only the count of each node's lines is printed.
     pub counts: bool,
     /// The nodes, each with a name of its own, and at least one.
@@ -23,9 +23,9 @@ fn find(nodes: &[Node], name: &str) -> Option<usize> {
 }
 
 // Adds a node after the others, or reports that the name is there already.
-fn add(nodes: &mut Vec<Node>, name: String) -> Result<(), Fault> {
+fn add(nodes: &mut Vec<Node>, name: String) -> Result<(), Error> {
     if find(nodes.as_slice(), name.as_str()).is_some() {
-        return Err(Fault::Twice(name));
+        return Err(Error::Twice(name));
     }
     let at = nodes.len();
     put_in(nodes, at, Node::new(name))?;
@@ -33,47 +33,47 @@ fn add(nodes: &mut Vec<Node>, name: String) -> Result<(), Fault> {
 }
 
 // Removes the node of this name.
-fn leave(nodes: &mut Vec<Node>, name: String) -> Result<(), Fault> {
+fn leave(nodes: &mut Vec<Node>, name: String) -> Result<(), Error> {
     match find(nodes.as_slice(), name.as_str()) {
         Some(at) if at < nodes.len() => {
             take_out(nodes, at);
             Ok(())
         }
-        _ => Err(Fault::Without(name)),
+        _ => Err(Error::Without(name)),
     }
 }
 
 /// Parses the arguments: `[--counts] NODE.. [--without NODE]`.
-pub fn gather(rt: &(impl Env + AllocGlobal)) -> Result<Words, Fault> {
-    let words = match env::args(rt) {
-        Ok(words) => words,
+pub fn gather(rt: &(impl Env + AllocGlobal)) -> Result<Args, Error> {
+    let args = match env::args(rt) {
+        Ok(args) => args,
         Err(error) if error.kind() == ErrorKind::OutOfMemory => {
-            return Err(Fault::Memory(AllocError));
+            return Err(Error::Memory(AllocError));
         }
-        Err(_) => return Err(Fault::Words),
+        Err(_) => return Err(Error::Args),
     };
     let mut counts = false;
     let mut without = false;
     let mut nodes = Vec::new(rt.alloc());
-    for word in words.skip(1) {
+    for arg in args.skip(1) {
         if without {
-            leave(&mut nodes, word)?;
+            leave(&mut nodes, arg)?;
             without = false;
-        } else if word.as_str() == "--counts" {
+        } else if arg.as_str() == "--counts" {
             counts = true;
-        } else if word.as_str() == "--without" {
+        } else if arg.as_str() == "--without" {
             without = true;
-        } else if word.as_str().starts_with("--") {
-            return Err(Fault::Option(word));
+        } else if arg.as_str().starts_with("--") {
+            return Err(Error::Option(arg));
         } else {
-            add(&mut nodes, word)?;
+            add(&mut nodes, arg)?;
         }
     }
     if without {
-        return Err(Fault::Behind);
+        return Err(Error::Behind);
     }
     if nodes.is_empty() {
-        return Err(Fault::NoNode);
+        return Err(Error::NoNode);
     }
-    Ok(Words { counts, nodes })
+    Ok(Args { counts, nodes })
 }

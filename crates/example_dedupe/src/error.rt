@@ -4,14 +4,13 @@ use std::alloc::AllocError;
 use std::io;
 use std::io::ErrorKind;
 use std::process::ExitCode;
-use thiserror::Error;
 
 /// Why the program stopped. A file that cannot be read does not stop it.
-#[derive(Debug, Drop, Error)]
-pub enum Fault {
+#[derive(Debug, Drop, thiserror::Error)]
+pub enum Error {
     /// `env::args` returns no argument at all if one of them is not UTF-8.
     #[error("an argument is not UTF-8")]
-    Words,
+    Args,
     #[error("no file or folder is named")]
     NoName,
     #[error("no option has the name {0}")]
@@ -24,20 +23,20 @@ pub enum Fault {
     Memory(#[from(alloc)] AllocError),
 }
 
-impl Fault {
+impl Error {
     /// The exit status: 2 for wrong arguments, and 1 for a run that failed.
     pub fn status(&self) -> ExitCode {
         match self {
-            Fault::Words | Fault::NoName | Fault::Option(_) => ExitCode::from(2),
+            Error::Args | Error::NoName | Error::Option(_) => ExitCode::from(2),
             _ => ExitCode::from(1),
         }
     }
 
     /// A failed write or allocation.
-    pub fn of_write(error: io::Error) -> Fault {
+    pub fn of_write(error: io::Error) -> Error {
         if error.kind() == ErrorKind::OutOfMemory {
-            return Fault::Memory(AllocError);
+            return Error::Memory(AllocError);
         }
-        Fault::Write(error)
+        Error::Write(error)
     }
 }
