@@ -40,7 +40,8 @@ calls() {
   echo input | PATH=$room/kit:$PATH "$tool" "${@:6}" >out 2>"$room/log"
   status=$?
   # shellcheck disable=SC2053
-  [ "$status" = "$2" ] && [ "$(cat out)" = "$3" ] && [ "$(grep -c . starts)" -eq "$4" ] && [[ $(cat "$room/log") == $5 ]]
+  [ "$status" = "$2" ] && [ "$(cat out)" = "$3" ] && [ "$(grep -c . starts)" -eq "$4" ] &&
+    [[ $(cat "$room/log") == $5 ]]
   tell "$1" $?
 }
 
@@ -86,7 +87,8 @@ tell two_first_calls_at_once $?
 
 new_repository
 printf 'echo "error: tail.rt:1: not proved"; exit 1\n' >during
-calls failed_build 2 '' 1 "$told"$'\nerror: tail.rt:1: not proved\nmake: the build failed; all that rt said is in build/rapidhash_cli.log\nmake: \*\*\*'*
+calls failed_build 2 '' 1 \
+  "$told"$'\nerror: tail.rt:1: not proved\nmake: the build failed; all that rt said is in build/*.log\nmake: \*\*\*'*
 printf 'echo "no room on the device"; exit 1\n' >during
 calls failed_build_with_no_cause 2 '' 2 "$told"*'no room on the device'*'make: the build failed;'*
 rm during
@@ -94,7 +96,8 @@ calls call_after_a_failed_build 7 $'first\ninput' 3 "$told"
 new_repository
 mkdir few && ln -s "$(command -v make)" "$(command -v sh)" /usr/bin/{dirname,readlink,find} few
 PATH=$room/few repo/bin/rapidhash >out 2>"$room/log"
-[ $? -eq 2 ] && [ ! -s out ] && [ ! -e starts ] && grep -qx 'make: rt, the command of the Rattle kit, is not on PATH' "$room/log"
+[ $? -eq 2 ] && [ ! -s out ] && [ ! -e starts ] &&
+  grep -qx 'make: rt, the command of the Rattle kit, is not on PATH' "$room/log"
 tell no_rt $?
 
 finish
