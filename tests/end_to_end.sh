@@ -18,9 +18,9 @@ slowly() {
 
 # three_ways NAME HASH WORDS..: the hash of the file `part`, however it is given.
 three_ways() {
-  hashes "$1-of-stdin" "$2" "${@:3}" <part
-  hashes "$1-of-a-pipe" "$2" "${@:3}" < <(cat part)
-  hashes "$1-of-a-file" "$2" "${@:3}" part
+  hashes "$1_of_stdin" "$2" "${@:3}" <part
+  hashes "$1_of_a_pipe" "$2" "${@:3}" < <(cat part)
+  hashes "$1_of_a_file" "$2" "${@:3}" part
 }
 
 # Every version over so many bytes of the file `large`, and protected, from standard input, a pipe and a file.

@@ -135,7 +135,8 @@ def sources():
             for files, old, new, _reason in rust_crate.REPLACED:
                 rattle = rattle.replace(old, new) if files == "*" or name in files.split() else rattle
             head, _, rust = (TOP / "rust" / folder / f"{name}.rs").read_text().partition("\n\n")
-            begins = [begin for file, some, _reason in rust_crate.LEFT_OUT if file == f"{folder}/{name}" for begin in some]
+            left_out = (some for file, some, _reason in rust_crate.LEFT_OUT if file == f"{folder}/{name}")
+            begins = [begin for some in left_out for begin in some]
             yield name, rattle, rust if head.startswith("// Made by bin/rust_crate from") else head, begins
 
 

@@ -52,13 +52,6 @@ links_the_archive() {
   runs_the_example -I"$prefix/include" "$prefix/lib/librapidhash_c.a"
 }
 
-# The licences and the notice of the crate whose hashes these are.
-has_the_licences() {
-  grep -q 'Liam Gray' "$prefix/share/doc/rapidhash/NOTICE" &&
-    cmp LICENSE-MIT "$prefix/share/doc/rapidhash/LICENSE-MIT" &&
-    cmp LICENSE-APACHE "$prefix/share/doc/rapidhash/LICENSE-APACHE"
-}
-
 # Every option that the help of a program names stands in a file: PROGRAM, how many there are, FILE.
 names_every_option() {
   local program=$1 count=$2 file=$3 option options pattern
@@ -166,7 +159,7 @@ try program prints_the_known_hash
 try program_of_sums prints_and_checks_a_sum
 try shared_library links_by_pkg_config
 try static_library links_the_archive
-try licences has_the_licences
+try licences has_the_licences "$prefix/share/doc/rapidhash"
 try modes has_the_modes
 try manual is_a_clean_manual rapidhash
 try manual_of_sums is_a_clean_manual rapidsum
