@@ -44,7 +44,6 @@ try_with() {
 runs() {
   local name=$1 wanted=$2 out=$3 err=$4 status
   shift 4
-  : >out
   "$@" >out 2>err
   status=$?
   if [ "$status" != "$wanted" ]; then
