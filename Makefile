@@ -106,7 +106,12 @@ bench/%.tsv: always
 	@mkdir -p build && bench/$(measured) >build/$*.tsv && mv build/$*.tsv $@
 
 # The folders go to bin/install as variables, so that no character of theirs is one of the shell's.
-export PREFIX BINDIR LIBDIR INCLUDEDIR DATADIR DESTDIR
+install uninstall: export PREFIX := $(PREFIX)
+install uninstall: export BINDIR := $(BINDIR)
+install uninstall: export LIBDIR := $(LIBDIR)
+install uninstall: export INCLUDEDIR := $(INCLUDEDIR)
+install uninstall: export DATADIR := $(DATADIR)
+install uninstall: export DESTDIR := $(DESTDIR)
 
 install:
 	@$(MAKE) -q all || { echo 'make install: something is old or missing: run make first' >&2; exit 2; }
