@@ -10,8 +10,6 @@ import subprocess
 import sys
 from pathlib import Path
 
-from quiet import Processors
-
 TOP = Path(__file__).resolve().parent.parent
 ROOM = TOP / "build" / "bench"
 # This library in Rattle or C, its Rust crate, the crate rapidhash where RAPIDHASH_CRATE names its folder, and XXH3.
@@ -19,6 +17,10 @@ LIBRARIES = "ours rust crate xxh3".split()
 CRATES = {"rust": TOP / "rust"}
 if "RAPIDHASH_CRATE" in os.environ:
     CRATES["crate"] = Path(os.environ["RAPIDHASH_CRATE"]).resolve()
+# How often a measurement is repeated until a processor was quiet before and after it.
+TRIES = 4
+# A loop that takes up to this much more than the fastest that was seen ran on a quiet processor.
+ALLOWED = 1.035
 MANIFEST = """[package]
 name = "program"
 version = "0.0.0"
@@ -111,6 +113,35 @@ def machine_and_date():
     words = (re.search(rf"^{word}\s*: (\d+)", told, re.M)[1] for word in ("cpu family", "model", "stepping"))
     where = "family {}, model {}, stepping {}".format(*words)
     return f"{name} ({where}), {os.cpu_count()} cores, {datetime.date.today()}"
+
+
+class Processors:
+    """The processors of this machine. PROGRAM is bench/quiet.c, compiled."""
+
+    def __init__(self, program):
+        self.program = program
+        self.numbers = sorted(os.sched_getaffinity(0))
+        self.least = min(self.nanos(number) for number in self.numbers * 8)
+        self.measured = self.disturbed = 0
+
+    def nanos(self, number):
+        """What the fixed loop takes on a processor now. This program and those that it starts stay there."""
+        os.sched_setaffinity(0, {number})
+        return int(subprocess.run([self.program], stdout=subprocess.PIPE, check=True).stdout)
+
+    def measure(self, work, *words):
+        """What work(*words) returns, on a processor that was quiet before and after it. If none was in TRIES
+        attempts, it is the last result, and counts as disturbed."""
+        self.measured += 1
+        for _ in range(TRIES):
+            before, number = min((self.nanos(number), number) for number in self.numbers)
+            self.least = min(self.least, before)
+            os.sched_setaffinity(0, {number})
+            result = work(*words)
+            if max(before, self.nanos(number)) <= ALLOWED * self.least:
+                return result
+        self.disturbed += 1
+        return result
 
 
 def measure(title, unit, rows, work, turns):

@@ -88,17 +88,13 @@ fn texts<S: BuildHasher, const PLACE: u64, const CALL: bool>(
 }
 
 fn hashed<S: BuildHasher>(state: S, item: &str, number: u64, place: u64) -> u64 {
-    match place {
-        0 => hashed_at::<S, 0>(state, item, number),
-        1 => hashed_at::<S, 1>(state, item, number),
-        2 => hashed_at::<S, 2>(state, item, number),
-        3 => hashed_at::<S, 3>(state, item, number),
-        4 => hashed_at::<S, 4>(state, item, number),
-        5 => hashed_at::<S, 5>(state, item, number),
-        6 => hashed_at::<S, 6>(state, item, number),
-        7 => hashed_at::<S, 7>(state, item, number),
-        _ => panic!("no place {place}"),
+    macro_rules! at_place {
+        ($($number:literal)*) => { match place {
+            $($number => hashed_at::<S, $number>(state, item, number),)*
+            _ => panic!("no place {place}"),
+        } };
     }
+    at_place!(0 1 2 3 4 5 6 7)
 }
 
 fn hashed_at<S: BuildHasher, const PLACE: u64>(state: S, item: &str, number: u64) -> u64 {

@@ -202,41 +202,23 @@ impl Row<'_> {
 
     fn at_place<const FORM: u8, const CALL: bool>(&self, sum: u64) -> u64 {
         let (list, secrets, passes) = (&self.list, &self.secrets, self.passes);
-        match self.place {
-            0 => hash_all::<FORM, CALL, 0>(list, secrets, passes, sum),
-            1 => hash_all::<FORM, CALL, 1>(list, secrets, passes, sum),
-            2 => hash_all::<FORM, CALL, 2>(list, secrets, passes, sum),
-            3 => hash_all::<FORM, CALL, 3>(list, secrets, passes, sum),
-            4 => hash_all::<FORM, CALL, 4>(list, secrets, passes, sum),
-            5 => hash_all::<FORM, CALL, 5>(list, secrets, passes, sum),
-            6 => hash_all::<FORM, CALL, 6>(list, secrets, passes, sum),
-            7 => hash_all::<FORM, CALL, 7>(list, secrets, passes, sum),
-            place => panic!("no place {place}"),
+        macro_rules! at_place {
+            ($($place:literal)*) => { match self.place {
+                $($place => hash_all::<FORM, CALL, $place>(list, secrets, passes, sum),)*
+                place => panic!("no place {place}"),
+            } };
         }
+        at_place!(0 1 2 3 4 5 6 7)
     }
 }
 
-/// 64 texts of one length, for `1-300` 8,192 of 1 to 300 bytes, for `5,3,9` one of each of these lengths.
+/// 64 texts of one length, or for `5,3,9` one of each of these lengths.
 fn texts<'x>(bytes: &'x [u8], length: &str, rng: &mut RapidRng) -> Vec<&'x [u8]> {
-    if length.contains(',') {
-        let cut = |length: &str| {
-            let first = (rng.next() % 4096) as usize;
-            &bytes[first..first + length.parse::<usize>().unwrap()]
-        };
-        return length.split(',').map(cut).collect();
+    let lengths = length.split(',').map(|length| length.parse::<usize>().unwrap());
+    match lengths.clone().count() {
+        1 => (0..64).zip(lengths.cycle()).map(|(first, length)| &bytes[first..first + length]).collect(),
+        _ => lengths.map(|length| &bytes[(rng.next() % 4096) as usize..][..length]).collect(),
     }
-    let Some(most) = length.strip_prefix("1-") else {
-        let length = length.parse::<usize>().unwrap();
-        return (0..64).map(|first| &bytes[first..first + length]).collect();
-    };
-    let most = most.parse::<u64>().unwrap();
-    (0..8192)
-        .map(|_| {
-            let first = (rng.next() % 4096) as usize;
-            let length = (1 + rng.next() % most) as usize;
-            &bytes[first..first + length]
-        })
-        .collect()
 }
 
 fn main() {

@@ -93,38 +93,21 @@ static uint64_t (*const PLACES[])(struct row, uint64_t) = {
     hash_all_0, hash_all_1, hash_all_2, hash_all_3, hash_all_4, hash_all_5, hash_all_6, hash_all_7,
 };
 
-/* Writes one text of each length into the list, at most 8,192. Returns how many. */
-static size_t texts_of_each(struct text *list, const uint8_t *bytes, const char *lengths, uint64_t *state)
+/* Writes 64 texts of one length into the list, or for 5,3,9 one of each of these lengths, at most 8,192. Returns how
+ * many. */
+static size_t texts(struct text *list, const uint8_t *bytes, const char *lengths, uint64_t *state)
 {
     size_t count = 0;
-    for (const char *at = lengths; at != NULL && count < MIXED_TEXTS; count++) {
-        size_t first = next_word(state) % 4096;
-        list[count] = (struct text){bytes + first, strtoull(at, NULL, 10)};
+    const char *comma = strchr(lengths, ',');
+    for (; comma == NULL && count < TEXTS; count++) {
+        list[count] = (struct text){bytes + count, strtoull(lengths, NULL, 10)};
+    }
+    for (const char *at = lengths; comma != NULL && at != NULL && count < MIXED_TEXTS; count++) {
+        list[count] = (struct text){bytes + next_word(state) % 4096, strtoull(at, NULL, 10)};
         at = strchr(at, ',');
         at += at != NULL;
     }
     return count;
-}
-
-/* Writes 64 texts of one length into the list, for 1-300 8,192 of 1 to 300 bytes, for 5,3,9 one of each of
- * these lengths. Returns how many. */
-static size_t texts(struct text *list, const uint8_t *bytes, const char *length, uint64_t *state)
-{
-    if (strchr(length, ',') != NULL) {
-        return texts_of_each(list, bytes, length, state);
-    }
-    if (strncmp(length, "1-", 2) != 0) {
-        for (size_t first = 0; first < TEXTS; first++) {
-            list[first] = (struct text){bytes + first, strtoull(length, NULL, 10)};
-        }
-        return TEXTS;
-    }
-    uint64_t most = strtoull(length + 2, NULL, 10);
-    for (size_t at = 0; at < MIXED_TEXTS; at++) {
-        size_t first = next_word(state) % 4096;
-        list[at] = (struct text){bytes + first, 1 + next_word(state) % most};
-    }
-    return MIXED_TEXTS;
 }
 
 static uint64_t nanoseconds(void)

@@ -1,6 +1,6 @@
 # What a script of tests reads first: `room`, a folder of its own that goes when the script ends, and the
 # counts of its cases. `top` is the repository.
-# shellcheck shell=bash
+# shellcheck shell=bash disable=SC2154
 room=$(mktemp -d) || exit 1
 trap 'chmod -R u+rwx "$room"; rm -rf "$room"' EXIT
 passed=0
@@ -44,7 +44,6 @@ try_with() {
 runs() {
   local name=$1 wanted=$2 out=$3 err=$4 status
   shift 4
-  : >out
   "$@" >out 2>err
   status=$?
   if [ "$status" != "$wanted" ]; then
@@ -56,6 +55,14 @@ runs() {
   else
     ok "$name"
   fi
+}
+
+# A folder has the licences and the notice of the repository: FOLDER.
+has_the_licences() {
+  local file
+  for file in LICENSE-MIT LICENSE-APACHE NOTICE; do
+    cmp "$top/$file" "$1/$file" || return 1
+  done
 }
 
 # Commands that fail to write, or have only so much memory.

@@ -8,10 +8,8 @@ top=$(cd "$(dirname "${BASH_SOURCE[0]}")/.." && pwd) || exit 1
 . "$top/tests/cases.sh"
 
 makes_the_archive() {
-  local file
   make -s -C "$top" dist </dev/null && tar -C "$room" -xzf "$top"/build/yervound-*.tar.gz &&
-    mv "$room"/yervound-* "$room/unpacked" &&
-    for file in LICENSE-MIT LICENSE-APACHE NOTICE; do cmp "$top/$file" "$room/unpacked/$file" || return 1; done
+    mv "$room"/yervound-* "$room/unpacked" && has_the_licences "$room/unpacked"
 }
 
 prints_the_known_hash() {

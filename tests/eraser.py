@@ -4,18 +4,16 @@ the Rust crate against the Rattle source that it was made from, by a walk of its
 stand in the other in the same order, and each gap is a known ghost form or a row of bin/rust_crate."""
 
 import re
+import runpy
 import sys
-from importlib.machinery import SourceFileLoader
-from importlib.util import module_from_spec, spec_from_loader
+from types import SimpleNamespace
 
 from cases import TOP, compare, finish, tell
 
 sys.path.insert(0, str(TOP / "bin"))
 from eraser import Eraser, Refused  # noqa: E402
 
-loader = SourceFileLoader("rust_crate", str(TOP / "bin" / "rust_crate"))
-rust_crate = module_from_spec(spec_from_loader("rust_crate", loader))
-loader.exec_module(rust_crate)
+rust_crate = SimpleNamespace(**runpy.run_path(str(TOP / "bin" / "rust_crate")))
 
 ERASED = {
     "a clause": ("fn f()\n    requires { 0 < x }\n{ 1 }", "fn f()\n{ 1 }"),
@@ -135,7 +133,8 @@ def sources():
             for files, old, new, _reason in rust_crate.REPLACED:
                 rattle = rattle.replace(old, new) if files == "*" or name in files.split() else rattle
             head, _, rust = (TOP / "rust" / folder / f"{name}.rs").read_text().partition("\n\n")
-            begins = [begin for file, some, _reason in rust_crate.LEFT_OUT if file == f"{folder}/{name}" for begin in some]
+            left_out = (some for file, some, _reason in rust_crate.LEFT_OUT if file == f"{folder}/{name}")
+            begins = [begin for some in left_out for begin in some]
             yield name, rattle, rust if head.startswith("// Made by bin/rust_crate from") else head, begins
 
 

@@ -1,6 +1,6 @@
 # What the tests of the example programs read first: a copy of the built program in a folder of its own, ways to run it,
 # and the cases that programs share. `top` is the repository, `name` the program.
-# shellcheck shell=bash
+# shellcheck shell=bash disable=SC2154
 # shellcheck source=tests/cases.sh
 . "$top/tests/cases.sh"
 prepare_by make -s -C "$top" "$name"

@@ -40,24 +40,16 @@ runs_the_example() {
     LD_LIBRARY_PATH=$prefix/lib "$room/c_library"
 }
 
-# The words that pkg-config tells are all that a C program needs: they link the shared library.
+# The words that pkg-config tells, as the shell reads them, are all that a C program needs: they link the shared
+# library. A blank in them has a backslash.
 links_by_pkg_config() {
   local words
-  words=$(PKG_CONFIG_PATH=$prefix/lib/pkgconfig pkg-config --cflags --libs rapidhash_c) || return 1
-  # shellcheck disable=SC2086
-  runs_the_example $words &&
-    readelf -d "$room/c_library" | grep -q 'NEEDED.*librapidhash_c\.so\.1'
+  words=$(PKG_CONFIG_PATH=$prefix/lib/pkgconfig pkg-config --cflags --libs rapidhash_c) &&
+    eval "runs_the_example $words" && readelf -d "$room/c_library" | grep -q 'NEEDED.*librapidhash_c\.so\.1'
 }
 
 links_the_archive() {
   runs_the_example -I"$prefix/include" "$prefix/lib/librapidhash_c.a"
-}
-
-# The licences and the notice of the crate whose hashes these are.
-has_the_licences() {
-  grep -q 'Liam Gray' "$prefix/share/doc/rapidhash/NOTICE" &&
-    cmp LICENSE-MIT "$prefix/share/doc/rapidhash/LICENSE-MIT" &&
-    cmp LICENSE-APACHE "$prefix/share/doc/rapidhash/LICENSE-APACHE"
 }
 
 # Every option that the help of a program names stands in a file: PROGRAM, how many there are, FILE.
@@ -110,17 +102,9 @@ listed() {
 serves_a_folder_of_any_name() {
   local place="$room/a folder & |more"
   installs PREFIX="$place" && diff <(listed "$prefix") <(listed "$place") &&
-    (prefix=$place && prints_the_known_hash) &&
-    links_by_words_of "$place" && echo mine >"$room/a" && echo mine >"$place/bin/mine" &&
+    (prefix=$place && prints_the_known_hash && links_by_pkg_config) &&
+    echo mine >"$room/a" && echo mine >"$place/bin/mine" &&
     make -s -C "$top" uninstall PREFIX="$place" && [ -e "$room/a" ] && [ "$(listed "$place")" = ./bin/mine ]
-}
-
-# pkg-config puts a backslash before each blank, as the shell reads it.
-links_by_words_of() {
-  local words
-  words=$(PKG_CONFIG_PATH=$1/lib/pkgconfig pkg-config --cflags --libs rapidhash_c) &&
-    eval "cc -O2 '$top/tests/c_library.c' $words -o '$room/c_library'" &&
-    LD_LIBRARY_PATH=$1/lib "$room/c_library"
 }
 
 # A folder that the file for pkg-config cannot name is refused in one line, before a file is copied.
@@ -175,7 +159,7 @@ try program prints_the_known_hash
 try program_of_sums prints_and_checks_a_sum
 try shared_library links_by_pkg_config
 try static_library links_the_archive
-try licences has_the_licences
+try licences has_the_licences "$prefix/share/doc/rapidhash"
 try modes has_the_modes
 try manual is_a_clean_manual rapidhash
 try manual_of_sums is_a_clean_manual rapidsum

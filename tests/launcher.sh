@@ -32,84 +32,72 @@ new_repository() {
   find repo -exec touch -d 2020-01-01 {} +
 }
 
-# Runs the launcher with these arguments, and leaves its status and what it wrote.
+# Runs the launcher, and compares what it leaves, how many builds there were so far, and a pattern of what it says:
+# NAME STATUS OUT BUILDS ERR WORDS..
 tool=repo/bin/rapidhash
-run() {
-  echo input | PATH=$room/kit:$PATH "$tool" "$@" >out 2>err
-  echo $? >status
-}
-
-# What the last run left: NAME STATUS OUT BUILDS, and a pattern for standard error.
-ended() {
-  local builds
-  builds=$(grep -c . starts 2>/dev/null)
+calls() {
+  local status
+  echo input | PATH=$room/kit:$PATH "$tool" "${@:6}" >out 2>"$room/log"
+  status=$?
   # shellcheck disable=SC2053
-  [ "$(cat status)" = "$2" ] && [ "$(cat out)" = "$3" ] && [ "${builds:-0}" -eq "$4" ] && [[ $(cat err) == $5 ]]
+  [ "$status" = "$2" ] && [ "$(cat out)" = "$3" ] && [ "$(grep -c . starts)" -eq "$4" ] &&
+    [[ $(cat "$room/log") == $5 ]]
   tell "$1" $?
 }
 
 told='make: proving and building rapidhash_cli, some minutes the first time'
 new_repository
-run 'a  b' '' $'\xff'
-ended first_call 7 $'first\na  b\n\n\xff\ninput' 1 "$told"
-run
-ended second_call_builds_nothing 7 $'first\ninput' 1 ''
+calls first_call 7 $'first\na  b\n\n\xff\ninput' 1 "$told" 'a  b' '' $'\xff'
+calls second_call_builds_nothing 7 $'first\ninput' 1 ''
 ln -sf ../repo/bin/rapidhash kit/linked
-tool=kit/linked run
-ended call_by_a_link 7 $'first\ninput' 1 ''
-chmod -R a-w repo && run
-ended read_only_checkout 7 $'first\ninput' 1 ''
+tool=kit/linked calls call_by_a_link 7 $'first\ninput' 1 ''
+chmod -R a-w repo
+calls read_only_checkout 7 $'first\ninput' 1 ''
 chmod -R u+w repo
 
 echo second >repo/crates/rapidhash/src/lib.rt
-run
-ended edited_source 7 $'second\ninput' 2 "$told"
+calls edited_source 7 $'second\ninput' 2 "$told"
 mkdir repo/crates/rapidhash/specs && echo >repo/crates/rapidhash/specs/New.antt
-run
-ended new_file 7 $'second\ninput' 3 "$told"
+calls new_file 7 $'second\ninput' 3 "$told"
 rm repo/crates/rapidhash/specs/New.antt
-run
-ended removed_file 7 $'second\ninput' 4 "$told"
+calls removed_file 7 $'second\ninput' 4 "$told"
 touch repo/crates.txt
-run
-ended list_of_crates 7 $'second\ninput' 5 "$told"
+calls list_of_crates 7 $'second\ninput' 5 "$told"
 builds=5
 for crate in rapidhash_portable rapidhash_tool rapidhash_cli; do
   mkdir -p "repo/crates/$crate/proofs"
-  run
-  ended "new_folder_of_$crate" 7 $'second\ninput' $((builds += 1)) "$told"
+  calls "new_folder_of_$crate" 7 $'second\ninput' $((builds += 1)) "$told"
 done
 
 new_repository
 echo 'echo third >../rapidhash/src/lib.rt' >during
-run
-ended edit_during_a_build 7 $'first\ninput' 1 "$told"
-rm during && run
-ended call_after_such_an_edit 7 $'third\ninput' 2 "$told"
+calls edit_during_a_build 7 $'first\ninput' 1 "$told"
+rm during
+calls call_after_such_an_edit 7 $'third\ninput' 2 "$told"
 
 new_repository
 echo 'sleep 1' >during
-(run && mv out first_out) &
+export PATH=$room/kit:$PATH
+echo input | "$tool" >first_out 2>/dev/null &
 sleep 0.5
-(cd "$room" && echo input | PATH=$room/kit:$PATH "$tool" other >other_out 2>/dev/null)
+echo input | "$tool" other >other_out 2>/dev/null
 wait
-cat first_out other_out >out
-[ "$(cat out)" = $'first\ninput\nfirst\nother\ninput' ]
+[ "$(cat first_out other_out)" = $'first\ninput\nfirst\nother\ninput' ]
 tell two_first_calls_at_once $?
 
 new_repository
 printf 'echo "error: tail.rt:1: not proved"; exit 1\n' >during
-run
-ended failed_build 2 '' 1 "$told"$'\nerror: tail.rt:1: not proved\nmake: the build failed; all that rt said is in build/rapidhash_cli.log\nmake: \*\*\*'*
+calls failed_build 2 '' 1 "$told"$'\nerror: tail.rt:1: not proved'\
+$'\nmake: the build failed; all that rt said is in build/rapidhash_cli.log\nmake: \*\*\*'*
 printf 'echo "no room on the device"; exit 1\n' >during
-run
-ended failed_build_with_no_cause 2 '' 2 "$told"*'no room on the device'*'make: the build failed;'*
-rm during && run
-ended call_after_a_failed_build 7 $'first\ninput' 3 "$told"
+calls failed_build_with_no_cause 2 '' 2 "$told"*'no room on the device'*'make: the build failed;'*
+rm during
+calls call_after_a_failed_build 7 $'first\ninput' 3 "$told"
 new_repository
 mkdir few && ln -s "$(command -v make)" "$(command -v sh)" /usr/bin/{dirname,readlink,find} few
-PATH=$room/few repo/bin/rapidhash >out 2>err
-echo $? >status
-ended no_rt 2 '' 0 'make: rt, the command of the Rattle kit, is not on PATH*'
+PATH=$room/few repo/bin/rapidhash >out 2>"$room/log"
+[ $? -eq 2 ] && [ ! -s out ] && [ ! -e starts ] &&
+  grep -qx 'make: rt, the command of the Rattle kit, is not on PATH' "$room/log"
+tell no_rt $?
 
 finish

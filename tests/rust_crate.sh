@@ -27,14 +27,6 @@ marks_generated() {
     sed -n 's/: linguist-generated: set$//p' | sort | diff "$room/made" -
 }
 
-# The crate has the licences and the notice of the repository.
-has_the_licences() {
-  local file
-  for file in LICENSE-MIT LICENSE-APACHE NOTICE; do
-    cmp "$file" "../$file" || return 1
-  done
-}
-
 has_no_dependency() {
   [ "$(cargo tree | wc -l)" -eq 1 ]
 }
@@ -63,12 +55,12 @@ readme_runs() {
 cd "$top/rust" || exit 1
 try current "$top/bin/rust_crate" --check
 try generated marks_generated
-try licences has_the_licences
+try licences has_the_licences .
 try layout cargo fmt --check
 for features in --all-features --no-default-features; do
-  try "lints $features" cargo clippy --all-targets "$features" -- -D warnings
-  try "documentation $features" documents_itself "$features"
-  try "tests $features" tests_pass cargo test "$features" --tests
+  try "lints_${features#--}" cargo clippy --all-targets "$features" -- -D warnings
+  try "documentation_${features#--}" documents_itself "$features"
+  try "tests_${features#--}" tests_pass cargo test "$features" --tests
 done
 try examples tests_pass cargo test --doc
 try no_dependency has_no_dependency
@@ -76,10 +68,11 @@ try no_unsafe grep -x '#!\[forbid(unsafe_code)\]' src/lib.rs
 try package packages
 try readme readme_runs cargo
 if [ -x /usr/bin/rustc ] && [ -x /usr/bin/cargo ]; then
-  try "tests with $(/usr/bin/rustc --version)" tests_pass debian test --tests
-  try "tests without std" tests_pass debian test --tests --no-default-features
-  try "examples" tests_pass debian test --doc
-  try "readme" readme_runs debian
+  /usr/bin/rustc --version
+  try oldest_compiler tests_pass debian test --tests
+  try oldest_compiler_without_std tests_pass debian test --tests --no-default-features
+  try examples_by_the_oldest_compiler tests_pass debian test --doc
+  try readme_by_the_oldest_compiler readme_runs debian
 else
   printf "skipped Debian's compiler: no /usr/bin/rustc and /usr/bin/cargo\n"
 fi

@@ -1,6 +1,6 @@
 # What the tests of the tool read first: a room to work in, the tool, its lines, and how to compare what
 # a run leaves. `top` is the repository. The numbers are those of the Rust crate.
-# shellcheck shell=bash
+# shellcheck shell=bash disable=SC2154
 tool=$top/bin/rapidhash
 # shellcheck source=tests/cases.sh
 . "$top/tests/cases.sh"
