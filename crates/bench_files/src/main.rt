@@ -1,7 +1,7 @@
 //! Hashes a file by the library's readers, and prints the hash and how many microseconds it took:
-//! `bench_files FORM FILE`, for `bench/files` and `bench/tool`. The forms `read-Nk` only
-//! read the file, by pieces of N KiB, and the forms `hash-Nk` only hash as many pieces in memory.
-//! Both print the number of bytes in the place of a hash.
+//! `bench_files FORM FILE`, for `bench/files`. The forms `read-Nk` only read the file, in pieces of
+//! N KiB, and the forms `hash-Nk` only hash as many pieces in memory. Both print the number of
+//! bytes instead of a hash.
 #![tactic(auto)]
 
 use anyhow::{Context, Result, bail};
