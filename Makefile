@@ -5,7 +5,8 @@
 # make fmt         lays the sources out
 # make bench       measures the hashes, beside the Rust crate where RAPIDHASH_CRATE names its folder
 # make library     proves and builds the library for C, static and shared
-# make wasm        proves and builds the same library for WebAssembly, which bindings/javascript loads
+# make wasm        proves and builds the same library for WebAssembly, with addresses of 32 bits
+# make npm         packs bindings/javascript with that module, for npm install
 # make install     copies what make has built, with manual pages and completions, under PREFIX
 # make dist        puts all that a user without the kit needs into one archive in build/
 # make vendor      copies the library into another Rattle repository: make vendor INTO=FOLDER
@@ -28,7 +29,7 @@ name = yervound-1.0-x86_64-linux
 # The linker of the kit, beside the page that rt names.
 linker = $(dir $(shell rt doc))toolchain/bin/ld.lld
 
-.PHONY: all tool sums library wasm check quick test fmt bench install uninstall clean dist vendor \
+.PHONY: all tool sums library wasm npm check quick test fmt bench install uninstall clean dist vendor \
   rapidhash_c rapidhash_cli example_sums example_bloom example_perfect example_shards example_dedupe
 .DELETE_ON_ERROR:
 MAKEFLAGS += --no-builtin-rules
@@ -70,8 +71,25 @@ $(shared): $(archive) share/librapidhash_c.map
 	@$(linker) -shared -soname $(soname) -z now -z relro -z noexecstack -z text --gc-sections \
 	  --version-script share/librapidhash_c.map --whole-archive $(archive) -o $(shared)
 
-wasm: library
+module = build/rapidhash_c.wasm
+package = build/yervound-rapidhash-1.0.0.tgz
+wasm: $(module)
+npm: $(package)
+
+build/rapidhash_c_64.wasm: $(archive) bindings/javascript/build.sh
 	@bindings/javascript/build.sh
+
+# Only newer engines have memories of 64-bit addresses, as the kit's module wants.
+$(module): build/rapidhash_c_64.wasm
+	@command -v wasm-opt >/dev/null || { echo 'make: wasm-opt, of the package binaryen, is not on PATH' >&2; exit 2; }
+	@wasm-opt --enable-memory64 --enable-bulk-memory --memory64-lowering -O3 --strip-debug $< -o $@
+
+$(package): $(module) $(wildcard bindings/javascript/*.*) LICENSE-MIT LICENSE-APACHE NOTICE
+	@rm -rf build/npm && mkdir build/npm
+	@cd bindings/javascript && cp *.mjs index.d.ts package.json README.md ../../build/npm
+	@cp LICENSE-MIT LICENSE-APACHE NOTICE build/npm
+	@{ printf 'export default "' && base64 -w 0 $(module) && echo '";'; } >build/npm/module.mjs
+	@cd build && npm pack --silent ./npm >npm.log
 
 check:
 	@bash .ci/run
@@ -111,14 +129,14 @@ install:
 uninstall:
 	@bin/install --remove
 
-dist: all wasm
+dist: all npm
 	rm -rf build/$(name)
 	$(MAKE) -s install DESTDIR= PREFIX='$(CURDIR)/build/$(name)'
 	sed 's|@PREFIX@|$${pcfiledir}/../..|; s|@LIBDIR@|$${prefix}/lib|; s|@INCLUDEDIR@|$${prefix}/include|' \
 	  share/rapidhash_c.pc.in >build/$(name)/lib/pkgconfig/rapidhash_c.pc
-	tar --exclude=__pycache__ --exclude=build.sh --exclude=rust/target --exclude=rust/tests -hcf - bindings rust | \
-	  tar -C build/$(name) -xf -
-	install -D -m 644 build/rapidhash_c.wasm build/$(name)/build/rapidhash_c.wasm
+	tar --exclude=__pycache__ --exclude=bindings/javascript --exclude=rust/target --exclude=rust/tests -hcf - \
+	  bindings rust | tar -C build/$(name) -xf -
+	cp -r build/npm build/$(name)/bindings/javascript
 	install -m 644 LICENSE-MIT LICENSE-APACHE NOTICE docs/C.md docs/ALGORITHM.md build/$(name)
 	install -D -m 644 docs/images/lanes.svg build/$(name)/images/lanes.svg
 	install -m 644 share/dist.md build/$(name)/README.md

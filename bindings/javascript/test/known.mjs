@@ -1,0 +1,257 @@
+// The package over known values of the Rust crate rapidhash 4.5.1, in Node and in browsers:
+// tests/javascript.sh runs it in a folder where the package is installed.
+import assert from "node:assert/strict";
+import { test } from "node:test";
+
+import { hex, load, loadSync } from "yervound-rapidhash";
+
+const library = loadSync();
+const { v1, v2_0, v2_1, v2_2, v3, v3Micro, v3Nano, v3Protected, V3, V3Micro, V3Nano } = library;
+const data = Uint8Array.from({ length: 120 }, (_, at) => at);
+const short = data.subarray(0, 60);
+const own = BigUint64Array.of(1n, 2n, 3n, 5n, 7n, 11n, 13n, 17n);
+// A longer message of V3, micro and nano goes by pieces of this size.
+const piece = 131072;
+const encoder = new TextEncoder();
+
+test("default secrets", () => {
+  assert.equal(v1("something\n"), 15965596575264898037n);
+  assert.equal(v1(short), 13504714392771582078n);
+  assert.equal(v2_0(short), 13186137053657766175n);
+  assert.equal(v2_1(short), 13012060828128651499n);
+  assert.equal(v2_2(short), 6181707366222537282n);
+  assert.equal(v3(data), 7088138960297660729n);
+  assert.equal(v3(data.buffer), 7088138960297660729n);
+  assert.equal(v3Micro(data), 3055975138125564292n);
+  assert.equal(v3Nano(data), 3778853990780631382n);
+  assert.equal(v3Protected(data), 4753706306364957255n);
+  assert.equal(v3(new Uint8Array(0)), 232177599295442350n);
+});
+
+test("seed words", () => {
+  const seed = 1n;
+  assert.equal(v1(short, { seed }), 16595489079910452471n);
+  assert.equal(v2_0(short, { seed }), 10726147324944781525n);
+  assert.equal(v2_1(short, { seed }), 10166538060445963011n);
+  assert.equal(v2_2(short, { seed }), 10905583924937672291n);
+  assert.equal(v3(data, { seed }), 8806718467852582029n);
+  assert.equal(v3Micro(data, { seed }), 13208658450986943527n);
+  assert.equal(v3Nano(data, { seed }), 1125117906108554434n);
+  assert.equal(v3(data, { secrets: library.seedSecrets(1) }), 8806718467852582029n);
+  assert.equal(v1(short, { secrets: library.seedSecretsV1(1) }), 16595489079910452471n);
+});
+
+test("secrets of one's own", () => {
+  assert.equal(v1(short, { secrets: own.slice(0, 4) }), 13848206912060221315n);
+  assert.equal(v2_0(short, { secrets: own }), 7480442917932512801n);
+  assert.equal(v2_1(short, { secrets: own }), 15302905912564408163n);
+  assert.equal(v2_2(short, { secrets: own }), 11896991483551387597n);
+  assert.equal(v3(data, { secrets: own }), 13105958653737073913n);
+  assert.equal(v3Micro(data, { secrets: own }), 5648300410578423183n);
+  assert.equal(v3Nano(data, { secrets: own }), 4961128163384780230n);
+  assert.equal(v3Protected(data, { secrets: own }), 9934095814131968034n);
+});
+
+test("made secrets", () => {
+  const made = library.makeSecrets(0x12345678);
+  assert.equal(made[0], 0x6d95b902ea9b0223n);
+  assert.equal(made[7], 0x6333af257102a99en);
+  assert.deepEqual(library.makeSecretsV1(0x12345678), made.slice(0, 4));
+});
+
+// Adds a message in pieces of 1, 2, 3 and so on, or of three times that and one more.
+function inPieces(hasher, message, grow) {
+  for (let at = 0, size = 1; at < message.length; at += size, size = grow(size))
+    hasher.update(message.subarray(at, at + size));
+  return hasher.digest();
+}
+
+test("uneven pieces", () => {
+  const known = [[V3, 13105958653737073913n], [V3Micro, 5648300410578423183n],
+    [V3Nano, 4961128163384780230n]];
+  for (const [Stream, value] of known) {
+    const hasher = new Stream({ secrets: own }).update(short).reset();
+    assert.equal(inPieces(hasher, data, (size) => size + 1), value);
+    assert.equal(hasher.digest(), value);
+  }
+});
+
+test("whole as in pieces, at each length", () => {
+  for (const length of [0, 1, 112, 113, 65537, piece, piece + 1, 1000000]) {
+    const message = Uint8Array.from({ length }, (_, at) => at % 251);
+    for (const [whole, Stream] of [[v3, V3], [v3Micro, V3Micro], [v3Nano, V3Nano]]) {
+      const hash = whole(message, { seed: 5n });
+      assert.equal(inPieces(new Stream({ seed: 5n }), message, (size) => 3 * size + 1), hash);
+      assert.notEqual(whole(message, { seed: 6n }), hash);
+    }
+  }
+});
+
+test("long messages", () => {
+  const message = Uint8Array.from({ length: 1000000 }, (_, at) => at % 251);
+  assert.equal(v3(message), 3141031059669918984n);
+  const zeros = new Uint8Array(140000000);
+  assert.equal(v1(zeros), 15042570400923500380n);
+  assert.equal(v2_2(zeros), 1949155381881807616n);
+  assert.equal(v1(short), 13504714392771582078n);
+  assert.equal(new V3().update(message).digest(), 3141031059669918984n);
+});
+
+test("hashers do not disturb each other", () => {
+  const [left, right] = [new V3({ seed: 1n }), new V3({ secrets: own })];
+  for (let at = 0; at < 120; at += 10)
+    for (const hasher of [left, right]) hasher.update(data.subarray(at, at + 10));
+  assert.equal(left.digest(), 8806718467852582029n);
+  assert.equal(right.digest(), 13105958653737073913n);
+});
+
+test("a hasher keeps its secrets when the caller's change", () => {
+  const secrets = own.slice();
+  const hasher = new V3({ secrets }).update(data);
+  secrets.fill(0n);
+  assert.equal(hasher.digest(), 13105958653737073913n);
+});
+
+test("a clone goes on alone", () => {
+  for (const Stream of [V3, V3Micro, V3Nano]) {
+    const first = new Stream({ seed: 9 }).update("left ");
+    const second = first.clone().update("lift");
+    first.update("left");
+    assert.ok(second instanceof Stream);
+    assert.equal(first.digest(), new Stream({ seed: 9 }).update("left left").digest());
+    assert.equal(second.digest(), new Stream({ seed: 9 }).update("left lift").digest());
+    assert.notEqual(first.digest(), second.digest());
+  }
+});
+
+test("views of all kinds", () => {
+  const { buffer } = Uint8Array.from({ length: 400 }, (_, at) => at);
+  const views = [buffer, new Uint32Array(buffer), new Float64Array(buffer, 8, 20)];
+  for (const view of [...views, new DataView(buffer, 3, 50), new Uint8Array(buffer, 5, 7)]) {
+    const bytes = new Uint8Array(buffer, view.byteOffset ?? 0, view.byteLength);
+    assert.equal(v3(view), v3(bytes.slice()));
+    assert.equal(new V3().update(view).digest(), v3(bytes.slice()));
+  }
+});
+
+test("strings are their UTF-8", () => {
+  assert.equal(v3("hello"), 3327445792987248966n);
+  const texts = ["", "a", "\u03bb \u2192 \u{1d6cc}", "\u2192".repeat(43690), "\u2192".repeat(43691),
+    "\u{1d6cc}".repeat(100000), "a".repeat(1000000)];
+  for (const text of texts) {
+    const bytes = encoder.encode(text);
+    for (const call of [v1, v2_0, v2_1, v2_2, v3, v3Micro, v3Nano, v3Protected])
+      assert.equal(call(text), call(bytes));
+    assert.equal(v3(text, { seed: 3n }), v3(bytes, { seed: 3n }));
+    assert.equal(new V3({ seed: 3n }).update(text).digest(), v3(bytes, { seed: 3n }));
+  }
+  assert.equal(v3("\ud800"), v3("\ufffd"));
+});
+
+test("hexadecimal digits", () => {
+  assert.equal(hex(0xabcn), "0000000000000abc");
+  assert.equal(hex(2n ** 64n - 1n), "ffffffffffffffff");
+  assert.equal(hex(v3("hello")), "2e2d7651b45f7946");
+  for (const [hash, name] of [[-1n, "RangeError"], [2n ** 64n, "RangeError"], ["1", "TypeError"]])
+    assert.throws(() => hex(hash), { name, message: /^hash must be/ });
+});
+
+test("streams of the web", async () => {
+  const parts = () => new ReadableStream({
+    start(controller) {
+      for (let at = 0; at < 120; at += 7) controller.enqueue(data.subarray(at, at + 7));
+      controller.close();
+    },
+  });
+  const known = [[V3, 13105958653737073913n], [V3Micro, 5648300410578423183n],
+    [V3Nano, 4961128163384780230n]];
+  for (const [Stream, value] of known) {
+    const hasher = new Stream({ secrets: own });
+    assert.equal((await hasher.updateFrom(parts())).digest(), value);
+    // As in an engine whose streams have no iterator.
+    const { getReader } = ReadableStream.prototype;
+    const stream = parts();
+    await hasher.reset().updateFrom({ getReader: () => getReader.call(stream) });
+    assert.equal(hasher.digest(), value);
+    assert.equal((await hasher.reset().updateFrom(new Blob([data]).stream())).digest(), value);
+  }
+});
+
+test("a stream that fails, and what is none", async () => {
+  const broken = () => new ReadableStream({
+    pull(controller) {
+      controller.error(new Error("broken"));
+    },
+  });
+  await assert.rejects(new V3().updateFrom(broken()), { name: "Error", message: /^broken$/ });
+  const reader = { getReader: () => broken().getReader() };
+  await assert.rejects(new V3().updateFrom(reader), { name: "Error", message: /^broken$/ });
+  for (const source of [data, "text", [data], 7, null, undefined])
+    await assert.rejects(new V3().updateFrom(source),
+      { name: "TypeError", message: /^only a stream or another async iterable can be read$/ });
+  let cancelled = 0;
+  const numbers = () => new ReadableStream({
+    pull(controller) {
+      controller.enqueue(7);
+    },
+    cancel() {
+      cancelled += 1;
+    },
+  });
+  for (const source of [numbers(), { getReader: () => numbers().getReader() }])
+    await assert.rejects(new V3().updateFrom(source), { name: "TypeError", message: /can be hashed/ });
+  assert.equal(cancelled, 2);
+});
+
+test("both starts, alone and side by side", async () => {
+  const other = await load();
+  assert.deepEqual(Object.keys(other), Object.keys(library));
+  assert.equal(other.v3("hello"), 3327445792987248966n);
+  const [left, right] = [new V3().update("hel"), new other.V3().update("hel")];
+  assert.equal(left.update("lo").digest(), right.update("lo").digest());
+  await assert.rejects(load(new Uint8Array(8)), { name: "CompileError", message: /./ });
+  assert.throws(() => loadSync(new Uint8Array(8)), { name: "CompileError", message: /./ });
+});
+
+// What is not refused is ignored or rounded without a word.
+test("refused options", () => {
+  const refused = [
+    [7n, /options/], ["7", /options/], [null, /options/], [own, /options/],
+    [new Map([["seed", 7n]]), /options/], [{ sed: 7n }, /no option sed,/],
+    [{ seed: 1n, secret: own }, /no option secret,/], [{ seed: null }, /seed/],
+    [{ seed: "7" }, /seed/], [{ seed: true }, /seed/], [{ secrets: null }, /secrets/],
+  ];
+  for (const [options, message] of refused)
+    for (const call of [() => v3(data, options), () => v2_2(data, options), () => new V3(options)])
+      assert.throws(call, { name: "TypeError", message });
+  for (const seed of [2 ** 60 + 1, 2 ** 53, -1, 1.5, NaN, -1n]) {
+    for (const call of [() => v3(data, { seed }), () => new V3({ seed })])
+      assert.throws(call, { name: "RangeError", message: /seed/ });
+    assert.throws(() => library.makeSecrets(seed), { name: "RangeError", message: /number/ });
+  }
+  assert.equal(v3(data, {}), v3(data));
+  assert.equal(v3(data, { seed: undefined, secrets: undefined }), v3(data));
+  assert.equal(v3(data, Object.assign(Object.create(null), { seed: 1 })), 8806718467852582029n);
+});
+
+test("refused words", () => {
+  const options = { name: "TypeError", message: /^secrets have a seed of their own/ };
+  assert.throws(() => v3(data, { seed: 1n, secrets: own }), options);
+  assert.throws(() => new V3({ seed: 1n, secrets: own }), options);
+  const range = { name: "RangeError", message: /^seed must be from 0 to/ };
+  assert.throws(() => v3(data, { seed: 1n << 64n }), range);
+  const eight = { name: "TypeError", message: /^secrets must have 8 words here/ };
+  for (const call of [v2_0, v2_1, v2_2, v3, v3Micro, v3Nano, v3Protected])
+    assert.throws(() => call(data, { secrets: own.slice(0, 4) }), eight);
+  assert.throws(() => new V3({ secrets: own.slice(0, 4) }), eight);
+  assert.throws(() => v1(data, { secrets: own }), { name: "TypeError", message: /have 4 words here/ });
+  assert.throws(() => v3Protected(data, { seed: 1n }),
+    { name: "TypeError", message: /^rapidhash_v3_protected takes secrets and no seed$/ });
+});
+
+test("refused messages", () => {
+  const wanted = { name: "TypeError", message: /^only a string, an ArrayBuffer or a view of one can/ };
+  for (const message of [7, 7n, null, undefined, true, [1, 2], { length: 3 }, new Blob(["a"])])
+    for (const call of [v1, v2_0, v2_1, v2_2, v3, v3Micro, v3Nano, v3Protected, (m) => new V3().update(m)])
+      assert.throws(() => call(message), wanted);
+});
