@@ -7,6 +7,7 @@
 # make library     proves and builds the library for C, static and shared
 # make wasm        proves and builds the same library for WebAssembly, with addresses of 32 bits
 # make npm         packs bindings/javascript with that module, for npm install
+# make page        puts examples/browser with that package into build/browser, for any server of files
 # make install     copies what make has built, with manual pages and completions, under PREFIX
 # make dist        puts all that a user without the kit needs into one archive in build/
 # make vendor      copies the library into another Rattle repository: make vendor INTO=FOLDER
@@ -29,7 +30,7 @@ name = yervound-1.0-x86_64-linux
 # The linker of the kit, beside the page that rt names.
 linker = $(dir $(shell rt doc))toolchain/bin/ld.lld
 
-.PHONY: all tool sums library wasm npm check quick test fmt bench install uninstall clean dist vendor \
+.PHONY: all tool sums library wasm npm page check quick test fmt bench install uninstall clean dist vendor \
   rapidhash_c rapidhash_cli example_sums example_bloom example_perfect example_shards example_dedupe
 .DELETE_ON_ERROR:
 MAKEFLAGS += --no-builtin-rules
@@ -90,6 +91,10 @@ $(package): $(module) $(wildcard bindings/javascript/*.*) LICENSE-MIT LICENSE-AP
 	@cp LICENSE-MIT LICENSE-APACHE NOTICE build/npm
 	@{ printf 'export default "' && base64 -w 0 $(module) && echo '";'; } >build/npm/module.mjs
 	@cd build && npm pack --silent ./npm >npm.log
+
+page: $(package)
+	@rm -rf build/browser && mkdir build/browser
+	@cp examples/browser/*.* build/npm/*.mjs LICENSE-MIT LICENSE-APACHE NOTICE build/browser
 
 check:
 	@bash .ci/run

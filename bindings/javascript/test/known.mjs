@@ -135,12 +135,14 @@ test("views of all kinds", () => {
 });
 
 test("strings are their UTF-8", () => {
-  assert.equal(v3("hello"), 3327445792987248966n);
   const texts = ["", "a", "\u03bb \u2192 \u{1d6cc}", "\u2192".repeat(43690), "\u2192".repeat(43691),
-    "\u{1d6cc}".repeat(100000), "a".repeat(1000000)];
+    "\u2192".repeat(piece), "\u{1d6cc}".repeat(100000), "a".repeat(1000000)];
+  // Whose memory has not grown yet.
+  const { v1, v2_0, v2_1, v2_2, v3, v3Micro, v3Nano, v3Protected, V3 } = loadSync();
+  assert.equal(v3("hello"), 3327445792987248966n);
   for (const text of texts) {
     const bytes = encoder.encode(text);
-    for (const call of [v1, v2_0, v2_1, v2_2, v3, v3Micro, v3Nano, v3Protected])
+    for (const call of [v3, v3Micro, v3Nano, v3Protected, v1, v2_0, v2_1, v2_2])
       assert.equal(call(text), call(bytes));
     assert.equal(v3(text, { seed: 3n }), v3(bytes, { seed: 3n }));
     assert.equal(new V3({ seed: 3n }).update(text).digest(), v3(bytes, { seed: 3n }));
@@ -177,32 +179,6 @@ test("streams of the web", async () => {
   }
 });
 
-test("a stream that fails, and what is none", async () => {
-  const broken = () => new ReadableStream({
-    pull(controller) {
-      controller.error(new Error("broken"));
-    },
-  });
-  await assert.rejects(new V3().updateFrom(broken()), { name: "Error", message: /^broken$/ });
-  const reader = { getReader: () => broken().getReader() };
-  await assert.rejects(new V3().updateFrom(reader), { name: "Error", message: /^broken$/ });
-  for (const source of [data, "text", [data], 7, null, undefined])
-    await assert.rejects(new V3().updateFrom(source),
-      { name: "TypeError", message: /^only a stream or another async iterable can be read$/ });
-  let cancelled = 0;
-  const numbers = () => new ReadableStream({
-    pull(controller) {
-      controller.enqueue(7);
-    },
-    cancel() {
-      cancelled += 1;
-    },
-  });
-  for (const source of [numbers(), { getReader: () => numbers().getReader() }])
-    await assert.rejects(new V3().updateFrom(source), { name: "TypeError", message: /can be hashed/ });
-  assert.equal(cancelled, 2);
-});
-
 test("both starts, alone and side by side", async () => {
   const other = await load();
   assert.deepEqual(Object.keys(other), Object.keys(library));
@@ -211,47 +187,4 @@ test("both starts, alone and side by side", async () => {
   assert.equal(left.update("lo").digest(), right.update("lo").digest());
   await assert.rejects(load(new Uint8Array(8)), { name: "CompileError", message: /./ });
   assert.throws(() => loadSync(new Uint8Array(8)), { name: "CompileError", message: /./ });
-});
-
-// What is not refused is ignored or rounded without a word.
-test("refused options", () => {
-  const refused = [
-    [7n, /options/], ["7", /options/], [null, /options/], [own, /options/],
-    [new Map([["seed", 7n]]), /options/], [{ sed: 7n }, /no option sed,/],
-    [{ seed: 1n, secret: own }, /no option secret,/], [{ seed: null }, /seed/],
-    [{ seed: "7" }, /seed/], [{ seed: true }, /seed/], [{ secrets: null }, /secrets/],
-  ];
-  for (const [options, message] of refused)
-    for (const call of [() => v3(data, options), () => v2_2(data, options), () => new V3(options)])
-      assert.throws(call, { name: "TypeError", message });
-  for (const seed of [2 ** 60 + 1, 2 ** 53, -1, 1.5, NaN, -1n]) {
-    for (const call of [() => v3(data, { seed }), () => new V3({ seed })])
-      assert.throws(call, { name: "RangeError", message: /seed/ });
-    assert.throws(() => library.makeSecrets(seed), { name: "RangeError", message: /number/ });
-  }
-  assert.equal(v3(data, {}), v3(data));
-  assert.equal(v3(data, { seed: undefined, secrets: undefined }), v3(data));
-  assert.equal(v3(data, Object.assign(Object.create(null), { seed: 1 })), 8806718467852582029n);
-});
-
-test("refused words", () => {
-  const options = { name: "TypeError", message: /^secrets have a seed of their own/ };
-  assert.throws(() => v3(data, { seed: 1n, secrets: own }), options);
-  assert.throws(() => new V3({ seed: 1n, secrets: own }), options);
-  const range = { name: "RangeError", message: /^seed must be from 0 to/ };
-  assert.throws(() => v3(data, { seed: 1n << 64n }), range);
-  const eight = { name: "TypeError", message: /^secrets must have 8 words here/ };
-  for (const call of [v2_0, v2_1, v2_2, v3, v3Micro, v3Nano, v3Protected])
-    assert.throws(() => call(data, { secrets: own.slice(0, 4) }), eight);
-  assert.throws(() => new V3({ secrets: own.slice(0, 4) }), eight);
-  assert.throws(() => v1(data, { secrets: own }), { name: "TypeError", message: /have 4 words here/ });
-  assert.throws(() => v3Protected(data, { seed: 1n }),
-    { name: "TypeError", message: /^rapidhash_v3_protected takes secrets and no seed$/ });
-});
-
-test("refused messages", () => {
-  const wanted = { name: "TypeError", message: /^only a string, an ArrayBuffer or a view of one can/ };
-  for (const message of [7, 7n, null, undefined, true, [1, 2], { length: 3 }, new Blob(["a"])])
-    for (const call of [v1, v2_0, v2_1, v2_2, v3, v3Micro, v3Nano, v3Protected, (m) => new V3().update(m)])
-      assert.throws(() => call(message), wanted);
 });
