@@ -73,6 +73,7 @@ $(shared): $(archive) share/librapidhash_c.map
 	  --version-script share/librapidhash_c.map --whole-archive $(archive) -o $(shared)
 
 module = build/rapidhash_c.wasm
+folder = build/npm/module.mjs
 package = build/yervound-rapidhash-1.0.0.tgz
 wasm: $(module)
 npm: $(package)
@@ -85,14 +86,18 @@ $(module): build/rapidhash_c_64.wasm
 	@command -v wasm-opt >/dev/null || { echo 'make: wasm-opt, of the package binaryen, is not on PATH' >&2; exit 2; }
 	@wasm-opt --enable-memory64 --enable-bulk-memory --memory64-lowering -O3 --strip-debug $< -o $@
 
-$(package): $(module) $(wildcard bindings/javascript/*.*) LICENSE-MIT LICENSE-APACHE NOTICE
+# The folder of the package, with the module as text in its last file.
+$(folder): $(module) $(wildcard bindings/javascript/*.*) LICENSE-MIT LICENSE-APACHE NOTICE
 	@rm -rf build/npm && mkdir build/npm
 	@cd bindings/javascript && cp *.mjs index.d.ts package.json README.md ../../build/npm
 	@cp LICENSE-MIT LICENSE-APACHE NOTICE build/npm
-	@{ printf 'export default "' && base64 -w 0 $(module) && echo '";'; } >build/npm/module.mjs
+	@{ printf 'export default "' && base64 -w 0 $(module) && echo '";'; } >$(folder)
+
+$(package): $(folder)
+	@command -v npm >/dev/null || { echo 'make: npm is not on PATH' >&2; exit 2; }
 	@cd build && npm pack --silent ./npm >npm.log
 
-page: $(package)
+page: $(folder)
 	@rm -rf build/browser && mkdir build/browser
 	@cp examples/browser/*.* build/npm/*.mjs LICENSE-MIT LICENSE-APACHE NOTICE build/browser
 
@@ -134,7 +139,7 @@ install:
 uninstall:
 	@bin/install --remove
 
-dist: all npm
+dist: all $(folder)
 	rm -rf build/$(name)
 	$(MAKE) -s install DESTDIR= PREFIX='$(CURDIR)/build/$(name)'
 	sed 's|@PREFIX@|$${pcfiledir}/../..|; s|@LIBDIR@|$${prefix}/lib|; s|@INCLUDEDIR@|$${prefix}/include|' \

@@ -53,8 +53,9 @@ test("a message for which there is no memory", () => {
   const { v1, v3Protected, v3, room } = loadSync();
   assert.ok(room > 4e9 && room < 2 ** 32);
   const long = new Uint8Array(room + 1);
+  const message = `the engine has no memory for ${room + 1} bytes at once: ` +
+    "V3, micro and nano hash such a message by pieces";
   for (const call of [v1, v3Protected])
-    assert.throws(() => call(long),
-      { name: "RangeError", message: new RegExp(`^the engine has no memory for ${room + 1} bytes`) });
+    assert.throws(() => call(long), { name: "RangeError", message });
   assert.equal(v3("hello"), 3327445792987248966n);
 });
