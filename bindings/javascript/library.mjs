@@ -9,6 +9,8 @@ const most = 2 ** 32;
 /** V3, micro and nano hash a longer message by pieces of so many bytes. */
 export const piece = 2 * page;
 export const streamSize = 216;
+/** Up to so many bytes a loop is quicker than set() or encodeInto(). */
+const few = 32;
 
 // An export takes 64-bit integers, and to make a BigInt takes longer than to look one up.
 const small = Array.from({ length: 257 }, (_, at) => BigInt(at));
@@ -53,13 +55,24 @@ export class Library {
     this.look();
   }
 
+  /** Writes a string as UTF-8 to the memory, and returns the count of bytes. */
+  putText(text) {
+    const { bytes } = this;
+    if (text.length > few) return encodeInto(text, bytes);
+    for (let at = 0; at < text.length; at++) {
+      const unit = text.charCodeAt(at);
+      if (unit > 127) return encodeInto(text, bytes);
+      bytes[at] = unit;
+    }
+    return text.length;
+  }
+
   /** Copies a message into the memory, and returns its length for an export. A string has to be
    * short: its UTF-8 has at most three bytes for each of its units. */
   put(message) {
-    if (typeof message === "string") return integer(encodeInto(message, this.bytes));
+    if (typeof message === "string") return integer(this.putText(message));
     const { length } = message;
-    if (length <= 32) {
-      // For a few bytes quicker than set().
+    if (length <= few) {
       const { bytes } = this;
       for (let at = 0; at < length; at++) bytes[at] = message[at];
     } else {

@@ -38,6 +38,8 @@ export function hex(hash) {
   return word("hash", hash).toString(16).padStart(16, "0");
 }
 
+const none = {};
+
 /** The call of a version with `count` words of secrets. A message that is longer than a piece goes
  * through a stream of `lanes` lanes, if the version has one. */
 function form(library, name, count, lanes) {
@@ -46,7 +48,7 @@ function form(library, name, count, lanes) {
   const withSeed = library.exports[`${name}_with_seed`];
   const seeded = library.exports[`${name}_seeded`];
   const general = (data, options) => {
-    const { seed, secrets } = choose(options);
+    const { seed, secrets } = options === undefined ? none : choose(options);
     if (seed !== undefined && !withSeed) throw new TypeError(`${name} takes secrets and no seed`);
     const message = messageOf(data);
     if (lanes && message.length > piece)

@@ -135,8 +135,9 @@ test("views of all kinds", () => {
 });
 
 test("strings are their UTF-8", () => {
-  const texts = ["", "a", "\u03bb \u2192 \u{1d6cc}", "\u2192".repeat(43690), "\u2192".repeat(43691),
-    "\u2192".repeat(piece), "\u{1d6cc}".repeat(100000), "a".repeat(1000000)];
+  const texts = ["", "a", "na\u00efve", "\x7f\x80", "a".repeat(32), "a".repeat(33),
+    "\u03bb \u2192 \u{1d6cc}", "\u2192".repeat(43690), "\u2192".repeat(43691), "\u2192".repeat(piece),
+    "\u{1d6cc}".repeat(100000), "a".repeat(1000000)];
   // Whose memory has not grown yet.
   const { v1, v2_0, v2_1, v2_2, v3, v3Micro, v3Nano, v3Protected, V3 } = loadSync();
   assert.equal(v3("hello"), 3327445792987248966n);
