@@ -16,11 +16,12 @@ let last = Promise.resolve();
 function show(file) {
   const template = document.getElementById("result");
   const article = template.content.cloneNode(true).firstElementChild;
-  const [title, progress, state, button, rows] =
-    ["h2", "progress", ".state", "button", "tbody"].map((name) => article.querySelector(name));
+  const [title, progress, state, button, table, rows] =
+    ["h2", "progress", ".state", "button", "table", "tbody"].map((name) => article.querySelector(name));
   title.textContent = file.name;
   progress.setAttribute("aria-label", `Progress of ${file.name}`);
   button.setAttribute("aria-label", `Stop ${file.name}`);
+  table.setAttribute("aria-label", `Hashes of ${file.name}`);
   state.textContent = `${count.format(file.size)} bytes, waiting`;
   const cells = {};
   for (const [name, text] of Object.entries(names)) {

@@ -126,5 +126,6 @@ test("keys and names", async () => {
   await choose("empty");
   await ended("empty");
   assert.equal(await browser.label(await browser.find("progress")), "Progress of empty");
+  assert.equal(await browser.label(await browser.find("table")), "Hashes of empty");
   assert.equal(await browser.run(`return document.querySelector("[role=status]").textContent`), "empty: done");
 });
