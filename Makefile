@@ -5,7 +5,9 @@
 # make fmt         lays the sources out
 # make bench       takes the figures of bench/ and docs/ anew, beside the Rust crate that RAPIDHASH_CRATE names
 # make library     proves and builds the library for C, static and shared
-# make wasm        proves and builds the same library for WebAssembly, which bindings/javascript loads
+# make wasm        proves and builds the same library for WebAssembly, with addresses of 32 bits
+# make npm         packs bindings/javascript with that module, for npm install
+# make page        puts examples/browser with that package into build/browser, for any server of files
 # make install     copies what make has built, with manual pages and completions, under PREFIX
 # make dist        puts all that a user without the kit needs into one archive in build/
 # make vendor      copies the library into another Rattle repository: make vendor INTO=FOLDER
@@ -28,7 +30,7 @@ name = yervound-1.0-x86_64-linux
 # The linker of the kit, beside the page that rt names.
 linker = $(dir $(shell rt doc))toolchain/bin/ld.lld
 
-.PHONY: all tool sums library wasm check quick test fmt bench install uninstall clean dist vendor \
+.PHONY: all tool sums library wasm npm page check quick test fmt bench install uninstall clean dist vendor \
   rapidhash_c rapidhash_cli example_sums example_bloom example_perfect example_shards example_dedupe
 .DELETE_ON_ERROR:
 MAKEFLAGS += --no-builtin-rules
@@ -70,8 +72,34 @@ $(shared): $(archive) share/librapidhash_c.map
 	@$(linker) -shared -soname $(soname) -z now -z relro -z noexecstack -z text --gc-sections \
 	  --version-script share/librapidhash_c.map --whole-archive $(archive) -o $(shared)
 
-wasm: library
+module = build/rapidhash_c.wasm
+folder = build/npm/module.mjs
+package = build/yervound-rapidhash-1.0.0.tgz
+wasm: $(module)
+npm: $(package)
+
+build/rapidhash_c_64.wasm: $(archive) bindings/javascript/build.sh
 	@bindings/javascript/build.sh
+
+# Only newer engines have memories of 64-bit addresses, as the kit's module wants.
+$(module): build/rapidhash_c_64.wasm
+	@command -v wasm-opt >/dev/null || { echo 'make: wasm-opt, of the package binaryen, is not on PATH' >&2; exit 2; }
+	@wasm-opt --enable-memory64 --enable-bulk-memory --memory64-lowering -O3 --strip-debug $< -o $@
+
+# The folder of the package, with the module as text in its last file.
+$(folder): $(module) $(wildcard bindings/javascript/*.*) LICENSE-MIT LICENSE-APACHE NOTICE
+	@rm -rf build/npm && mkdir build/npm
+	@cd bindings/javascript && cp *.mjs index.d.ts package.json README.md ../../build/npm
+	@cp LICENSE-MIT LICENSE-APACHE NOTICE build/npm
+	@{ printf 'export default "' && base64 -w 0 $(module) && echo '";'; } >$(folder)
+
+$(package): $(folder)
+	@command -v npm >/dev/null || { echo 'make: npm is not on PATH' >&2; exit 2; }
+	@cd build && npm pack --silent ./npm >npm.log
+
+page: $(folder)
+	@rm -rf build/browser && mkdir build/browser
+	@cp examples/browser/*.* build/npm/*.mjs LICENSE-MIT LICENSE-APACHE NOTICE build/browser
 
 check:
 	@bash .ci/run
@@ -120,14 +148,14 @@ install:
 uninstall:
 	@bin/install --remove
 
-dist: all wasm
+dist: all $(folder)
 	rm -rf build/$(name)
 	$(MAKE) -s install DESTDIR= PREFIX='$(CURDIR)/build/$(name)'
 	sed 's|@PREFIX@|$${pcfiledir}/../..|; s|@LIBDIR@|$${prefix}/lib|; s|@INCLUDEDIR@|$${prefix}/include|' \
 	  share/rapidhash_c.pc.in >build/$(name)/lib/pkgconfig/rapidhash_c.pc
-	tar --exclude=__pycache__ --exclude=build.sh --exclude=rust/target --exclude=rust/tests -hcf - bindings rust | \
-	  tar -C build/$(name) -xf -
-	install -D -m 644 build/rapidhash_c.wasm build/$(name)/build/rapidhash_c.wasm
+	tar --exclude=__pycache__ --exclude=bindings/javascript --exclude=rust/target --exclude=rust/tests -hcf - \
+	  bindings rust | tar -C build/$(name) -xf -
+	cp -r build/npm build/$(name)/bindings/javascript
 	install -m 644 LICENSE-MIT LICENSE-APACHE NOTICE docs/C.md docs/ALGORITHM.md build/$(name)
 	install -D -m 644 docs/images/lanes.svg build/$(name)/images/lanes.svg
 	install -m 644 share/dist.md build/$(name)/README.md

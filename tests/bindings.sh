@@ -1,8 +1,8 @@
 #!/usr/bin/env bash
 # Builds the library for C, static and shared, and tests it and what stands over it: the header alone by
 # each standard of C and C++, the names that the two files define, every call from C and C++, the hashes
-# beside those of the Rust crate, and the bindings for Python, JavaScript and Go. A language that is not on
-# this machine is skipped and not counted. The last line counts the cases.
+# beside those of the Rust crate, and the bindings for Python and Go. A language that is not on this machine
+# is skipped and not counted. The last line counts the cases.
 set -u
 
 top=$(cd "$(dirname "${BASH_SOURCE[0]}")/.." && pwd) || exit 1
@@ -93,27 +93,6 @@ go_tests() (
       GOFLAGS=-mod=readonly go test -count 1 -p 2 ./...
 )
 
-# Whether node takes 64-bit memory: the smallest module that has one, with the flag or without.
-node_has_memory64() {
-  node "$@" -e 'process.exit(WebAssembly.validate(new Uint8Array(
-    [0, 97, 115, 109, 1, 0, 0, 0, 5, 4, 1, 5, 1, 1])) ? 0 : 1)' >/dev/null 2>&1
-}
-
-javascript_tests() {
-  local flag=--experimental-wasm-memory64
-  if ! command -v node >/dev/null; then
-    printf 'skipped javascript: no node\n'
-  elif node_has_memory64; then
-    try wasm make -s -C "$top" wasm
-    try javascript node "$top/bindings/javascript/test.mjs"
-  elif node_has_memory64 "$flag"; then
-    try wasm make -s -C "$top" wasm
-    try javascript node "$flag" "$top/bindings/javascript/test.mjs"
-  else
-    printf 'skipped javascript: no node with 64-bit WebAssembly memory\n'
-  fi
-}
-
 prepare_by prepare
 
 for standard in c89 c99 c11 c17 c2x; do
@@ -133,6 +112,5 @@ try_with fuzz clang fuzz
 
 try_with python python3 python_tests
 try_with go go go_tests
-javascript_tests
 
 finish

@@ -54,12 +54,10 @@ builds_the_rust_crate() {
     [ "$(cargo run --quiet --offline)" = 3327445792987248966 ]
 }
 
-# The module for JavaScript lies where the binding looks for it. Node 20 wants a flag for its memory.
+# The binding for JavaScript has its module inside.
 loads_the_module() {
-  local program
-  program="import('$room/unpacked/bindings/javascript/rapidhash.mjs').then(async ({ load }) =>
-    process.exit((await load()).v3(new TextEncoder().encode('hello')) === 3327445792987248966n ? 0 : 1))"
-  node -e "$program" || node --experimental-wasm-memory64 -e "$program"
+  node -e "import('$room/unpacked/bindings/javascript/rapidhash.mjs').then(({ loadSync }) =>
+    process.exit(loadSync().v3('hello') === 3327445792987248966n ? 0 : 1))"
 }
 
 try archive makes_the_archive

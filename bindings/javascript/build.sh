@@ -1,5 +1,5 @@
 #!/usr/bin/env bash
-# Proves and builds the C library for WebAssembly with 64-bit memory, as build/rapidhash_c.wasm. It
+# Proves and builds the C library for WebAssembly with 64-bit memory, as build/rapidhash_c_64.wasm. It
 # works on a copy of the crates, in which the library's row names the other target. The copy is
 # outside the repository, since the gate refuses a second crates.txt. What was proved of the crates
 # below it is taken from their folders out/, where make library has put it, and what was proved of the
@@ -8,7 +8,8 @@ set -eu
 
 top=$(cd "$(dirname "${BASH_SOURCE[0]}")/../.." && pwd)
 kept=$top/build/wasm.tar
-words='wasm64 memory=131072 stack=65536'
+# No size of the memory is named, so a host can grow it.
+words='wasm64 stack=65536'
 copy=$(mktemp -d)
 trap 'rm -rf "$copy"' EXIT
 
@@ -32,5 +33,5 @@ grep -q "^rapidhash_c $words:" "$copy/crates.txt" || {
 # Each is put in its place at once, so that two builds at a time leave both files whole.
 (cd "$copy/crates" && tar -cf "$kept.$$" rapidhash_c/out)
 mv "$kept.$$" "$kept"
-cp "$copy/crates/rapidhash_c/out/rapidhash_c.wasm" "$top/build/rapidhash_c.wasm.$$"
-mv "$top/build/rapidhash_c.wasm.$$" "$top/build/rapidhash_c.wasm"
+cp "$copy/crates/rapidhash_c/out/rapidhash_c.wasm" "$top/build/rapidhash_c_64.wasm.$$"
+mv "$top/build/rapidhash_c_64.wasm.$$" "$top/build/rapidhash_c_64.wasm"

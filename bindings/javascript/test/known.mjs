@@ -1,28 +1,21 @@
-// The JavaScript binding over known values of the Rust crate rapidhash 4.5.1:
-//
-//     make wasm && node --experimental-wasm-memory64 bindings/javascript/test.mjs
-//
-// If this runtime has no 64-bit memory, it says so and ends with status 77.
+// The package over known values of the Rust crate rapidhash 4.5.1, in Node and in browsers:
+// tests/javascript.sh runs it in a folder where the package is installed.
 import assert from "node:assert/strict";
 import { test } from "node:test";
 
-import { load } from "./rapidhash.mjs";
+import { hex, load, loadSync } from "yervound-rapidhash";
 
-// The smallest module with a memory of 64-bit addresses: one page, at most one.
-const smallest = new Uint8Array([0, 97, 115, 109, 1, 0, 0, 0, 5, 4, 1, 5, 1, 1]);
-if (!WebAssembly.validate(smallest)) {
-  console.log(`skipped: node ${process.version} has no 64-bit WebAssembly memory`);
-  process.exit(77);
-}
-
-const library = await load();
+const library = loadSync();
 const { v1, v2_0, v2_1, v2_2, v3, v3Micro, v3Nano, v3Protected, V3, V3Micro, V3Nano } = library;
 const data = Uint8Array.from({ length: 120 }, (_, at) => at);
 const short = data.subarray(0, 60);
 const own = BigUint64Array.of(1n, 2n, 3n, 5n, 7n, 11n, 13n, 17n);
+// A longer message of V3, micro and nano goes by pieces of this size.
+const piece = 131072;
+const encoder = new TextEncoder();
 
 test("default secrets", () => {
-  assert.equal(v1(new TextEncoder().encode("something\n")), 15965596575264898037n);
+  assert.equal(v1("something\n"), 15965596575264898037n);
   assert.equal(v1(short), 13504714392771582078n);
   assert.equal(v2_0(short), 13186137053657766175n);
   assert.equal(v2_1(short), 13012060828128651499n);
@@ -84,7 +77,7 @@ test("uneven pieces", () => {
 });
 
 test("whole as in pieces, at each length", () => {
-  for (const length of [0, 1, 112, 113, library.room, library.room + 1, 65537, 1000000]) {
+  for (const length of [0, 1, 112, 113, 65537, piece, piece + 1, 1000000]) {
     const message = Uint8Array.from({ length }, (_, at) => at % 251);
     for (const [whole, Stream] of [[v3, V3], [v3Micro, V3Micro], [v3Nano, V3Nano]]) {
       const hash = whole(message, { seed: 5n });
@@ -94,9 +87,14 @@ test("whole as in pieces, at each length", () => {
   }
 });
 
-test("the long message of the C library", () => {
+test("long messages", () => {
   const message = Uint8Array.from({ length: 1000000 }, (_, at) => at % 251);
   assert.equal(v3(message), 3141031059669918984n);
+  const zeros = new Uint8Array(140000000);
+  assert.equal(v1(zeros), 15042570400923500380n);
+  assert.equal(v2_2(zeros), 1949155381881807616n);
+  assert.equal(v1(short), 13504714392771582078n);
+  assert.equal(new V3().update(message).digest(), 3141031059669918984n);
 });
 
 test("hashers do not disturb each other", () => {
@@ -114,6 +112,18 @@ test("a hasher keeps its secrets when the caller's change", () => {
   assert.equal(hasher.digest(), 13105958653737073913n);
 });
 
+test("a clone goes on alone", () => {
+  for (const Stream of [V3, V3Micro, V3Nano]) {
+    const first = new Stream({ seed: 9 }).update("left ");
+    const second = first.clone().update("lift");
+    first.update("left");
+    assert.ok(second instanceof Stream);
+    assert.equal(first.digest(), new Stream({ seed: 9 }).update("left left").digest());
+    assert.equal(second.digest(), new Stream({ seed: 9 }).update("left lift").digest());
+    assert.notEqual(first.digest(), second.digest());
+  }
+});
+
 test("views of all kinds", () => {
   const { buffer } = Uint8Array.from({ length: 400 }, (_, at) => at);
   const views = [buffer, new Uint32Array(buffer), new Float64Array(buffer, 8, 20)];
@@ -124,34 +134,58 @@ test("views of all kinds", () => {
   }
 });
 
-// What is not refused is ignored or rounded without a word.
-test("refused options", () => {
-  const refused = [
-    [7n, /options/], ["7", /options/], [null, /options/], [own, /options/],
-    [new Map([["seed", 7n]]), /options/], [{ sed: 7n }, /no option sed,/],
-    [{ seed: 1n, secret: own }, /no option secret,/], [{ seed: null }, /seed/],
-    [{ seed: "7" }, /seed/], [{ seed: true }, /seed/], [{ secrets: null }, /secrets/],
-  ];
-  for (const [options, message] of refused)
-    for (const call of [() => v3(data, options), () => v2_2(data, options), () => new V3(options)])
-      assert.throws(call, { name: "TypeError", message });
-  for (const seed of [2 ** 60 + 1, 2 ** 53, -1, 1.5, NaN, -1n]) {
-    for (const call of [() => v3(data, { seed }), () => new V3({ seed })])
-      assert.throws(call, { name: "RangeError", message: /seed/ });
-    assert.throws(() => library.makeSecrets(seed), { name: "RangeError", message: /number/ });
+test("strings are their UTF-8", () => {
+  const texts = ["", "a", "na\u00efve", "\x7f\x80", "a".repeat(32), "a".repeat(33),
+    "\u03bb \u2192 \u{1d6cc}", "\u2192".repeat(43690), "\u2192".repeat(43691), "\u2192".repeat(piece),
+    "\u{1d6cc}".repeat(100000), "a".repeat(1000000)];
+  // Whose memory has not grown yet.
+  const { v1, v2_0, v2_1, v2_2, v3, v3Micro, v3Nano, v3Protected, V3 } = loadSync();
+  assert.equal(v3("hello"), 3327445792987248966n);
+  for (const text of texts) {
+    const bytes = encoder.encode(text);
+    for (const call of [v3, v3Micro, v3Nano, v3Protected, v1, v2_0, v2_1, v2_2])
+      assert.equal(call(text), call(bytes));
+    assert.equal(v3(text, { seed: 3n }), v3(bytes, { seed: 3n }));
+    assert.equal(new V3({ seed: 3n }).update(text).digest(), v3(bytes, { seed: 3n }));
   }
-  assert.equal(v3(data, {}), v3(data));
-  assert.equal(v3(data, { seed: undefined, secrets: undefined }), v3(data));
-  assert.equal(v3(data, Object.assign(Object.create(null), { seed: 1 })), 8806718467852582029n);
+  assert.equal(v3("\ud800"), v3("\ufffd"));
 });
 
-test("refused words", () => {
-  const long = new Uint8Array(library.room + 1);
-  for (const call of [v1, v2_0, v2_1, v2_2, v3Protected])
-    assert.throws(() => call(long), { name: "RangeError", message: /takes at most 6\d+ bytes/ });
-  assert.throws(() => v3("a text"), TypeError);
-  assert.throws(() => v3(data, { seed: 1n << 64n }), RangeError);
-  assert.throws(() => v3(data, { seed: 1n, secrets: own }), TypeError);
-  assert.throws(() => v3(data, { secrets: own.slice(0, 4) }), TypeError);
-  assert.throws(() => v3Protected(data, { seed: 1n }), TypeError);
+test("hexadecimal digits", () => {
+  assert.equal(hex(0xabcn), "0000000000000abc");
+  assert.equal(hex(2n ** 64n - 1n), "ffffffffffffffff");
+  assert.equal(hex(v3("hello")), "2e2d7651b45f7946");
+  for (const [hash, name] of [[-1n, "RangeError"], [2n ** 64n, "RangeError"], ["1", "TypeError"]])
+    assert.throws(() => hex(hash), { name, message: /^hash must be/ });
+});
+
+test("streams of the web", async () => {
+  const parts = () => new ReadableStream({
+    start(controller) {
+      for (let at = 0; at < 120; at += 7) controller.enqueue(data.subarray(at, at + 7));
+      controller.close();
+    },
+  });
+  const known = [[V3, 13105958653737073913n], [V3Micro, 5648300410578423183n],
+    [V3Nano, 4961128163384780230n]];
+  for (const [Stream, value] of known) {
+    const hasher = new Stream({ secrets: own });
+    assert.equal((await hasher.updateFrom(parts())).digest(), value);
+    // As in an engine whose streams have no iterator.
+    const { getReader } = ReadableStream.prototype;
+    const stream = parts();
+    await hasher.reset().updateFrom({ getReader: () => getReader.call(stream) });
+    assert.equal(hasher.digest(), value);
+    assert.equal((await hasher.reset().updateFrom(new Blob([data]).stream())).digest(), value);
+  }
+});
+
+test("both starts, alone and side by side", async () => {
+  const other = await load();
+  assert.deepEqual(Object.keys(other), Object.keys(library));
+  assert.equal(other.v3("hello"), 3327445792987248966n);
+  const [left, right] = [new V3().update("hel"), new other.V3().update("hel")];
+  assert.equal(left.update("lo").digest(), right.update("lo").digest());
+  await assert.rejects(load(new Uint8Array(8)), { name: "CompileError", message: /./ });
+  assert.throws(() => loadSync(new Uint8Array(8)), { name: "CompileError", message: /./ });
 });

@@ -1,0 +1,46 @@
+// As much of node:assert as the tests need, for browsers.
+class AssertionError extends Error {
+  name = "AssertionError";
+}
+
+/** A value as text, with its kind. */
+function show(value) {
+  if (ArrayBuffer.isView(value) || Array.isArray(value)) return `[${Array.from(value, show)}]`;
+  return typeof value === "bigint" ? `${value}n` : JSON.stringify(value) ?? String(value);
+}
+
+function check(holds, text) {
+  if (!holds) throw new AssertionError(text);
+}
+
+function checkFault(fault, wanted) {
+  for (const [key, value] of Object.entries(wanted)) {
+    const holds = value instanceof RegExp ? value.test(fault[key]) : fault[key] === value;
+    check(holds, `${key} is ${show(fault[key])}, and not ${value}`);
+  }
+}
+
+export default {
+  ok: (value) => check(value, "is not true"),
+  equal: (left, right) => check(Object.is(left, right), `${show(left)} is not ${show(right)}`),
+  notEqual: (left, right) => check(!Object.is(left, right), `${show(left)} twice`),
+  deepEqual(left, right) {
+    check(left.constructor === right.constructor && show(left) === show(right),
+      `${show(left)} is not ${show(right)}`);
+  },
+  throws(call, wanted) {
+    let fault;
+    try {
+      call();
+    } catch (error) {
+      fault = error;
+    }
+    check(fault !== undefined, "nothing is thrown");
+    checkFault(fault, wanted);
+  },
+  async rejects(promise, wanted) {
+    const fault = await promise.then(() => undefined, (error) => error);
+    check(fault !== undefined, "nothing is rejected");
+    checkFault(fault, wanted);
+  },
+};
