@@ -84,7 +84,7 @@ fuzz() {
 }
 
 python_tests() {
-  RAPIDHASH_LIBRARY=$shared python3 -B "$top/bindings/python/test_rapidhash.py"
+  RAPIDHASH_LIBRARY=$shared PYTHONPATH=$top/bindings/python python3 -B "$top/bindings/python/test_rapidhash.py"
 }
 
 go_tests() (
