@@ -11,8 +11,10 @@ import pathlib
 import sys
 
 FOLDER = pathlib.Path(__file__).resolve().parent
-os.environ.setdefault("RAPIDHASH_LIBRARY", str(FOLDER / "lib" / "librapidhash_c.so.1"))
-sys.path.insert(0, str(FOLDER / "bindings" / "python"))
+# Without a library beside it, it checks an installed package.
+if (FOLDER / "lib").is_dir():
+    os.environ.setdefault("RAPIDHASH_LIBRARY", str(FOLDER / "lib" / "librapidhash_c.so.1"))
+    sys.path.insert(0, str(FOLDER / "bindings" / "python"))
 
 import rapidhash  # noqa: E402
 

@@ -1,0 +1,198 @@
+"""An installed copy of the package: calls, buffers, secrets and hashers. tests/python.sh runs this over each wheel,
+and names it in RAPIDHASH_WHEEL."""
+
+import copy
+import importlib.metadata
+import inspect
+import os
+import pickle
+import subprocess
+import sys
+import threading
+import time
+import types
+import unittest
+
+import rapidhash
+
+DATA = bytes(range(120))
+KNOWN = 7088138960297660729  # V3 of DATA by the Rust crate, as in test_rapidhash.py
+WITH_SEED_1 = 8806718467852582029
+
+# Four threads write one piece that is hashed without the interpreter's lock.
+SHARED = """
+import threading, rapidhash
+piece, hasher = bytes(range(250)) * 400, rapidhash.V3()
+
+def write():
+    for _ in range(300):
+        hasher.update(piece)
+        hasher.copy().intdigest()
+
+threads = [threading.Thread(target=write) for _ in range(4)]
+for thread in threads:
+    thread.start()
+for thread in threads:
+    thread.join()
+print(hasher.intdigest() == rapidhash.v3(piece * 1200))
+"""
+
+
+def run(program, **variables):
+    """The status and the output of a program in a process of its own."""
+    done = subprocess.run([sys.executable, "-B", "-c", program], env={**os.environ, **variables}, text=True,
+                          stdout=subprocess.PIPE, stderr=subprocess.STDOUT)
+    return done.returncode, done.stdout
+
+
+def lets_others_run(call):
+    """Whether another thread runs during a call. It cannot take the interpreter, since the interval is long."""
+    count, done, interval = [0], threading.Event(), sys.getswitchinterval()
+
+    def other():
+        while not done.is_set():
+            count[0] += 1
+            time.sleep(0)
+
+    sys.setswitchinterval(1000)
+    thread = threading.Thread(target=other)
+    try:
+        thread.start()
+        before = count[0]
+        return any(call() is not None and count[0] != before for _ in range(1000))
+    finally:
+        done.set()
+        sys.setswitchinterval(interval)
+        thread.join()
+
+
+class Package(unittest.TestCase):
+    def test_version(self):
+        self.assertEqual(rapidhash.__version__, importlib.metadata.version("yervound-rapidhash"))
+
+    def test_the_calls_are_those_of_the_wheel(self):
+        of_extension = isinstance(rapidhash.v3, types.BuiltinFunctionType)
+        self.assertEqual(of_extension, os.environ["RAPIDHASH_WHEEL"] == "extension")
+
+    def test_a_library_can_be_named(self):
+        status, printed = run("import rapidhash", RAPIDHASH_LIBRARY="/nowhere/librapidhash_c.so.1")
+        self.assertEqual(status, 1)
+        self.assertIn("OSError: /nowhere/librapidhash_c.so.1", printed)
+
+    def test_all_names_are_there(self):
+        for name in rapidhash.__all__:
+            self.assertTrue(getattr(rapidhash, name).__doc__, name)
+
+
+class Calls(unittest.TestCase):
+    def test_arguments_by_place_and_by_name(self):
+        made = rapidhash.make_secrets(7)
+        for value in (rapidhash.v3(DATA, 1), rapidhash.v3(DATA, seed=1), rapidhash.v3(seed=1, data=DATA),
+                      rapidhash.v3(DATA, 1, None), rapidhash.v3(DATA, secrets=None, seed=1)):
+            self.assertEqual(value, WITH_SEED_1)
+        self.assertEqual(rapidhash.v3(DATA, None, made), rapidhash.V3(DATA, secrets=made).intdigest())
+        self.assertNotEqual(rapidhash.v3(DATA, secrets=made), KNOWN)
+        for name in ("v1", "v2_0", "v2_1", "v2_2", "v3", "v3_micro", "v3_nano", "v3_protected"):
+            signature = inspect.signature(getattr(rapidhash, name))
+            self.assertEqual(str(signature), "(data, seed=None, secrets=None)")
+
+    def test_a_seed_is_what_counts_as_an_integer(self):
+        class Index:
+            def __index__(self):
+                return 1
+
+        self.assertEqual(rapidhash.v3(DATA, seed=Index()), WITH_SEED_1)
+        self.assertEqual(rapidhash.V3(DATA, seed=Index()).intdigest(), WITH_SEED_1)
+        self.assertEqual(rapidhash.v3(DATA, seed=0), KNOWN)
+        self.assertNotEqual(rapidhash.v3(DATA, seed=2**64 - 1), KNOWN)
+
+    def test_wrong_arguments_are_refused(self):
+        made, made_v1 = rapidhash.make_secrets(1), rapidhash.make_secrets(1, version=1)
+        data = bytearray(DATA)
+        calls = [
+            lambda: rapidhash.v3(), lambda: rapidhash.v3(data, 1, None, 4), lambda: rapidhash.v3(data, sed=1),
+            lambda: rapidhash.v3(data, data=data), lambda: rapidhash.v3_protected(data, seed=1),
+            lambda: rapidhash.v3(data, seed=1.5), lambda: rapidhash.v3(data, seed="1"), lambda: rapidhash.v3(None),
+            lambda: rapidhash.v3(data, secrets=bytes(64)), lambda: rapidhash.v3(data, secrets=made_v1),
+            lambda: rapidhash.v1(data, secrets=made), lambda: rapidhash.V3(data, secrets=made_v1),
+            lambda: rapidhash.V3(data, seed=1, secrets=made), lambda: rapidhash.V3(data, secrets=bytes(64)),
+            lambda: rapidhash.V3().update("text"), lambda: rapidhash.make_secrets("1"),
+        ]
+        for at, call in enumerate(calls):
+            with self.subTest(at), self.assertRaises(TypeError):
+                call()
+        for seed in (-1, 2**64):
+            with self.assertRaises(OverflowError):
+                rapidhash.v3(data, seed=seed)
+        data.append(120)  # A bytearray refuses this as long as it is lent.
+
+
+class Buffers(unittest.TestCase):
+    def test_views(self):
+        whole = memoryview(b"ab" + DATA + b"c")
+        for view in (whole[2:122], whole[2:122].cast("B", [10, 12]), memoryview(bytearray(whole))[2:122]):
+            self.assertEqual((rapidhash.v3(view), rapidhash.V3(view).intdigest()), (KNOWN, KNOWN))
+        with self.assertRaises(BufferError):
+            rapidhash.V3().update(whole[::2])
+        whole.release()
+        with self.assertRaises(ValueError):
+            rapidhash.v3(whole)
+
+    def test_other_threads_run_meanwhile(self):
+        data, hasher = bytes(1 << 24), rapidhash.V3()
+        self.assertTrue(lets_others_run(lambda: rapidhash.v3(data)))
+        self.assertTrue(lets_others_run(lambda: hasher.update(data)))
+        self.assertFalse(lets_others_run(lambda: len(data)))
+
+
+class Secrets(unittest.TestCase):
+    def test_they_do_not_change(self):
+        for made in (rapidhash.make_secrets(0x12345678), rapidhash.make_secrets(0x12345678, version=1)):
+            with self.assertRaises(AttributeError):
+                made.seed = 1
+            with self.assertRaises(TypeError):
+                made.secrets[0] = 1
+
+    def test_copies(self):
+        for made in (rapidhash.make_secrets(5), rapidhash.make_secrets(5, version=1)):
+            for other in (copy.copy(made), copy.deepcopy(made), pickle.loads(pickle.dumps(made))):
+                self.assertEqual((type(other), other.seed, other.secrets), (type(made), made.seed, made.secrets))
+            with self.assertRaises(ValueError):
+                type(made)(made[:-1])
+
+    def test_their_text_has_no_words(self):
+        made = rapidhash.make_secrets(0x12345678)
+        for text in (repr(made), str(made), f"{made}"):
+            self.assertEqual(text, "<Secrets, whose words are not shown>")
+
+
+class Hashers(unittest.TestCase):
+    def test_a_copy_has_its_kind(self):
+        for kind in (rapidhash.V3, rapidhash.V3Micro, rapidhash.V3Nano):
+            first = kind(DATA[:100], seed=1)
+            other = first.copy()
+            self.assertIs(type(other), kind)
+            self.assertEqual(first.update(DATA[100:]).digest(), other.update(DATA[100:]).digest())
+        self.assertEqual(rapidhash.V3Nano(DATA[:100]).copy().update(DATA[100:]).intdigest(), 3778853990780631382)
+
+    def test_a_class_over_one(self):
+        class Named(rapidhash.V3):
+            def __init__(self, title, count):
+                super().__init__(seed=count)
+                self.title = title
+
+        self.assertEqual(Named("one", 1).update(DATA).intdigest(), WITH_SEED_1)
+        self.assertEqual(Named("one", 1).title, "one")
+
+    def test_an_end_of_64_bits(self):
+        hasher = rapidhash.V3(b"hello")
+        self.assertEqual(hasher.digest(), (3327445792987248966).to_bytes(8, "big"))
+        self.assertEqual(hasher.hexdigest(), "2e2d7651b45f7946")
+
+    def test_threads_share_a_hasher_of_long_pieces(self):
+        """In a process of its own, since a write that meets another one can end the interpreter."""
+        self.assertEqual(run(SHARED), (0, "True\n"))
+
+
+if __name__ == "__main__":
+    unittest.main()
