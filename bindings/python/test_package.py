@@ -1,6 +1,7 @@
 """An installed copy of the package: calls, buffers, secrets and hashers. tests/python.sh runs this over each wheel,
 and names it in RAPIDHASH_WHEEL."""
 
+import contextlib
 import copy
 import importlib.metadata
 import inspect
@@ -10,6 +11,7 @@ import subprocess
 import sys
 import threading
 import time
+import tracemalloc
 import types
 import unittest
 
@@ -19,13 +21,13 @@ DATA = bytes(range(120))
 KNOWN = 7088138960297660729  # V3 of DATA by the Rust crate, as in test_rapidhash.py
 WITH_SEED_1 = 8806718467852582029
 
-# Four threads write one piece that is hashed without the interpreter's lock.
+# Four threads write one piece, which takes so long that they meet in the library.
 SHARED = """
 import threading, rapidhash
-piece, hasher = bytes(range(250)) * 400, rapidhash.V3()
+piece, hasher, alone = bytes(range(250)) * 20000, rapidhash.V3(), rapidhash.V3()
 
 def write():
-    for _ in range(300):
+    for _ in range(50):
         hasher.update(piece)
         hasher.copy().intdigest()
 
@@ -34,7 +36,9 @@ for thread in threads:
     thread.start()
 for thread in threads:
     thread.join()
-print(hasher.intdigest() == rapidhash.v3(piece * 1200))
+for _ in range(200):
+    alone.update(piece)
+print(hasher.intdigest() == alone.intdigest())
 """
 
 
@@ -64,6 +68,16 @@ def lets_others_run(call):
         done.set()
         sys.setswitchinterval(interval)
         thread.join()
+
+
+class Power:
+    """A power of two that counts as an integer."""
+
+    def __init__(self, exponent):
+        self.exponent = exponent
+
+    def __index__(self):
+        return 1 << self.exponent
 
 
 class Package(unittest.TestCase):
@@ -97,12 +111,8 @@ class Calls(unittest.TestCase):
             self.assertEqual(str(signature), "(data, seed=None, secrets=None)")
 
     def test_a_seed_is_what_counts_as_an_integer(self):
-        class Index:
-            def __index__(self):
-                return 1
-
-        self.assertEqual(rapidhash.v3(DATA, seed=Index()), WITH_SEED_1)
-        self.assertEqual(rapidhash.V3(DATA, seed=Index()).intdigest(), WITH_SEED_1)
+        self.assertEqual(rapidhash.v3(DATA, seed=Power(0)), WITH_SEED_1)
+        self.assertEqual(rapidhash.V3(DATA, seed=Power(0)).intdigest(), WITH_SEED_1)
         self.assertEqual(rapidhash.v3(DATA, seed=0), KNOWN)
         self.assertNotEqual(rapidhash.v3(DATA, seed=2**64 - 1), KNOWN)
 
@@ -116,7 +126,8 @@ class Calls(unittest.TestCase):
             lambda: rapidhash.v3(data, secrets=bytes(64)), lambda: rapidhash.v3(data, secrets=made_v1),
             lambda: rapidhash.v1(data, secrets=made), lambda: rapidhash.V3(data, secrets=made_v1),
             lambda: rapidhash.V3(data, seed=1, secrets=made), lambda: rapidhash.V3(data, secrets=bytes(64)),
-            lambda: rapidhash.V3().update("text"), lambda: rapidhash.make_secrets("1"),
+            lambda: rapidhash.v3(data, secrets=bytes.__new__(rapidhash.Secrets)), lambda: rapidhash.V3().update("text"),
+            lambda: rapidhash.make_secrets("1"),
         ]
         for at, call in enumerate(calls):
             with self.subTest(at), self.assertRaises(TypeError):
@@ -175,6 +186,16 @@ class Hashers(unittest.TestCase):
             self.assertEqual(first.update(DATA[100:]).digest(), other.update(DATA[100:]).digest())
         self.assertEqual(rapidhash.V3Nano(DATA[:100]).copy().update(DATA[100:]).intdigest(), 3778853990780631382)
 
+    def test_a_copy_lives_on_alone(self):
+        first = rapidhash.V3(DATA[:100], seed=1)
+        other = first.copy()
+        del first
+        taken = [rapidhash.V3(secrets=rapidhash.make_secrets(number)) for number in range(100)]
+        self.assertEqual(other.update(DATA[100:]).intdigest(), WITH_SEED_1)
+        other.reset()
+        self.assertEqual(other.update(DATA).intdigest(), WITH_SEED_1)
+        self.assertEqual(len(taken), 100)
+
     def test_a_class_over_one(self):
         class Named(rapidhash.V3):
             def __init__(self, title, count):
@@ -188,6 +209,24 @@ class Hashers(unittest.TestCase):
         hasher = rapidhash.V3(b"hello")
         self.assertEqual(hasher.digest(), (3327445792987248966).to_bytes(8, "big"))
         self.assertEqual(hasher.hexdigest(), "2e2d7651b45f7946")
+
+    def test_nothing_is_left(self):
+        def use(count):
+            for _ in range(count):
+                hasher = rapidhash.V3(DATA, secrets=rapidhash.make_secrets(2**63)).copy()
+                with contextlib.suppress(TypeError):
+                    hasher.update("text")
+                rapidhash.v3(DATA, seed=Power(63))
+            return tracemalloc.get_traced_memory()[0], sys.getrefcount(rapidhash.V3)
+
+        tracemalloc.start()
+        try:
+            memory, count = use(10)
+            more, same = use(1000)
+        finally:
+            tracemalloc.stop()
+        self.assertLess(more - memory, 1 << 12)
+        self.assertEqual(count, same)
 
     def test_threads_share_a_hasher_of_long_pieces(self):
         """In a process of its own, since a write that meets another one can end the interpreter."""
