@@ -109,15 +109,15 @@ wheel = $(wheels)/yervound_rapidhash-1.0.0-py3-none-linux_x86_64.whl
 wheel: $(wheel)
 
 # A compiler and the headers of a Python whose limited API has buffers.
-can_extend = printf '\#include <Python.h>\n\#if PY_VERSION_HEX < 0x030b0000\n\#error\n\#endif\n' | cc -x c -fsyntax-only - \
-  -I"$$($(PYTHON) -c 'import sysconfig; print(sysconfig.get_paths()["include"])')" 2>/dev/null
+can_extend = printf '\#include <Python.h>\n\#if PY_VERSION_HEX < 0x030b0000\n\#error\n\#endif\n' | \
+  cc -x c -fsyntax-only - -I"$$($(PYTHON) -c 'import sysconfig; print(sysconfig.get_paths()["include"])')" 2>/dev/null
 
 # Lays out the folder of a wheel with one more file, and packs it: FOLDER, the file, its place
 define pack_wheel
   rm -rf $(1) && mkdir -p $(1)/rapidhash && \
-  cp bindings/python/*.[cht]* bindings/python/setup.py bindings/python/README.md include/rapidhash_c.h $(1) && \
+  cp bindings/python/setup.py bindings/python/*.toml bindings/python/*.md bindings/python/*.[ch] $(1) && \
   cp bindings/python/rapidhash/*.py* bindings/python/rapidhash/py.typed $(1)/rapidhash && \
-  cp LICENSE-MIT LICENSE-APACHE NOTICE $(1) && cp $(2) $(1)/$(3) && \
+  cp include/rapidhash_c.h LICENSE-MIT LICENSE-APACHE NOTICE $(1) && cp $(2) $(1)/$(3) && \
   CFLAGS='-Wall -Wextra -Werror' $(PYTHON) -m pip wheel --quiet --no-index --no-deps --no-build-isolation \
     --wheel-dir $(wheels) ./$(1)
 endef
