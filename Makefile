@@ -177,7 +177,7 @@ install:
 uninstall:
 	@bin/install --remove
 
-dist: all $(folder)
+dist: all $(folder) $(wheel)
 	rm -rf build/$(name)
 	$(MAKE) -s install DESTDIR= PREFIX='$(CURDIR)/build/$(name)'
 	sed 's|@PREFIX@|$${pcfiledir}/../..|; s|@LIBDIR@|$${prefix}/lib|; s|@INCLUDEDIR@|$${prefix}/include|' \
@@ -185,6 +185,7 @@ dist: all $(folder)
 	tar --exclude=__pycache__ --exclude=bindings/javascript --exclude=rust/target --exclude=rust/tests -hcf - \
 	  bindings rust | tar -C build/$(name) -xf -
 	cp -r build/npm build/$(name)/bindings/javascript
+	install -D -m 644 -t build/$(name)/wheels $(wheels)/*.whl
 	install -m 644 LICENSE-MIT LICENSE-APACHE NOTICE docs/C.md docs/ALGORITHM.md build/$(name)
 	install -D -m 644 docs/images/lanes.svg build/$(name)/images/lanes.svg
 	install -m 644 share/dist.md build/$(name)/README.md
