@@ -47,6 +47,12 @@ runs_over() {
   cd "$room/tests" && RAPIDHASH_WHEEL=$1 "$room/$1/bin/python" -B "$2.py"
 }
 
+# With a library that the variable names the extension's wheel is one over ctypes.
+takes_a_named_library() {
+  cd "$room/tests" && RAPIDHASH_LIBRARY=$top/build/librapidhash_c.so.1 RAPIDHASH_WHEEL=ctypes \
+    "$room/extension/bin/python" -B test_package.py
+}
+
 accepts_the_types() {
   cd "$room/tests" && mypy --strict --no-error-summary --cache-dir "$room/mypy" \
     --python-executable "$room/ctypes/bin/python" test_types.py
@@ -63,7 +69,7 @@ types_are_those_of() {
 # The cases of an installed wheel: ENVIRONMENT
 test_wheel() {
   local name
-  for name in test_rapidhash test_package test_files check_vectors; do
+  for name in test_rapidhash test_package test_buffers check_vectors; do
     try "$1_$name" runs_over "$1" "$name"
   done
   try_with "$1_types" mypy types_are_those_of "$1"
@@ -82,6 +88,7 @@ try_with types mypy accepts_the_types
 if compgen -G "$top/build/wheels/*-abi3-*.whl" >/dev/null; then
   try files_of_extension has_its_files cp311-abi3 _extension.abi3.so
   test_wheel extension
+  try named_library takes_a_named_library
 else
   printf 'skipped extension: make built no wheel with one\n'
 fi

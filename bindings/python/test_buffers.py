@@ -1,10 +1,13 @@
-"""An installed copy of the package: files and maps of files. tests/python.sh runs this over each wheel."""
+"""An installed copy of the package: buffers, files and maps of files. tests/python.sh runs this over each wheel."""
 
 import hashlib
 import io
 import mmap
 import os
+import sys
 import tempfile
+import threading
+import time
 import tracemalloc
 import unittest
 
@@ -12,6 +15,34 @@ import rapidhash
 
 DATA = bytes(range(120))
 KNOWN = 7088138960297660729  # V3 of DATA by the Rust crate, as in test_rapidhash.py
+
+
+def lets_others_run(call):
+    """Whether another thread runs during a call. It cannot take the interpreter, since the interval is long."""
+    count, done, interval = [0], threading.Event(), sys.getswitchinterval()
+
+    def other():
+        while not done.is_set():
+            count[0] += 1
+            time.sleep(0)
+
+    sys.setswitchinterval(1000)
+    thread = threading.Thread(target=other)
+    try:
+        thread.start()
+        before = count[0]
+        return any(call() is not None and count[0] != before for _ in range(1000))
+    finally:
+        done.set()
+        sys.setswitchinterval(interval)
+        thread.join()
+
+
+class Long(bytes):
+    """Bytes that tell a wrong length."""
+
+    def __len__(self):
+        return 1 << 40
 
 
 class Short(io.RawIOBase):
@@ -28,6 +59,26 @@ class Short(io.RawIOBase):
         given, self.rest = self.rest[:7], self.rest[7:]
         buffer[:len(given)] = given
         return len(given)
+
+
+class Buffers(unittest.TestCase):
+    def test_views(self):
+        whole = memoryview(b"ab" + DATA + b"c")
+        for view in (whole[2:122], whole[2:122].cast("B", [10, 12]), memoryview(bytearray(whole))[2:122]):
+            self.assertEqual((rapidhash.v3(view), rapidhash.V3(view).intdigest()), (KNOWN, KNOWN))
+        with self.assertRaises(BufferError):
+            rapidhash.V3().update(whole[::2])
+        long = Long(DATA)
+        self.assertEqual((rapidhash.v3(long), rapidhash.V3(long).intdigest()), (KNOWN, KNOWN))
+        whole.release()
+        with self.assertRaises(ValueError):
+            rapidhash.v3(whole)
+
+    def test_other_threads_run_meanwhile(self):
+        data, hasher = bytes(1 << 24), rapidhash.V3()
+        self.assertTrue(lets_others_run(lambda: rapidhash.v3(data)))
+        self.assertTrue(lets_others_run(lambda: hasher.update(data)))
+        self.assertFalse(lets_others_run(lambda: len(data)))
 
 
 class Files(unittest.TestCase):
