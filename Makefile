@@ -7,6 +7,7 @@
 # make library     proves and builds the library for C, static and shared
 # make wasm        proves and builds the same library for WebAssembly, with addresses of 32 bits
 # make npm         packs bindings/javascript with that module, for npm install
+# make wheel       packs bindings/python with the library inside, for pip install
 # make page        puts examples/browser with that package into build/browser, for any server of files
 # make install     copies what make has built, with manual pages and completions, under PREFIX
 # make dist        puts all that a user without the kit needs into one archive in build/
@@ -30,7 +31,7 @@ name = yervound-1.0-x86_64-linux
 # The linker of the kit, beside the page that rt names.
 linker = $(dir $(shell rt doc))toolchain/bin/ld.lld
 
-.PHONY: all tool sums library wasm npm page check quick test fmt bench install uninstall clean dist vendor \
+.PHONY: all tool sums library wasm npm page wheel check quick test fmt bench install uninstall clean dist vendor \
   rapidhash_c rapidhash_cli example_sums example_bloom example_perfect example_shards example_dedupe
 .DELETE_ON_ERROR:
 MAKEFLAGS += --no-builtin-rules
@@ -101,6 +102,34 @@ page: $(folder)
 	@rm -rf build/browser && mkdir build/browser
 	@cp examples/browser/*.* build/npm/*.mjs LICENSE-MIT LICENSE-APACHE NOTICE build/browser
 
+# The system's Python has what builds a wheel by its packages python3-setuptools and python3-wheel.
+PYTHON = /usr/bin/python3
+wheels = build/wheels
+wheel = $(wheels)/yervound_rapidhash-1.0.0-py3-none-linux_x86_64.whl
+wheel: $(wheel)
+
+# A compiler and the headers of a Python whose limited API has buffers.
+can_extend = printf '\#include <Python.h>\n\#if PY_VERSION_HEX < 0x030b0000\n\#error\n\#endif\n' | \
+  cc -x c -fsyntax-only - -I"$$($(PYTHON) -c 'import sysconfig; print(sysconfig.get_paths()["include"])')" 2>/dev/null
+
+# Lays out the folder of a wheel with one more file, and packs it: FOLDER, the file, its place
+define pack_wheel
+  rm -rf $(1) && mkdir -p $(1)/rapidhash && \
+  cp bindings/python/setup.py bindings/python/*.toml bindings/python/*.md bindings/python/*.[ch] $(1) && \
+  cp bindings/python/rapidhash/*.py* bindings/python/rapidhash/py.typed $(1)/rapidhash && \
+  cp include/rapidhash_c.h LICENSE-MIT LICENSE-APACHE NOTICE $(1) && cp $(2) $(1)/$(3) && \
+  CFLAGS='-Wall -Wextra -Werror' $(PYTHON) -m pip wheel --quiet --no-index --no-deps --no-build-isolation \
+    --wheel-dir $(wheels) ./$(1)
+endef
+
+$(wheel): $(shared) include/rapidhash_c.h LICENSE-MIT LICENSE-APACHE NOTICE \
+    $(wildcard bindings/python/*.* bindings/python/rapidhash/*.*)
+	@$(PYTHON) -c 'import setuptools, wheel' || { echo 'make: $(PYTHON) lacks setuptools or wheel' >&2; exit 2; }
+	@rm -rf $(wheels)
+	@if $(can_extend); then $(call pack_wheel,build/wheel_extension,$(archive),); else \
+	  echo 'make: no wheel with an extension, which needs cc and the headers of Python 3.11 or later' >&2; fi
+	@$(call pack_wheel,build/wheel,$(shared),rapidhash)
+
 check:
 	@bash .ci/run
 
@@ -148,7 +177,7 @@ install:
 uninstall:
 	@bin/install --remove
 
-dist: all $(folder)
+dist: all $(folder) $(wheel)
 	rm -rf build/$(name)
 	$(MAKE) -s install DESTDIR= PREFIX='$(CURDIR)/build/$(name)'
 	sed 's|@PREFIX@|$${pcfiledir}/../..|; s|@LIBDIR@|$${prefix}/lib|; s|@INCLUDEDIR@|$${prefix}/include|' \
@@ -156,6 +185,7 @@ dist: all $(folder)
 	tar --exclude=__pycache__ --exclude=bindings/javascript --exclude=rust/target --exclude=rust/tests -hcf - \
 	  bindings rust | tar -C build/$(name) -xf -
 	cp -r build/npm build/$(name)/bindings/javascript
+	install -D -m 644 -t build/$(name)/wheels $(wheels)/*.whl
 	install -m 644 LICENSE-MIT LICENSE-APACHE NOTICE docs/C.md docs/ALGORITHM.md build/$(name)
 	install -D -m 644 docs/images/lanes.svg build/$(name)/images/lanes.svg
 	install -m 644 share/dist.md build/$(name)/README.md

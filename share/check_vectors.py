@@ -11,8 +11,10 @@ import pathlib
 import sys
 
 FOLDER = pathlib.Path(__file__).resolve().parent
-os.environ.setdefault("RAPIDHASH_LIBRARY", str(FOLDER / "lib" / "librapidhash_c.so.1"))
-sys.path.insert(0, str(FOLDER / "bindings" / "python"))
+# Without a library beside it, it checks an installed package.
+if (FOLDER / "lib").is_dir():
+    os.environ.setdefault("RAPIDHASH_LIBRARY", str(FOLDER / "lib" / "librapidhash_c.so.1"))
+    sys.path.insert(0, str(FOLDER / "bindings" / "python"))
 
 import rapidhash  # noqa: E402
 
@@ -32,7 +34,7 @@ def answers(version, rule, message):
     """What the library says of a case, by each way that it has."""
     made = None
     if rule != "default":
-        made = rapidhash.make_secrets(int(rule.removeprefix("make:")), 1 if version == "v1" else 3)
+        made = rapidhash.make_secrets(int(rule.partition(":")[2]), 1 if version == "v1" else 3)
     yield getattr(rapidhash, version)(message, secrets=made)
     if version in STREAMS:
         yield in_pieces(STREAMS[version](secrets=made), message)

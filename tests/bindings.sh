@@ -1,8 +1,8 @@
 #!/usr/bin/env bash
 # Builds the library for C, static and shared, and tests it and what stands over it: the header alone by
 # each standard of C and C++, the names that the two files define, every call from C and C++, the hashes
-# beside those of the Rust crate, and the bindings for Python and Go. A language that is not on this machine
-# is skipped and not counted. The last line counts the cases.
+# beside those of the Rust crate, and the binding for Go. A language that is not on this machine is skipped and
+# not counted. The last line counts the cases.
 set -u
 
 top=$(cd "$(dirname "${BASH_SOURCE[0]}")/.." && pwd) || exit 1
@@ -83,10 +83,6 @@ fuzz() {
     (cd "$room" && ./beside_rust -max_len=1200 -len_control=0 "$runs")
 }
 
-python_tests() {
-  RAPIDHASH_LIBRARY=$shared python3 -B "$top/bindings/python/test_rapidhash.py"
-}
-
 go_tests() (
   cd "$top/bindings/go" &&
     PKG_CONFIG_PATH=$room/lib LD_LIBRARY_PATH=$room/lib GOCACHE=$room/go GOPROXY=off \
@@ -110,7 +106,6 @@ try cpp_archive calls_from_c c++ -I"$top/include" -x c++ "$top/tests/c_library.c
 try_with random_messages rustc random_messages
 try_with fuzz clang fuzz
 
-try_with python python3 python_tests
 try_with go go go_tests
 
 finish

@@ -60,6 +60,13 @@ loads_the_module() {
     process.exit(loadSync().v3('hello') === 3327445792987248966n ? 0 : 1))"
 }
 
+# pip finds the wheel that this Python takes.
+installs_a_wheel() {
+  /usr/bin/python3 -m venv "$room/environment" && cd "$room" &&
+    environment/bin/pip install --quiet --no-index --find-links unpacked/wheels yervound-rapidhash &&
+    [ "$(environment/bin/python -c 'import rapidhash; print(rapidhash.v3(b"hello"))')" = 3327445792987248966 ]
+}
+
 try archive makes_the_archive
 try program prints_the_known_hash
 try vectors agrees_with_the_vectors
@@ -67,5 +74,6 @@ try wrong_vector tells_a_wrong_vector
 try library links_where_it_stands
 try rust_crate builds_the_rust_crate
 try_with module node loads_the_module
+try wheel installs_a_wheel
 
 finish

@@ -145,6 +145,7 @@ VERSIONS = {
     "share/rapidsum.1": r'^\.TH .*"Yervound (\d+\.\d+)"',
     "include/rapidhash_c.h": r'VERSION_STRING "(\d+\.\d+)"',
     "crates/example_sums/src/words.rt": r'\.version\("(\d+\.\d+)"\)',
+    "bindings/python/rapidhash/__init__.py": r'^__version__ = "(\d+\.\d+)\.\d+"',
     "bindings/javascript/package.json": r'"version": "(\d+\.\d+)\.\d+"',
     "rust/Cargo.toml": r'^version = "(\d+\.\d+)\.\d+"',
 }

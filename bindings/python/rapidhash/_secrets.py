@@ -1,0 +1,47 @@
+"""The secrets of the hashes, as the C library lays them out: words of 64 bits, the seed first."""
+
+from __future__ import annotations
+
+import struct
+import sys
+
+
+class _Words(bytes):
+    """Words that nothing changes, so that a hash may read them while other threads run."""
+
+    __slots__ = ()
+    _count = 0
+
+    def __new__(cls, packed: bytes):
+        if len(packed) != 8 * cls._count:
+            raise ValueError(f"{cls.__name__} has {8 * cls._count} bytes: make_secrets makes them")
+        return super().__new__(cls, packed)
+
+    @property
+    def seed(self) -> int:
+        """The seed."""
+        return int.from_bytes(self[:8], sys.byteorder)
+
+    @property
+    def secrets(self) -> tuple[int, ...]:
+        """The secrets, as a tuple of integers."""
+        return struct.unpack(f"={self._count - 1}Q", self[8:])
+
+    def __repr__(self) -> str:
+        return f"<{type(self).__name__}, whose words are not shown>"
+
+    __str__ = __repr__
+
+
+class Secrets(_Words):
+    """A seed and the secrets of all versions but V1."""
+
+    __slots__ = ()
+    _count = 8
+
+
+class SecretsV1(_Words):
+    """A seed and the secrets of V1."""
+
+    __slots__ = ()
+    _count = 4

@@ -1,0 +1,212 @@
+"""An installed copy of the package: calls, secrets and hashers. tests/python.sh runs this over each wheel,
+and names it in RAPIDHASH_WHEEL."""
+
+import contextlib
+import copy
+import importlib.metadata
+import inspect
+import os
+import pickle
+import subprocess
+import sys
+import tracemalloc
+import types
+import unittest
+
+import rapidhash
+
+DATA = bytes(range(120))
+KNOWN = 7088138960297660729  # V3 of DATA by the Rust crate, as in test_rapidhash.py
+WITH_SEED_1 = 8806718467852582029
+
+# Four threads write one piece, which takes so long that they meet in the library.
+SHARED = """
+import threading, rapidhash
+piece, hasher, alone = bytes(range(250)) * 20000, rapidhash.V3(), rapidhash.V3()
+
+def write():
+    for _ in range(50):
+        hasher.update(piece)
+        hasher.copy().intdigest()
+
+threads = [threading.Thread(target=write) for _ in range(4)]
+for thread in threads:
+    thread.start()
+for thread in threads:
+    thread.join()
+for _ in range(200):
+    alone.update(piece)
+print(hasher.intdigest() == alone.intdigest())
+"""
+
+
+def run(program, **variables):
+    """The status and the output of a program in a process of its own."""
+    done = subprocess.run([sys.executable, "-B", "-c", program], env={**os.environ, **variables}, text=True,
+                          stdout=subprocess.PIPE, stderr=subprocess.STDOUT)
+    return done.returncode, done.stdout
+
+
+class Power:
+    """A power of two that counts as an integer."""
+
+    def __init__(self, exponent):
+        self.exponent = exponent
+
+    def __index__(self):
+        return 1 << self.exponent
+
+
+class Package(unittest.TestCase):
+    def test_version(self):
+        self.assertEqual(rapidhash.__version__, importlib.metadata.version("yervound-rapidhash"))
+
+    def test_the_calls_are_those_of_the_wheel(self):
+        of_extension = isinstance(rapidhash.v3, types.BuiltinFunctionType)
+        self.assertEqual(of_extension, os.environ["RAPIDHASH_WHEEL"] == "extension")
+
+    def test_a_library_can_be_named(self):
+        status, printed = run("import rapidhash", RAPIDHASH_LIBRARY="/nowhere/librapidhash_c.so.1")
+        self.assertEqual(status, 1)
+        self.assertIn("OSError: /nowhere/librapidhash_c.so.1", printed)
+
+    def test_all_names_are_there(self):
+        for name in rapidhash.__all__:
+            self.assertTrue(getattr(rapidhash, name).__doc__, name)
+
+
+class Calls(unittest.TestCase):
+    def test_arguments_by_place_and_by_name(self):
+        made = rapidhash.make_secrets(7)
+        for value in (rapidhash.v3(DATA, 1), rapidhash.v3(DATA, seed=1), rapidhash.v3(seed=1, data=DATA),
+                      rapidhash.v3(DATA, 1, None), rapidhash.v3(DATA, secrets=None, seed=1)):
+            self.assertEqual(value, WITH_SEED_1)
+        self.assertEqual(rapidhash.v3(DATA, None, made), rapidhash.V3(DATA, secrets=made).intdigest())
+        self.assertNotEqual(rapidhash.v3(DATA, secrets=made), KNOWN)
+        for name in ("v1", "v2_0", "v2_1", "v2_2", "v3", "v3_micro", "v3_nano", "v3_protected"):
+            signature = inspect.signature(getattr(rapidhash, name))
+            self.assertEqual(str(signature), "(data, seed=None, secrets=None)")
+
+    def test_a_seed_is_what_counts_as_an_integer(self):
+        self.assertEqual(rapidhash.v3(DATA, seed=Power(0)), WITH_SEED_1)
+        self.assertEqual(rapidhash.V3(DATA, seed=Power(0)).intdigest(), WITH_SEED_1)
+        self.assertEqual(rapidhash.v3(DATA, seed=0), KNOWN)
+        self.assertNotEqual(rapidhash.v3(DATA, seed=2**64 - 1), KNOWN)
+
+    def test_wrong_arguments_are_refused(self):
+        made, made_v1 = rapidhash.make_secrets(1), rapidhash.make_secrets(1, version=1)
+        data = bytearray(DATA)
+
+        class Long(rapidhash.Secrets):
+            def __len__(self):
+                return 64
+
+        calls = [
+            lambda: rapidhash.v3(), lambda: rapidhash.v3(data, 1, None, 4), lambda: rapidhash.v3(data, sed=1),
+            lambda: rapidhash.v3(data, data=data), lambda: rapidhash.v3_protected(data, seed=1),
+            lambda: rapidhash.v3(data, seed=1.5), lambda: rapidhash.v3(data, seed="1"), lambda: rapidhash.v3(None),
+            lambda: rapidhash.v3(data, secrets=bytes(64)), lambda: rapidhash.v3(data, secrets=made_v1),
+            lambda: rapidhash.v1(data, secrets=made), lambda: rapidhash.V3(data, secrets=made_v1),
+            lambda: rapidhash.V3(data, seed=1, secrets=made), lambda: rapidhash.V3(data, secrets=bytes(64)),
+            lambda: rapidhash.v3(data, secrets=bytes.__new__(rapidhash.Secrets)), lambda: rapidhash.V3().update("text"),
+            lambda: rapidhash.make_secrets("1"), lambda: rapidhash.v3(data, secrets=bytes.__new__(Long)),
+        ]
+        for at, call in enumerate(calls):
+            with self.subTest(at), self.assertRaises(TypeError):
+                call()
+        for seed in (-1, 2**64):
+            with self.assertRaises(OverflowError):
+                rapidhash.v3(data, seed=seed)
+        data.append(120)  # A bytearray refuses this as long as it is lent.
+
+
+class Secrets(unittest.TestCase):
+    def test_they_do_not_change(self):
+        for made in (rapidhash.make_secrets(0x12345678), rapidhash.make_secrets(0x12345678, version=1)):
+            with self.assertRaises(AttributeError):
+                made.seed = 1
+            with self.assertRaises(TypeError):
+                made.secrets[0] = 1
+
+    def test_copies(self):
+        for made in (rapidhash.make_secrets(5), rapidhash.make_secrets(5, version=1)):
+            for other in (copy.copy(made), copy.deepcopy(made), pickle.loads(pickle.dumps(made))):
+                self.assertEqual((type(other), other.seed, other.secrets), (type(made), made.seed, made.secrets))
+            with self.assertRaises(ValueError):
+                type(made)(made[:-1])
+
+    def test_their_text_has_no_words(self):
+        made = rapidhash.make_secrets(0x12345678)
+        for text in (repr(made), str(made), f"{made}"):
+            self.assertEqual(text, "<Secrets, whose words are not shown>")
+
+
+class Hashers(unittest.TestCase):
+    def test_a_copy_has_its_kind(self):
+        for kind in (rapidhash.V3, rapidhash.V3Micro, rapidhash.V3Nano):
+            first = kind(DATA[:100], seed=1)
+            other = first.copy()
+            self.assertIs(type(other), kind)
+            self.assertEqual(first.update(DATA[100:]).digest(), other.update(DATA[100:]).digest())
+        self.assertEqual(rapidhash.V3Nano(DATA[:100]).copy().update(DATA[100:]).intdigest(), 3778853990780631382)
+
+    def test_a_copy_lives_on_alone(self):
+        first = rapidhash.V3(DATA[:100], seed=1)
+        other = first.copy()
+        del first
+        taken = [rapidhash.V3(secrets=rapidhash.make_secrets(number)) for number in range(100)]
+        self.assertEqual(other.update(DATA[100:]).intdigest(), WITH_SEED_1)
+        other.reset()
+        self.assertEqual(other.update(DATA).intdigest(), WITH_SEED_1)
+        self.assertEqual(len(taken), 100)
+
+    def test_a_class_over_one(self):
+        class Named(rapidhash.V3):
+            def __init__(self, title, count):
+                super().__init__(seed=count)
+                self.title = title
+
+        self.assertEqual(Named("one", 1).update(DATA).intdigest(), WITH_SEED_1)
+        self.assertEqual(Named("one", 1).title, "one")
+
+    def test_a_class_that_starts_none(self):
+        class Idle(rapidhash.V3):
+            def __init__(self):
+                pass
+
+        data = bytearray(DATA)
+        for call in (lambda: Idle().update(data), Idle().intdigest, Idle().reset, Idle().copy):
+            with self.assertRaises(ValueError):
+                call()
+        data.append(120)
+
+    def test_an_end_of_64_bits(self):
+        hasher = rapidhash.V3(b"hello")
+        self.assertEqual(hasher.digest(), (3327445792987248966).to_bytes(8, "big"))
+        self.assertEqual(hasher.hexdigest(), "2e2d7651b45f7946")
+
+    def test_nothing_is_left(self):
+        def use(count):
+            for _ in range(count):
+                hasher = rapidhash.V3(DATA, secrets=rapidhash.make_secrets(2**63)).copy()
+                with contextlib.suppress(TypeError):
+                    hasher.update("text")
+                rapidhash.v3(DATA, seed=Power(63))
+            return tracemalloc.get_traced_memory()[0], sys.getrefcount(rapidhash.V3)
+
+        tracemalloc.start()
+        try:
+            memory, count = use(10)
+            more, same = use(1000)
+        finally:
+            tracemalloc.stop()
+        self.assertLess(more - memory, 1 << 12)
+        self.assertEqual(count, same)
+
+    def test_threads_share_a_hasher_of_long_pieces(self):
+        """In a process of its own, since a write that meets another one can end the interpreter."""
+        self.assertEqual(run(SHARED), (0, "True\n"))
+
+
+if __name__ == "__main__":
+    unittest.main()
