@@ -146,6 +146,7 @@ VERSIONS = {
     "include/rapidhash_c.h": r'VERSION_STRING "(\d+\.\d+)"',
     "crates/example_sums/src/words.rt": r'\.version\("(\d+\.\d+)"\)',
     "bindings/python/rapidhash/__init__.py": r'^__version__ = "(\d+\.\d+)\.\d+"',
+    "bindings/python/rapidhash/__init__.py": r'^__version__ = "(\d+\.\d+)\.\d+"',
     "bindings/javascript/package.json": r'"version": "(\d+\.\d+)\.\d+"',
     "rust/Cargo.toml": r'^version = "(\d+\.\d+)\.\d+"',
 }
