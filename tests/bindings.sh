@@ -32,15 +32,43 @@ declared() {
   grep -E '^[a-z].*\(.*;$' "$header" | grep -oE 'rapidhash_[a-z0-9_]+\(' | tr -d '(' | sort
 }
 
-# A file defines the names of the header, and no others: the words of nm
+# A file defines the names of the header, and no others: what stands behind each name, and the words of nm
 defines_the_header() {
-  declared >"$room/declared"
+  declared | sed "s/\$/$1/" >"$room/declared"
+  shift
   [ "$(wc -l <"$room/declared")" -gt 20 ] || {
     echo 'the header is laid out otherwise than this test reads it'
     return 1
   }
   nm "$@" --defined-only --extern-only --format=posix >"$room/nm" || return 1
   awk 'NF > 1 { print $1 }' "$room/nm" | sort | diff "$room/declared" -
+}
+
+# Programs find each name by the release that had it first, and no name of the shared library lacks a library.
+needs_the_c_library_alone() {
+  [ "$(readelf -dW "$shared" | grep NEEDED | grep -o '\[.*')" = '[libc.so.6]' ] &&
+    [ "$(nm -D --undefined-only "$shared" | awk '{ print $2 }')" = memmove@GLIBC_2.2.5 ]
+}
+
+has_a_build_id() {
+  readelf -n "$shared" | grep -E '^ *Build ID: [0-9a-f]{40}$'
+}
+
+# No relocation changes the code, no page can be both written and run, and the tables of the dynamic linker can be
+# written at no time after it has filled them.
+keeps_code_and_data_apart() {
+  readelf -dW "$shared" >"$room/dynamic" && readelf -lW "$shared" >"$room/segments" &&
+    ! grep TEXTREL "$room/dynamic" && grep -q BIND_NOW "$room/dynamic" && grep -q GNU_RELRO "$room/segments" &&
+    grep -E '^ *GNU_STACK .* RW +0' "$room/segments" && ! grep -E ' RWE ' "$room/segments"
+}
+
+# The kit writes no unwind tables. The link keeps those of an archive that has some.
+keeps_unwind_tables() {
+  echo 'int rapidhash_probe(int number) { return number; }' >"$room/probe.c" &&
+    cc -O2 -fPIC -fasynchronous-unwind-tables -c "$room/probe.c" -o "$room/probe.o" &&
+    ar rc "$room/probe.a" "$room/probe.o" &&
+    make -s -C "$top" archive="$room/probe.a" shared="$room/probe.so" "$room/probe.so" &&
+    readelf -lW "$room/probe.so" | grep GNU_EH_FRAME
 }
 
 # Every call of the library, linked by the words of a compiler: COMPILER WORD..
@@ -101,8 +129,12 @@ done
 for standard in c++98 c++11 c++17 c++20 c++23; do
   try "header_$standard" compiles_alone c++ c++ "$standard"
 done
-try names_of_the_archive defines_the_header "$archive"
-try names_of_the_shared_library defines_the_header -D "$shared"
+try names_of_the_archive defines_the_header '' "$archive"
+try names_of_the_shared_library defines_the_header @@RAPIDHASH_1.0 -D "$shared"
+try needed_library needs_the_c_library_alone
+try build_id has_a_build_id
+try code_and_data keeps_code_and_data_apart
+try unwind_tables keeps_unwind_tables
 try c_archive calls_from_c cc -std=c99 -I"$top/include" "$top/tests/c_library.c" "$archive"
 try c_shared calls_from_c cc -std=c99 -I"$top/include" "$top/tests/c_library.c" "$shared"
 try c_by_pkg_config by_pkg_config
