@@ -15,10 +15,10 @@ shared=$top/build/librapidhash_c.so.1
 # Builds the library, and lays it out as an installed one, with a file for pkg-config.
 prepare() {
   make -s -C "$top" library </dev/null &&
-    mkdir "$room/lib" "$room/include" && cp "$header" "$room/include" &&
+    mkdir -p "$room/lib/pkgconfig" "$room/include" && cp "$header" "$room/include" &&
     cp "$archive" "$shared" "$room/lib" && ln -s librapidhash_c.so.1 "$room/lib/librapidhash_c.so" &&
-    sed "s|@PREFIX@|$room|; s|@LIBDIR@|$room/lib|; s|@INCLUDEDIR@|$room/include|" \
-      "$top/share/rapidhash_c.pc.in" >"$room/lib/rapidhash_c.pc"
+    sed "s|@PREFIX@|$room|; s|@INCLUDEDIR@|$room/include|" \
+      "$top/share/rapidhash_c.pc.in" >"$room/lib/pkgconfig/rapidhash_c.pc"
 }
 
 # The header alone in an empty program: COMPILER LANGUAGE STANDARD
@@ -78,7 +78,7 @@ calls_from_c() {
 
 by_pkg_config() {
   local words
-  words=$(PKG_CONFIG_PATH=$room/lib pkg-config --cflags --libs rapidhash_c) || return 1
+  words=$(PKG_CONFIG_PATH=$room/lib/pkgconfig pkg-config --cflags --libs rapidhash_c) || return 1
   # shellcheck disable=SC2086
   calls_from_c cc "$top/tests/c_library.c" $words
 }
@@ -117,7 +117,7 @@ python_tests() {
 
 go_tests() (
   cd "$top/bindings/go" &&
-    PKG_CONFIG_PATH=$room/lib LD_LIBRARY_PATH=$room/lib GOCACHE=$room/go GOPROXY=off \
+    PKG_CONFIG_PATH=$room/lib/pkgconfig LD_LIBRARY_PATH=$room/lib GOCACHE=$room/go GOPROXY=off \
       GOFLAGS=-mod=readonly go test -count 1 -p 2 ./...
 )
 

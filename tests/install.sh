@@ -115,16 +115,46 @@ refuses() {
     ! make -s -C "$top" uninstall DESTDIR="$room/refused" "$@"
 }
 
+# The code blocks of a page that have a word: PAGE LANGUAGE WORD
+blocks() {
+  awk -v language="$2" -v word="$3" '
+    /^```/ { if (inside && index(block, word)) printf "%s", block; inside = $0 == "```" language; block = ""; next }
+    inside { block = block $0 "\n" }' "$1"
+}
+
+# The first program in C, built and run as docs/C.md and README.md print it, with the library below $HOME.
+runs_as_the_pages_say() (
+  export HOME=$room/home
+  mkdir "$HOME" && installs PREFIX="$HOME/.local" && cd "$HOME" &&
+    blocks "$top/docs/C.md" c main >hello.c && blocks "$top/docs/C.md" sh pkg-config >commands &&
+    diff commands <(blocks "$top/README.md" sh pkg-config) &&
+    [ "$(bash commands)" = 3327445792987248966 ] && grep ' # prints 3327445792987248966$' commands
+)
+
+# The whole folder can be moved: no file names the place it was installed in.
+serves_a_moved_folder() {
+  local prefix="$room/second place"
+  mv "$room/home/.local" "$prefix" && ! grep -rlF "$room/home" "$prefix" && links_by_pkg_config
+}
+
 # Below DESTDIR, and with folders of its own for programs and libraries.
 serves_a_packager() {
   local stage=$room/stage pc
   installs DESTDIR="$stage" PREFIX=/usr BINDIR=/opt/bin LIBDIR=/usr/lib/here DATADIR=/opt/share || return 1
   pc=$stage/usr/lib/here/pkgconfig/rapidhash_c.pc
-  grep -qx 'prefix=/usr' "$pc" && grep -qx 'libdir=/usr/lib/here' "$pc" &&
-    grep -qx 'includedir=/usr/include' "$pc" && [ -x "$stage/opt/bin/rapidsum" ] &&
+  told_folder() { realpath -s "$(pkg-config --variable="$1" "$pc")"; }
+  [ "$(told_folder prefix)" = "$stage/usr" ] && [ "$(told_folder libdir)" = "$stage/usr/lib/here" ] &&
+    [ "$(told_folder includedir)" = "$stage/usr/include" ] && [ -x "$stage/opt/bin/rapidsum" ] &&
     [ -e "$stage/opt/share/man/man1/rapidhash.1" ] &&
     make -s -C "$top" uninstall DESTDIR="$stage" PREFIX=/usr BINDIR=/opt/bin LIBDIR=/usr/lib/here \
       DATADIR=/opt/share && is_empty "$stage"
+}
+
+# Headers outside PREFIX keep their whole name.
+serves_headers_elsewhere() {
+  local stage=$room/elsewhere
+  installs DESTDIR="$stage" PREFIX=/usr INCLUDEDIR='/opt/the headers' &&
+    grep -x 'includedir=/opt/the\\ headers' "$stage/usr/lib/pkgconfig/rapidhash_c.pc"
 }
 
 # Where nothing is built, nothing is copied, and a line says what to run first.
@@ -159,6 +189,8 @@ try program prints_the_known_hash
 try program_of_sums prints_and_checks_a_sum
 try shared_library links_by_pkg_config
 try static_library links_the_archive
+try first_program runs_as_the_pages_say
+try moved_folder serves_a_moved_folder
 try licences has_the_licences "$prefix/share/doc/rapidhash"
 try modes has_the_modes
 try manual is_a_clean_manual rapidhash
@@ -177,6 +209,7 @@ try folder_of_any_name serves_a_folder_of_any_name
 try relative_folder refuses PREFIX=usr
 try relative_folder_of_libraries refuses PREFIX=/usr LIBDIR=lib
 try folders_of_a_packager serves_a_packager
+try headers_elsewhere serves_headers_elsewhere
 try nothing_built wants_a_build_first
 try characters_of_folders refuses_characters
 try uninstall make -s -C "$top" uninstall PREFIX="$prefix"
