@@ -137,6 +137,15 @@ serves_a_moved_folder() {
   mv "$room/home/.local" "$prefix" && ! grep -rlF "$room/home" "$prefix" && links_by_pkg_config
 }
 
+# Programs in C and C++ find the moved folder by CMake, and use both libraries.
+builds_by_cmake() {
+  cmake -S "$top/tests/cmake" -B "$room/cmake" -D CMAKE_PREFIX_PATH="$room/second place" &&
+    grep "^rapidhash_c_DIR:PATH=$room/second place/" "$room/cmake/CMakeCache.txt" &&
+    cmake --build "$room/cmake" && (cd "$room/cmake" && ctest | tee /dev/stderr | grep '100%.* out of 4$') &&
+    readelf -d "$room/cmake/c_rapidhash_c" | grep -F '[librapidhash_c.so.1]' &&
+    ! readelf -d "$room/cmake/cpp_rapidhash_c_static" | grep -F librapidhash_c
+}
+
 # Below DESTDIR, and with folders of its own for programs and libraries.
 serves_a_packager() {
   local stage=$room/stage pc
@@ -154,7 +163,8 @@ serves_a_packager() {
 serves_headers_elsewhere() {
   local stage=$room/elsewhere
   installs DESTDIR="$stage" PREFIX=/usr INCLUDEDIR='/opt/the headers' &&
-    grep -x 'includedir=/opt/the\\ headers' "$stage/usr/lib/pkgconfig/rapidhash_c.pc"
+    grep -x 'includedir=/opt/the\\ headers' "$stage/usr/lib/pkgconfig/rapidhash_c.pc" &&
+    grep -F '"/opt/the\ headers"' "$stage/usr/lib/cmake/rapidhash_c/rapidhash_c-config.cmake"
 }
 
 # Where nothing is built, nothing is copied, and a line says what to run first.
@@ -191,6 +201,7 @@ try shared_library links_by_pkg_config
 try static_library links_the_archive
 try first_program runs_as_the_pages_say
 try moved_folder serves_a_moved_folder
+try_with cmake cmake builds_by_cmake
 try licences has_the_licences "$prefix/share/doc/rapidhash"
 try modes has_the_modes
 try manual is_a_clean_manual rapidhash

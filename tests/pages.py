@@ -141,6 +141,7 @@ VERSIONS = {
     "CHANGELOG.md": r"^## (\d+\.\d+)",
     "Makefile": r"^name = yervound-(\d+\.\d+)-",
     "share/rapidhash_c.pc.in": r"^Version: (\d+\.\d+)$",
+    "share/rapidhash_c-config-version.cmake": r'VERSION "(\d+\.\d+)"',
     "share/rapidhash.1": r'^\.TH .*"Yervound (\d+\.\d+)"',
     "share/rapidsum.1": r'^\.TH .*"Yervound (\d+\.\d+)"',
     "include/rapidhash_c.h": r'VERSION_STRING "(\d+\.\d+)"',
