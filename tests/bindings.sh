@@ -83,6 +83,27 @@ by_pkg_config() {
   calls_from_c cc "$top/tests/c_library.c" $words
 }
 
+# The functions of a text that has no comments: what each returns, its name and its parameters.
+signatures() {
+  tr -s ' \n' ' ' | grep -oE '(void|uint64_t|uint32_t) rapidhash_[a-z0-9_]+\([^()]*\)' | sed 's/( /(/' | sort
+}
+
+# The manual page has each function of the header as it stands there, and no other.
+manual_has_the_header() {
+  cc -E -P "$header" | signatures >"$room/signatures" &&
+    [ "$(wc -l <"$room/signatures")" -gt "$(declared | wc -l)" ] &&
+    mandoc -Tascii "$top/share/rapidhash_c.3" | sed 's|.\x08||g' | signatures | diff "$room/signatures" -
+}
+
+# The example of the manual page, built as the page says.
+manual_example_runs() {
+  local command
+  command=$(sed -n 's/^\.BR "\(cc .*\)" \.$/\1/p' "$top/share/rapidhash_c.3" | sed 's/\\-/-/g') &&
+    sed -n '/^\.EX/,/^\.EE/ { /^\.E[XE]/d; s/\\e/\\/g; p }' "$top/share/rapidhash_c.3" >"$room/hello.c" &&
+    (cd "$room" && export PKG_CONFIG_PATH=$room/lib/pkgconfig && bash -c "$command" &&
+      [ "$(LD_LIBRARY_PATH=$room/lib ./a.out | sort | uniq -c | xargs)" = '2 3327445792987248966' ])
+}
+
 # The hashes of the Rust crate for a program in C. The crate is the .rlib that the variable names, or what cargo
 # builds of the folder rust.
 build_rust() {
@@ -139,6 +160,8 @@ try c_archive calls_from_c cc -std=c99 -I"$top/include" "$top/tests/c_library.c"
 try c_shared calls_from_c cc -std=c99 -I"$top/include" "$top/tests/c_library.c" "$shared"
 try c_by_pkg_config by_pkg_config
 try cpp_archive calls_from_c c++ -I"$top/include" -x c++ "$top/tests/c_library.c" -x none "$archive"
+try manual_and_header manual_has_the_header
+try example_of_the_manual manual_example_runs
 try_with random_messages rustc random_messages
 try_with fuzz clang fuzz
 

@@ -75,7 +75,7 @@ names_every_option() {
 
 # The manual page has no fault of form, and lines of at most 80 bytes.
 is_a_clean_manual() {
-  [ -z "$(mandoc -Tlint "$prefix/share/man/man1/$1.1" | tee /dev/stderr)" ]
+  [ -z "$(mandoc -Tlint "$prefix/share/man/man${1##*.}/$1" | tee /dev/stderr)" ]
 }
 
 # The manual's example that compares the files a and b is right, also where neither can be hashed.
@@ -204,8 +204,9 @@ try moved_folder serves_a_moved_folder
 try_with cmake cmake builds_by_cmake
 try licences has_the_licences "$prefix/share/doc/rapidhash"
 try modes has_the_modes
-try manual is_a_clean_manual rapidhash
-try manual_of_sums is_a_clean_manual rapidsum
+try manual is_a_clean_manual rapidhash.1
+try manual_of_sums is_a_clean_manual rapidsum.1
+try manual_of_the_library is_a_clean_manual rapidhash_c.3
 try example_of_the_manual compares_by_the_manual
 cd "$top" || exit 1
 for file in man/man1/NAME.1 bash-completion/completions/NAME zsh/site-functions/_NAME \

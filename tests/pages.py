@@ -144,6 +144,7 @@ VERSIONS = {
     "share/rapidhash_c-config-version.cmake": r'VERSION "(\d+\.\d+)"',
     "share/rapidhash.1": r'^\.TH .*"Yervound (\d+\.\d+)"',
     "share/rapidsum.1": r'^\.TH .*"Yervound (\d+\.\d+)"',
+    "share/rapidhash_c.3": r'^\.TH .*"Yervound (\d+\.\d+)"',
     "include/rapidhash_c.h": r'VERSION_STRING "(\d+\.\d+)"',
     "crates/example_sums/src/words.rt": r'\.version\("(\d+\.\d+)"\)',
     "bindings/javascript/package.json": r'"version": "(\d+\.\d+)\.\d+"',
