@@ -1,6 +1,6 @@
 #!/usr/bin/env bash
 # Builds the library for C, static and shared, and tests it and what stands over it: the header alone by
-# each standard of C and C++, the names that the two files define, every call from C and C++, the hashes
+# each standard of C and C++, the names that the two files define, every call from C and C++, the manual, the hashes
 # beside those of the Rust crate, and the bindings for Python and Go. A language that is not on this machine
 # is skipped and not counted. The last line counts the cases.
 set -u
@@ -74,6 +74,13 @@ keeps_unwind_tables() {
 # Every call of the library, linked by the words of a compiler: COMPILER WORD..
 calls_from_c() {
   "$@" -O2 -Wall -Wextra -Werror -o "$room/c_library" && LD_LIBRARY_PATH=$room/lib "$room/c_library"
+}
+
+# All of the header for C++, over the vectors, also where a program has no exceptions: COMPILER STANDARD
+calls_from_cpp() {
+  python3 "$top/share/vectors.py" "$top/crates/test_replay/data" >"$room/vectors.tsv" &&
+    "$1" "-std=$2" -O2 -Wall -Wextra -Wpedantic -Werror -fno-exceptions -I"$top/include" "$top/tests/cpp_header.cpp" \
+      "$archive" -o "$room/cpp_header" && "$room/cpp_header" "$room/vectors.tsv"
 }
 
 by_pkg_config() {
@@ -160,6 +167,10 @@ try c_archive calls_from_c cc -std=c99 -I"$top/include" "$top/tests/c_library.c"
 try c_shared calls_from_c cc -std=c99 -I"$top/include" "$top/tests/c_library.c" "$shared"
 try c_by_pkg_config by_pkg_config
 try cpp_archive calls_from_c c++ -I"$top/include" -x c++ "$top/tests/c_library.c" -x none "$archive"
+for standard in c++11 c++17 c++20; do
+  try_with "cpp_header_$standard" g++ calls_from_cpp g++ "$standard"
+  try_with "cpp_header_${standard}_clang" clang++ calls_from_cpp clang++ "$standard"
+done
 try manual_and_header manual_has_the_header
 try example_of_the_manual manual_example_runs
 try_with random_messages rustc random_messages

@@ -139,7 +139,8 @@ serves_a_moved_folder() {
 
 # Programs in C and C++ find the moved folder by CMake, and use both libraries.
 builds_by_cmake() {
-  cmake -S "$top/tests/cmake" -B "$room/cmake" -D CMAKE_PREFIX_PATH="$room/second place" &&
+  python3 share/vectors.py crates/test_replay/data >"$room/vectors" &&
+    cmake -S tests/cmake -B "$room/cmake" -D CMAKE_PREFIX_PATH="$room/second place" -D VECTORS="$room/vectors" &&
     grep "^rapidhash_c_DIR:PATH=$room/second place/" "$room/cmake/CMakeCache.txt" &&
     cmake --build "$room/cmake" && (cd "$room/cmake" && ctest | tee /dev/stderr | grep '100%.* out of 4$') &&
     readelf -d "$room/cmake/c_rapidhash_c" | grep -F '[librapidhash_c.so.1]' &&
