@@ -122,13 +122,27 @@ blocks() {
     inside { block = block $0 "\n" }' "$1"
 }
 
-# The first program in C, built and run as docs/C.md and README.md print it, with the library below $HOME.
+# The first programs in C and C++, built and run as docs/C.md prints them, with the library below $HOME. README.md
+# has the lines for C too.
 runs_as_the_pages_say() (
   export HOME=$room/home
   mkdir "$HOME" && installs PREFIX="$HOME/.local" && cd "$HOME" &&
-    blocks "$top/docs/C.md" c main >hello.c && blocks "$top/docs/C.md" sh pkg-config >commands &&
-    diff commands <(blocks "$top/README.md" sh pkg-config) &&
-    [ "$(bash commands)" = 3327445792987248966 ] && grep ' # prints 3327445792987248966$' commands
+    blocks "$top/docs/C.md" c main >hello.c && blocks "$top/docs/C.md" cpp main >hello.cpp &&
+    blocks "$top/docs/C.md" sh pkg-config >commands &&
+    diff <(head -n 2 commands) <(blocks "$top/README.md" sh pkg-config) && prints_the_hash_of_hello 2
+)
+
+# The commands print the hash so many times, and each says that it does: TIMES
+prints_the_hash_of_hello() {
+  local hash=3327445792987248966
+  bash -e commands | tee /dev/stderr | grep -xc "$hash" | grep -x "$1" &&
+    [ "$(grep -cE " # prints ($hash|the same)\$" commands)" = "$1" ]
+}
+
+by_cmake_as_the_page_says() (
+  export HOME=$room/home
+  cd "$HOME" && blocks "$top/docs/C.md" cmake project >CMakeLists.txt &&
+    blocks "$top/docs/C.md" sh cmake >commands && prints_the_hash_of_hello 1
 )
 
 # The whole folder can be moved: no file names the place it was installed in.
@@ -201,6 +215,7 @@ try program_of_sums prints_and_checks_a_sum
 try shared_library links_by_pkg_config
 try static_library links_the_archive
 try first_program runs_as_the_pages_say
+try_with first_program_by_cmake cmake by_cmake_as_the_page_says
 try moved_folder serves_a_moved_folder
 try_with cmake cmake builds_by_cmake
 try licences has_the_licences "$prefix/share/doc/rapidhash"

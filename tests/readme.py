@@ -15,8 +15,8 @@ from cases import ROOM, TOP, compare, finish, tell
 
 # Commands that other tests run: the gate itself, and tests/install.sh.
 ELSEWHERE = ('make && make install PREFIX="$HOME/.local"', "make check",
-             'export PKG_CONFIG_PATH="$HOME/.local/lib/pkgconfig"',
-             'cc hello.c $(pkg-config --cflags --libs rapidhash_c) -Wl,-rpath,"$HOME/.local/lib" && ./a.out')
+             'lib="$HOME/.local/lib" && export PKG_CONFIG_PATH="$lib/pkgconfig"',
+             'cc hello.c $(pkg-config --cflags --libs rapidhash_c) -Wl,-rpath,"$lib" && ./a.out')
 
 # What a program of a user's own has around the blocks of README.md. It prints values that follow from
 # each line of theirs.
