@@ -28,8 +28,9 @@ archive = crates/rapidhash_c/out/librapidhash_c.a
 shared = build/$(soname)
 name = yervound-1.0-x86_64-linux
 
-# The linker of the kit, beside the page that rt names.
+# The linker of the kit, beside the page that rt names, and the folders where a machine may keep its C library.
 linker = $(dir $(shell rt doc))toolchain/bin/ld.lld
+system = /lib/x86_64-linux-gnu /lib64 /usr/lib
 
 .PHONY: all tool sums library wasm npm page wheel check quick test fmt bench install uninstall clean dist vendor \
   rapidhash_c rapidhash_cli example_sums example_bloom example_perfect example_shards example_dedupe
@@ -70,8 +71,9 @@ $(eval $(call program,example_dedupe,args))
 $(shared): $(archive) share/librapidhash_c.map
 	@command -v rt >/dev/null || { echo 'make: rt, whose kit has the linker, is not on PATH' >&2; exit 2; }
 	@mkdir -p build
-	@$(linker) -shared -soname $(soname) -z now -z relro -z noexecstack -z text --gc-sections \
-	  --version-script share/librapidhash_c.map --whole-archive $(archive) -o $(shared)
+	@$(linker) -shared -soname $(soname) -z now -z relro -z noexecstack -z text --gc-sections --build-id=sha1 \
+	  --eh-frame-hdr --version-script share/librapidhash_c.map --whole-archive $(archive) --no-whole-archive \
+	  --as-needed $(addprefix -L,$(system)) -l:libc.so.6 -o $(shared)
 
 module = build/rapidhash_c.wasm
 folder = build/npm/module.mjs
@@ -180,8 +182,6 @@ uninstall:
 dist: all $(folder) $(wheel)
 	rm -rf build/$(name)
 	$(MAKE) -s install DESTDIR= PREFIX='$(CURDIR)/build/$(name)'
-	sed 's|@PREFIX@|$${pcfiledir}/../..|; s|@LIBDIR@|$${prefix}/lib|; s|@INCLUDEDIR@|$${prefix}/include|' \
-	  share/rapidhash_c.pc.in >build/$(name)/lib/pkgconfig/rapidhash_c.pc
 	tar --exclude=__pycache__ --exclude=bindings/javascript --exclude=rust/target --exclude=rust/tests -hcf - \
 	  bindings rust | tar -C build/$(name) -xf -
 	cp -r build/npm build/$(name)/bindings/javascript

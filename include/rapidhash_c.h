@@ -6,14 +6,14 @@
  *
  * The archive and the shared library are for x86-64 Linux. The numbers are the same on every machine
  * that computes these hashes, whatever its byte order. To store a hash so that it reads the same
- * everywhere, write its 8 bytes in one fixed order, for example hash >> 56, hash >> 48 and so on.
+ * everywhere, write its canonical bytes: rapidhash_to_canonical.
  *
  * Preconditions of each hash: `bytes` points to `len` readable bytes, `len` is below 2^63, and
  * nothing writes the bytes during the call. If `len` is 0, any pointer is allowed, also NULL.
  * `secrets` points to a seed and secrets that nothing writes during the call; it is not NULL.
  *
  * Works with C89 to C23 and with C++98 to C++23. Link with -lrapidhash_c: pkg-config knows it as
- * rapidhash_c. The names do not clash with those of the C++ library's rapidhash.h.
+ * rapidhash_c. C++ programs may take rapidhash.hpp. The names do not clash with those of the C++ library's rapidhash.h.
  */
 #ifndef RAPIDHASH_C_H
 #define RAPIDHASH_C_H
@@ -152,6 +152,28 @@ RAPIDHASH_C_INLINE void rapidhash_v3_nano_start(
     struct rapidhash_stream *stream, const struct rapidhash_secrets *secrets)
 {
     rapidhash_stream_start(stream, 3, secrets);
+}
+
+/* Writes a hash as 8 bytes, the highest first: the same on every machine. `bytes` has room for them. */
+RAPIDHASH_C_INLINE void rapidhash_to_canonical(uint64_t hash, unsigned char *bytes)
+{
+    int at;
+
+    for (at = 7; at >= 0; at--) {
+        bytes[at] = (unsigned char)(hash & 255);
+        hash >>= 8;
+    }
+}
+
+/* Reads a hash from the 8 bytes that rapidhash_to_canonical wrote. */
+RAPIDHASH_C_INLINE uint64_t rapidhash_from_canonical(const unsigned char *bytes)
+{
+    uint64_t hash = 0;
+    int at;
+
+    for (at = 0; at < 8; at++)
+        hash = hash << 8 | bytes[at];
+    return hash;
 }
 
 #ifdef __cplusplus

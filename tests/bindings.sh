@@ -1,8 +1,8 @@
 #!/usr/bin/env bash
 # Builds the library for C, static and shared, and tests it and what stands over it: the header alone by
-# each standard of C and C++, the names that the two files define, every call from C and C++, the hashes
-# beside those of the Rust crate, and the binding for Go. A language that is not on this machine is skipped and
-# not counted. The last line counts the cases.
+# each standard of C and C++, the names that the two files define, every call from C and C++, the manual, the
+# hashes beside those of the Rust crate, and the binding for Go. A language that is not on this machine is skipped
+# and not counted. The last line counts the cases.
 set -u
 
 top=$(cd "$(dirname "${BASH_SOURCE[0]}")/.." && pwd) || exit 1
@@ -15,10 +15,10 @@ shared=$top/build/librapidhash_c.so.1
 # Builds the library, and lays it out as an installed one, with a file for pkg-config.
 prepare() {
   make -s -C "$top" library </dev/null &&
-    mkdir "$room/lib" "$room/include" && cp "$header" "$room/include" &&
+    mkdir -p "$room/lib/pkgconfig" "$room/include" && cp "$header" "$room/include" &&
     cp "$archive" "$shared" "$room/lib" && ln -s librapidhash_c.so.1 "$room/lib/librapidhash_c.so" &&
-    sed "s|@PREFIX@|$room|; s|@LIBDIR@|$room/lib|; s|@INCLUDEDIR@|$room/include|" \
-      "$top/share/rapidhash_c.pc.in" >"$room/lib/rapidhash_c.pc"
+    sed "s|@PREFIX@|$room|; s|@INCLUDEDIR@|$room/include|" \
+      "$top/share/rapidhash_c.pc.in" >"$room/lib/pkgconfig/rapidhash_c.pc"
 }
 
 # The header alone in an empty program: COMPILER LANGUAGE STANDARD
@@ -32,9 +32,10 @@ declared() {
   grep -E '^[a-z].*\(.*;$' "$header" | grep -oE 'rapidhash_[a-z0-9_]+\(' | tr -d '(' | sort
 }
 
-# A file defines the names of the header, and no others: the words of nm
+# A file defines the names of the header, and no others: what stands behind each name, and the words of nm
 defines_the_header() {
-  declared >"$room/declared"
+  declared | sed "s/\$/$1/" >"$room/declared"
+  shift
   [ "$(wc -l <"$room/declared")" -gt 20 ] || {
     echo 'the header is laid out otherwise than this test reads it'
     return 1
@@ -43,16 +44,71 @@ defines_the_header() {
   awk 'NF > 1 { print $1 }' "$room/nm" | sort | diff "$room/declared" -
 }
 
+# Programs find each name by the release that had it first, and no name of the shared library lacks a library.
+needs_the_c_library_alone() {
+  [ "$(readelf -dW "$shared" | grep NEEDED | grep -o '\[.*')" = '[libc.so.6]' ] &&
+    [ "$(nm -D --undefined-only "$shared" | awk '{ print $2 }')" = memmove@GLIBC_2.2.5 ]
+}
+
+has_a_build_id() {
+  readelf -n "$shared" | grep -E '^ *Build ID: [0-9a-f]{40}$'
+}
+
+# No relocation changes the code, no page can be both written and run, and the tables of the dynamic linker can be
+# written at no time after it has filled them.
+keeps_code_and_data_apart() {
+  readelf -dW "$shared" >"$room/dynamic" && readelf -lW "$shared" >"$room/segments" &&
+    ! grep TEXTREL "$room/dynamic" && grep -q BIND_NOW "$room/dynamic" && grep -q GNU_RELRO "$room/segments" &&
+    grep -E '^ *GNU_STACK .* RW +0' "$room/segments" && ! grep -E ' RWE ' "$room/segments"
+}
+
+# The kit writes no unwind tables. The link keeps those of an archive that has some.
+keeps_unwind_tables() {
+  echo 'int rapidhash_probe(int number) { return number; }' >"$room/probe.c" &&
+    cc -O2 -fPIC -fasynchronous-unwind-tables -c "$room/probe.c" -o "$room/probe.o" &&
+    ar rc "$room/probe.a" "$room/probe.o" &&
+    make -s -C "$top" archive="$room/probe.a" shared="$room/probe.so" "$room/probe.so" &&
+    readelf -lW "$room/probe.so" | grep GNU_EH_FRAME
+}
+
 # Every call of the library, linked by the words of a compiler: COMPILER WORD..
 calls_from_c() {
   "$@" -O2 -Wall -Wextra -Werror -o "$room/c_library" && LD_LIBRARY_PATH=$room/lib "$room/c_library"
 }
 
+# All of the header for C++, over the vectors, also where a program has no exceptions: COMPILER STANDARD
+calls_from_cpp() {
+  python3 "$top/share/vectors.py" "$top/crates/test_replay/data" >"$room/vectors.tsv" &&
+    "$1" "-std=$2" -O2 -Wall -Wextra -Wpedantic -Werror -fno-exceptions -I"$top/include" "$top/tests/cpp_header.cpp" \
+      "$archive" -o "$room/cpp_header" && "$room/cpp_header" "$room/vectors.tsv"
+}
+
 by_pkg_config() {
   local words
-  words=$(PKG_CONFIG_PATH=$room/lib pkg-config --cflags --libs rapidhash_c) || return 1
+  words=$(PKG_CONFIG_PATH=$room/lib/pkgconfig pkg-config --cflags --libs rapidhash_c) || return 1
   # shellcheck disable=SC2086
   calls_from_c cc "$top/tests/c_library.c" $words
+}
+
+# The functions of a text that has no comments: what each returns, its name and its parameters.
+signatures() {
+  tr -s ' \n' ' ' | grep -oE '(void|uint64_t|uint32_t) rapidhash_[a-z0-9_]+\([^()]*\)' | sed 's/( /(/' | sort
+}
+
+# The manual page has each function of the header as it stands there, and no other.
+manual_has_the_header() {
+  cc -E -P "$header" | signatures >"$room/signatures" &&
+    [ "$(wc -l <"$room/signatures")" -gt "$(declared | wc -l)" ] &&
+    mandoc -Tascii "$top/share/rapidhash_c.3" | sed 's|.\x08||g' | signatures | diff "$room/signatures" -
+}
+
+# The example of the manual page, built as the page says.
+manual_example_runs() {
+  local command
+  command=$(sed -n 's/^\.BR "\(cc .*\)" \.$/\1/p' "$top/share/rapidhash_c.3" | sed 's/\\-/-/g') &&
+    sed -n '/^\.EX/,/^\.EE/ { /^\.E[XE]/d; s/\\e/\\/g; p }' "$top/share/rapidhash_c.3" >"$room/hello.c" &&
+    (cd "$room" && export PKG_CONFIG_PATH=$room/lib/pkgconfig && bash -c "$command" &&
+      [ "$(LD_LIBRARY_PATH=$room/lib ./a.out | sort | uniq -c | xargs)" = '2 3327445792987248966' ])
 }
 
 # The hashes of the Rust crate for a program in C. The crate is the .rlib that the variable names, or what cargo
@@ -85,7 +141,7 @@ fuzz() {
 
 go_tests() (
   cd "$top/bindings/go" &&
-    PKG_CONFIG_PATH=$room/lib LD_LIBRARY_PATH=$room/lib GOCACHE=$room/go GOPROXY=off \
+    PKG_CONFIG_PATH=$room/lib/pkgconfig LD_LIBRARY_PATH=$room/lib GOCACHE=$room/go GOPROXY=off \
       GOFLAGS=-mod=readonly go test -count 1 -p 2 ./...
 )
 
@@ -97,12 +153,22 @@ done
 for standard in c++98 c++11 c++17 c++20 c++23; do
   try "header_$standard" compiles_alone c++ c++ "$standard"
 done
-try names_of_the_archive defines_the_header "$archive"
-try names_of_the_shared_library defines_the_header -D "$shared"
+try names_of_the_archive defines_the_header '' "$archive"
+try names_of_the_shared_library defines_the_header @@RAPIDHASH_1.0 -D "$shared"
+try needed_library needs_the_c_library_alone
+try build_id has_a_build_id
+try code_and_data keeps_code_and_data_apart
+try unwind_tables keeps_unwind_tables
 try c_archive calls_from_c cc -std=c99 -I"$top/include" "$top/tests/c_library.c" "$archive"
 try c_shared calls_from_c cc -std=c99 -I"$top/include" "$top/tests/c_library.c" "$shared"
 try c_by_pkg_config by_pkg_config
 try cpp_archive calls_from_c c++ -I"$top/include" -x c++ "$top/tests/c_library.c" -x none "$archive"
+for standard in c++11 c++17 c++20; do
+  try_with "cpp_header_$standard" g++ calls_from_cpp g++ "$standard"
+  try_with "cpp_header_${standard}_clang" clang++ calls_from_cpp clang++ "$standard"
+done
+try manual_and_header manual_has_the_header
+try example_of_the_manual manual_example_runs
 try_with random_messages rustc random_messages
 try_with fuzz clang fuzz
 

@@ -204,6 +204,19 @@ static void check_copied_bytes(void)
     compare("v3", "bytes that differ in the buffer", differing, 0);
 }
 
+/* The highest byte stands first, also where it is above 127. */
+static void check_canonical(void)
+{
+    static const unsigned char known[8] = {0xf0, 0x1e, 0xd2, 0x3c, 0xb4, 0x5a, 0x96, 0x78};
+    unsigned char stored[8];
+    int i;
+
+    rapidhash_to_canonical(UINT64_C(0xf01ed23cb45a9678), stored);
+    for (i = 0; i < 8; i++)
+        compare("canonical bytes", "byte", stored[i], known[i]);
+    compare("canonical bytes", "read", rapidhash_from_canonical(known), UINT64_C(0xf01ed23cb45a9678));
+}
+
 int main(void)
 {
     size_t i;
@@ -225,6 +238,7 @@ int main(void)
         check_large(&stream_forms[i]);
     }
     check_copied_bytes();
+    check_canonical();
     printf("%d passed, %d failed\n", passed, failed);
     return failed != 0;
 }

@@ -45,6 +45,12 @@ links_where_it_stands() {
     LD_LIBRARY_PATH=$room/unpacked/lib "$room/c_library"
 }
 
+# So does CMake, for programs in C and C++.
+builds_by_cmake() {
+  cmake -S "$top/tests/cmake" -B "$room/cmake" -D CMAKE_PREFIX_PATH="$room/unpacked" \
+    -D VECTORS="$room/unpacked/rapidhash_vectors.tsv" && cmake --build "$room/cmake" && cd "$room/cmake" && ctest
+}
+
 # A program finds the Rust crate where the archive was unpacked.
 builds_the_rust_crate() {
   mkdir -p "$room/first/src" && cd "$room/first" &&
@@ -72,6 +78,7 @@ try program prints_the_known_hash
 try vectors agrees_with_the_vectors
 try wrong_vector tells_a_wrong_vector
 try library links_where_it_stands
+try_with cmake cmake builds_by_cmake
 try rust_crate builds_the_rust_crate
 try_with module node loads_the_module
 try wheel installs_a_wheel

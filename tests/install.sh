@@ -75,7 +75,7 @@ names_every_option() {
 
 # The manual page has no fault of form, and lines of at most 80 bytes.
 is_a_clean_manual() {
-  [ -z "$(mandoc -Tlint "$prefix/share/man/man1/$1.1" | tee /dev/stderr)" ]
+  [ -z "$(mandoc -Tlint "$prefix/share/man/man${1##*.}/$1" | tee /dev/stderr)" ]
 }
 
 # The manual's example that compares the files a and b is right, also where neither can be hashed.
@@ -115,16 +115,71 @@ refuses() {
     ! make -s -C "$top" uninstall DESTDIR="$room/refused" "$@"
 }
 
+# The code blocks of a page that have a word: PAGE LANGUAGE WORD
+blocks() {
+  awk -v language="$2" -v word="$3" '
+    /^```/ { if (inside && index(block, word)) printf "%s", block; inside = $0 == "```" language; block = ""; next }
+    inside { block = block $0 "\n" }' "$1"
+}
+
+# The first programs in C and C++, built and run as docs/C.md prints them, with the library below $HOME. README.md
+# has the lines for C too.
+runs_as_the_pages_say() (
+  export HOME=$room/home
+  mkdir "$HOME" && installs PREFIX="$HOME/.local" && cd "$HOME" &&
+    blocks "$top/docs/C.md" c main >hello.c && blocks "$top/docs/C.md" cpp main >hello.cpp &&
+    blocks "$top/docs/C.md" sh pkg-config >commands &&
+    diff <(head -n 2 commands) <(blocks "$top/README.md" sh pkg-config) && prints_the_hash_of_hello 2
+)
+
+# The commands print the hash so many times, and each says that it does: TIMES
+prints_the_hash_of_hello() {
+  local hash=3327445792987248966
+  bash -e commands | tee /dev/stderr | grep -xc "$hash" | grep -x "$1" &&
+    [ "$(grep -cE " # prints ($hash|the same)\$" commands)" = "$1" ]
+}
+
+by_cmake_as_the_page_says() (
+  export HOME=$room/home
+  cd "$HOME" && blocks "$top/docs/C.md" cmake project >CMakeLists.txt &&
+    blocks "$top/docs/C.md" sh cmake >commands && prints_the_hash_of_hello 1
+)
+
+# The whole folder can be moved: no file names the place it was installed in.
+serves_a_moved_folder() {
+  local prefix="$room/second place"
+  mv "$room/home/.local" "$prefix" && ! grep -rlF "$room/home" "$prefix" && links_by_pkg_config
+}
+
+# Programs in C and C++ find the moved folder by CMake, and use both libraries.
+builds_by_cmake() {
+  python3 share/vectors.py crates/test_replay/data >"$room/vectors" &&
+    cmake -S tests/cmake -B "$room/cmake" -D CMAKE_PREFIX_PATH="$room/second place" -D VECTORS="$room/vectors" &&
+    grep "^rapidhash_c_DIR:PATH=$room/second place/" "$room/cmake/CMakeCache.txt" &&
+    cmake --build "$room/cmake" && (cd "$room/cmake" && ctest | tee /dev/stderr | grep '100%.* out of 4$') &&
+    readelf -d "$room/cmake/c_rapidhash_c" | grep -F '[librapidhash_c.so.1]' &&
+    ! readelf -d "$room/cmake/cpp_rapidhash_c_static" | grep -F librapidhash_c
+}
+
 # Below DESTDIR, and with folders of its own for programs and libraries.
 serves_a_packager() {
   local stage=$room/stage pc
   installs DESTDIR="$stage" PREFIX=/usr BINDIR=/opt/bin LIBDIR=/usr/lib/here DATADIR=/opt/share || return 1
   pc=$stage/usr/lib/here/pkgconfig/rapidhash_c.pc
-  grep -qx 'prefix=/usr' "$pc" && grep -qx 'libdir=/usr/lib/here' "$pc" &&
-    grep -qx 'includedir=/usr/include' "$pc" && [ -x "$stage/opt/bin/rapidsum" ] &&
+  told_folder() { realpath -s "$(pkg-config --variable="$1" "$pc")"; }
+  [ "$(told_folder prefix)" = "$stage/usr" ] && [ "$(told_folder libdir)" = "$stage/usr/lib/here" ] &&
+    [ "$(told_folder includedir)" = "$stage/usr/include" ] && [ -x "$stage/opt/bin/rapidsum" ] &&
     [ -e "$stage/opt/share/man/man1/rapidhash.1" ] &&
     make -s -C "$top" uninstall DESTDIR="$stage" PREFIX=/usr BINDIR=/opt/bin LIBDIR=/usr/lib/here \
       DATADIR=/opt/share && is_empty "$stage"
+}
+
+# Headers outside PREFIX keep their whole name.
+serves_headers_elsewhere() {
+  local stage=$room/elsewhere
+  installs DESTDIR="$stage" PREFIX=/usr INCLUDEDIR='/opt/the headers' &&
+    grep -x 'includedir=/opt/the\\ headers' "$stage/usr/lib/pkgconfig/rapidhash_c.pc" &&
+    grep -F '"/opt/the\ headers"' "$stage/usr/lib/cmake/rapidhash_c/rapidhash_c-config.cmake"
 }
 
 # Where nothing is built, nothing is copied, and a line says what to run first.
@@ -159,10 +214,15 @@ try program prints_the_known_hash
 try program_of_sums prints_and_checks_a_sum
 try shared_library links_by_pkg_config
 try static_library links_the_archive
+try first_program runs_as_the_pages_say
+try_with first_program_by_cmake cmake by_cmake_as_the_page_says
+try moved_folder serves_a_moved_folder
+try_with cmake cmake builds_by_cmake
 try licences has_the_licences "$prefix/share/doc/rapidhash"
 try modes has_the_modes
-try manual is_a_clean_manual rapidhash
-try manual_of_sums is_a_clean_manual rapidsum
+try manual is_a_clean_manual rapidhash.1
+try manual_of_sums is_a_clean_manual rapidsum.1
+try manual_of_the_library is_a_clean_manual rapidhash_c.3
 try example_of_the_manual compares_by_the_manual
 cd "$top" || exit 1
 for file in man/man1/NAME.1 bash-completion/completions/NAME zsh/site-functions/_NAME \
@@ -177,6 +237,7 @@ try folder_of_any_name serves_a_folder_of_any_name
 try relative_folder refuses PREFIX=usr
 try relative_folder_of_libraries refuses PREFIX=/usr LIBDIR=lib
 try folders_of_a_packager serves_a_packager
+try headers_elsewhere serves_headers_elsewhere
 try nothing_built wants_a_build_first
 try characters_of_folders refuses_characters
 try uninstall make -s -C "$top" uninstall PREFIX="$prefix"

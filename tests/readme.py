@@ -14,7 +14,9 @@ from pathlib import Path
 from cases import ROOM, TOP, compare, finish, tell
 
 # Commands that other tests run: the gate itself, and tests/install.sh.
-ELSEWHERE = ('make && make install PREFIX="$HOME/.local"', "make check")
+ELSEWHERE = ('make && make install PREFIX="$HOME/.local"', "make check",
+             'lib="$HOME/.local/lib" && export PKG_CONFIG_PATH="$lib/pkgconfig"',
+             'cc hello.c $(pkg-config --cflags --libs rapidhash_c) -Wl,-rpath,"$lib" && ./a.out')
 
 # What a program of a user's own has around the blocks of README.md. It prints values that follow from
 # each line of theirs.
@@ -77,8 +79,6 @@ def run_command(command, comment, programs):
     done = shell(command, ROOM / "files" if is_program else TOP, programs if is_program else "")
     said = re.search(r"prints (\d+)", comment)
     is_right = done.returncode == 0 and (said is None or done.stdout.strip() == said[1])
-    if command.startswith("cc "):
-        is_right = is_right and shell("build/c_library", TOP).returncode == 0
     tell(command, *[done.stdout[-600:]] * (not is_right))
 
 
