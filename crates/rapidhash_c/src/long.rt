@@ -37,7 +37,11 @@ pub(crate) fn long_v2<const MINOR: u8>(bytes: &[u8], seed: u64, secrets: &[u64; 
 /// The hash by V3, micro or nano.
 #[cold]
 #[inline(never)]
-pub(crate) fn long_v3<const LANES: usize, const FEW: usize>(bytes: &[u8], seed: u64, secrets: &[u64; 7]) -> u64
+pub(crate) fn long_v3<const LANES: usize, const FEW: usize>(
+    bytes: &[u8],
+    seed: u64,
+    secrets: &[u64; 7],
+) -> u64
     requires few { LANES ≤ 7 }
     requires odd { LANES % 2 ≡ 1 }
     ensures { result ≡ portable_hash (V3 LANES) standard seed secrets.now bytes.now }
