@@ -18,4 +18,5 @@ pub const UNROLLED: bool = false;
 /// For `PROTECTED`: no product is mixed with its factors.
 pub const PLAIN: bool = false;
 /// For `PROTECTED`: each product is mixed with its factors.
+#[allow(dead_code)]
 pub const GUARDED: bool = true;

@@ -1,5 +1,6 @@
-//! The hashes of a slice by each form: with the default seed and secrets, with the caller's, and with
-//! one seed word. Messages above 16 bytes are hashed in `long`, so that shorter ones are not slower.
+//! The hashes of a slice by each form: with the default seed and secrets, with the caller's, and
+//! with one seed word. Messages above 16 bytes are hashed in `long`, so that shorter ones are not
+//! slower.
 
 ghost use Rattle.std.specs.Prelude.{◌≡◌, ◌<◌, ◌≤◌, ◌%◌, false, true};
 ghost use Rattle.rapidhash.specs.Form.{guarded, micro, nano, standard, v1, v2, v3};

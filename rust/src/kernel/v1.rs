@@ -7,9 +7,9 @@ use crate::lanes::wide_lanes;
 use crate::tail::{close, fold_tail};
 use crate::words::{last_16, words_to_3_v1, words_to_16_v1};
 
-/// Returns the hash of `bytes`. `AVALANCHE` mixes the last product once more, `PROTECTED` mixes each
-/// product with its factors, `V1_BUG` folds a row at 48 bytes, and `COMPACT` changes the code but no
-/// value.
+/// Returns the hash of `bytes`. `AVALANCHE` mixes the last product once more, `PROTECTED` mixes
+/// each product with its factors, `V1_BUG` folds a row at 48 bytes, and `COMPACT` changes the code
+/// but no value.
 #[inline(always)]
 pub fn hash<
     const AVALANCHE: bool,

@@ -15,7 +15,7 @@ pub struct RapidSecrets {
     pub secrets: [u64; 3],
 }
 
-/// The secrets of [`rapidhash_v1`]: `RapidSecrets::seed_cpp(0xbdd89aa982704029)`, as numbers.
+/// The secrets of [`rapidhash_v1`](crate::v1::rapidhash_v1): `RapidSecrets::seed_cpp(0xbdd89aa982704029)`, as numbers.
 pub const DEFAULT_RAPID_SECRETS: RapidSecrets = RapidSecrets {
     seed: 0x7633_05bb_e7be_a536,
     secrets: [

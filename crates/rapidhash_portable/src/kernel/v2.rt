@@ -13,8 +13,8 @@ use crate::tail::{close, fold_tail};
 use crate::util::ALTERNATING_BITS;
 use crate::words::{last_16, words_to_3_v2, words_to_7, words_to_16};
 
-/// Returns the hash of `bytes`. `AVALANCHE` mixes the last product once more, `PROTECTED` mixes each
-/// product with its factors, and `COMPACT` changes the code but no value.
+/// Returns the hash of `bytes`. `AVALANCHE` mixes the last product once more, `PROTECTED` mixes
+/// each product with its factors, and `COMPACT` changes the code but no value.
 #[inline(always)]
 pub fn hash<const MINOR: u8, const AVALANCHE: bool, const COMPACT: bool, const PROTECTED: bool>(
     bytes: &[u8],
