@@ -8,6 +8,7 @@
 # make wasm        proves and builds the same library for WebAssembly, with addresses of 32 bits
 # make npm         packs bindings/javascript with that module, for npm install
 # make wheel       packs bindings/python with the library inside, for pip install
+# make sqlite      builds bindings/sqlite with the library inside, as an extension that SQLite loads
 # make page        puts examples/browser with that package into build/browser, for any server of files
 # make install     copies what make has built, with manual pages and completions, under PREFIX
 # make dist        puts all that a user without the kit needs into one archive in build/
@@ -32,7 +33,7 @@ name = yervound-1.0-x86_64-linux
 linker = $(dir $(shell rt doc))toolchain/bin/ld.lld
 system = /lib/x86_64-linux-gnu /lib64 /usr/lib
 
-.PHONY: all tool sums library wasm npm page wheel check quick test fmt bench install uninstall clean dist vendor \
+.PHONY: all tool sums library wasm npm page wheel sqlite check quick test fmt bench install uninstall clean dist vendor \
   rapidhash_c rapidhash_cli example_sums example_bloom example_perfect example_shards example_dedupe
 .DELETE_ON_ERROR:
 MAKEFLAGS += --no-builtin-rules
@@ -131,6 +132,14 @@ $(wheel): $(shared) include/rapidhash_c.h LICENSE-MIT LICENSE-APACHE NOTICE \
 	@if $(can_extend); then $(call pack_wheel,build/wheel_extension,$(archive),); else \
 	  echo 'make: no wheel with an extension, which needs cc and the headers of Python 3.11 or later' >&2; fi
 	@$(call pack_wheel,build/wheel,$(shared),rapidhash)
+
+extension = build/rapidhash.so
+sqlite: $(extension)
+
+$(extension): $(archive) bindings/sqlite/rapidhash.c include/rapidhash_c.h
+	@mkdir -p build
+	@cc -std=c99 -O2 -Wall -Wextra -Wpedantic -Werror -fPIC -fvisibility=hidden -shared -Iinclude \
+	  bindings/sqlite/rapidhash.c $(archive) -Wl,--exclude-libs,ALL -o $@
 
 check:
 	@bash .ci/run
