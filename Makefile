@@ -12,6 +12,7 @@
 # make page        puts examples/browser with that package into build/browser, for any server of files
 # make install     copies what make has built, with manual pages and completions, under PREFIX
 # make dist        puts all that a user without the kit needs into one archive in build/
+# make deb         packs what make and make sqlite have built as packages of Debian, into build/debian
 # make vendor      copies the library into another Rattle repository: make vendor INTO=FOLDER
 # make test-vendor runs the merge gate of such a repository, which proves all from nothing
 # make uninstall   removes what make install put there
@@ -33,8 +34,8 @@ name = yervound-1.0-x86_64-linux
 linker = $(dir $(shell rt doc))toolchain/bin/ld.lld
 system = /lib/x86_64-linux-gnu /lib64 /usr/lib
 
-.PHONY: all tool sums library wasm npm page wheel sqlite check quick test fmt bench install uninstall clean dist vendor \
-  rapidhash_c rapidhash_cli example_sums example_bloom example_perfect example_shards example_dedupe
+.PHONY: all tool sums library wasm npm page wheel sqlite deb check quick test fmt bench install uninstall clean dist \
+  vendor rapidhash_c rapidhash_cli example_sums example_bloom example_perfect example_shards example_dedupe
 .DELETE_ON_ERROR:
 MAKEFLAGS += --no-builtin-rules
 
@@ -139,7 +140,7 @@ sqlite: $(extension)
 $(extension): $(archive) bindings/sqlite/rapidhash.c include/rapidhash_c.h
 	@mkdir -p build
 	@cc -std=c99 -O2 -Wall -Wextra -Wpedantic -Werror -fPIC -fvisibility=hidden -shared -Iinclude \
-	  bindings/sqlite/rapidhash.c $(archive) -Wl,--exclude-libs,ALL -o $@
+	  bindings/sqlite/rapidhash.c $(archive) -Wl,--exclude-libs,ALL,-z,relro,-z,now -o $@
 
 check:
 	@bash .ci/run
@@ -202,6 +203,11 @@ dist: all $(folder) $(wheel)
 	python3 share/vectors.py crates/test_replay/data >build/$(name)/rapidhash_vectors.tsv
 	tar -C build -czf build/$(name).tar.gz $(name)
 	rm -rf build/$(name)
+
+deb: all $(extension)
+	@rm -rf build/debian && mkdir -p build/debian/source && cp -r share/debian build/debian/source
+	@cd build/debian/source && TOP='$(CURDIR)' dpkg-buildpackage -b -us -uc >../log 2>&1 || \
+	  { tail -n 20 ../log; echo 'make: the packages failed; all that was said is in build/debian/log'; exit 2; } >&2
 
 vendor:
 	@bin/vendor "$(INTO)"
