@@ -47,6 +47,20 @@ prints_the_known_hashes() {
     [ "$(chroot "$root" rapidsum /file)" = 'a1266b469390773a  /file' ]
 }
 
+# The machine code and the constants are those that make has built, whatever was stripped.
+keeps_the_code() {
+  local built packed
+  code() { readelf -x .text -x .rodata "$1" | grep '^  0x'; }
+  while read -r built packed; do
+    code "$top/$built" >"$room/code" && code "$root/usr/$packed" | diff "$room/code" - || return 1
+  done <<'FILES'
+crates/rapidhash_cli/out/rapidhash_cli bin/rapidhash
+crates/example_sums/out/example_sums bin/rapidsum
+build/librapidhash_c.so.1 lib/x86_64-linux-gnu/librapidhash_c.so.1
+build/rapidhash.so lib/sqlite3/rapidhash.so
+FILES
+}
+
 # A program of every call, and the dependency that its own package would have.
 links_by_pkg_config() {
   local words
@@ -102,6 +116,7 @@ try lintian lintian --allow-root --fail-on error,warning "$packages"/*.changes
 try dependencies needs_others
 try install installs
 try programs prints_the_known_hashes
+try code keeps_the_code
 try pkg_config links_by_pkg_config
 try cmake links_by_cmake
 try sqlite loads_into_sqlite
