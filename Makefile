@@ -9,6 +9,7 @@
 # make npm         packs bindings/javascript with that module, for npm install
 # make wheel       packs bindings/python with the library inside, for pip install
 # make sqlite      builds bindings/sqlite with the library inside, as an extension that SQLite loads
+# make postgresql  builds bindings/postgresql with the library inside, as an extension of PostgreSQL
 # make page        puts examples/browser with that package into build/browser, for any server of files
 # make install     copies what make has built, with manual pages and completions, under PREFIX
 # make dist        puts all that a user without the kit needs into one archive in build/
@@ -34,8 +35,8 @@ name = yervound-1.0-x86_64-linux
 linker = $(dir $(shell rt doc))toolchain/bin/ld.lld
 system = /lib/x86_64-linux-gnu /lib64 /usr/lib
 
-.PHONY: all tool sums library wasm npm page wheel sqlite deb check quick test fmt bench install uninstall clean dist \
-  vendor rapidhash_c rapidhash_cli example_sums example_bloom example_perfect example_shards example_dedupe
+.PHONY: all tool sums library wasm npm page wheel sqlite postgresql deb check quick test fmt bench install uninstall \
+  clean dist vendor rapidhash_c rapidhash_cli example_sums example_bloom example_perfect example_shards example_dedupe
 .DELETE_ON_ERROR:
 MAKEFLAGS += --no-builtin-rules
 
@@ -141,6 +142,11 @@ $(extension): $(archive) bindings/sqlite/rapidhash.c include/rapidhash_c.h
 	@mkdir -p build
 	@cc -std=c99 -O2 -Wall -Wextra -Wpedantic -Werror -fPIC -fvisibility=hidden -shared -Iinclude \
 	  bindings/sqlite/rapidhash.c $(archive) -Wl,--exclude-libs,ALL,-z,relro,-z,now -o $@
+
+postgresql: $(archive)
+	@command -v pg_config >/dev/null || { echo 'make: pg_config, of PostgreSQL, is not on PATH' >&2; exit 2; }
+	@rm -rf build/postgresql && mkdir -p build && cp -r bindings/postgresql build
+	@MAKEFLAGS= $(MAKE) -s -C build/postgresql COPT=-Werror
 
 check:
 	@bash .ci/run

@@ -7,22 +7,12 @@ import os
 import re
 import shutil
 import sqlite3
-import subprocess
 
 from cases import ROOM, TOP, compare, finish, tell
+from sql import HELLO, NOTHING, SEEDED, TEXT, TEXT_HASH, VERSIONS
+from sql import blocks, every_vector, lines_with_results, shell, signed
 
-HELLO = 3327445792987248966
-NOTHING = 232177599295442350
-TEXT, TEXT_HASH = "héllo €😀", 7424989580978448810
-VERSIONS = ("v1", "v2_0", "v2_1", "v2_2", "v3", "v3_micro", "v3_nano", "v3_protected")
 STREAMS = VERSIONS[4:7]
-# A seed word as SQL has it, a message of so many bytes from 0 on, and the hashes of these versions.
-SEEDED = (
-    (1, 60, VERSIONS[:4], (16595489079910452471, 10726147324944781525, 10166538060445963011, 10905583924937672291)),
-    (-1, 60, VERSIONS[:4], (4523117913705637297, 10138467703456622832, 9837700961849980522, 7542770224395652484)),
-    (1, 120, VERSIONS[4:], (8806718467852582029, 13208658450986943527, 1125117906108554434, 7525003891474917990)),
-    (-1, 120, VERSIONS[4:], (17432585756072271274, 12726087877044209633, 4287866527191256466, 11331127849039006057)),
-)
 REAL = "a REAL cannot be hashed: cast it to TEXT, BLOB or INTEGER"
 ERRORS = {
     "rapidhash_v3(1.5)": f"rapidhash_v3: {REAL}",
@@ -44,20 +34,6 @@ MEMORY = """cc -std=c99 -g -Wall -Wextra -Werror -fsanitize=address,undefined -f
 "$ROOM/test_memory" """
 
 
-def shell(command, folder=TOP, **words):
-    """The status of a command, and what it prints."""
-    words = dict(os.environ, YERVOUND=str(TOP), ROOM=str(ROOM), **words)
-    done = subprocess.run(["bash", "-ec", command], cwd=folder, env=words, stdin=subprocess.DEVNULL,
-                          stdout=subprocess.PIPE, stderr=subprocess.STDOUT, text=True)
-    return done.returncode, done.stdout
-
-
-def blocks(language):
-    """The code blocks of the page's section that are of one language."""
-    section = re.search(r"^## SQLite\n(.*?)(?=^## |\Z)", (TOP / "docs/BINDINGS.md").read_text(), re.M | re.S)[1]
-    return re.findall(rf"^```{language}\n(.*?)^```$", section, re.M | re.S)
-
-
 def lay_out_installed():
     """The library and the extension's source as they stand in an installed folder or an unpacked archive."""
     for name in ("lib/pkgconfig", "include"):
@@ -75,7 +51,7 @@ def lay_out_installed():
 
 def commands():
     """The three commands in an empty folder, the one over an installed library, and that of the archive's page."""
-    first, second = blocks("sh")
+    first, second = blocks("SQLite", "sh")
     for name in ("first", "second"):
         (ROOM / name).mkdir()
     *build, load = first.splitlines()
@@ -98,27 +74,12 @@ def ask(database, query, *values):
     return database.execute(query, values).fetchall()
 
 
-def signed(number):
-    """The integer of SQL with the 64 bits of a hash."""
-    return number - (number >> 63 << 64)
-
-
 def pieces(message):
     """A message in pieces of 1, 2, 3 bytes and so on."""
     at, size = 0, 1
     while at < len(message):
         yield (message[at:at + size],)
         at, size = at + size, size + 1
-
-
-def every_vector():
-    """Each vector as a call's name, its words, the message and the hash."""
-    for line in shell("python3 share/vectors.py crates/test_replay/data")[1].splitlines():
-        if not line.startswith(("#", "version\t")):
-            version, rule, digits, number = line.split("\t")
-            words = () if rule == "default" else (int(rule.partition(":")[2]),)
-            name = f"rapidhash_{version}" + "_seeded" * len(words)
-            yield name, words, bytes.fromhex(digits.strip("-")), signed(int(number))
 
 
 def vectors(database):
@@ -202,15 +163,14 @@ def schema(database):
 
 def page(database):
     """Each line with a result gives it. The query over nodes gives each line the node that the program gives it."""
-    lines, nodes = blocks("sql")
-    for query, wanted in re.findall(r"^(SELECT .*?); *-- (-?\w+)$", lines, re.M):
+    for query, wanted in lines_with_results("SQLite"):
         compare(query, [tuple(map(str, row)) for row in ask(database, query)], [(wanted,)])
     crate = TOP / "crates/example_shards"
     database.execute("CREATE TABLE nodes (name)")
     database.executemany("INSERT INTO nodes VALUES (?)", (("red",), ("blue",)))
     database.execute("CREATE TABLE lines (line)")
     database.executemany("INSERT INTO lines VALUES (?)", zip((crate / "stdin").read_text().splitlines()))
-    found = {f"{name}\t{line}" for name, line, _ in ask(database, nodes)}
+    found = {f"{name}\t{line}" for name, line, _ in ask(database, blocks("SQLite", "sql")[1])}
     compare("nodes", found, set((crate / "stdout").read_text().splitlines()))
 
 
