@@ -8,9 +8,12 @@
 # make wasm        proves and builds the same library for WebAssembly, with addresses of 32 bits
 # make npm         packs bindings/javascript with that module, for npm install
 # make wheel       packs bindings/python with the library inside, for pip install
+# make sqlite      builds bindings/sqlite with the library inside, as an extension that SQLite loads
+# make postgresql  builds bindings/postgresql with the library inside, as an extension of PostgreSQL
 # make page        puts examples/browser with that package into build/browser, for any server of files
 # make install     copies what make has built, with manual pages and completions, under PREFIX
 # make dist        puts all that a user without the kit needs into one archive in build/
+# make deb         packs what make and make sqlite have built as packages of Debian, into build/debian
 # make vendor      copies the library into another Rattle repository: make vendor INTO=FOLDER
 # make test-vendor runs the merge gate of such a repository, which proves all from nothing
 # make uninstall   removes what make install put there
@@ -32,8 +35,8 @@ name = yervound-1.0-x86_64-linux
 linker = $(dir $(shell rt doc))toolchain/bin/ld.lld
 system = /lib/x86_64-linux-gnu /lib64 /usr/lib
 
-.PHONY: all tool sums library wasm npm page wheel check quick test fmt bench install uninstall clean dist vendor \
-  rapidhash_c rapidhash_cli example_sums example_bloom example_perfect example_shards example_dedupe
+.PHONY: all tool sums library wasm npm page wheel sqlite postgresql deb check quick test fmt bench install uninstall \
+  clean dist vendor rapidhash_c rapidhash_cli example_sums example_bloom example_perfect example_shards example_dedupe
 .DELETE_ON_ERROR:
 MAKEFLAGS += --no-builtin-rules
 
@@ -132,6 +135,19 @@ $(wheel): $(shared) include/rapidhash_c.h LICENSE-MIT LICENSE-APACHE NOTICE \
 	  echo 'make: no wheel with an extension, which needs cc and the headers of Python 3.11 or later' >&2; fi
 	@$(call pack_wheel,build/wheel,$(shared),rapidhash)
 
+extension = build/rapidhash.so
+sqlite: $(extension)
+
+$(extension): $(archive) bindings/sqlite/rapidhash.c include/rapidhash_c.h
+	@mkdir -p build
+	@cc -std=c99 -O2 -Wall -Wextra -Wpedantic -Werror -fPIC -fvisibility=hidden -shared -Iinclude \
+	  bindings/sqlite/rapidhash.c $(archive) -Wl,--exclude-libs,ALL,-z,relro,-z,now -o $@
+
+postgresql: $(archive)
+	@command -v pg_config >/dev/null || { echo 'make: pg_config, of PostgreSQL, is not on PATH' >&2; exit 2; }
+	@rm -rf build/postgresql && mkdir -p build && cp -r bindings/postgresql build
+	@MAKEFLAGS= $(MAKE) -s -C build/postgresql COPT=-Werror
+
 check:
 	@bash .ci/run
 
@@ -193,6 +209,11 @@ dist: all $(folder) $(wheel)
 	python3 share/vectors.py crates/test_replay/data >build/$(name)/rapidhash_vectors.tsv
 	tar -C build -czf build/$(name).tar.gz $(name)
 	rm -rf build/$(name)
+
+deb: all $(extension)
+	@rm -rf build/debian && mkdir -p build/debian/source && cp -r share/debian build/debian/source
+	@cd build/debian/source && TOP='$(CURDIR)' dpkg-buildpackage -b -us -uc >../log 2>&1 || \
+	  { tail -n 20 ../log; echo 'make: the packages failed; all that was said is in build/debian/log'; exit 2; } >&2
 
 vendor:
 	@bin/vendor "$(INTO)"

@@ -150,6 +150,8 @@ VERSIONS = {
     "bindings/python/rapidhash/__init__.py": r'^__version__ = "(\d+\.\d+)\.\d+"',
     "bindings/python/rapidhash/__init__.py": r'^__version__ = "(\d+\.\d+)\.\d+"',
     "bindings/javascript/package.json": r'"version": "(\d+\.\d+)\.\d+"',
+    "bindings/postgresql/rapidhash.control": r"^default_version = '(\d+\.\d+)'",
+    "share/debian/changelog": r"^yervound \((\d+\.\d+)\.\d+\)",
     "rust/Cargo.toml": r'^version = "(\d+\.\d+)\.\d+"',
 }
 

@@ -1,0 +1,232 @@
+/* The rapidhash family as functions of SQL: an extension that SQLite loads. docs/BINDINGS.md has every call. */
+#include <rapidhash_c.h>
+#include <sqlite3ext.h>
+
+SQLITE_EXTENSION_INIT1
+
+/* SQLite 3.25 has the first sqlite3_create_window_function. */
+#define OLDEST_SQLITE 3025000
+#define FLAGS (SQLITE_UTF8 | SQLITE_DETERMINISTIC | SQLITE_INNOCUOUS)
+
+/* A function of SQL. Its second argument is a word with this name; `word` is NULL if it has no second argument. */
+struct function {
+    const char *name;
+    const char *word;
+    uint64_t (*hash)(const void *bytes, size_t len, uint64_t word);
+};
+
+/* An aggregate over the values of a column: its hash is V3, micro or nano. */
+struct aggregate {
+    const char *name;
+    void (*start)(struct rapidhash_stream *stream, const struct rapidhash_secrets *secrets);
+};
+
+/* What an aggregate keeps between rows, zeros at first. SQLite does not move it, so the stream may point into it. */
+struct running {
+    int is_started;
+    uint64_t seed;
+    struct rapidhash_secrets secrets;
+    struct rapidhash_stream stream;
+};
+
+/* The bytes of a value. Those of an integer are in `integer`. */
+struct message {
+    const void *bytes;
+    size_t len;
+    unsigned char integer[8];
+};
+
+static void refuse(sqlite3_context *context, const char *name, const char *why)
+{
+    char *text = sqlite3_mprintf("%s: %s", name, why);
+    if (text == NULL) {
+        sqlite3_result_error_nomem(context);
+        return;
+    }
+    sqlite3_result_error(context, text, -1);
+    sqlite3_free(text);
+}
+
+/* Reads an integer as the word of the same 64 bits. Returns 0 with an error set if it is not an integer. */
+static int read_word(sqlite3_context *context, const char *name, const char *what, sqlite3_value *value, uint64_t *word)
+{
+    char why[64];
+    if (sqlite3_value_type(value) != SQLITE_INTEGER) {
+        sqlite3_snprintf(sizeof why, why, "the %s has to be an INTEGER", what);
+        refuse(context, name, why);
+        return 0;
+    }
+    *word = (uint64_t)sqlite3_value_int64(value);
+    return 1;
+}
+
+/* The 8 bytes of an integer, the lowest first. */
+static void read_integer(sqlite3_value *value, struct message *message)
+{
+    uint64_t word = (uint64_t)sqlite3_value_int64(value);
+    int at;
+    for (at = 0; at < 8; at++)
+        message->integer[at] = (unsigned char)(word >> 8 * at);
+    message->bytes = message->integer;
+    message->len = sizeof message->integer;
+}
+
+/* Reads the bytes of a value. Returns 0 if there are none: with no result set, which means NULL, or with an error. */
+static int read_message(sqlite3_context *context, const char *name, sqlite3_value *value, struct message *message)
+{
+    int type = sqlite3_value_type(value);
+    if (type == SQLITE_NULL)
+        return 0;
+    if (type == SQLITE_FLOAT) {
+        refuse(context, name, "a REAL cannot be hashed: cast it to TEXT, BLOB or INTEGER");
+        return 0;
+    }
+    if (type == SQLITE_INTEGER) {
+        read_integer(value, message);
+        return 1;
+    }
+    if (type == SQLITE_TEXT) {
+        message->bytes = sqlite3_value_text(value);
+        message->len = (size_t)sqlite3_value_bytes(value);
+    } else {
+        /* In this order, since a zeroblob for which there is no memory becomes NULL. */
+        message->len = (size_t)sqlite3_value_bytes(value);
+        message->bytes = sqlite3_value_blob(value);
+    }
+    if (message->bytes != NULL || (type == SQLITE_BLOB && message->len == 0))
+        return 1;
+    sqlite3_result_error_nomem(context);
+    return 0;
+}
+
+/* The body of each function. */
+static void call(sqlite3_context *context, int count, sqlite3_value **values)
+{
+    const struct function *function = sqlite3_user_data(context);
+    struct message message;
+    uint64_t word = 0;
+    if (count == 2 && !read_word(context, function->name, function->word, values[1], &word))
+        return;
+    if (read_message(context, function->name, values[0], &message))
+        sqlite3_result_int64(context, (sqlite3_int64)function->hash(message.bytes, message.len, word));
+}
+
+/* Takes one row into an aggregate. */
+static void step(sqlite3_context *context, int count, sqlite3_value **values)
+{
+    const struct aggregate *aggregate = sqlite3_user_data(context);
+    struct running *running;
+    struct message message;
+    uint64_t seed = 0;
+    if (count == 2 && !read_word(context, aggregate->name, "seed", values[1], &seed))
+        return;
+    if (!read_message(context, aggregate->name, values[0], &message))
+        return;
+    running = sqlite3_aggregate_context(context, sizeof *running);
+    if (running == NULL) {
+        sqlite3_result_error_nomem(context);
+        return;
+    }
+    if (!running->is_started) {
+        rapidhash_seed_secrets(seed, &running->secrets);
+        aggregate->start(&running->stream, &running->secrets);
+        running->seed = seed;
+        running->is_started = 1;
+    } else if (running->seed != seed) {
+        refuse(context, aggregate->name, "the seed has to be the same in every row");
+        return;
+    }
+    rapidhash_stream_write(&running->stream, message.bytes, message.len);
+}
+
+/* The hash of the rows so far. It changes nothing, so it is the last result too. */
+static void answer(sqlite3_context *context)
+{
+    const struct running *running = sqlite3_aggregate_context(context, 0);
+    if (running != NULL)
+        sqlite3_result_int64(context, (sqlite3_int64)rapidhash_stream_finish(&running->stream));
+}
+
+/* A window whose first row moves has no hash: a hash cannot lose bytes. */
+static void lose(sqlite3_context *context, int count, sqlite3_value **values)
+{
+    const struct aggregate *aggregate = sqlite3_user_data(context);
+    (void)count;
+    (void)values;
+    refuse(context, aggregate->name, "the window has to begin with UNBOUNDED PRECEDING");
+}
+
+/* The hash of a version without a second argument, and that with the secrets made from a number. V1 has its own. */
+#define HASHES(version, prefix) \
+    static uint64_t default_##version(const void *bytes, size_t len, uint64_t none) \
+    { \
+        (void)none; \
+        return rapidhash_##version(bytes, len); \
+    } \
+    static uint64_t seeded_##version(const void *bytes, size_t len, uint64_t number) \
+    { \
+        struct rapidhash_##prefix##secrets secrets; \
+        rapidhash_##prefix##make_secrets(number, &secrets); \
+        return rapidhash_##version##_seeded(bytes, len, &secrets); \
+    }
+
+HASHES(v1, v1_)
+HASHES(v2_0, )
+HASHES(v2_1, )
+HASHES(v2_2, )
+HASHES(v3, )
+HASHES(v3_micro, )
+HASHES(v3_nano, )
+HASHES(v3_protected, )
+
+static uint64_t protected_with_seed(const void *bytes, size_t len, uint64_t seed)
+{
+    struct rapidhash_secrets secrets;
+    rapidhash_seed_secrets(seed, &secrets);
+    return rapidhash_v3_protected_seeded(bytes, len, &secrets);
+}
+
+#define FUNCTIONS(version, with_seed) \
+    {"rapidhash_" #version, NULL, default_##version}, {"rapidhash_" #version, "seed", with_seed}, \
+    {"rapidhash_" #version "_seeded", "number", seeded_##version}
+
+static const struct function functions[] = {
+    FUNCTIONS(v1, rapidhash_v1_with_seed),
+    FUNCTIONS(v2_0, rapidhash_v2_0_with_seed),
+    FUNCTIONS(v2_1, rapidhash_v2_1_with_seed),
+    FUNCTIONS(v2_2, rapidhash_v2_2_with_seed),
+    FUNCTIONS(v3, rapidhash_v3_with_seed),
+    FUNCTIONS(v3_micro, rapidhash_v3_micro_with_seed),
+    FUNCTIONS(v3_nano, rapidhash_v3_nano_with_seed),
+    FUNCTIONS(v3_protected, protected_with_seed),
+};
+
+static const struct aggregate aggregates[] = {
+    {"rapidhash_v3_agg", rapidhash_v3_start},
+    {"rapidhash_v3_micro_agg", rapidhash_v3_micro_start},
+    {"rapidhash_v3_nano_agg", rapidhash_v3_nano_start},
+};
+
+#define COUNT(table) (sizeof(table) / sizeof *(table))
+
+/* Adds all calls to a database. SQLite finds this function by the file's name, rapidhash.so. */
+#ifdef __GNUC__
+__attribute__((visibility("default")))
+#endif
+int sqlite3_rapidhash_init(sqlite3 *database, char **error, const sqlite3_api_routines *api)
+{
+    size_t at;
+    int status = SQLITE_OK;
+    SQLITE_EXTENSION_INIT2(api)
+    if (sqlite3_libversion_number() < OLDEST_SQLITE) {
+        *error = sqlite3_mprintf("rapidhash needs SQLite 3.25 or later, and this is %s", sqlite3_libversion());
+        return SQLITE_ERROR;
+    }
+    for (at = 0; at < COUNT(functions) && status == SQLITE_OK; at++)
+        status = sqlite3_create_function_v2(database, functions[at].name, functions[at].word == NULL ? 1 : 2, FLAGS,
+            (void *)&functions[at], call, NULL, NULL, NULL);
+    for (at = 0; at < 2 * COUNT(aggregates) && status == SQLITE_OK; at++)
+        status = sqlite3_create_window_function(database, aggregates[at / 2].name, 1 + (int)(at % 2), FLAGS,
+            (void *)&aggregates[at / 2], step, answer, answer, lose, NULL);
+    return status;
+}

@@ -1,0 +1,127 @@
+#!/usr/bin/env bash
+# Packs the packages of Debian, and installs, uses and removes them in a root that has the C library and nothing
+# else. It is skipped where not run as root, or without what builds and checks packages. The last line counts the cases.
+set -u
+
+top=$(cd "$(dirname "${BASH_SOURCE[0]}")/.." && pwd) || exit 1
+# shellcheck source=tests/cases.sh
+. "$top/tests/cases.sh"
+packages=$top/build/debian
+root=$room/root
+library=$root/usr/lib/x86_64-linux-gnu
+names='librapidhash-c-dev librapidhash-c1 rapidhash-tools sqlite3-rapidhash'
+
+# The same bytes each time, whatever the hour, and no file beside these.
+packs_the_same_bytes() {
+  make -s -C "$top" deb && cd "$packages" && sha256sum ./*.deb >"$room/sums" && make -s -C "$top" deb &&
+    cd "$packages" && sha256sum --check "$room/sums" &&
+    diff <(printf '%s_1.0.0_amd64.deb\n' $names) <(printf '%s\n' *.deb)
+}
+
+# Files as they are packed, whatever the machine leaves out of its own packages.
+in_the_root() {
+  dpkg --root="$root" --log="$room/dpkg.log" --path-include='/usr/*' "$@"
+}
+
+listed() {
+  (cd "$root" && find . -path ./var -prune -o -print | sort)
+}
+
+# Each package names the one that it cannot do without.
+needs_others() {
+  mkdir -p "$library" "$root/usr/lib64" "$root"/var/lib/dpkg/{info,updates} && ln -s usr/lib usr/lib64 "$root" &&
+    touch "$root/var/lib/dpkg/status" && listed >"$room/bare" || return 1
+  ! in_the_root --install "$packages"/*.deb 2>"$room/refused" &&
+    sed -nE 's/^ ([^: ]*).* depends on (.* \(.?=) .*/\1: \2/p' "$room/refused" | sort | diff - <(printf '%s\n' \
+      'librapidhash-c-dev: librapidhash-c1 (=' 'librapidhash-c1: libc6 (>=' 'rapidhash-tools: libc6 (>=' \
+      'sqlite3-rapidhash: libc6 (>=')
+}
+
+installs() {
+  dpkg --status libc6 >>"$root/var/lib/dpkg/status" && in_the_root --configure --pending &&
+    cp -L /lib64/ld-linux-x86-64.so.2 "$root/lib64" && cp -L /lib/x86_64-linux-gnu/libc.so.6 "$library"
+}
+
+prints_the_known_hashes() {
+  echo something >"$root/file" && [ "$(chroot "$root" rapidhash --v1 /file)" = 15965596575264898037 ] &&
+    [ "$(chroot "$root" rapidsum /file)" = 'a1266b469390773a  /file' ]
+}
+
+# The machine code and the constants are those that make has built, whatever was stripped.
+keeps_the_code() {
+  local built packed
+  code() { readelf -x .text -x .rodata "$1" | grep '^  0x'; }
+  while read -r built packed; do
+    code "$top/$built" >"$room/code" && code "$root/usr/$packed" | diff "$room/code" - || return 1
+  done <<'FILES'
+crates/rapidhash_cli/out/rapidhash_cli bin/rapidhash
+crates/example_sums/out/example_sums bin/rapidsum
+build/librapidhash_c.so.1 lib/x86_64-linux-gnu/librapidhash_c.so.1
+build/rapidhash.so lib/sqlite3/rapidhash.so
+FILES
+}
+
+# A program of every call, and the dependency that its own package would have.
+links_by_pkg_config() {
+  local words
+  words=$(PKG_CONFIG_LIBDIR=$library/pkgconfig pkg-config --cflags --libs rapidhash_c) &&
+    cc -O2 "$top/tests/c_library.c" $words -o "$root/c_library" && chroot "$root" /c_library &&
+    cd "$packages/source" && dpkg-shlibdeps -O -Sdebian/librapidhash-c1 "$root/c_library" |
+    tee /dev/stderr | grep 'librapidhash-c1 (>= 1\.0\.0)'
+}
+
+links_by_cmake() {
+  python3 "$top/share/vectors.py" "$top/crates/test_replay/data" >"$room/vectors" &&
+    cmake -S "$top/tests/cmake" -B "$room/cmake" -D CMAKE_PREFIX_PATH="$root/usr" -D VECTORS="$room/vectors" &&
+    grep -x "rapidhash_c_DIR:PATH=$library/cmake/rapidhash_c" "$room/cmake/CMakeCache.txt" &&
+    cmake --build "$room/cmake" && cd "$room/cmake" && ctest
+}
+
+loads_into_sqlite() {
+  sqlite3 :memory: ".load $root/usr/lib/sqlite3/rapidhash" "SELECT rapidhash_v3('hello')" |
+    grep -x 3327445792987248966
+}
+
+# Programs and exports have a manual page, and completions lie where Debian's shells look.
+has_manuals_and_completions() {
+  cd "$root/usr/share" && ls man/man1/rapid{hash,sum}.1.gz bash-completion/completions/rapid{hash,sum} \
+    zsh/vendor-completions/_rapid{hash,sum} fish/vendor_completions.d/rapid{hash,sum}.fish &&
+    nm -D --defined-only "$library/librapidhash_c.so.1" | sed -nE 's/.* T (.*)@@.*/\1/p' >"$room/exports" &&
+    [ "$(wc -l <"$room/exports")" -gt 20 ] && while read -r export; do
+    zcat "man/man3/$export.3.gz" | cmp - "$top/share/rapidhash_c.3" || return 1
+  done <"$room/exports"
+}
+
+# Each package has the notice, and the text of the licence that Debian has no copy of.
+has_the_licences_of_debian() {
+  local name
+  for name in $names; do
+    cd "$root/usr/share/doc/$name" && cmp NOTICE "$top/NOTICE" &&
+      grep -x ' 2024 Liam Gray <gmail@liamg.me>' copyright &&
+      sed -nE '/^License: Expat$/,/^$/ s/^ \.?//p' copyright | diff - <(tail -n +5 "$top/LICENSE-MIT") || return 1
+  done
+}
+
+leaves_nothing() {
+  in_the_root --purge $names && (cd "$root" && rm file c_library lib64/ld-linux-x86-64.so.2) &&
+    rm "$library/libc.so.6" && listed | diff "$room/bare" -
+}
+
+for program in dpkg-buildpackage dh lintian cc cmake sqlite3; do
+  command -v "$program" >/dev/null || { echo "skipped packages: no $program" && finish; }
+done
+[ "$(id -u)" -eq 0 ] || { echo 'skipped packages: not run as root' && finish; }
+try packages packs_the_same_bytes
+try lintian lintian --allow-root --fail-on error,warning "$packages"/*.changes
+try dependencies needs_others
+try install installs
+try programs prints_the_known_hashes
+try code keeps_the_code
+try pkg_config links_by_pkg_config
+try cmake links_by_cmake
+try sqlite loads_into_sqlite
+try manuals_and_completions has_manuals_and_completions
+try licences has_the_licences_of_debian
+try purge leaves_nothing
+
+finish

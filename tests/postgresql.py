@@ -1,0 +1,139 @@
+#!/usr/bin/env python3
+"""Builds the extension for PostgreSQL as docs/BINDINGS.md says, installs it beside a copy of the server, starts that
+as a user without rights, and tests each function. It leaves the machine's own server alone. The values are those of the
+Rust crate. The last line counts the cases."""
+
+import os
+import re
+import shutil
+import subprocess
+from pathlib import Path
+
+from cases import ROOM, TOP, compare, finish, tell
+from sql import HELLO, NOTHING, SEEDED, TEXT, TEXT_HASH, blocks, every_vector, lines_with_results, shell, signed
+
+# The folder of its databases, which has its socket too.
+DATA = ROOM / "data"
+NOBODY = "setpriv --reuid=65534 --regid=65534 --clear-groups " if os.geteuid() == 0 else ""
+FUNCTIONS = """SELECT count(*), bool_and(provolatile = 'i' AND proisstrict AND proparallel = 's')
+    FROM pg_proc WHERE proname LIKE 'rapidhash%'"""
+STORED = """CREATE TABLE stored (word text); ALTER TABLE stored ALTER word SET STORAGE {0};
+    INSERT INTO stored SELECT repeat('hello', {1}); SELECT rapidhash_v3(word) = rapidhash_v3(repeat('hello', {1})),
+    pg_column_size(word) < octet_length(word) FROM stored; DROP TABLE stored"""
+# The server keeps a value compressed, in pieces, or with a shorter header.
+STORAGES = (("EXTENDED", 100000, "t"), ("EXTERNAL", 100000, "f"), ("PLAIN", 1, "f"))
+
+
+def folders_of_the_server():
+    """Where the machine's server lies, or nothing if it has none or no headers."""
+    if not all(map(shutil.which, ("pg_config", "cc", "psql", "setpriv"))):
+        return []
+    found = [Path(shell(f"pg_config --{name}")[1].strip()) for name in ("pgxs", "bindir", "sharedir")]
+    return found[1:] if found[0].exists() and (found[1] / "initdb").exists() else []
+
+
+def ask(query):
+    """The lines that a query gives, or its error."""
+    words = ["psql", "-XAtq", "-h", DATA, "-U", "test", "-d", "postgres", "-v", "ON_ERROR_STOP=1", "-f", "-"]
+    done = subprocess.run(words, input=query, stdout=subprocess.PIPE, stderr=subprocess.STDOUT, text=True)
+    return done.stdout.splitlines()
+
+
+def literal(message):
+    return f"'\\x{message.hex()}'::bytea"
+
+
+def install():
+    """Runs the commands of the page, of which the second installs into the copy."""
+    words = {"PGHOST": str(DATA), "PGUSER": "test", "PGDATABASE": "postgres", "DESTDIR": str(ROOM)}
+    [commands] = blocks("PostgreSQL", "sh")
+    status, printed = shell(commands.replace("sudo ", ""), ROOM, **words)
+    compare("three_commands", (commands.count("\n"), status, printed.splitlines()[-2:]),
+            (3, 0, ["CREATE EXTENSION", str(HELLO)]))
+
+
+def unpacked_archive():
+    """The command of the archive's page builds and installs the same functions."""
+    place = ROOM / "unpacked"
+    shutil.copytree(TOP / "bindings/postgresql", place / "bindings/postgresql")
+    for name, folder in (("crates/rapidhash_c/out/librapidhash_c.a", "lib"), ("include/rapidhash_c.h", "include")):
+        (place / folder).mkdir()
+        shutil.copy(TOP / name, place / folder)
+    command = re.search(r"^\| `bindings/postgresql` .*`(make .*)`", (TOP / "share/dist.md").read_text(), re.M)[1]
+    status, printed = shell(command.replace("sudo ", ""), place, DESTDIR=str(place))
+    names = [shell(f"nm -D --defined-only {folder}/rapidhash.so | cut -d ' ' -f 2-") for folder in (
+        TOP / "build/postgresql", next(place.glob("usr/**/rapidhash.so"), place).parent)]
+    tell("unpacked_archive", *[printed[-600:]] * (status != 0 or names[0] != names[1]))
+
+
+def vectors():
+    """A message as a bytea, and 8 bytes as a bigint too."""
+    queries = []
+    for name, words, message, wanted in every_vector():
+        rest = "".join(f", {word}" for word in words)
+        queries.append(f"SELECT {name}({literal(message)}{rest}) = {wanted};")
+        if len(message) == 8:
+            number = int.from_bytes(message, "little", signed=True)
+            queries.append(f"SELECT {name}('{number}'::bigint{rest}) = {wanted};")
+    found = ask("\n".join(queries))
+    tell("vectors", *[query for query, line in zip(queries, found) if line != "t"])
+    compare("count_of_vectors", len(found), 1152 + 16)
+
+
+def seed_words():
+    for seed, length, versions, hashes in SEEDED:
+        calls = [f"rapidhash_{version}({literal(bytes(range(length)))}, {seed})" for version in versions]
+        compare(f"seed {seed} of {length} bytes", ask(f"SELECT {', '.join(calls)}"),
+                ["|".join(str(signed(wanted)) for wanted in hashes)])
+
+
+def types():
+    compare("types", ask(f"SELECT rapidhash_v3('{TEXT}'), rapidhash_v3('{TEXT}'::text), rapidhash_v3(''), "
+                         "rapidhash_v3(''::bytea), rapidhash_v3(42), rapidhash_v3((-42)::smallint)"),
+            [f"{TEXT_HASH}|{TEXT_HASH}|{NOTHING}|{NOTHING}|5044168950324010207|2463112363380910024"])
+    compare("null", ask("SELECT rapidhash_v3(NULL::text), rapidhash_v3('a', NULL), rapidhash_v3_seeded(1, NULL)"),
+            ["||"])
+    for error in ("rapidhash_v3(1.5)", "rapidhash_v3(1.5::real)", "rapidhash_v3_seeded('a')"):
+        compare(f"refuses {error}", [line.split("ERROR: ")[1].split("(")[0] for line in ask(f"SELECT {error}")[:1]],
+                [f" function {error.split('(')[0]}"])
+    for storage, count, is_compressed in STORAGES:
+        compare(f"storage {storage}", ask(STORED.format(storage, count)), [f"t|{is_compressed}"])
+
+
+def rest():
+    compare("functions", ask(FUNCTIONS), ["72|t"])
+    compare("index", ask("CREATE TABLE words (word text); CREATE INDEX ON words (rapidhash_v3(word, 1))"), [])
+    for query, wanted in lines_with_results("PostgreSQL"):
+        compare(query, ask(query), [wanted])
+    [query] = re.findall(r"^SELECT .*string_agg.*;$", blocks("PostgreSQL", "sql")[0], re.M)
+    compare("rows_in_order", ask(query), [str(HELLO)])
+    compare("dropped", ask(f"DROP TABLE words; DROP EXTENSION rapidhash; {FUNCTIONS}"), ["0|"])
+
+
+def start(binaries, shared):
+    """Starts a copy of the server, and returns the command that ends it."""
+    ROOM.chmod(0o755)
+    for folder in (binaries.parent, shared):
+        shutil.copytree(folder, ROOM / folder.relative_to("/"))
+    DATA.mkdir()
+    if NOBODY:
+        shutil.chown(DATA, 65534, 65534)
+    run = f"{NOBODY}env -i LC_ALL=C.UTF-8 {ROOM / binaries.relative_to('/')}"
+    options = f"-c listen_addresses= -c unix_socket_directories={DATA} -c fsync=off"
+    status, printed = shell(f"{run}/initdb -D {DATA} --no-sync --auth=trust -E UTF8 -U test && "
+                            f"{run}/pg_ctl -D {DATA} -w -l {DATA}/log -o '{options}' start", "/")
+    tell("server", *printed.splitlines()[-5:] * (status != 0))
+    return f"{run}/pg_ctl -D {DATA} -m fast stop"
+
+
+folders = folders_of_the_server()
+if not folders:
+    print("skipped postgresql: there is no server with its headers, or no cc, psql or setpriv")
+    finish()
+stop = start(*folders)
+try:
+    for step in (install, unpacked_archive, vectors, seed_words, types, rest):
+        step()
+finally:
+    shell(stop, "/")
+finish()

@@ -1,0 +1,53 @@
+"""What the tests of both SQL databases share: known values, the vectors, and what docs/BINDINGS.md shows."""
+
+import os
+import re
+import subprocess
+
+from cases import ROOM, TOP
+
+HELLO = 3327445792987248966
+NOTHING = 232177599295442350
+TEXT, TEXT_HASH = "héllo €😀", 7424989580978448810
+VERSIONS = ("v1", "v2_0", "v2_1", "v2_2", "v3", "v3_micro", "v3_nano", "v3_protected")
+# A seed word as SQL has it, a message of so many bytes from 0 on, and the hashes of these versions.
+SEEDED = (
+    (1, 60, VERSIONS[:4], (16595489079910452471, 10726147324944781525, 10166538060445963011, 10905583924937672291)),
+    (-1, 60, VERSIONS[:4], (4523117913705637297, 10138467703456622832, 9837700961849980522, 7542770224395652484)),
+    (1, 120, VERSIONS[4:], (8806718467852582029, 13208658450986943527, 1125117906108554434, 7525003891474917990)),
+    (-1, 120, VERSIONS[4:], (17432585756072271274, 12726087877044209633, 4287866527191256466, 11331127849039006057)),
+)
+
+
+def shell(command, folder=TOP, **words):
+    """The status of a command, and what it prints."""
+    words = dict(os.environ, YERVOUND=str(TOP), ROOM=str(ROOM), **words)
+    done = subprocess.run(["bash", "-ec", command], cwd=folder, env=words, stdin=subprocess.DEVNULL,
+                          stdout=subprocess.PIPE, stderr=subprocess.STDOUT, text=True)
+    return done.returncode, done.stdout
+
+
+def blocks(name, language):
+    """The code blocks of a section of the page that are of one language."""
+    section = re.search(rf"^## {name}\n(.*?)(?=^## |\Z)", (TOP / "docs/BINDINGS.md").read_text(), re.M | re.S)[1]
+    return re.findall(rf"^```{language}\n(.*?)^```$", section, re.M | re.S)
+
+
+def signed(number):
+    """The integer of SQL with the 64 bits of a hash."""
+    return number - (number >> 63 << 64)
+
+
+def every_vector():
+    """Each vector as a call's name, its words, the message and the hash."""
+    for line in shell("python3 share/vectors.py crates/test_replay/data")[1].splitlines():
+        if not line.startswith(("#", "version\t")):
+            version, rule, digits, number = line.split("\t")
+            words = () if rule == "default" else (int(rule.partition(":")[2]),)
+            name = f"rapidhash_{version}" + "_seeded" * len(words)
+            yield name, words, bytes.fromhex(digits.strip("-")), signed(int(number))
+
+
+def lines_with_results(name):
+    """The queries of the page that say what they give."""
+    return re.findall(r"^(SELECT .*?); *-- (-?\w+)$", "".join(blocks(name, "sql")), re.M)

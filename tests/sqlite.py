@@ -1,0 +1,193 @@
+#!/usr/bin/python3
+"""Builds the extension for SQLite as docs/BINDINGS.md says, loads it, and tests each function: the vectors, types,
+errors, aggregates, what the page shows, and each allocation that fails. The values are those of the Rust crate. The
+last line counts the cases."""
+
+import os
+import re
+import shutil
+import sqlite3
+
+from cases import ROOM, TOP, compare, finish, tell
+from sql import HELLO, NOTHING, SEEDED, TEXT, TEXT_HASH, VERSIONS
+from sql import blocks, every_vector, lines_with_results, shell, signed
+
+STREAMS = VERSIONS[4:7]
+REAL = "a REAL cannot be hashed: cast it to TEXT, BLOB or INTEGER"
+ERRORS = {
+    "rapidhash_v3(1.5)": f"rapidhash_v3: {REAL}",
+    "rapidhash_v2_0(NULL, 'a')": "rapidhash_v2_0: the seed has to be an INTEGER",
+    "rapidhash_v1(1, NULL)": "rapidhash_v1: the seed has to be an INTEGER",
+    "rapidhash_v3_nano(1, x'00')": "rapidhash_v3_nano: the seed has to be an INTEGER",
+    "rapidhash_v3_seeded(1, 2.0)": "rapidhash_v3_seeded: the number has to be an INTEGER",
+    "rapidhash_v3_agg(1.5)": f"rapidhash_v3_agg: {REAL}",
+    "rapidhash_v3_micro_agg(NULL, '1')": "rapidhash_v3_micro_agg: the seed has to be an INTEGER",
+    "rapidhash_v3_nano_agg(1, place) FROM many": "rapidhash_v3_nano_agg: the seed has to be the same in every row",
+    "rapidhash_v3_agg(1) OVER (ROWS 1 PRECEDING) FROM many":
+        "rapidhash_v3_agg: the window has to begin with UNBOUNDED PRECEDING",
+    "rapidhash_v3()": "wrong number of arguments to function rapidhash_v3()",
+    "rapidhash_v3_seeded(1)": "wrong number of arguments to function rapidhash_v3_seeded()",
+    "rapidhash_v3_agg(1, 2, 3)": "wrong number of arguments to function rapidhash_v3_agg()",
+}
+MEMORY = """cc -std=c99 -g -Wall -Wextra -Werror -fsanitize=address,undefined -fno-sanitize-recover=all -Iinclude \
+    bindings/sqlite/*.c crates/rapidhash_c/out/librapidhash_c.a -lsqlite3 -o "$ROOM/test_memory"
+"$ROOM/test_memory" """
+
+
+def lay_out_installed():
+    """The library and the extension's source as they stand in an installed folder or an unpacked archive."""
+    for name in ("lib/pkgconfig", "include"):
+        (ROOM / name).mkdir(parents=True)
+    shutil.copytree(TOP / "bindings/sqlite", ROOM / "bindings/sqlite")
+    shutil.copy(TOP / "include/rapidhash_c.h", ROOM / "include")
+    for name in ("crates/rapidhash_c/out/librapidhash_c.a", "build/librapidhash_c.so.1"):
+        shutil.copy(TOP / name, ROOM / "lib")
+    os.symlink("librapidhash_c.so.1", ROOM / "lib/librapidhash_c.so")
+    text = (TOP / "share/rapidhash_c.pc.in").read_text()
+    text = text.replace("@PREFIX@", str(ROOM)).replace("@INCLUDEDIR@", str(ROOM / "include"))
+    (ROOM / "lib/pkgconfig/rapidhash_c.pc").write_text(text)
+    return {"PKG_CONFIG_PATH": str(ROOM / "lib/pkgconfig"), "LD_LIBRARY_PATH": str(ROOM / "lib")}
+
+
+def commands():
+    """The three commands in an empty folder, the one over an installed library, and that of the archive's page."""
+    first, second = blocks("SQLite", "sh")
+    for name in ("first", "second"):
+        (ROOM / name).mkdir()
+    *build, load = first.splitlines()
+    status, printed = shell(first, ROOM / "first")
+    compare("three_commands", (len(build), status, printed.splitlines()[-1:]), (2, 0, [str(HELLO)]))
+    compare("installed_library", shell(second + load, ROOM / "second", **lay_out_installed()), (0, f"{HELLO}\n"))
+    command = re.search(r"^\| `bindings/sqlite` .*`(cc .*)`", (TOP / "share/dist.md").read_text(), re.M)[1]
+    compare("unpacked_archive", shell(f"{command}\n{load}", ROOM), (0, f"{HELLO}\n"))
+
+
+def opened(encoding="UTF-8"):
+    database = sqlite3.connect(":memory:")
+    database.execute(f"PRAGMA encoding = '{encoding}'")
+    database.enable_load_extension(True)
+    database.load_extension(str(TOP / "build/rapidhash"))
+    return database
+
+
+def ask(database, query, *values):
+    return database.execute(query, values).fetchall()
+
+
+def pieces(message):
+    """A message in pieces of 1, 2, 3 bytes and so on."""
+    at, size = 0, 1
+    while at < len(message):
+        yield (message[at:at + size],)
+        at, size = at + size, size + 1
+
+
+def vectors(database):
+    """A message as a BLOB, 8 bytes as an INTEGER too, and a message in pieces if the version has an aggregate."""
+    wrong, counts = [], {"blob": 0, "integer": 0, "pieces": 0}
+
+    def check(kind, query, values, wanted):
+        counts[kind] += 1
+        wrong.extend([f"{query} {values!r:.60}"] * (ask(database, query, *values) != [(wanted,)]))
+
+    database.execute("CREATE TABLE pieces (piece)")
+    for name, words, message, wanted in every_vector():
+        query = f"SELECT {name}(?{', ?' * len(words)})"
+        check("blob", query, (message, *words), wanted)
+        if len(message) == 8:
+            check("integer", query, (int.from_bytes(message, "little", signed=True), *words), wanted)
+        if name[10:] in STREAMS and message:
+            database.execute("DELETE FROM pieces")
+            database.executemany("INSERT INTO pieces VALUES (?)", pieces(message))
+            check("pieces", f"SELECT {name}_agg(piece) FROM pieces", (), wanted)
+    tell("vectors", *wrong)
+    compare("count_of_vectors", counts, {"blob": 1152, "integer": 16, "pieces": 213})
+
+
+def seed_words(database):
+    for seed, length, versions, hashes in SEEDED:
+        for version, wanted in zip(versions, map(signed, hashes)):
+            calls = [f"rapidhash_{version}(?1, ?2)"] + [f"rapidhash_{version}_agg(?1, ?2)"] * (version in STREAMS)
+            found = ask(database, f"SELECT {', '.join(calls)}", bytes(range(length)), seed)
+            compare(f"seed {seed} of {version}", found, [(wanted,) * len(calls)])
+
+
+def types(database, name):
+    """What is hashed of each type."""
+    found = ask(database, f"""SELECT rapidhash_v3('hello'), rapidhash_v3('{TEXT}'), rapidhash_v3_agg('{TEXT}'),
+        rapidhash_v3(''), rapidhash_v3(x''), rapidhash_v3(zeroblob(3)) = rapidhash_v3(x'000000'),
+        rapidhash_v3(?) = rapidhash_v3(x'610062'), rapidhash_v3(42), rapidhash_v3(-42),
+        rapidhash_v3(CAST(42 AS TEXT)) = rapidhash_v3(x'3432'), rapidhash_v3(NULL), rapidhash_v3(NULL, 1)""", "a\0b")
+    compare(name, found, [(HELLO, TEXT_HASH, TEXT_HASH, NOTHING, NOTHING, 1, 1, 5044168950324010207,
+                           2463112363380910024, 1, None, None)])
+
+
+def errors(database):
+    for query, wanted in ERRORS.items():
+        try:
+            found = ask(database, f"SELECT {query}")
+        except sqlite3.OperationalError as error:
+            found = str(error)
+        compare(f"refuses {query}", found, wanted)
+
+
+def aggregates(database):
+    """Over a hundred thousand rows, in another order than the table's."""
+    rows = [(place, place % 3, f"user:{place}") for place in range(100_000)]
+    database.executemany("INSERT INTO many VALUES (?, ?, ?)", sorted(rows, key=lambda row: row[2][::-1]))
+
+    def whole(*parts):
+        return ask(database, "SELECT rapidhash_v3(?)", "".join(word for _, part, word in rows if part in parts))[0][0]
+
+    query = "SELECT rapidhash_v3_agg(word) FROM (SELECT word FROM many ORDER BY place)"
+    compare("many_rows", ask(database, query), [(whole(0, 1, 2),)])
+    query = """SELECT DISTINCT part, rapidhash_v3_agg(word) OVER (PARTITION BY part ORDER BY place
+        ROWS BETWEEN UNBOUNDED PRECEDING AND UNBOUNDED FOLLOWING) FROM many ORDER BY part"""
+    compare("windows", ask(database, query), [(part, whole(part)) for part in range(3)])
+    query = "SELECT rapidhash_v3_agg(column1) OVER (ORDER BY column2) FROM (VALUES ('lo', 2), ('hel', 1), (NULL, 0))"
+    compare("running_hash", ask(database, query), [(None,), *ask(database, "SELECT rapidhash_v3('hel')"), (HELLO,)])
+    values = "(VALUES ('a', 'hello'), ('b', NULL), ('b', 'hello'), ('c', NULL))"
+    query = f"SELECT rapidhash_v3_agg(column2) FROM {values} GROUP BY column1"
+    compare("groups_with_nulls", ask(database, query), [(HELLO,), (HELLO,), (None,)])
+    compare("no_rows", ask(database, "SELECT rapidhash_v3_agg(1), rapidhash_v3_agg(1, 2) FROM many WHERE 0"),
+            [(None, None)])
+
+
+def schema(database):
+    """A call may stand in an index, and in a view of a schema that is not trusted."""
+    database.execute("PRAGMA trusted_schema = OFF")
+    database.execute("CREATE INDEX by_hash ON many (rapidhash_v3(word, 1))")
+    database.execute("CREATE VIEW hashes AS SELECT rapidhash_v3_agg(column1) FROM (VALUES ('hello'))")
+    compare("schema", ask(database, "SELECT * FROM hashes"), [(HELLO,)])
+
+
+def page(database):
+    """Each line with a result gives it. The query over nodes gives each line the node that the program gives it."""
+    for query, wanted in lines_with_results("SQLite"):
+        compare(query, [tuple(map(str, row)) for row in ask(database, query)], [(wanted,)])
+    crate = TOP / "crates/example_shards"
+    database.execute("CREATE TABLE nodes (name)")
+    database.executemany("INSERT INTO nodes VALUES (?)", (("red",), ("blue",)))
+    database.execute("CREATE TABLE lines (line)")
+    database.executemany("INSERT INTO lines VALUES (?)", zip((crate / "stdin").read_text().splitlines()))
+    found = {f"{name}\t{line}" for name, line, _ in ask(database, blocks("SQLite", "sql")[1])}
+    compare("nodes", found, set((crate / "stdout").read_text().splitlines()))
+
+
+if not hasattr(sqlite3.Connection, "enable_load_extension") or not all(map(shutil.which, ("cc", "sqlite3"))):
+    print("skipped sqlite: there is no cc or no sqlite3, or this Python loads no extensions")
+    finish()
+commands()
+loaded = opened()
+loaded.execute("CREATE TABLE many (place INTEGER, part INTEGER, word TEXT)")
+vectors(loaded)
+seed_words(loaded)
+types(loaded, "types")
+types(opened("UTF-16le"), "types_in_utf_16le")
+types(opened("UTF-16be"), "types_in_utf_16be")
+aggregates(loaded)
+errors(loaded)
+schema(loaded)
+page(loaded)
+compare("failing_memory", shell(MEMORY), (0, "every failed allocation ended in SQLITE_NOMEM\n"))
+finish()
