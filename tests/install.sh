@@ -63,7 +63,7 @@ names_every_option() {
   for option in $options; do
     pattern=${option//./[.]}
     case $file in
-    */_*) pattern="${pattern}[}']*\\[" ;; # zsh offers what has a description, and excludes other options.
+    */_*) pattern="${pattern}[}'=]*\\[" ;; # zsh offers what has a description, and excludes other options.
     *) pattern="(^|[^a-z0-9.-]|--)${pattern#--}([^a-z0-9.-]|[.] |\$)" ;;
     esac
     sed 's/\\//g' "$file" | grep -qE -e "$pattern" || {
@@ -227,7 +227,7 @@ try example_of_the_manual compares_by_the_manual
 cd "$top" || exit 1
 for file in man/man1/NAME.1 bash-completion/completions/NAME zsh/site-functions/_NAME \
   fish/vendor_completions.d/NAME.fish; do
-  for program in 'rapidhash 8' 'rapidsum 8'; do
+  for program in 'rapidhash 8' 'rapidsum 14'; do
     read -r name count <<<"$program"
     place=${file/NAME/$name}
     try "options_in_$(basename "$place")" names_every_option "$name" "$count" "$prefix/share/$place"
