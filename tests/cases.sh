@@ -65,6 +65,13 @@ has_the_licences() {
   done
 }
 
+# The commands of a page, at most three, print the hash of hello in the empty folder `$room/first`: PAGE
+works_as_its_page_says() {
+  sed -n '/^```sh$/,/^```$/p' "$1" | grep -v '^```' >"$room/commands" && [ "$(wc -l <"$room/commands")" -le 3 ] &&
+    mkdir "$room/first" && cd "$room/first" && YERVOUND=$top bash -e ../commands >../printed &&
+    [ "$(tail -n 1 ../printed)" = 3327445792987248966 ]
+}
+
 # Commands that fail to write, or have only so much memory.
 to_a_full_disk() { "$@" >/dev/full; }
 to_no_output() { "$@" >&-; }
