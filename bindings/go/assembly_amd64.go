@@ -4,7 +4,7 @@ package rapidhash
 
 // The code of the C library for x86-64, as rapidhash_amd64.s has it, so that a call needs no cgo. generate.py makes a
 // trampoline for each function below, named after the export that it calls. Code in assembly is not preempted: a
-// garbage collection waits until a call returns.
+// garbage collection waits until a call returns. After the call Go restores the registers that it keeps, R14 and X15.
 
 // A stream as C lays it out. It points to its secrets for the time of a call only, in which Go moves no stack.
 type state struct {

@@ -3,10 +3,8 @@ package rapidhash
 import (
 	"encoding"
 	"encoding/binary"
-	"errors"
 	"hash"
 	"io"
-	"unsafe"
 )
 
 // A Stream hashes a message in pieces, by V3, micro or nano. NewV3, NewV3Micro or NewV3Nano starts it; the zero Stream
@@ -113,65 +111,4 @@ func (stream *Stream) Size() int {
 func (stream *Stream) BlockSize() int {
 	stream.ensureStarted()
 	return stream.block
-}
-
-// A saved state is these bytes, the number of lanes, whether a block is folded, how many bytes are kept, and then, the
-// highest byte of each number first: the seed and the secrets, seven lanes, 16 folded bytes, and room for a block.
-const (
-	magic      = "rapidhash\x01"
-	savedSize  = len(magic) + 3 + 8*8 + 7*8 + keptSize
-	keptSize   = 16 + 16*7
-	foldedSize = 16
-)
-
-// MarshalBinary returns the state of the stream, and with it its seed and secrets. The error is nil.
-func (stream *Stream) MarshalBinary() ([]byte, error) {
-	stream.ensureStarted()
-	inner := &stream.inner
-	saved := make([]byte, 0, savedSize)
-	saved = append(saved, magic...)
-	saved = append(saved, byte(inner.lanes), byte(inner.any), byte(inner.len))
-	saved = binary.BigEndian.AppendUint64(saved, stream.secrets.Seed)
-	for _, secret := range stream.secrets.Secrets {
-		saved = binary.BigEndian.AppendUint64(saved, secret)
-	}
-	for _, lane := range inner.lane {
-		saved = binary.BigEndian.AppendUint64(saved, uint64(lane))
-	}
-	kept := (*[keptSize]byte)(unsafe.Pointer(&inner.kept))
-	saved = append(saved, kept[:foldedSize+int(inner.len)]...)
-	return saved[:savedSize], nil
-}
-
-// UnmarshalBinary goes on from a state that MarshalBinary returned. If it is none, the stream does not change.
-func (stream *Stream) UnmarshalBinary(saved []byte) error {
-	if len(saved) < len(magic) || string(saved[:len(magic)]) != magic {
-		return errors.New("rapidhash: these bytes are no saved Stream, or one of another version")
-	}
-	if len(saved) != savedSize {
-		return errors.New("rapidhash: a saved Stream has another size")
-	}
-	lanes, isFolded, kept := int(saved[10]), saved[11], int(saved[12])
-	if lanes != 7 && lanes != 5 && lanes != 3 {
-		return errors.New("rapidhash: a saved Stream has 7, 5 or 3 lanes")
-	}
-	if isFolded > 1 || kept > 16*lanes || isFolded == 1 && kept == 0 {
-		return errors.New("rapidhash: a saved Stream keeps a byte to a block, or none before the first block")
-	}
-	var words [15]uint64
-	rest := saved[13:]
-	for at := range words {
-		words[at] = binary.BigEndian.Uint64(rest)
-		rest = rest[8:]
-	}
-	secrets := Secrets{Seed: words[0]}
-	copy(secrets.Secrets[:], words[1:8])
-	stream.start(lanes, &secrets)
-	if isFolded == 1 {
-		stream.inner.any = 1
-		copy((*[7]uint64)(unsafe.Pointer(&stream.inner.lane))[:lanes], words[8:])
-		copy((*[foldedSize]byte)(unsafe.Pointer(&stream.inner.kept))[:], rest)
-	}
-	streamWrite(&stream.inner, &stream.secrets, rest[foldedSize:foldedSize+kept])
-	return nil
 }
