@@ -7,7 +7,8 @@
 // come from a library of which every function is proved to be its definition. These hashes are not cryptographic:
 // someone who chooses the bytes can make two messages collide.
 //
-// A call may run at the same time as any other; a [Stream] is used by one goroutine at a time. No call allocates.
+// A call may run at the same time as any other; a [Stream] is used by one goroutine at a time. Hashing allocates
+// nothing.
 //
 // # Installation
 //
@@ -16,9 +17,8 @@
 //	go mod edit -replace yervound.example/rapidhash=$YERVOUND/bindings/go
 //	go get yervound.example/rapidhash
 //
-// On amd64 the proved code is in the package as assembly, for every operating system and without cgo. On other
-// processors, and with the build tag rapidhash_cgo, the package calls the C library, which cgo finds by pkg-config
-// as rapidhash_c.
+// On amd64 the proved code is in the package as assembly, which needs no cgo. On other processors, and with the build
+// tag rapidhash_cgo, the package calls the C library, which cgo finds by pkg-config as rapidhash_c.
 //
 // # Long messages
 //
