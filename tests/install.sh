@@ -115,13 +115,6 @@ refuses() {
     ! make -s -C "$top" uninstall DESTDIR="$room/refused" "$@"
 }
 
-# The code blocks of a page that have a word: PAGE LANGUAGE WORD
-blocks() {
-  awk -v language="$2" -v word="$3" '
-    /^```/ { if (inside && index(block, word)) printf "%s", block; inside = $0 == "```" language; block = ""; next }
-    inside { block = block $0 "\n" }' "$1"
-}
-
 # The first programs in C and C++, built and run as docs/C.md prints them, with the library below $HOME. README.md
 # has the lines for C too.
 runs_as_the_pages_say() (
