@@ -9,6 +9,7 @@ import re
 import runpy
 import subprocess
 import sys
+from xml.etree import ElementTree
 
 from cases import TOP, finish, tell
 
@@ -125,6 +126,17 @@ def figures():
     return made_by("bench/figures", "--check")
 
 
+def pictures():
+    """Each picture is well-formed, has a title, and has colours for dark pages."""
+    for file in TOP.glob("docs/images/*.svg"):
+        try:
+            style = ElementTree.parse(file).findtext("{*}style") or ""
+            if "prefers-color-scheme: dark" not in style or not ElementTree.parse(file).findtext("{*}title"):
+                yield f"{file.name} has no title, or no colours for dark pages"
+        except ElementTree.ParseError as error:
+            yield f"{file.name}: {error}"
+
+
 def ratios():
     """Where the crate takes 3 and ours 2, the benches and the tables of figures have 1.50."""
     sys.path.insert(0, str(TOP / "bench"))
@@ -170,6 +182,6 @@ def version():
         yield f"rapidhash_c_version has no clause {clause}"
 
 
-for check in (links, paths, limits, names, vectors, version, statements, ratios, calls, figures):
+for check in (links, paths, limits, names, vectors, version, statements, ratios, calls, figures, pictures):
     tell(check.__name__, *check())
 finish()
