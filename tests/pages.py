@@ -151,7 +151,7 @@ def ratios():
 
 
 VERSIONS = {
-    "CHANGELOG.md": r"^## (\d+\.\d+)",
+    "CHANGELOG.md": r"^## \[(\d+\.\d+)\.\d+\]",
     "Makefile": r"^name = yervound-(\d+\.\d+)-",
     "share/rapidhash_c.pc.in": r"^Version: (\d+\.\d+)$",
     "share/rapidhash_c-config-version.cmake": r'VERSION "(\d+\.\d+)"',
