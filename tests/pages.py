@@ -122,6 +122,10 @@ def calls():
     return made_by("bin/api", "--check")
 
 
+def version():
+    return made_by("bin/version", "--check")
+
+
 def figures():
     return made_by("bench/figures", "--check")
 
@@ -148,38 +152,6 @@ def ratios():
     found += [made["cell"](times, "ours", "crate"), made["means"]({"v3 1": times}, {"v3": "v3"})]
     if found != ["ours 1.500", "rust 0.750", "2.00 (1.50)", {"v3": 1.5}]:
         yield f"the ratios are {found}"
-
-
-VERSIONS = {
-    "CHANGELOG.md": r"^## \[(\d+\.\d+)\.\d+\]",
-    "Makefile": r"^name = yervound-(\d+\.\d+)-",
-    "share/rapidhash_c.pc.in": r"^Version: (\d+\.\d+)$",
-    "share/rapidhash_c-config-version.cmake": r'VERSION "(\d+\.\d+)"',
-    "share/rapidhash.1": r'^\.TH .*"Yervound (\d+\.\d+)"',
-    "share/rapidsum.1": r'^\.TH .*"Yervound (\d+\.\d+)"',
-    "share/rapidhash_c.3": r'^\.TH .*"Yervound (\d+\.\d+)"',
-    "include/rapidhash_c.h": r'VERSION_STRING "(\d+\.\d+)"',
-    "crates/example_sums/src/words.rt": r'\.version\("(\d+\.\d+)"\)',
-    "bindings/python/rapidhash/__init__.py": r'^__version__ = "(\d+\.\d+)\.\d+"',
-    "bindings/python/rapidhash/__init__.py": r'^__version__ = "(\d+\.\d+)\.\d+"',
-    "bindings/javascript/package.json": r'"version": "(\d+\.\d+)\.\d+"',
-    "bindings/postgresql/rapidhash.control": r"^default_version = '(\d+\.\d+)'",
-    "share/debian/changelog": r"^yervound \((\d+\.\d+)\.\d+\)",
-    "rust/Cargo.toml": r'^version = "(\d+\.\d+)\.\d+"',
-}
-
-
-def version():
-    wanted = None
-    for name, pattern in VERSIONS.items():
-        found = re.search(pattern, (TOP / name).read_text(), re.MULTILINE)
-        wanted = wanted or (found and found[1])
-        if found is None or found[1] != wanted:
-            yield f"{name} has {found and found[1]}, and CHANGELOG.md {wanted}"
-    major, minor = wanted.split(".")
-    clause = f"ensures {{ result ≡ {100 * int(major) + int(minor)} }}"
-    if clause not in (TOP / "crates/rapidhash_c/src/lib.rt").read_text():
-        yield f"rapidhash_c_version has no clause {clause}"
 
 
 for check in (links, paths, limits, names, vectors, version, statements, ratios, calls, figures, pictures):
