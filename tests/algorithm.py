@@ -7,10 +7,9 @@ import re
 from cases import TOP, compare, finish, tell
 
 PAGE = (TOP / "docs" / "ALGORITHM.md").read_text()
-# The files of vectors, with the version and the number of lines of each.
-FILES = {"v1_bug_off": ("V1", 584), "v1_bug_on": ("V1", 584), "v2_0": ("V2.0", 584), "v2_1": ("V2.1", 584),
-         "v2_2": ("V2.2", 584), "v3": ("V3", 584), "micro": ("micro", 584), "nano": ("nano", 584),
-         "memory_core": ("core", 584), "secrets": ("", 480)}
+# The files of vectors by their versions: each has 584 lines, and that of the secrets 480.
+FILES = {"v1_bug_off": "V1", "v1_bug_on": "V1", "v2_0": "V2.0", "v2_1": "V2.1", "v2_2": "V2.2", "v3": "V3",
+         "micro": "micro", "nano": "nano", "memory_core": "core", "secrets": ""}
 LANES = {"V3": 7, "micro": 5, "nano": 3}
 AA = 0xAAAAAAAAAAAAAAAA
 S = [int(number, 16) for _, number in sorted(re.findall(r"\b(S\d) \| (0x\w{16})", PAGE))]
@@ -123,17 +122,17 @@ def computed(version, case):
     return str(mix(found, S[1], options[1]) if version == "core" and options[0] else found)
 
 
-def differences(name, version, count):
+def differences(name, version):
     text = (TOP / "crates" / "test_replay" / "data" / f"{name}.tsv").read_text()
     head, *rows = [line.split("\t") for line in text.splitlines() if not line.startswith("#")]
     cases = [dict(zip(head, row)) for row in rows]
     yield from (f"{case}: {found}" for case in cases if (found := computed(version, case)) != case["expected"])
-    if len(cases) != count:
-        yield f"{len(cases)} values, not {count}"
+    if len(cases) != (584 if version else 480):
+        yield f"{len(cases)} values"
 
 
-for name, (version, count) in FILES.items():
-    tell(name, *differences(name, version, count))
+for name, version in FILES.items():
+    tell(name, *differences(name, version))
 rows = re.findall(r"^\| (\S+) \| ([^|\d]*)(?:(\d+) bytes)? \| (\d{15,}) \|$", PAGE, re.M)
 for version, rule, size, value in rows:
     text = b"something\n" if "something" in rule else message("square", int(size or 0))

@@ -42,7 +42,7 @@ def links():
             for target in re.findall(r"\]\(([^)#]+)", line):
                 if "://" not in target and not (page.parent / target).exists():
                     yield f"{place(page, number)}: no {target}"
-            for target in re.findall(r"\bdocs/\w+\.md\b", line):
+            for target in re.findall(r"\bdocs/[\w/]+\.md\b", line):
                 if not (TOP / target).exists():
                     yield f"{place(page, number)}: no {target}"
 
