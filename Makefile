@@ -198,7 +198,7 @@ uninstall:
 dist: all $(folder) $(wheel)
 	rm -rf build/$(name)
 	$(MAKE) -s install DESTDIR= PREFIX='$(CURDIR)/build/$(name)'
-	tar --exclude=__pycache__ --exclude=bindings/javascript --exclude=rust/target --exclude=rust/tests -hcf - \
+	tar --exclude=__pycache__ --exclude=bindings/javascript --exclude=target --exclude=rust/tests -hcf - \
 	  bindings rust | tar -C build/$(name) -xf -
 	cp -r build/npm build/$(name)/bindings/javascript
 	install -D -m 644 -t build/$(name)/wheels $(wheels)/*.whl

@@ -1,11 +1,17 @@
 # Completion of rapidsum for fish. A word that begins with a hyphen names no file but after --, and
 # after the help none counts.
-complete -c rapidsum -s c -l check -d 'Check the files that lines name'
-complete -c rapidsum -l ignore-missing -d 'Leave out files that are missing'
-complete -c rapidsum -l quiet -d 'Print no line for a file that has its hash'
-complete -c rapidsum -l status -d 'Print nothing but errors'
-complete -c rapidsum -l strict -d 'Fail if a line is malformed'
-complete -c rapidsum -s w -l warn -d 'Name each malformed line'
+complete -c rapidsum -s a -l algorithm -x -a 'v1 v2.0 v2.1 v2.2 v3 v3-micro v3-nano' -d 'Hash with this version'
+complete -c rapidsum -s b -l binary -d 'Print an asterisk before each name'
+complete -c rapidsum -s c -l check -d 'Read checksums from the files and check them'
+complete -c rapidsum -l ignore-missing -d 'Don\'t report missing files'
+complete -c rapidsum -l quiet -d 'Don\'t print OK for files that match'
+complete -c rapidsum -l seed -x -d 'Make the seed from this number'
+complete -c rapidsum -l status -d 'Don\'t print results or warnings'
+complete -c rapidsum -l strict -d 'Fail if a line is improperly formatted'
+complete -c rapidsum -l tag -d 'Print the version in each line'
+complete -c rapidsum -s t -l text -d 'Print a space before each name'
+complete -c rapidsum -s w -l warn -d 'Warn about each improperly formatted line'
+complete -c rapidsum -s z -l zero -d 'End each line with NUL'
 complete -c rapidsum -s h -l help -d 'Print the help'
 complete -c rapidsum -s V -l version -d 'Print the version'
 complete -c rapidsum -n '__fish_seen_argument -s h -l help -s V -l version' -f

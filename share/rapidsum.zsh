@@ -1,12 +1,18 @@
 #compdef rapidsum
 # Completion of rapidsum for zsh. A word that begins with a hyphen names no file but after --.
 _arguments -s -S \
-  '(-c --check)'{-c,--check}'[check the files that lines name]' \
-  '--ignore-missing[leave out files that are missing]' \
-  '--quiet[print no line for a file that has its hash]' \
-  '--status[print nothing but errors]' \
-  '--strict[fail if a line is malformed]' \
-  '(-w --warn)'{-w,--warn}'[name each malformed line]' \
+  '(-a --algorithm)'{-a+,--algorithm=}'[hash with this version]:version:(v1 v2.0 v2.1 v2.2 v3 v3-micro v3-nano)' \
+  '(-b --binary -t --text)'{-b,--binary}'[print an asterisk before each name]' \
+  '(-c --check)'{-c,--check}'[read checksums from the files and check them]' \
+  '--ignore-missing[do not report missing files]' \
+  '--quiet[do not print OK for files that match]' \
+  '--seed=[make the seed from this number]:number: ' \
+  '--status[do not print results or warnings]' \
+  '--strict[fail if a line is improperly formatted]' \
+  '--tag[print the version in each line]' \
+  '(-b --binary -t --text)'{-t,--text}'[print a space before each name]' \
+  '(-w --warn)'{-w,--warn}'[warn about each improperly formatted line]' \
+  '(-z --zero)'{-z,--zero}'[end each line with NUL]' \
   '(- : *)'{-h,--help}'[print the help]' \
   '(- : *)'{-V,--version}'[print the version]' \
   '*:file:{ [[ $PREFIX == -* && ${words[(Ie)--]} -eq 0 ]] || _files }'

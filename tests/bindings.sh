@@ -1,8 +1,9 @@
 #!/usr/bin/env bash
 # Builds the library for C, static and shared, and tests it and what stands over it: the header alone by
 # each standard of C and C++, the names that the two files define, every call from C and C++, the manual, the
-# hashes beside those of the Rust crate, and the binding for Go. A language that is not on this machine is skipped
-# and not counted. The last line counts the cases.
+# hashes beside those of the Rust crate, the package for Go in both its forms, and the library that cargo makes of the
+# Rust crate for other machines. A language that is not on this machine is skipped and not counted. The last line
+# counts the cases.
 set -u
 
 top=$(cd "$(dirname "${BASH_SOURCE[0]}")/.." && pwd) || exit 1
@@ -11,12 +12,14 @@ top=$(cd "$(dirname "${BASH_SOURCE[0]}")/.." && pwd) || exit 1
 header=$top/include/rapidhash_c.h
 archive=$top/crates/rapidhash_c/out/librapidhash_c.a
 shared=$top/build/librapidhash_c.so.1
+export GOCACHE=$room/go GOPROXY=off
 
-# Builds the library, and lays it out as an installed one, with a file for pkg-config.
-prepare() {
-  make -s -C "$top" library </dev/null &&
-    mkdir -p "$room/lib/pkgconfig" "$room/include" && cp "$header" "$room/include" &&
-    cp "$archive" "$shared" "$room/lib" && ln -s librapidhash_c.so.1 "$room/lib/librapidhash_c.so" &&
+# Lays the library out in the room as an installed one, with a file for pkg-config and the vectors.
+lay_out() {
+  mkdir -p "$room/lib/pkgconfig" "$room/include" && cp "$header" "$room/include" &&
+    cp "$archive" "$room/lib" && cp "$shared" "$room/lib/librapidhash_c.so.1" &&
+    ln -s librapidhash_c.so.1 "$room/lib/librapidhash_c.so" &&
+    python3 "$top/share/vectors.py" "$top/crates/test_replay/data" >"$room/rapidhash_vectors.tsv" &&
     sed "s|@PREFIX@|$room|; s|@INCLUDEDIR@|$room/include|" \
       "$top/share/rapidhash_c.pc.in" >"$room/lib/pkgconfig/rapidhash_c.pc"
 }
@@ -78,9 +81,8 @@ calls_from_c() {
 
 # All of the header for C++, over the vectors, also where a program has no exceptions: COMPILER STANDARD
 calls_from_cpp() {
-  python3 "$top/share/vectors.py" "$top/crates/test_replay/data" >"$room/vectors.tsv" &&
-    "$1" "-std=$2" -O2 -Wall -Wextra -Wpedantic -Werror -fno-exceptions -I"$top/include" "$top/tests/cpp_header.cpp" \
-      "$archive" -o "$room/cpp_header" && "$room/cpp_header" "$room/vectors.tsv"
+  "$1" "-std=$2" -O2 -Wall -Wextra -Wpedantic -Werror -fno-exceptions -I"$top/include" "$top/tests/cpp_header.cpp" \
+    "$archive" -o "$room/cpp_header" && "$room/cpp_header" "$room/rapidhash_vectors.tsv"
 }
 
 by_pkg_config() {
@@ -139,13 +141,55 @@ fuzz() {
     (cd "$room" && ./beside_rust -max_len=1200 -len_control=0 "$runs")
 }
 
-go_tests() (
-  cd "$top/bindings/go" &&
-    PKG_CONFIG_PATH=$room/lib/pkgconfig LD_LIBRARY_PATH=$room/lib GOCACHE=$room/go GOPROXY=off \
-      GOFLAGS=-mod=readonly go test -count 1 -p 2 ./...
+# A command in the folder of the package for Go.
+in_go() (
+  export PKG_CONFIG_PATH=$room/lib/pkgconfig LD_LIBRARY_PATH=$room/lib RAPIDHASH_VECTORS=$room/rapidhash_vectors.tsv
+  cd "$top/bindings/go" && "$@"
 )
 
-prepare_by prepare
+# Processors for which the package has no code need cgo, and the compiler says so.
+names_what_is_missing() {
+  CGO_ENABLED=0 GOARCH=arm64 go build . 2>&1 | grep this_processor_takes_CGO_ENABLED_1_and_the_C_library_rapidhash_c
+}
+
+test_go() {
+  local os
+  try go_licences has_the_licences "$top/bindings/go"
+  try go_layout in_go bash -c '[ -z "$(gofmt -l .)" ]'
+  try_with go_generator ld in_go python3 test_generate.py
+  try_with go_current ld in_go ./generate.py --check "$archive"
+  try go in_go env CGO_ENABLED=0 go test -count 1 .
+  try go_race in_go go test -count 1 -race .
+  try go_cgo in_go go test -count 1 -tags rapidhash_cgo .
+  try go_vet_cgo in_go go vet -tags rapidhash_cgo .
+  for os in linux windows darwin; do try "go_vet_$os" in_go env GOOS="$os" GOARCH=amd64 go vet .; done
+  try go_elsewhere in_go names_what_is_missing
+  try go_page in_go works_as_its_page_says README.md
+}
+
+calls_from_python() {
+  cp "$top/share/check_vectors.py" "$room" && PYTHONPATH=$top/bindings/python python3 -B "$room/check_vectors.py"
+}
+
+# The library of the Rust crate, in a room of its own.
+test_library_of_rust() {
+  local room=$room/rust
+  local archive=$room/target/release/librapidhash_c.a shared=$room/target/release/librapidhash_c.so
+  mkdir "$room"
+  try rust_build cargo build --release --offline --quiet --manifest-path "$top/rust/capi/Cargo.toml" \
+    --target-dir "$room/target"
+  try rust_layout lay_out
+  try rust_names defines_the_header '' -D "$shared"
+  try rust_soname bash -c 'readelf -dW "$1" | grep -F "SONAME" | grep -F "[librapidhash_c.so.1]"' - "$shared"
+  try rust_c_archive calls_from_c cc -std=c99 -I"$top/include" "$top/tests/c_library.c" "$archive"
+  try rust_c_shared by_pkg_config
+  try_with rust_cpp_header g++ calls_from_cpp g++ c++11
+  try rust_python calls_from_python
+  try_with rust_go go in_go go test -count 1 -tags rapidhash_cgo .
+}
+
+prepare_by make -s -C "$top" library
+prepare_by lay_out
 
 for standard in c89 c99 c11 c17 c2x; do
   try "header_$standard" compiles_alone cc c "$standard"
@@ -172,6 +216,7 @@ try example_of_the_manual manual_example_runs
 try_with random_messages rustc random_messages
 try_with fuzz clang fuzz
 
-try_with go go go_tests
+if command -v go >/dev/null; then test_go; else echo 'skipped go: no go'; fi
+if command -v cargo >/dev/null; then test_library_of_rust; else echo 'skipped the library of rust: no cargo'; fi
 
 finish

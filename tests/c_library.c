@@ -226,7 +226,8 @@ int main(void)
     for (i = 0; i < sizeof large; i++)
         large[i] = (uint8_t)(i % 251);
     compare("the library", "version", rapidhash_c_version(), RAPIDHASH_C_VERSION_NUMBER);
-    compare("a stream", "size", sizeof(struct rapidhash_stream), 216);
+    if (sizeof(size_t) == 8)
+        compare("a stream", "size", sizeof(struct rapidhash_stream), 216);
     compare("v3", "of no bytes", rapidhash_v3(NULL, 0), UINT64_C(232177599295442350));
     check_v1();
     for (i = 0; i < sizeof forms / sizeof forms[0]; i++)

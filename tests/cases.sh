@@ -65,6 +65,20 @@ has_the_licences() {
   done
 }
 
+# The code blocks of a page that have a word: PAGE LANGUAGE WORD
+blocks() {
+  awk -v language="$2" -v word="$3" '
+    /^```/ { if (inside && index(block, word)) printf "%s", block; inside = $0 == "```" language; block = ""; next }
+    inside { block = block $0 "\n" }' "$1"
+}
+
+# The commands of a page, at most three, print the hash of hello in the empty folder `$room/first`: PAGE
+works_as_its_page_says() {
+  blocks "$1" sh YERVOUND >"$room/commands" && [ "$(wc -l <"$room/commands")" -le 3 ] &&
+    mkdir "$room/first" && cd "$room/first" && YERVOUND=$top bash -e ../commands >../printed &&
+    [ "$(tail -n 1 ../printed)" = 3327445792987248966 ]
+}
+
 # Commands that fail to write, or have only so much memory.
 to_a_full_disk() { "$@" >/dev/full; }
 to_no_output() { "$@" >&-; }

@@ -60,6 +60,12 @@ builds_the_rust_crate() {
     [ "$(cargo run --quiet --offline)" = 3327445792987248966 ]
 }
 
+# The library for other machines is built and linked as C.md says.
+builds_for_other_machines() {
+  cd "$room/unpacked" && blocks C.md c main >hello.c && blocks C.md sh rust/capi >commands &&
+    [ "$(bash -e commands)" = 3327445792987248966 ]
+}
+
 # The binding for JavaScript has its module inside.
 loads_the_module() {
   node -e "import('$room/unpacked/bindings/javascript/rapidhash.mjs').then(({ loadSync }) =>
@@ -80,6 +86,7 @@ try wrong_vector tells_a_wrong_vector
 try library links_where_it_stands
 try_with cmake cmake builds_by_cmake
 try rust_crate builds_the_rust_crate
+try library_of_rust builds_for_other_machines
 try_with module node loads_the_module
 try wheel installs_a_wheel
 

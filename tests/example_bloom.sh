@@ -45,9 +45,9 @@ prints an_empty_list_has_no_line "$program" /dev/null <asked
 prints no_line_is_asked "$program" fruit </dev/null
 
 exec </dev/null
-fault no_list_is_named 2 'no list is named' "$program"
-fault a_rate_of_1 2 '--one-in takes a number from 2 to 4294967295' "$program" --one-in 1 fruit
-fault unknown_option 2 'an option is unknown' "$program" --rate 5 fruit
+fault no_list_is_named 2 'missing LIST argument' "$program"
+fault a_rate_of_1 2 '--one-in requires a number from 2 to 4294967295' "$program" --one-in 1 fruit
+fault unknown_option 2 "unknown option '--rate'" "$program" --rate 5 fruit
 fault name_that_is_not_utf_8 1 'could not read the arguments as UTF-8: invalid data' "$program" $'\377'
 fault missing_list 1 'could not read missing: No such file or directory (os error 2)' "$program" missing
 fault list_that_is_a_folder 1 "could not read $room: Is a directory (os error 21)" "$program" "$room"

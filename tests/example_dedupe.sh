@@ -67,8 +67,8 @@ else
   printf 'skipped the_groups_of_fdupes: there is no fdupes\n'
 fi
 
-fault no_arguments 2 'no file or folder is named' "$program"
-fault unknown_option 2 'no option has the name --delete' "$program" --delete tree
+fault no_arguments 2 'missing FILE argument' "$program"
+fault unknown_option 2 "unknown option '--delete'" "$program" --delete tree
 fault name_that_is_not_utf_8 2 'an argument is not UTF-8' "$program" $'\xff'
 fault a_name_that_is_not_there 1 'nothing: No such file or directory (os error 2)' "$program" nothing
 fails_to_write "$program" tree
@@ -77,7 +77,7 @@ fault memory_refused 1 'out of memory' in_kibibytes 5000 "$program" /usr
 # What cannot be read is told, and the run goes on.
 touch odd/$'bad\xff'
 "$program" odd >out 2>"$room/log"
-[ $? -eq 1 ] && [ "$(cat "$room/log")" = 'example_dedupe: odd: a name in it is not UTF-8' ] && cmp -s out wanted
+[ $? -eq 1 ] && [ "$(cat "$room/log")" = 'example_dedupe: odd: contains a file name that is not valid UTF-8' ] && cmp -s out wanted
 tell a_name_below_that_is_not_utf_8 $?
 rm odd/$'bad\xff'
 mkdir odd/locked && chmod 000 odd/other odd/locked

@@ -50,8 +50,8 @@ prints no_line_is_asked "$program" fruit </dev/null
 exec </dev/null
 printf 'one\ntwo\nthree\ntwo\nfour\n' >twice
 fault a_line_given_twice 1 'lines 2 and 4 of twice are the same' "$program" twice
-fault no_list_is_named 2 'it takes the name of one list' "$program"
-fault two_lists_are_named 2 'it takes the name of one list' "$program" odd even
+fault no_list_is_named 2 'expected exactly one LIST' "$program"
+fault two_lists_are_named 2 'expected exactly one LIST' "$program" odd even
 fault list_with_the_name_of_an_option 1 'could not read --size: No such file or directory (os error 2)' \
   "$program" --size
 fault name_that_is_not_utf_8 1 'could not read the arguments as UTF-8: invalid data' "$program" $'\377'
@@ -63,7 +63,7 @@ head -c 100000000 /dev/zero >large
 fault memory_refused_to_a_list 1 'could not read large: out of memory' in_kibibytes 60000 "$program" large
 seq 1 1000000 >million
 fault memory_refused_to_the_keys 1 'memory allocation failed' in_kibibytes 20000 "$program" million
-fault memory_refused_to_a_table 1 'no table of million: out of memory' in_kibibytes 60000 "$program" million
+fault memory_refused_to_a_table 1 'cannot build a table from million: out of memory' in_kibibytes 60000 "$program" million
 fault memory_refused_to_a_line 1 'out of memory' in_kibibytes 60000 "$program" fruit <large
 
 finish

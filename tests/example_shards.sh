@@ -32,12 +32,12 @@ prints bytes_that_are_no_text_and_a_last_line_without_its_end "$program" red <as
 : >wanted
 prints no_lines "$program" red </dev/null
 
-fault no_arguments 2 'no node is named' "$program"
-fault a_node_twice 2 'the node red is named twice' "$program" red blue red
-fault unknown_option 2 'no option has the name --count' "$program" --count red
-fault a_node_that_is_not_there 2 '--without green: no such node' "$program" red --without green
-fault no_node_after_without 2 '--without: no node follows' "$program" red --without
-fault the_only_node_goes 2 'no node is named' "$program" red --without red
+fault no_arguments 2 'missing NODE argument' "$program"
+fault a_node_twice 2 "duplicate node 'red'" "$program" red blue red
+fault unknown_option 2 "unknown option '--count'" "$program" --count red
+fault a_node_that_is_not_there 2 "--without: no such node 'green'" "$program" red --without green
+fault no_node_after_without 2 '--without requires a node name' "$program" red --without
+fault the_only_node_goes 2 'missing NODE argument' "$program" red --without red
 fault name_that_is_not_utf_8 2 'an argument is not UTF-8' "$program" $'\xff'
 fails_to_read "$program" red
 fails_to_write "$program" red <lines

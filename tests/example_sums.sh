@@ -32,7 +32,8 @@ run_case() {
   printf 'status %s\n' "$?" >>"$room/out.$1"
   cd "$room" || exit 1
   rm -rf "${room:?}/$1"
-  sed -i -E 's/^(\\?)([0-9a-f]{64}|[0-9a-f]{16})( |$)/\1HASH\3/' "$room/out.$1"
+  sed -i -E 's/^(\\?)([0-9a-f]{64}|[0-9a-f]{16})( |$)/\1HASH\3/
+    s/^(\\?)(SHA256|RAPIDHASH-V3) (.* =) ([0-9a-f]{64}|[0-9a-f]{16})$/\1TAG \3 HASH/' "$room/out.$1"
   sed -i -E 's/^[^ ]*(sha256sum|example_sums|rapidsum): /sum: /; s/ \(os error [0-9]+\)$//
     s/ SHA256 / /; s/(write error): .*/\1/; s/^(sum: )'"'(.*)': "'/\1\2: /' "$room/err.$1"
 }
@@ -50,6 +51,14 @@ case_missing_file() { "$sum" first nothing 'second name'; }
 case_folder() { mkdir folder && "$sum" folder first; }
 case_words_behind_two_hyphens() { cp first -- -first && "$sum" -- -first; }
 case_full_disk() { "$sum" first >/dev/full; }
+case_binary() { "$sum" -b first 'second name' $'line\nback\\return\r'; }
+case_last_of_binary_and_text() { "$sum" -t -b first && "$sum" -b -t first; }
+case_tag() { "$sum" --tag first 'second name' $'line\nback\\return\r'; }
+case_zero() { "$sum" -z first $'line\nback\\return\r' | tr '\0' '\n'; }
+case_zero_with_tags() { "$sum" -z --tag first 'second name' | tr '\0' '\n'; }
+case_check_of_tags() { mv first 'a (b) = c' && "$sum" --tag -- * >.list && "$sum" -c .list; }
+case_check_of_tags_with_carriage_returns() { "$sum" --tag first | sed 's/$/\r/' >crlf && "$sum" -c crlf; }
+case_check_of_a_changed_file_with_a_tag() { "$sum" --tag first >list && echo more >>first && "$sum" -c list; }
 case_check() { list && "$sum" --check list; }
 case_check_of_standard_input() { list && "$sum" -c <list; }
 case_check_of_two_lists() { list && "$sum" -c list list; }
@@ -104,6 +113,33 @@ echo 'first: OK' >wanted
 echo 'A1266B469390773A  first' >upper
 prints upper_case "$program" -c upper
 
+# The values of the Rust crate for the bytes 0 to 119, or 0 to 59, with the default seed and with seed word 1.
+printf '%b' "$(printf '\\x%02x' {0..119})" >bytes && head -c 60 bytes >half
+while read -r version file plain seeded; do
+  printf '%016x  %s\n' "$plain" "$file" >wanted
+  prints "version_$version" "$program" -a "$version" "$file"
+  printf 'RAPIDHASH-V%s:0000000000000001 (%s) = %016x\n' "$(tr '[:lower:]' '[:upper:]' <<<"${version#v}")" "$file" \
+    "$seeded" >wanted
+  prints "seed_of_$version" "$program" --seed 1 --tag --algorithm "$version" "$file"
+  cat out >>list_of_all
+  echo "$file: OK" >>wanted_of_all
+done <<'VALUES'
+v1 half 13504714392771582078 16595489079910452471
+v2.0 half 13186137053657766175 10726147324944781525
+v2.1 half 13012060828128651499 10166538060445963011
+v2.2 half 6181707366222537282 10905583924937672291
+v3 bytes 7088138960297660729 8806718467852582029
+v3-micro bytes 3055975138125564292 13208658450986943527
+v3-nano bytes 3778853990780631382 1125117906108554434
+VALUES
+cp wanted_of_all wanted
+prints a_list_of_all_versions "$program" -c list_of_all
+"$program" --seed 1 bytes >list && echo 'bytes: OK' >wanted
+prints check_with_a_seed "$program" --seed 1 -c list
+says check_without_the_seed 'did NOT match' "$program" -c list
+printf 'RAPIDHASH-V4 (first) = a1266b469390773a\n' >list
+says unknown_version_in_a_list 'no properly formatted' "$program" -c list
+
 # An argument that is not UTF-8 is refused; a name in a list that is not is a file that cannot be read.
 says name_that_is_not_utf_8 UTF-8 "$program" $'x\xff'
 printf 'a1266b469390773a  x\xff\n' >list
@@ -111,6 +147,10 @@ says name_in_a_list_that_is_not_utf_8 UTF-8 "$program" -c list
 grep -q 'FAILED open or read' out
 tell the_name_cannot_be_read $?
 says closed_pipe 'write error' to_a_closed_pipe "$program" first first
+for words in '--tag -c' '--tag --text' '--zero -c' '--binary -c' '--text -c' '-a v4' '--seed=-1' '--seed 1 --seed 2'; do
+  # shellcheck disable=SC2086
+  says "refuses ${words// /_}" "for more information, try '--help'" "$program" $words first
+done
 says option_without_check --check "$program" --quiet first
 says unknown_option unknown "$program" --unknown
 

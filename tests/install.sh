@@ -63,7 +63,7 @@ names_every_option() {
   for option in $options; do
     pattern=${option//./[.]}
     case $file in
-    */_*) pattern="${pattern}[}']*\\[" ;; # zsh offers what has a description, and excludes other options.
+    */_*) pattern="${pattern}[}'=]*\\[" ;; # zsh offers what has a description, and excludes other options.
     *) pattern="(^|[^a-z0-9.-]|--)${pattern#--}([^a-z0-9.-]|[.] |\$)" ;;
     esac
     sed 's/\\//g' "$file" | grep -qE -e "$pattern" || {
@@ -113,13 +113,6 @@ refuses() {
   ! said=$(installs DESTDIR="$room/refused" "$@" 2>&1) && [ ! -e "$room/refused" ] &&
     [ "$(grep -vc '^make: ' <<<"$said")" -eq 1 ] && grep '^make install: ' <<<"$said" &&
     ! make -s -C "$top" uninstall DESTDIR="$room/refused" "$@"
-}
-
-# The code blocks of a page that have a word: PAGE LANGUAGE WORD
-blocks() {
-  awk -v language="$2" -v word="$3" '
-    /^```/ { if (inside && index(block, word)) printf "%s", block; inside = $0 == "```" language; block = ""; next }
-    inside { block = block $0 "\n" }' "$1"
 }
 
 # The first programs in C and C++, built and run as docs/C.md prints them, with the library below $HOME. README.md
@@ -227,7 +220,7 @@ try example_of_the_manual compares_by_the_manual
 cd "$top" || exit 1
 for file in man/man1/NAME.1 bash-completion/completions/NAME zsh/site-functions/_NAME \
   fish/vendor_completions.d/NAME.fish; do
-  for program in 'rapidhash 8' 'rapidsum 8'; do
+  for program in 'rapidhash 8' 'rapidsum 14'; do
     read -r name count <<<"$program"
     place=${file/NAME/$name}
     try "options_in_$(basename "$place")" names_every_option "$name" "$count" "$prefix/share/$place"

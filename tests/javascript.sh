@@ -10,16 +10,6 @@ top=$(cd "$(dirname "${BASH_SOURCE[0]}")/.." && pwd) || exit 1
 # No registry is asked, whatever npm would ask by itself.
 export npm_config_offline=true npm_config_audit=false npm_config_update_notifier=false
 
-# The commands that the package's page prints for an empty folder, at most three, and what they print.
-# shellcheck disable=SC2016
-installs_as_the_page_says() {
-  local page=$top/bindings/javascript/README.md
-  mkdir "$room/first" && cd "$room/first" &&
-    sed -n '/^```sh$/,/^```$/p' "$page" | grep -v '^```' >../commands &&
-    [ "$(wc -l <../commands)" -le 3 ] && YERVOUND=$top bash -e ../commands >../printed &&
-    [ "$(tail -n 1 ../printed)" = 3327445792987248966 ]
-}
-
 # The package has all of its files and no other, with the licences of the repository.
 has_its_files() {
   local folder=$room/first/node_modules/yervound-rapidhash file
@@ -46,7 +36,7 @@ compiles() {
 
 test_package() {
   local name
-  try install installs_as_the_page_says
+  try install works_as_its_page_says "$top/bindings/javascript/README.md"
   try files has_its_files
   try lay_out lay_out
   for name in known refused vectors node; do

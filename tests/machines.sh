@@ -2,7 +2,8 @@
 # Runs the Rust crate on other machines: under qemu's emulation, and in Node as WebAssembly. It is built by
 # Debian's rustc 1.63, the oldest compiler that the crate promises, and on this machine also by its own.
 # Each run replays all vector files, and hashes a million random messages, whose checksum has to be that
-# of x86_64. What a machine lacks is skipped and counted. The last line counts the cases.
+# of x86_64. Where there is a C compiler, a program in C makes every call of the library that rust/capi is.
+# What a machine lacks is skipped and counted. The last line counts the cases.
 #
 # Debian's packages are unpacked in build/machines, or the folder that RAPIDHASH_MACHINES names, which
 # stays for later runs. Nothing is installed.
@@ -102,6 +103,17 @@ build() {
       "$top/tests/machines/main.rs"
 }
 
+# Builds the library for C, and the program over it: FOLDER COMPILER-OF-C.. -- COMPILER..
+build_c() {
+  local out=$1 cc=()
+  shift
+  while [ "$1" != -- ]; do cc+=("$1") && shift; done
+  shift
+  "$@" --edition 2021 -D warnings -C opt-level=3 -C panic=abort --crate-type staticlib --crate-name rapidhash_c \
+    --extern "rapidhash=$out/librapidhash.rlib" -o "$out/librapidhash_c.a" "$top/rust/capi/src/lib.rs" &&
+    "${cc[@]}" -O2 -I"$top/include" "$top/tests/c_library.c" "$out/librapidhash_c.a" -o "$out/c_library"
+}
+
 # Prints the line of a case: NAME COMMAND..
 try() {
   local name=$1 log=$room/$1.log
@@ -117,18 +129,20 @@ try() {
 # Builds the program for a machine and runs it there: NAME DEBIAN RUSTC GNU QEMU
 machine() {
   local name=$1 debian=$2 target=$3 gnu=$4 qemu=$5 packages=() run=()
-  local compile=(with_old rustc --target "$target") out=$room/$name.out
+  local compile=(with_old rustc --target "$target") out=$room/$name.out cc=(cc)
   case $name in
     own) compile=(rustc) ;;
     x86_64) ;;
     wasm32)
       packages=(libstd-rust-dev-wasm32 lld-14 wasi-libc)
+      cc=()
       compile+=(-C linker="$root/usr/bin/wasm-ld-14" -L "$root/usr/lib/wasm32-wasi")
       run=(node --no-warnings "$top/tests/machines/wasi.mjs")
       ;;
     *)
-      packages=(libstd-rust-dev:"$debian" {gcc-12,binutils}-"$gnu"
-        {libc6,libc6-dev,libgcc-12-dev,libgcc-s1}-"$debian-cross")
+      packages=(libstd-rust-dev:"$debian" {gcc-12,cpp-12,binutils}-"$gnu"
+        {libc6,libc6-dev,linux-libc-dev,libgcc-12-dev,libgcc-s1}-"$debian-cross")
+      cc=(with_old "$root/usr/bin/$gnu-gcc-12" --sysroot="$root")
       compile+=(-C linker="$root/usr/bin/$gnu-gcc-12" -C link-arg=--sysroot="$root")
       run=("$root/usr/bin/qemu-$qemu-static" -L "$root/usr/$gnu")
       ;;
@@ -138,6 +152,8 @@ machine() {
   elif mkdir "$out" && try "${name}_build" build "$out" "${compile[@]}"; then
     try "${name}_vectors" "${run[@]}" "$out/program" vectors "$top/crates/test_replay/data"
     try "${name}_messages" "${run[@]}" "$out/program" messages 1000000
+    [ "${#cc[@]}" -eq 0 ] || ! try "${name}_c_build" build_c "$out" "${cc[@]}" -- "${compile[@]}" ||
+      try "${name}_c" "${run[@]}" "$out/c_library"
   fi
 }
 

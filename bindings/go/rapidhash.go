@@ -1,22 +1,34 @@
-// Package rapidhash has the rapidhash family of hashes, over the C library rapidhash_c:
+// Package rapidhash has the rapidhash family of 64-bit hashes:
 //
-//	import "yervound.example/rapidhash"
-//	hash := rapidhash.V3([]byte("hello"))
+//	rapidhash.V3([]byte("hello"))   // 3327445792987248966
+//	rapidhash.V3String("hello")     // the same, and copies nothing
 //
-// A hash is the same on every run and on every machine. cgo finds the library by pkg-config, and
-// go mod edit -replace yervound.example/rapidhash=FOLDER finds this package in its folder. A call may
-// run at the same time as any other; a Stream is used by one goroutine at a time.
+// A hash is the same on every run and on every machine. Its values are those of the Rust crate rapidhash 4.5.1, and
+// come from a library of which every function is proved to be its definition. These hashes are not cryptographic:
+// someone who chooses the bytes can make two messages collide.
+//
+// A call may run at the same time as any other; a [Stream] is used by one goroutine at a time. Hashing allocates
+// nothing.
+//
+// # Installation
+//
+// The package is in the folder bindings/go of the repository, which $YERVOUND names here, and takes no registry:
+//
+//	go mod edit -replace yervound.example/rapidhash=$YERVOUND/bindings/go
+//	go get yervound.example/rapidhash
+//
+// On amd64 the proved code is in the package as assembly, which needs no cgo. On other processors, and with the build
+// tag rapidhash_cgo, the package calls the C library, which cgo finds by pkg-config as rapidhash_c.
+//
+// # Long messages
+//
+// Code in assembly is not preempted, so a garbage collection waits until the hash of a whole message is there. A
+// [Stream] hashes a long piece in parts, and lets the collection run between them.
 package rapidhash
-
-/*
-#cgo pkg-config: rapidhash_c
-#include <rapidhash_c.h>
-*/
-import "C"
 
 import "unsafe"
 
-// Secrets are a seed and secrets of all versions but V1, laid out as the C library has them.
+// Secrets are a seed and secrets of all versions but V1. They are laid out as C has them.
 type Secrets struct {
 	Seed    uint64
 	Secrets [7]uint64
@@ -28,189 +40,177 @@ type SecretsV1 struct {
 	Secrets [3]uint64
 }
 
-// The secrets as C has them. A nil pointer stops here, before C reads from it.
-func (secrets *Secrets) inner() *C.struct_rapidhash_secrets {
-	return (*C.struct_rapidhash_secrets)(unsafe.Pointer(&secrets.Seed))
-}
-
-func (secrets *SecretsV1) inner() *C.struct_rapidhash_v1_secrets {
-	return (*C.struct_rapidhash_v1_secrets)(unsafe.Pointer(&secrets.Seed))
-}
-
-// MakeSecrets makes a seed and secrets from a number. Make them once and keep them.
-func MakeSecrets(number uint64) *Secrets {
-	secrets := new(Secrets)
-	C.rapidhash_make_secrets(C.uint64_t(number), secrets.inner())
+// The secrets. Nil ones stop here, before other code reads from them.
+func (secrets *Secrets) checked() *Secrets {
+	_ = secrets.Seed
 	return secrets
 }
 
-// SeedSecrets are the default secrets, and a seed made from one word as the C++ library takes it.
+func (secrets *SecretsV1) checked() *SecretsV1 {
+	_ = secrets.Seed
+	return secrets
+}
+
+// MakeSecrets makes a seed and secrets from a number. Make them once and keep them. From a number that nobody knows
+// they keep others from choosing messages that collide.
+func MakeSecrets(number uint64) *Secrets {
+	secrets := new(Secrets)
+	makeSecrets(number, secrets)
+	return secrets
+}
+
+// SeedSecrets returns the default secrets, and a seed made from one word as the C++ library takes it.
 func SeedSecrets(word uint64) *Secrets {
 	secrets := new(Secrets)
-	C.rapidhash_seed_secrets(C.uint64_t(word), secrets.inner())
+	seedSecrets(word, secrets)
 	return secrets
 }
 
 // MakeSecretsV1 is MakeSecrets for V1.
 func MakeSecretsV1(number uint64) *SecretsV1 {
 	secrets := new(SecretsV1)
-	C.rapidhash_v1_make_secrets(C.uint64_t(number), secrets.inner())
+	v1MakeSecrets(number, secrets)
 	return secrets
 }
 
 // SeedSecretsV1 is SeedSecrets for V1.
 func SeedSecretsV1(word uint64) *SecretsV1 {
 	secrets := new(SecretsV1)
-	C.rapidhash_v1_seed_secrets(C.uint64_t(word), secrets.inner())
+	v1SeedSecrets(word, secrets)
 	return secrets
 }
 
-// A byte to point to if there is none to hash.
-var none [1]byte
-
-// The bytes to point to, and their number. What calls C writes &data[0] in the call itself: then cgo
-// looks for pointers only in these bytes, and not in what they are a part of.
-func piece(data []byte) ([]byte, C.size_t) {
-	if len(data) == 0 {
-		return none[:], 0
-	}
-	return data, C.size_t(len(data))
-}
-
-// V1 is the V1 hash with the default seed and secrets.
+// V1 returns the V1 hash of data with the default seed and secrets.
 func V1(data []byte) uint64 {
-	bytes, size := piece(data)
-	return uint64(C.rapidhash_v1(unsafe.Pointer(&bytes[0]), size))
+	return v1(data)
 }
 
-// V1WithSeed is the V1 hash with the default secrets and a seed word.
+// V1WithSeed returns the V1 hash of data with the default secrets and a seed word.
 func V1WithSeed(data []byte, seed uint64) uint64 {
-	bytes, size := piece(data)
-	return uint64(C.rapidhash_v1_with_seed(unsafe.Pointer(&bytes[0]), size, C.uint64_t(seed)))
+	return v1WithSeed(data, seed)
 }
 
-// V1Seeded is the V1 hash with the caller's seed and secrets, which are not nil.
+// V1Seeded returns the V1 hash of data with a seed and secrets. It panics if they are nil.
 func V1Seeded(data []byte, secrets *SecretsV1) uint64 {
-	bytes, size := piece(data)
-	return uint64(C.rapidhash_v1_seeded(unsafe.Pointer(&bytes[0]), size, secrets.inner()))
+	return v1Seeded(data, secrets.checked())
 }
 
-// V2_0 is the V2.0 hash with the default seed and secrets.
+// V2_0 returns the V2.0 hash of data with the default seed and secrets.
 func V2_0(data []byte) uint64 {
-	bytes, size := piece(data)
-	return uint64(C.rapidhash_v2_0(unsafe.Pointer(&bytes[0]), size))
+	return v2_0(data)
 }
 
-// V2_0WithSeed is the V2.0 hash with the default secrets and a seed word.
+// V2_0WithSeed returns the V2.0 hash of data with the default secrets and a seed word.
 func V2_0WithSeed(data []byte, seed uint64) uint64 {
-	bytes, size := piece(data)
-	return uint64(C.rapidhash_v2_0_with_seed(unsafe.Pointer(&bytes[0]), size, C.uint64_t(seed)))
+	return v2_0WithSeed(data, seed)
 }
 
-// V2_0Seeded is the V2.0 hash with the caller's seed and secrets, which are not nil.
+// V2_0Seeded returns the V2.0 hash of data with a seed and secrets. It panics if they are nil.
 func V2_0Seeded(data []byte, secrets *Secrets) uint64 {
-	bytes, size := piece(data)
-	return uint64(C.rapidhash_v2_0_seeded(unsafe.Pointer(&bytes[0]), size, secrets.inner()))
+	return v2_0Seeded(data, secrets.checked())
 }
 
-// V2_1 is the V2.1 hash with the default seed and secrets.
+// V2_1 returns the V2.1 hash of data with the default seed and secrets.
 func V2_1(data []byte) uint64 {
-	bytes, size := piece(data)
-	return uint64(C.rapidhash_v2_1(unsafe.Pointer(&bytes[0]), size))
+	return v2_1(data)
 }
 
-// V2_1WithSeed is the V2.1 hash with the default secrets and a seed word.
+// V2_1WithSeed returns the V2.1 hash of data with the default secrets and a seed word.
 func V2_1WithSeed(data []byte, seed uint64) uint64 {
-	bytes, size := piece(data)
-	return uint64(C.rapidhash_v2_1_with_seed(unsafe.Pointer(&bytes[0]), size, C.uint64_t(seed)))
+	return v2_1WithSeed(data, seed)
 }
 
-// V2_1Seeded is the V2.1 hash with the caller's seed and secrets, which are not nil.
+// V2_1Seeded returns the V2.1 hash of data with a seed and secrets. It panics if they are nil.
 func V2_1Seeded(data []byte, secrets *Secrets) uint64 {
-	bytes, size := piece(data)
-	return uint64(C.rapidhash_v2_1_seeded(unsafe.Pointer(&bytes[0]), size, secrets.inner()))
+	return v2_1Seeded(data, secrets.checked())
 }
 
-// V2_2 is the V2.2 hash with the default seed and secrets.
+// V2_2 returns the V2.2 hash of data with the default seed and secrets.
 func V2_2(data []byte) uint64 {
-	bytes, size := piece(data)
-	return uint64(C.rapidhash_v2_2(unsafe.Pointer(&bytes[0]), size))
+	return v2_2(data)
 }
 
-// V2_2WithSeed is the V2.2 hash with the default secrets and a seed word.
+// V2_2WithSeed returns the V2.2 hash of data with the default secrets and a seed word.
 func V2_2WithSeed(data []byte, seed uint64) uint64 {
-	bytes, size := piece(data)
-	return uint64(C.rapidhash_v2_2_with_seed(unsafe.Pointer(&bytes[0]), size, C.uint64_t(seed)))
+	return v2_2WithSeed(data, seed)
 }
 
-// V2_2Seeded is the V2.2 hash with the caller's seed and secrets, which are not nil.
+// V2_2Seeded returns the V2.2 hash of data with a seed and secrets. It panics if they are nil.
 func V2_2Seeded(data []byte, secrets *Secrets) uint64 {
-	bytes, size := piece(data)
-	return uint64(C.rapidhash_v2_2_seeded(unsafe.Pointer(&bytes[0]), size, secrets.inner()))
+	return v2_2Seeded(data, secrets.checked())
 }
 
-// V3 is the V3 hash with the default seed and secrets.
+// V3 returns the V3 hash of data with the default seed and secrets.
 func V3(data []byte) uint64 {
-	bytes, size := piece(data)
-	return uint64(C.rapidhash_v3(unsafe.Pointer(&bytes[0]), size))
+	return v3(data)
 }
 
-// V3WithSeed is the V3 hash with the default secrets and a seed word.
+// V3WithSeed returns the V3 hash of data with the default secrets and a seed word.
 func V3WithSeed(data []byte, seed uint64) uint64 {
-	bytes, size := piece(data)
-	return uint64(C.rapidhash_v3_with_seed(unsafe.Pointer(&bytes[0]), size, C.uint64_t(seed)))
+	return v3WithSeed(data, seed)
 }
 
-// V3Seeded is the V3 hash with the caller's seed and secrets, which are not nil.
+// V3Seeded returns the V3 hash of data with a seed and secrets. It panics if they are nil.
 func V3Seeded(data []byte, secrets *Secrets) uint64 {
-	bytes, size := piece(data)
-	return uint64(C.rapidhash_v3_seeded(unsafe.Pointer(&bytes[0]), size, secrets.inner()))
+	return v3Seeded(data, secrets.checked())
 }
 
-// V3Micro is the V3 micro hash with the default seed and secrets.
+// V3String returns the hash that V3 returns of its bytes, without a copy of them.
+func V3String(text string) uint64 {
+	return v3(bytesOf(text))
+}
+
+// V3StringWithSeed returns the hash that V3WithSeed returns of its bytes, without a copy of them.
+func V3StringWithSeed(text string, seed uint64) uint64 {
+	return v3WithSeed(bytesOf(text), seed)
+}
+
+// V3StringSeeded returns the hash that V3Seeded returns of its bytes, without a copy of them.
+func V3StringSeeded(text string, secrets *Secrets) uint64 {
+	return v3Seeded(bytesOf(text), secrets.checked())
+}
+
+// The bytes of a string, which nothing may write.
+func bytesOf(text string) []byte {
+	return unsafe.Slice(*(**byte)(unsafe.Pointer(&text)), len(text))
+}
+
+// V3Micro returns the V3 micro hash of data with the default seed and secrets.
 func V3Micro(data []byte) uint64 {
-	bytes, size := piece(data)
-	return uint64(C.rapidhash_v3_micro(unsafe.Pointer(&bytes[0]), size))
+	return v3Micro(data)
 }
 
-// V3MicroWithSeed is the V3 micro hash with the default secrets and a seed word.
+// V3MicroWithSeed returns the V3 micro hash of data with the default secrets and a seed word.
 func V3MicroWithSeed(data []byte, seed uint64) uint64 {
-	bytes, size := piece(data)
-	return uint64(C.rapidhash_v3_micro_with_seed(unsafe.Pointer(&bytes[0]), size, C.uint64_t(seed)))
+	return v3MicroWithSeed(data, seed)
 }
 
-// V3MicroSeeded is the V3 micro hash with the caller's seed and secrets, which are not nil.
+// V3MicroSeeded returns the V3 micro hash of data with a seed and secrets. It panics if they are nil.
 func V3MicroSeeded(data []byte, secrets *Secrets) uint64 {
-	bytes, size := piece(data)
-	return uint64(C.rapidhash_v3_micro_seeded(unsafe.Pointer(&bytes[0]), size, secrets.inner()))
+	return v3MicroSeeded(data, secrets.checked())
 }
 
-// V3Nano is the V3 nano hash with the default seed and secrets.
+// V3Nano returns the V3 nano hash of data with the default seed and secrets.
 func V3Nano(data []byte) uint64 {
-	bytes, size := piece(data)
-	return uint64(C.rapidhash_v3_nano(unsafe.Pointer(&bytes[0]), size))
+	return v3Nano(data)
 }
 
-// V3NanoWithSeed is the V3 nano hash with the default secrets and a seed word.
+// V3NanoWithSeed returns the V3 nano hash of data with the default secrets and a seed word.
 func V3NanoWithSeed(data []byte, seed uint64) uint64 {
-	bytes, size := piece(data)
-	return uint64(C.rapidhash_v3_nano_with_seed(unsafe.Pointer(&bytes[0]), size, C.uint64_t(seed)))
+	return v3NanoWithSeed(data, seed)
 }
 
-// V3NanoSeeded is the V3 nano hash with the caller's seed and secrets, which are not nil.
+// V3NanoSeeded returns the V3 nano hash of data with a seed and secrets. It panics if they are nil.
 func V3NanoSeeded(data []byte, secrets *Secrets) uint64 {
-	bytes, size := piece(data)
-	return uint64(C.rapidhash_v3_nano_seeded(unsafe.Pointer(&bytes[0]), size, secrets.inner()))
+	return v3NanoSeeded(data, secrets.checked())
 }
 
-// V3Protected is the protected V3 hash with the default seed and secrets.
+// V3Protected returns the protected V3 hash of data with the default seed and secrets.
 func V3Protected(data []byte) uint64 {
-	bytes, size := piece(data)
-	return uint64(C.rapidhash_v3_protected(unsafe.Pointer(&bytes[0]), size))
+	return v3Protected(data)
 }
 
-// V3ProtectedSeeded is the protected V3 hash with the caller's seed and secrets, which are not nil.
+// V3ProtectedSeeded returns the protected V3 hash of data with a seed and secrets. It panics if they are nil.
 func V3ProtectedSeeded(data []byte, secrets *Secrets) uint64 {
-	bytes, size := piece(data)
-	return uint64(C.rapidhash_v3_protected_seeded(unsafe.Pointer(&bytes[0]), size, secrets.inner()))
+	return v3ProtectedSeeded(data, secrets.checked())
 }

@@ -3,22 +3,22 @@
 /// How the program is called.
 pub const USAGE: &str = "usage: example_bloom [--one-in N] LIST..
 
-Tells of each line of standard input whether it may be a line of a LIST:
-'maybe LINE', or 'no LINE' where it certainly is none. About one in N lines
-that stand in no LIST, or fewer, are told as 'maybe'. N is 100 by default.";
+For each line of standard input, prints 'maybe LINE' if it may be in a LIST,
+or 'no LINE' if it definitely is not. At most about one in N lines that are in
+no LIST is reported as 'maybe' (default: 100).";
 
 /// Why the arguments are refused.
 #[derive(Debug, Clone, Copy, PartialEq, Eq, thiserror::Error, Drop)]
-pub enum OptionsError {
+pub enum OptionsError<'a> {
     /// No list is named.
-    #[error("no list is named")]
+    #[error("missing LIST argument")]
     NoList,
     /// No number, or one out of range, follows `--one-in`.
-    #[error("--one-in takes a number from 2 to 4294967295")]
+    #[error("--one-in requires a number from 2 to 4294967295")]
     OneIn,
     /// There is no such option.
-    #[error("an option is unknown")]
-    Unknown,
+    #[error("unknown option '{0}'")]
+    Unknown(&'a str),
 }
 
 /// What the arguments ask for.
@@ -39,7 +39,7 @@ pub enum Request<'a> {
 const ONE_IN: u32 = 100;
 
 /// What the arguments after the program's name ask for.
-pub fn parse_words<'a>(words: &'a [String]) -> Result<Request<'a>, OptionsError> {
+pub fn parse_words<'a>(words: &'a [String]) -> Result<Request<'a>, OptionsError<'a>> {
     let mut lists = words;
     let mut one_in = ONE_IN;
     if let [option, others @ ..] = lists
@@ -57,7 +57,7 @@ pub fn parse_words<'a>(words: &'a [String]) -> Result<Request<'a>, OptionsError>
     match lists.first() {
         None => Err(OptionsError::NoList),
         Some(word) if word.as_str() == "--help" => Ok(Request::Help),
-        Some(word) if word.as_str().starts_with("--") => Err(OptionsError::Unknown),
+        Some(word) if word.as_str().starts_with("--") => Err(OptionsError::Unknown(word.as_str())),
         Some(_) => Ok(Request::LookUp { one_in, lists }),
     }
 }

@@ -9,7 +9,7 @@ pub const MOST_BITS: u64 = 4294967296;
 #[derive(Debug, Clone, Copy, PartialEq, Eq, thiserror::Error, Drop)]
 pub enum ShapeError {
     /// A filter that finds one in one other key finds them all.
-    #[error("the rate must be one in 2 or rarer")]
+    #[error("--one-in must be at least 2")]
     Rate,
     /// The filter would have more bits than [`MOST_BITS`].
     #[error("too many keys: the filter would need more than 512 MiB")]

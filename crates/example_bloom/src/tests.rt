@@ -132,7 +132,7 @@ fn command_lines(rt: HostRuntime) {
         (&["--one-in", "1", "list"], OptionsError::OneIn),
         (&["--one-in", "4294967296", "list"], OptionsError::OneIn),
         (&["--one-in", "many", "list"], OptionsError::OneIn),
-        (&["--on-in", "10", "list"], OptionsError::Unknown),
+        (&["--on-in", "10", "list"], OptionsError::Unknown("--on-in")),
     ];
     for (line, error) in refused {
         let words = words(rt.alloc(), line).expect(&rt, "memory");

@@ -11,11 +11,11 @@ pub enum Error {
     /// `env::args` returns no argument at all if one of them is not UTF-8.
     #[error("an argument is not UTF-8")]
     Args,
-    #[error("no file or folder is named")]
+    #[error("missing FILE argument")]
     NoName,
-    #[error("no option has the name {0}")]
+    #[error("unknown option '{0}'")]
     Option(String),
-    #[error("no random number: {0}")]
+    #[error("cannot get random bytes: {0}")]
     Random(io::Error),
     #[error("could not write standard output: {0}")]
     Write(io::Error),

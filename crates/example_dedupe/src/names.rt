@@ -105,7 +105,7 @@ impl<'s> Search<'s> {
             let entry = match entry {
                 Ok(entry) => entry,
                 Err(error) if error.kind() == ErrorKind::InvalidFilename => {
-                    let unnamed = io::Error::other("a name in it is not UTF-8");
+                    let unnamed = io::Error::other("contains a file name that is not valid UTF-8");
                     self.fail(rt, folder, unnamed)?;
                     continue;
                 }

@@ -20,8 +20,8 @@ use table::{BuildError, Table};
 /// How the program is called.
 const USAGE: &str = "usage: example_perfect LIST
 
-Finds each line of standard input in LIST, whose lines all differ: writes
-'NUMBER LINE', the number of the line in LIST, or 'absent LINE'.";
+For each line of standard input, prints its line number in LIST ('NUMBER LINE')
+or 'absent LINE'. LIST must not contain duplicates.";
 
 // The error of a list with the numbers of its lines, which count from 1.
 fn list_error(name: &str, error: BuildError) -> Error {
@@ -30,7 +30,7 @@ fn list_error(name: &str, error: BuildError) -> Error {
             let (first, second) = (first as u64 + 1, second as u64 + 1);
             anyhow!("lines {first} and {second} of {name} are the same")
         }
-        error => anyhow!("no table of {name}: {error}"),
+        error => anyhow!("cannot build a table from {name}: {error}"),
     }
 }
 
@@ -56,7 +56,7 @@ fn run(rt: &HostRuntime) -> Result<ExitCode> {
         }
         [name] => look_up(rt, name.as_str())?,
         _ => {
-            eprintln!(rt; "example_perfect: it takes the name of one list\n{USAGE}")?;
+            eprintln!(rt; "example_perfect: expected exactly one LIST\n{USAGE}")?;
             return Ok(ExitCode::from(2));
         }
     }

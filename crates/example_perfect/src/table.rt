@@ -15,7 +15,7 @@ pub enum BuildError {
     #[error("too many keys: more than 4294967294")]
     TooManyKeys,
     /// A key is given twice.
-    #[error("keys {first} and {second} are equal")]
+    #[error("duplicate keys: {first} and {second}")]
     Twice {
         /// The index of the key.
         first: u32,
@@ -23,7 +23,7 @@ pub enum BuildError {
         second: u32,
     },
     /// No seed was found that gives each key of a bucket a free place.
-    #[error("no table was found")]
+    #[error("no seed found for a bucket")]
     GaveUp,
     /// An allocation failed.
     #[error("out of memory")]

@@ -11,15 +11,15 @@ pub enum Error {
     /// `env::args` returns no argument at all if one of them is not UTF-8.
     #[error("an argument is not UTF-8")]
     Args,
-    #[error("no option has the name {0}")]
+    #[error("unknown option '{0}'")]
     Option(String),
-    #[error("no node is named")]
+    #[error("missing NODE argument")]
     NoNode,
-    #[error("the node {0} is named twice")]
+    #[error("duplicate node '{0}'")]
     Twice(String),
-    #[error("--without: no node follows")]
+    #[error("--without requires a node name")]
     Behind,
-    #[error("--without {0}: no such node")]
+    #[error("--without: no such node '{0}'")]
     Without(String),
     #[error("could not read standard input: {0}")]
     Read(io::Error),

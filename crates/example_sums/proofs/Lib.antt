@@ -1,2 +1,3 @@
 mod Checks
 mod Lines
+mod Tags

@@ -1,13 +1,18 @@
 -- What is true of printed lines, for the functions that read them.
-use Rattle.std.proofs.Common.{◌≡◌, ℕ, ◌-◌, ◌/◌, ◌%◌, ◌^◌, ◌<◌, ◌≤◌, Bool, true, false, cond, List, [], ◌∷◌, ◌++◌, length, slice_index, ◌||◌, ◌==◌, is_some, zero, suc, Ok, take, drop, ◌⊎◌, inl, inr, ⊎_elim, Option, None, Some, option_and_then, refl, sym, ap, ◌∙◌, arith}
-use Rattle.std.proofs.Math.Seq.{take-length}
-use Rattle.std.proofs.lemmas.List.{append-nil, append_assoc, length-drop}
-use Rattle.std.proofs.lemmas.Bool.{ne_eqb}
+use Rattle.std.proofs.Common.{◌≡◌, ℕ, ◌+◌, ◌-◌, ◌/◌, ◌%◌, ◌^◌, ◌<◌, ◌≤◌, Bool, true, false, cond, List, [], ◌∷◌, ◌++◌, length, slice_index, ◌||◌, ◌==◌, is_some, zero, suc, Ok, take, drop, ◌⊎◌, inl, inr, ⊎_elim, Option, None, Some, IsSomeAnd, option_and_then, refl, sym, ap, ◌∙◌, arith}
+use Rattle.std.proofs.Math.Seq.{take-length, take-append_seam, drop-append_seam}
+use Rattle.std.proofs.lemmas.List.{append-nil, append_assoc, get_or-append-add, length-append, length-drop}
+use Rattle.std.proofs.lemmas.Bool.{eqb-true, ne_eqb}
 use Rattle.std.proofs.lemmas.Nat.{from_be_bytes-to_be_bytes_8}
 use Rattle.std.specs.Int.{from_be_bytes, to_be_bytes, w64}
 use Rattle.hex.specs.Hex.{decode_sized, encode_with, hex_digit_value}
 use Rattle.hex.proofs.HexLemmas.{IsDigits-lower_digits, decode_sized-encode_lower}
-use Rattle.example_sums.specs.Line.{byte_of, digits_of, escape_by, escaped, letter_of, line_of, needs_escape, plain_line, unescape_from}
+use Rattle.example_sums.specs.Line.{byte_of, carried, digits_of, escape_by, escaped, body_of, letter_of, line_of, needs_escape, tag_of, unescape_from, value_of}
+use Rattle.example_sums.specs.Entry.{AreParts, Fits}
+use Rattle.example_sums.specs.declared.parts.Parts.{Parts}
+use Rattle.example_sums.specs.declared.algorithm.Algorithm.{Algorithm}
+use Rattle.example_sums.specs.declared.line.Layout.{Layout}
+use Rattle.example_sums.specs.declared.line.Layout.TheVariants.{Binary, Tagged, Text}
 
 -- an escape reads back as its byte
 byte_of-letter_of : (c letter : ℕ) → letter_of c ≡ Some letter → byte_of letter ≡ Some c
@@ -71,13 +76,24 @@ unfolding escaped
 escaped-plain [] h = refl
 escaped-plain (c ∷ cs) h = plain-step c cs (letter_of c) refl h (escaped-plain cs)
 
--- the first digit of a hash is no backslash
-pub digits-no_backslash : (hash : ℕ) (xs : List ℕ) → slice_index (digits_of hash ++ xs) 0 ≡ 92 → ⊥
+-- no digit of a hash is a byte that is no digit
+first-digit : (hash byte : ℕ) (xs : List ℕ) → hex_digit_value byte ≡ None → slice_index (digits_of hash ++ xs) 0 ≡ byte → ⊥
 unfolding encode_with
-digits-no_backslash hash xs found =
+first-digit hash byte xs none found =
     let top = hash / 72057594037927936 % 256 / 16 in
     let read = IsDigits-lower_digits top (omega arith) in
-    cc (sym read ∙ ap hex_digit_value found)
+    cc (sym read ∙ ap hex_digit_value found ∙ none)
+
+-- nor is the first the letter that a tag begins with
+not-r : (hash : ℕ) (xs : List ℕ) → (slice_index (digits_of hash ++ xs) 0 == 82) ≡ true → ⊥
+not-r hash xs found = first-digit hash 82 xs refl (eqb-true (slice_index (digits_of hash ++ xs) 0) 82 found)
+
+last-digit : (hash byte : ℕ) → hex_digit_value byte ≡ None → slice_index (digits_of hash) 15 ≡ byte → ⊥
+unfolding encode_with
+last-digit hash byte none found =
+    let low = hash % 256 % 16 in
+    let read = IsDigits-lower_digits low (omega arith) in
+    cc (sym read ∙ ap hex_digit_value found ∙ none)
 
 -- the bytes of a hash are bytes
 bytes-small : (hash i : ℕ) → slice_index (to_be_bytes w64 hash) i < 256
@@ -91,43 +107,114 @@ digits_decode hash = decode_sized-encode_lower (to_be_bytes w64 hash) 8 refl (by
 pub hash_of_bytes : (hash : ℕ) → hash < 2 ^ 64 → from_be_bytes w64 (to_be_bytes w64 hash) ≡ hash
 hash_of_bytes hash fits = from_be_bytes-to_be_bytes_8 hash fits
 
--- a plain line is its 16 digits and what stands behind them
-pub digits_part : (hash : ℕ) (name : List ℕ) → take 16 (plain_line hash name) ≡ digits_of hash
-unfolding plain_line encode_with
-digits_part hash name = refl
+-- the digits and what follows them
+pub digits_part : (hash : ℕ) (rest : List ℕ) → take 16 (digits_of hash ++ rest) ≡ digits_of hash
+unfolding encode_with
+digits_part hash rest = refl
 
-pub name_part : (hash : ℕ) (name : List ℕ)
-    → drop 16 (plain_line hash name) ≡ 32 ∷ 32 ∷ escaped name × 16 ≤ length (plain_line hash name)
-unfolding plain_line encode_with
-name_part hash name = (refl, grind (arith))
+pub rest_part : (hash : ℕ) (rest : List ℕ)
+    → drop 16 (digits_of hash ++ rest) ≡ rest × 16 ≤ length (digits_of hash ++ rest)
+unfolding encode_with
+rest_part hash rest = (refl, grind (arith))
+
+-- where the end of a text begins
+end-place : (front back : List ℕ) (count : ℕ) → length back ≡ count → length (front ++ back) - count ≡ length front
+end-place front back count is = let sum = length-append front back in omega (arith, sum, is)
+
+-- the part before the end of a text, and the end
+pub front_part : (front back : List ℕ) (count : ℕ) → length back ≡ count
+    → take (length (front ++ back) - count) (front ++ back) ≡ front
+front_part front back count is =
+    ap (λ (k : ℕ). take k (front ++ back)) (end-place front back count is) ∙ take-append_seam front back
+
+pub back_part : (front back : List ℕ) (count : ℕ) → length back ≡ count
+    → drop (length (front ++ back) - count) (front ++ back) ≡ back × count ≤ length (front ++ back)
+back_part front back count is =
+    let sum = length-append front back in
+    (ap (λ (k : ℕ). drop k (front ++ back)) (end-place front back count is) ∙ drop-append_seam front back, omega (arith, sum, is))
+
+-- a text that ends in digits has no carriage return at its end
+pub digits-length : (hash : ℕ) → length (digits_of hash) ≡ 16
+unfolding encode_with
+digits-length hash = refl
+
+pub no_return_behind : (front text : List ℕ) (hash : ℕ) → text ≡ front ++ digits_of hash → slice_index text (length text - 1) ≡ 13 → ⊥
+no_return_behind front text hash is found =
+    let sum = length-append front (digits_of hash) in
+    let sixteen = digits-length hash in
+    let place : length (front ++ digits_of hash) - 1 ≡ length front + 15 = omega (arith, sum, sixteen) in
+    let there = get_or-append-add front (digits_of hash) 15 0 in
+    let last : slice_index (digits_of hash) 15 ≡ 13 =
+    sym there ∙ ap (λ (k : ℕ). slice_index (front ++ digits_of hash) k) (sym place)
+    ∙ ap (λ (xs : List ℕ). slice_index xs (length xs - 1)) (sym is) ∙ found in
+    last-digit hash 13 refl last
+
+-- no body begins with a backslash
+body-no_backslash : (layout : Layout) (algorithm : Algorithm) (hash : ℕ) (text : List ℕ)
+    → slice_index (body_of layout algorithm hash text) 0 ≡ 92 → ⊥
+unfolding body_of
+body-no_backslash Text algorithm hash text found = first-digit hash 92 (32 ∷ 32 ∷ text) refl found
+body-no_backslash Binary algorithm hash text found = first-digit hash 92 (32 ∷ 42 ∷ text) refl found
+body-no_backslash Tagged algorithm hash text found = let bad : 82 ≡ 92 = found in absurd (omega (arith, bad))
+
+-- a line that begins as a tag does is read as a tagged one
+pub of_tagged_line : (layout : Layout) (algorithm : Algorithm) (hash : ℕ) (name line : List ℕ) (result : Option Parts)
+    → (slice_index line 0 == 82) ≡ true
+    → ((own : Algorithm) (number : ℕ) (text : List ℕ) → Fits own number → line ≡ tag_of own ++ value_of number text
+    → IsSomeAnd result (λ parts. AreParts parts (Some own) number text))
+    → Fits algorithm hash → line ≡ body_of layout algorithm hash (escaped name)
+    → IsSomeAnd result (λ parts. AreParts parts (carried layout algorithm) hash (escaped name))
+unfolding body_of
+of_tagged_line Text algorithm hash name line result first tagged fits is =
+    absurd (not-r hash (32 ∷ 32 ∷ escaped name) (ap (λ (xs : List ℕ). slice_index xs 0 == 82) (sym is) ∙ first))
+of_tagged_line Binary algorithm hash name line result first tagged fits is =
+    absurd (not-r hash (32 ∷ 42 ∷ escaped name) (ap (λ (xs : List ℕ). slice_index xs 0 == 82) (sym is) ∙ first))
+of_tagged_line Tagged algorithm hash name line result first tagged fits is = tagged algorithm hash (escaped name) fits is
+
+-- and another line by its digits
+pub of_plain_line : (layout : Layout) (algorithm : Algorithm) (hash : ℕ) (name line : List ℕ) (result : Option Parts)
+    → (slice_index line 0 == 82) ≡ false
+    → ((number : ℕ) (own : List ℕ) → number < 2 ^ 64 → line ≡ digits_of number ++ 32 ∷ 32 ∷ escaped own
+    → IsSomeAnd result (λ parts. AreParts parts None number (escaped own)))
+    → ((number : ℕ) (own : List ℕ) → number < 2 ^ 64 → line ≡ digits_of number ++ 32 ∷ 42 ∷ escaped own
+    → IsSomeAnd result (λ parts. AreParts parts None number (escaped own)))
+    → Fits algorithm hash → line ≡ body_of layout algorithm hash (escaped name)
+    → IsSomeAnd result (λ parts. AreParts parts (carried layout algorithm) hash (escaped name))
+unfolding body_of
+of_plain_line Text algorithm hash name line result first text binary fits is = text hash name fits.0 is
+of_plain_line Binary algorithm hash name line result first text binary fits is = binary hash name fits.0 is
+of_plain_line Tagged algorithm hash name line result first text binary fits is =
+    let bad : true ≡ false = ap (λ (xs : List ℕ). slice_index xs 0 == 82) (sym is) ∙ first in cc bad
 
 -- one of the two forms of a line
-line-cases : (hash : ℕ) (name line : List ℕ) (escapes : Bool) → needs_escape name ≡ escapes
-    → line ≡ cond escapes (92 ∷ plain_line hash name) (plain_line hash name)
-    → (drop 1 line ≡ plain_line hash name × slice_index line 0 ≡ 92)
-    ⊎ (line ≡ plain_line hash name × escaped name ≡ name × (slice_index line 0 ≡ 92 → ⊥))
-unfolding plain_line
-line-cases hash name line true needs is = inl (ap (drop 1) is, ap (λ (xs : List ℕ). slice_index xs 0) is)
-line-cases hash name line false needs is =
+line-cases : (layout : Layout) (algorithm : Algorithm) (hash : ℕ) (name line : List ℕ) (escapes : Bool) → needs_escape name ≡ escapes
+    → line ≡ (let body = body_of layout algorithm hash (escaped name) in cond escapes (92 ∷ body) body)
+    → (drop 1 line ≡ body_of layout algorithm hash (escaped name) × slice_index line 0 ≡ 92)
+    ⊎ (line ≡ body_of layout algorithm hash (escaped name) × escaped name ≡ name × (slice_index line 0 ≡ 92 → ⊥))
+line-cases layout algorithm hash name line true needs is = inl (ap (drop 1) is, ap (λ (xs : List ℕ). slice_index xs 0) is)
+line-cases layout algorithm hash name line false needs is =
     inr (
       is,
       escaped-plain name needs,
       λ found.
-          digits-no_backslash hash (32 ∷ 32 ∷ escaped name) (ap (λ (xs : List ℕ). slice_index xs 0) (sym is) ∙ found),
+          body-no_backslash layout algorithm hash (escaped name) (ap (λ (xs : List ℕ). slice_index xs 0) (sym is) ∙ found),
     )
 
--- a line that begins with a backslash has its digits behind it
-pub behind_backslash : (hash : ℕ) (name line : List ℕ) → line ≡ line_of hash name → slice_index line 0 ≡ 92
-    → take (length line - 1) (drop 1 line) ≡ plain_line hash name
-behind_backslash hash name line is first =
+-- a line that begins with a backslash has its body behind it
+pub behind_backslash : (layout : Layout) (algorithm : Algorithm) (hash : ℕ) (name line : List ℕ)
+    → line ≡ line_of layout algorithm hash name → slice_index line 0 ≡ 92
+    → take (length line - 1) (drop 1 line) ≡ body_of layout algorithm hash (escaped name)
+behind_backslash layout algorithm hash name line is first =
     ap (λ (k : ℕ). take k (drop 1 line)) (sym (length-drop 1 line)) ∙ take-length (drop 1 line)
-    ∙ ⊎_elim (λ found. found.0) (λ other. absurd (other.2 first)) (line-cases hash name line (needs_escape name) refl is)
+    ∙ ⊎_elim (λ found. found.0) (λ other. absurd (other.2 first)) (line-cases layout algorithm hash name line (needs_escape name) refl is)
 
--- a line that does not has them at its start, and no escape
-pub no_backslash : (hash : ℕ) (name line : List ℕ) → line ≡ line_of hash name → (slice_index line 0 ≡ 92 → ⊥)
-    → line ≡ plain_line hash name × escaped name ≡ name
-no_backslash hash name line is first =
-    ⊎_elim (λ found. absurd (first found.1)) (λ other. (other.0, other.1)) (line-cases hash name line (needs_escape name) refl is)
+-- a line that does not is its body, and has no escape
+pub no_backslash : (layout : Layout) (algorithm : Algorithm) (hash : ℕ) (name line : List ℕ)
+    → line ≡ line_of layout algorithm hash name → (slice_index line 0 ≡ 92 → ⊥)
+    → line ≡ body_of layout algorithm hash (escaped name) × escaped name ≡ name
+no_backslash layout algorithm hash name line is first =
+    ⊎_elim (λ found. absurd (first found.1)) (λ other. (other.0, other.1))
+    (line-cases layout algorithm hash name line (needs_escape name) refl is)
 
 -- an empty text does not begin with a backslash
 pub empty-first : (text : List ℕ) → (length text == 0) ≡ true → slice_index text 0 ≡ 92 → ⊥

@@ -1,29 +1,35 @@
 -- What a check reports.
-use Rattle.std.specs.Prelude.{ℕ, ◌≡◌, ◌≢◌, ⊤, Bool, true, false, List, [], ◌∷◌, Option, IfSome}
-use Rattle.rapidhash.specs.Form.{standard, v3}
-use Rattle.rapidhash.specs.Hash.{default_hash}
-use Rattle.example_sums.specs.declared.line.Entry.{Entry}
+use Rattle.std.specs.Prelude.{ℕ, ◌≡◌, ◌≢◌, ⊤, Bool, true, false, List, [], ◌∷◌, Option, None, Some, IfSome}
+use Rattle.example_sums.specs.Algorithm.{hash_of}
+use Rattle.example_sums.specs.declared.algorithm.Algorithm.{Algorithm}
+use Rattle.example_sums.specs.declared.entry.Entry.{Entry}
 use Rattle.example_sums.specs.declared.check.Verdict.{Verdict}
 use Rattle.example_sums.specs.declared.check.Verdict.TheVariants.{Different, Missing, Same, Unreadable}
 
--- the V3 hash of a file's bytes, with the default seed and secrets
-abbrev pub hash_of : List ℕ → ℕ
-hash_of bytes = default_hash v3 standard bytes
+-- the version and seed of a line: its own, or else those of the call
+abbrev pub algorithm_of : Algorithm → Option Algorithm → Algorithm
+algorithm_of given None = given
+algorithm_of given (Some own) = own
 
 -- whether a verdict is right of a line that says a hash, where the bytes of its file are known: the same hash, or another one
-abbrev pub IsRight : Verdict → Bool → Option (List ℕ) → ℕ → Type 0
-IsRight Same ignore_missing bytes hash = IfSome bytes (λ xs. hash_of xs ≡ hash)
-IsRight Different ignore_missing bytes hash = IfSome bytes (λ xs. hash_of xs ≢ hash)
-IsRight Missing ignore_missing bytes hash = ignore_missing ≡ true
-IsRight Unreadable ignore_missing bytes hash = ⊤
+abbrev pub IsRight : Verdict → Bool → Algorithm → Option (List ℕ) → ℕ → Type 0
+IsRight Same ignore_missing algorithm bytes hash = IfSome bytes (λ xs. hash_of algorithm xs ≡ hash)
+IsRight Different ignore_missing algorithm bytes hash = IfSome bytes (λ xs. hash_of algorithm xs ≢ hash)
+IsRight Missing ignore_missing algorithm bytes hash = ignore_missing ≡ true
+IsRight Unreadable ignore_missing algorithm bytes hash = ⊤
+
+-- the same of an entry of a list
+abbrev pub IsRightOf : {A : Type 0} → Bool → Algorithm → (List ℕ → Option (List ℕ)) → Entry A → Verdict → Type 0
+IsRightOf ignore_missing given told entry verdict =
+    IsRight verdict ignore_missing (algorithm_of given entry.algorithm) (told entry.name.items) entry.hash
 
 -- each verdict is right of the line at its place
-abbrev pub EachIsRight : {A : Type 0} → Bool → (List ℕ → Option (List ℕ)) → List (Entry A) → List Verdict → Type 0
-EachIsRight ignore_missing told [] [] = ⊤
-EachIsRight ignore_missing told [] (verdict ∷ verdicts) = ⊥
-EachIsRight ignore_missing told (entry ∷ entries) [] = ⊥
-EachIsRight ignore_missing told (entry ∷ entries) (verdict ∷ verdicts) =
-    IsRight verdict ignore_missing (told entry.name.items) entry.hash × EachIsRight ignore_missing told entries verdicts
+abbrev pub EachIsRight : {A : Type 0} → Bool → Algorithm → (List ℕ → Option (List ℕ)) → List (Entry A) → List Verdict → Type 0
+EachIsRight ignore_missing given told [] [] = ⊤
+EachIsRight ignore_missing given told [] (verdict ∷ verdicts) = ⊥
+EachIsRight ignore_missing given told (entry ∷ entries) [] = ⊥
+EachIsRight ignore_missing given told (entry ∷ entries) (verdict ∷ verdicts) =
+    IsRightOf ignore_missing given told entry verdict × EachIsRight ignore_missing given told entries verdicts
 
 -- whether a verdict lets a check pass
 abbrev pub passes : Verdict → Bool

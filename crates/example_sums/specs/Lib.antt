@@ -1,3 +1,4 @@
+pub mod Algorithm
 pub mod Check
 pub mod Entry
 pub mod Line

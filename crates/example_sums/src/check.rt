@@ -2,9 +2,10 @@
 
 ghost use Rattle.std.specs.Prelude.{◌≡◌, IfOk};
 ghost use Rattle.std.specs.List.{list_all};
-ghost use Rattle.example_sums.specs.Check.{EachIsRight, IsRight, passes};
+ghost use Rattle.example_sums.specs.Check.{EachIsRight, IsRightOf, passes};
 
-use crate::line::Entry;
+use crate::algorithm::Algorithm;
+use crate::entry::Entry;
 use crate::problem::Problem;
 use crate::store::{Store, hash_named};
 use std::alloc::Allocator;
@@ -64,15 +65,20 @@ pub trait Report {
 }
 
 // The verdict of a line, and the error of a file that could not be opened or read.
-fn judge<S: Store, A: Allocator>(
+fn judge<S: Store, A: Allocator, B: Allocator>(
+    alloc: B,
     store: &S,
     entry: &Entry<A>,
+    given: Algorithm,
     ignore_missing: bool,
 ) -> (Verdict, Option<io::Error>)
-    ensures { IsRight result.0 ignore_missing
-        (S.told store.now entry.now.name.items) entry.now.hash }
+    ensures { IsRightOf ignore_missing given (S.told store.now) entry.now result.0 }
 {
-    match hash_named(store, entry.name.as_slice()) {
+    let algorithm = match entry.algorithm {
+        Some(own) => own,
+        None => given,
+    };
+    match hash_named(alloc, store, entry.name.as_slice(), algorithm) {
         Ok(hash) if hash == entry.hash => (Verdict::Same, None),
         Ok(_) => (Verdict::Different, None),
         Err(error) if ignore_missing && error.kind() == ErrorKind::NotFound => {
@@ -82,27 +88,33 @@ fn judge<S: Store, A: Allocator>(
     }
 }
 
-/// Hashes the file of each line and returns the verdicts.
+/// Hashes the file of each line and returns the verdicts. A line that names no version has that of
+/// `given`.
 ///
-/// If the bytes of a file are known, its line has the verdict `Same` exactly when their V3 hash is
-/// the line's, unless the file could not be opened or read. All pass exactly when each line has the
+/// If the bytes of a file are known, its line has the verdict `Same` exactly when their hash is the
+/// line's, unless the file could not be opened or read. All pass exactly when each line has the
 /// verdict `Same`, or, with `ignore_missing`, `Missing`.
-pub fn check_entries<S: Store, P: Report, A: Allocator, B: Allocator>(
+///
+/// # Errors
+///
+/// If an allocation fails, or the report returns an error.
+pub fn check_entries<S: Store, P: Report, A: Allocator, B: Allocator + Copy>(
     alloc: B,
     entries: &[Entry<A>],
     store: &S,
+    given: Algorithm,
     ignore_missing: bool,
     report: &mut P,
 ) -> Result<Checked<B>, Problem>
     ensures right { IfOk result (λ checked.
-        EachIsRight ignore_missing (S.told store.now) entries.now checked.verdicts.items) }
+        EachIsRight ignore_missing given (S.told store.now) entries.now checked.verdicts.items) }
     ensures passed { IfOk result (λ checked.
         checked.passed ≡ list_all passes checked.verdicts.items) }
 {
     let mut verdicts = Vec::new(alloc);
     let mut passed = true;
     for entry in entries {
-        let (verdict, error) = judge(store, entry, ignore_missing);
+        let (verdict, error) = judge(alloc, store, entry, given, ignore_missing);
         report.tell(entry.name.as_slice(), verdict, error)?;
         passed &= verdict.passes();
         verdicts.push(verdict)?;

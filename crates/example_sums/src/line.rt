@@ -1,181 +1,172 @@
-//! A line of the program: how it is made, and how it is read back.
+//! The lines that the program prints.
 
-ghost use Rattle.std.specs.Prelude.{
-  ◌≡◌,
-  ◌++◌,
-  ◌∷◌,
-  ◌<◌,
-  ◌^◌,
-  ℕ,
-  List,
-  Some,
-  IfOk,
-  IsSomeAnd,
+ghost use Rattle.std.specs.Prelude.{◌≡◌, ◌++◌, IfOk, OnOk};
+ghost use Rattle.example_sums.specs.Line.{
+  body_of,
+  digits_of,
+  line_of,
+  seed_text,
+  sum_of,
+  tag_of,
+  value_of,
+  version_text,
 };
-ghost use Rattle.example_sums.specs.Line.{digits_of, escaped, line_of, plain_line};
-ghost use Rattle.example_sums.specs.Entry.{IsEntry};
 
-use crate::names::{needs_escape, push_escaped, unescape};
-use hex::{FromHex, encode_to_slice};
+use crate::algorithm::{Algorithm, Version};
+use crate::names::{needs_escape, push_escaped};
+use hex::encode_to_slice;
 use std::alloc::{AllocError, Allocator};
 
-/// The hash and the name of a line.
-#[derive(Drop)]
-pub struct Entry<A: Allocator> {
-    /// The V3 hash.
-    pub hash: u64,
-    /// The bytes of the name, without escapes.
-    pub name: Vec<u8, A>,
+/// How a line is laid out.
+#[derive(Debug, Clone, Copy, PartialEq, Eq)]
+pub enum Layout {
+    /// The digits, two spaces and the name.
+    Text,
+    /// The digits, a space, an asterisk and the name.
+    Binary,
+    /// The version, the name in parentheses, an equals sign and the digits.
+    Tagged,
 }
 
-/// What a line of a list is.
-#[derive(Drop)]
-pub enum Line<A: Allocator> {
-    /// A hash and a name.
-    Entry(Entry<A>),
-    /// A line that begins with `#`, or an empty one.
-    Comment,
-    /// Neither.
-    Malformed,
+/// The layout of each line, and how it ends.
+#[derive(Debug, Clone, Copy, PartialEq, Eq)]
+pub struct Style {
+    pub layout: Layout,
+    /// A zero byte ends the line instead of a newline, and nothing is escaped.
+    pub zero: bool,
 }
 
-/// The line of a hash and a name, without its newline: a backslash if the name has an escape, 16
-/// hexadecimal digits, two blanks and the name. It fails only if an allocation does.
-#[tactic(auto, unfolding(crate::specs::Line::plain_line))]
-pub fn line_of<A: Allocator>(alloc: A, hash: u64, name: &[u8]) -> Result<Vec<u8, A>, AllocError>
-    ensures { IfOk result (λ line. line.items ≡ line_of hash name.now) }
+// Adds a number as 16 hexadecimal digits.
+fn push_digits<A: Allocator>(text: &mut Vec<u8, A>, number: u64) -> Result<(), AllocError>
+    ensures { OnOk result (text.new.items ≡ text.old.items ++ digits_of number) }
 {
     let mut digits = [0u8; 16];
-    let _ = encode_to_slice(hash.to_be_bytes(), &mut digits);
+    let _ = encode_to_slice(number.to_be_bytes(), &mut digits);
+    text.extend_from_slice(&digits)
+}
+
+// A version as a tag has it.
+#[tactic(auto, unfolding(crate::specs::Line::version_text))]
+fn version_text(version: Version) -> &'static [u8]
+    ensures { result.now ≡ version_text version }
+{
+    match version {
+        Version::V1 => b"1",
+        Version::V2Minor0 => b"2.0",
+        Version::V2Minor1 => b"2.1",
+        Version::V2Minor2 => b"2.2",
+        Version::V3 => b"3",
+        Version::V3Micro => b"3-MICRO",
+        Version::V3Nano => b"3-NANO",
+    }
+}
+
+// Adds a seed word as a tag has it.
+#[tactic(auto, unfolding(crate::specs::Line::seed_text))]
+fn push_seed<A: Allocator>(text: &mut Vec<u8, A>, seed: Option<u64>) -> Result<(), AllocError>
+    ensures { OnOk result (text.new.items ≡ text.old.items ++ seed_text seed) }
+{
+    match seed {
+        None => Ok(()),
+        Some(word) => {
+            text.push(b':')?;
+            push_digits(text, word)
+        }
+    }
+}
+
+// Adds what a tagged line begins with.
+fn push_tag<A: Allocator>(text: &mut Vec<u8, A>, algorithm: Algorithm) -> Result<(), AllocError>
+    ensures { OnOk result (text.new.items ≡ text.old.items ++ tag_of algorithm) }
+{
+    text.extend_from_slice(b"RAPIDHASH-V")?;
+    text.extend_from_slice(version_text(algorithm.version))?;
+    push_seed(text, algorithm.seed)?;
+    Ok(())
+}
+
+// Adds what follows a tag.
+fn push_value<A: Allocator>(line: &mut Vec<u8, A>, hash: u64, text: &[u8]) -> Result<(), AllocError>
+    ensures { OnOk result (line.new.items ≡ line.old.items ++ value_of hash text.now) }
+{
+    line.extend_from_slice(b" (")?;
+    line.extend_from_slice(text)?;
+    line.extend_from_slice(b") = ")?;
+    push_digits(line, hash)
+}
+
+// Adds a hash and the text of a name.
+#[tactic(auto, unfolding(crate::specs::Line::body_of))]
+fn push_body<A: Allocator>(
+    line: &mut Vec<u8, A>,
+    layout: Layout,
+    algorithm: Algorithm,
+    hash: u64,
+    text: &[u8],
+) -> Result<(), AllocError>
+    ensures { OnOk result
+        (line.new.items ≡ line.old.items ++ body_of layout algorithm hash text.now) }
+{
+    if layout == Layout::Tagged {
+        push_tag(line, algorithm)?;
+        return push_value(line, hash, text);
+    }
+    push_digits(line, hash)?;
+    line.extend_from_slice(if layout == Layout::Binary {
+        b" *"
+    } else {
+        b"  "
+    })?;
+    line.extend_from_slice(text)
+}
+
+/// Returns the line of a hash and a name, without its newline. A line whose name has an escape
+/// begins with a backslash.
+///
+/// # Errors
+///
+/// If an allocation fails.
+pub fn line_of<A: Allocator + Copy>(
+    alloc: A,
+    layout: Layout,
+    algorithm: Algorithm,
+    hash: u64,
+    name: &[u8],
+) -> Result<Vec<u8, A>, AllocError>
+    ensures { IfOk result (λ line. line.items ≡ line_of layout algorithm hash name.now) }
+{
+    let mut text = Vec::new(alloc);
+    push_escaped(&mut text, name)?;
     let mut line = Vec::new(alloc);
     if needs_escape(name) {
         line.push(b'\\')?;
     }
-    line.extend_from_slice(&digits)?;
-    line.extend_from_slice(b"  ")?;
-    push_escaped(&mut line, name)?;
+    push_body(&mut line, layout, algorithm, hash, text.as_slice())?;
     Ok(line)
 }
 
-// A copy of a name, escapes and all.
-fn copy<A: Allocator>(alloc: A, name: &[u8]) -> Result<Vec<u8, A>, AllocError>
-    ensures { IfOk result (λ copy. copy.items ≡ name.now) }
+/// Returns what is printed for a hash and a name.
+///
+/// # Errors
+///
+/// If an allocation fails.
+pub fn sum_of<A: Allocator + Copy>(
+    alloc: A,
+    style: Style,
+    algorithm: Algorithm,
+    hash: u64,
+    name: &[u8],
+) -> Result<Vec<u8, A>, AllocError>
+    ensures { IfOk result (λ sum.
+        sum.items ≡ sum_of style.layout style.zero algorithm hash name.now) }
 {
-    let mut copy = Vec::new(alloc);
-    copy.extend_from_slice(name)?;
-    Ok(copy)
-}
-
-// The hash of 16 digits, in either case.
-#[tactic(auto, using(crate::proofs::Lines::digits_decode, crate::proofs::Lines::hash_of_bytes))]
-fn hash_of_digits(digits: &[u8]) -> Option<u64>
-    ensures { (hash : ℕ) → hash < 2 ^ 64 → digits.now ≡ digits_of hash → result ≡ Some hash }
-{
-    match <[u8; 8] as FromHex>::from_hex(digits) {
-        Ok(bytes) => Some(u64::from_be_bytes(bytes)),
-        Err(_) => None,
+    if style.zero {
+        let mut sum = Vec::new(alloc);
+        push_body(&mut sum, style.layout, algorithm, hash, name)?;
+        sum.push(0)?;
+        return Ok(sum);
     }
-}
-
-// The text without the carriage return at its end, if it has one.
-#[tactic(auto, using(crate::proofs::Lines::no_return_at))]
-fn without_return(text: &[u8]) -> &[u8]
-    ensures { (name : List ℕ) → text.now ≡ escaped name → result.now ≡ text.now }
-{
-    let len = text.len();
-    if len > 0 && text[len - 1] == b'\r' {
-        &text[..len - 1]
-    } else {
-        text
-    }
-}
-
-// The text of the name after the digits and two blanks, or a blank and a `*`.
-fn name_behind(rest: &[u8]) -> Option<&[u8]>
-    ensures { (name : List ℕ) → rest.now ≡ 32 ∷ 32 ∷ escaped name →
-        IsSomeAnd result (λ text. text.now ≡ escaped name) }
-{
-    let [b' ', b' ' | b'*', text @ ..] = rest else {
-        return None;
-    };
-    Some(without_return(text))
-}
-
-// The hash and the text of the name, of a line that begins with the digits.
-#[tactic(auto, using(crate::proofs::Lines::digits_part, crate::proofs::Lines::name_part))]
-fn split_line(line: &[u8]) -> Option<(u64, &[u8])>
-    ensures { (hash : ℕ) (name : List ℕ) → hash < 2 ^ 64 → line.now ≡ plain_line hash name →
-        IsSomeAnd result (λ parts. (parts.0 ≡ hash) × (parts.1.now ≡ escaped name)) }
-{
-    let (digits, rest) = line.split_at_checked(16)?;
-    Some((hash_of_digits(digits)?, name_behind(rest)?))
-}
-
-// The entry of a line that begins with the digits, if the name is escaped.
-#[tactic(auto, using(crate::proofs::Lines::unescape_from_escaped))]
-fn escaped_entry<A: Allocator>(alloc: A, line: &[u8]) -> Result<Option<Entry<A>>, AllocError>
-    ensures { (hash : ℕ) (name : List ℕ) → hash < 2 ^ 64 → line.now ≡ plain_line hash name →
-        IfOk result (λ entry. IsSomeAnd entry (λ e. (e.hash ≡ hash) × (e.name.items ≡ name))) }
-{
-    let Some((hash, text)) = split_line(line) else {
-        return Ok(None);
-    };
-    let Some(name) = unescape(alloc, text)? else {
-        return Ok(None);
-    };
-    Ok(Some(Entry { hash, name }))
-}
-
-// The entry of a line that begins with the digits, if the name is not escaped.
-fn plain_entry<A: Allocator>(alloc: A, line: &[u8]) -> Result<Option<Entry<A>>, AllocError>
-    ensures { (hash : ℕ) (name : List ℕ) → hash < 2 ^ 64 → line.now ≡ plain_line hash name →
-        escaped name ≡ name →
-        IfOk result (λ entry. IsSomeAnd entry (λ e. (e.hash ≡ hash) × (e.name.items ≡ name))) }
-{
-    let Some((hash, text)) = split_line(line) else {
-        return Ok(None);
-    };
-    let name = copy(alloc, text)?;
-    Ok(Some(Entry { hash, name }))
-}
-
-// The entry of a line, if it has one.
-#[tactic(auto, using(crate::proofs::Lines::behind_backslash, crate::proofs::Lines::no_backslash))]
-fn entry_of<A: Allocator>(alloc: A, line: &[u8]) -> Result<Option<Entry<A>>, AllocError>
-    ensures { (hash : ℕ) (name : List ℕ) → hash < 2 ^ 64 → line.now ≡ line_of hash name →
-        IfOk result (λ entry. IsSomeAnd entry (λ e. (e.hash ≡ hash) × (e.name.items ≡ name))) }
-{
-    if !line.is_empty() && line[0] == b'\\' {
-        escaped_entry(alloc, &line[1..])
-    } else {
-        plain_entry(alloc, line)
-    }
-}
-
-// The line without the blanks and tabs at its start.
-fn without_blanks(line: &[u8]) -> &[u8] {
-    let blanks = line
-        .iter()
-        .take_while(|byte| matches!(**byte, b' ' | b'\t'))
-        .count();
-    line.get(blanks..).unwrap_or(&[])
-}
-
-/// Reads a line, given without its newline. Blanks at its start are ignored, and so is a carriage
-/// return at its end. The name may follow two blanks, or a blank and a `*`. It fails only if an
-/// allocation does.
-pub fn read_line<A: Allocator + Copy>(alloc: A, line: &[u8]) -> Result<Line<A>, AllocError>
-    ensures reads_back { (hash : ℕ) (name : List ℕ) → hash < 2 ^ 64 → line.now ≡ line_of hash name →
-        IfOk result (λ read. IsEntry read hash name) }
-{
-    if let Some(entry) = entry_of(alloc, line)? {
-        return Ok(Line::Entry(entry));
-    }
-    if matches!(line, [] | [b'#', ..]) {
-        return Ok(Line::Comment);
-    }
-    Ok(match entry_of(alloc, without_blanks(line))? {
-        Some(entry) => Line::Entry(entry),
-        None => Line::Malformed,
-    })
+    let mut sum = line_of(alloc, style.layout, algorithm, hash, name)?;
+    sum.push(b'\n')?;
+    Ok(sum)
 }

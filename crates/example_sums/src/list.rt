@@ -1,6 +1,6 @@
 //! The lines of a list.
 
-use crate::line::{Entry, Line, read_line};
+use crate::entry::{Entry, Line, read_line};
 use crate::problem::Problem;
 use std::alloc::Global;
 

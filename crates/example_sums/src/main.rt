@@ -1,21 +1,24 @@
-//! Prints the V3 hash of each file as a line, and checks such lines, as sha256sum does with its
-//! hashes.
+//! Prints the hash of each file as a line and checks such lines, as sha256sum does with its own.
 #![tactic(auto)]
 
+mod algorithm;
 mod check;
 #[cfg(test)]
 mod check_tests;
 mod console;
 mod disk;
+mod entry;
 mod line;
 #[cfg(test)]
 mod line_tests;
 mod list;
 mod names;
+mod parts;
 mod problem;
 mod runs;
 mod store;
 mod sum;
+mod tag;
 mod words;
 
 use problem::Problem;

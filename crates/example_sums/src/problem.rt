@@ -36,7 +36,7 @@ impl fmt::Display for Problem {
             Problem::Words(error) if error.kind() == ErrorKind::InvalidData => {
                 write!(f, "an argument is not UTF-8")
             }
-            Problem::Words(error) => write!(f, "the command line: {error}"),
+            Problem::Words(error) => write!(f, "cannot read arguments: {error}"),
             Problem::Read(error) => write!(f, "{error}"),
             Problem::Write(error) => write!(f, "write error: {error}"),
         }

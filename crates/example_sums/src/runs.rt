@@ -1,13 +1,15 @@
 //! What a call of the program does.
 
+use crate::algorithm::Algorithm;
 use crate::check::{Verdict, check_entries};
 use crate::console::Console;
 use crate::disk::Disk;
+use crate::line::Style;
 use crate::list::read_list;
 use crate::problem::Problem;
 use crate::store::Store;
 use crate::sum::write_sum;
-use crate::words::Options;
+use crate::words::{Options, algorithm_of, style_of};
 use clap::ArgMatches;
 use std::alloc::Global;
 use std::io;
@@ -17,6 +19,7 @@ use std::io::Read;
 /// whether all files could be read and all checks passed.
 pub fn run_files(rt: &HostRuntime, matches: &ArgMatches<'_>) -> Result<bool, Problem> {
     let options = Options::of(matches);
+    let (algorithm, style) = (algorithm_of(matches), style_of(matches));
     let checks = matches.get_flag("check");
     let mut console = Console { rt, options };
     let mut passed = true;
@@ -24,9 +27,9 @@ pub fn run_files(rt: &HostRuntime, matches: &ArgMatches<'_>) -> Result<bool, Pro
     for name in names {
         let name = name.as_bytes();
         let done = if checks {
-            check_list(&mut console, name)
+            check_list(&mut console, name, algorithm)
         } else {
-            print_sum(&console, name)
+            print_sum(&console, name, algorithm, style)
         };
         passed = done? && passed;
     }
@@ -34,9 +37,15 @@ pub fn run_files(rt: &HostRuntime, matches: &ArgMatches<'_>) -> Result<bool, Pro
 }
 
 // Prints the line of a file, or says why it cannot be read.
-fn print_sum(console: &Console<'_>, name: &[u8]) -> Result<bool, Problem> {
+fn print_sum(
+    console: &Console<'_>,
+    name: &[u8],
+    algorithm: Algorithm,
+    style: Style,
+) -> Result<bool, Problem> {
     let rt = console.rt;
-    match write_sum(rt.alloc(), &Disk::new(rt), name, &mut rt.stdout()) {
+    let (disk, mut out) = (Disk::new(rt), rt.stdout());
+    match write_sum(rt.alloc(), &disk, name, algorithm, style, &mut out) {
         Ok(()) => Ok(true),
         Err(Problem::Read(error)) => {
             console.complain_of(name, error)?;
@@ -54,7 +63,7 @@ fn read_whole(alloc: Global, disk: &Disk<'_>, name: &[u8]) -> io::Result<Vec<u8>
 }
 
 // Checks the files of the list that has this name.
-fn check_list(console: &mut Console<'_>, name: &[u8]) -> Result<bool, Problem> {
+fn check_list(console: &mut Console<'_>, name: &[u8], given: Algorithm) -> Result<bool, Problem> {
     let rt = console.rt;
     let disk = Disk::new(rt);
     let text = match read_whole(rt.alloc(), &disk, name) {
@@ -72,7 +81,7 @@ fn check_list(console: &mut Console<'_>, name: &[u8]) -> Result<bool, Problem> {
     }
     let ignore_missing = console.options.ignore_missing;
     let entries = list.entries.as_slice();
-    let checked = check_entries(rt.alloc(), entries, &disk, ignore_missing, console)?;
+    let checked = check_entries(rt.alloc(), entries, &disk, given, ignore_missing, console)?;
     let same = checked.count(Verdict::Same);
     console.warn_of_verdicts(name, &list, &checked)?;
     let well_formed = list.malformed.is_empty() || !console.options.strict;

@@ -7,7 +7,7 @@ loop-entry-preserved g c =
     let pushed = c.in_ok-push.ensures.items in
     let told = g.S.Store.told c.args.store.now in
     record {
-      right = right-next c.args.ignore_missing told c.args.entries.now c.loop-entry.verdicts.items c.push.new.self.items
+      right = right-next c.args.ignore_missing c.args.given told c.args.entries.now c.loop-entry.verdicts.items c.push.new.self.items
           c.entry-item.result c.judge-verdict.result.0 c.loop-entry.entry-index c.loop-entry-test.true c.entry-item.is pushed
           c.loop-entry.invariant.right c.judge-verdict.ensures;
       passed = passed-next c.loop-entry.passed c.passes-passed.result c.loop-entry.verdicts.items c.push.new.self.items

@@ -5,6 +5,6 @@ use Rattle.example_sums.proofs.check.check_entries.Given as goal
 
 abbrev pub invariant-loop-entry : goal.invariant-loop-entry
 invariant-loop-entry g l = record {
-  right : EachIsRight l.ignore_missing (g.S.Store.told l.store) (take l.entry-index l.entries) l.verdicts.items;
+  right : EachIsRight l.ignore_missing l.given (g.S.Store.told l.store) (take l.entry-index l.entries) l.verdicts.items;
   passed : l.passed ≡ list_all passes l.verdicts.items;
 }

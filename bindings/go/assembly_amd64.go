@@ -1,0 +1,115 @@
+//go:build !rapidhash_cgo
+
+package rapidhash
+
+// The code of the C library for x86-64, as rapidhash_amd64.s has it, so that a call needs no cgo. generate.py makes a
+// trampoline for each function below, named after the export that it calls. Code in assembly is not preempted: a
+// garbage collection waits until a call returns. After the call Go restores the registers that it keeps, R14 and X15.
+
+// A stream as C lays it out. It points to its secrets for the time of a call only, in which Go moves no stack.
+type state struct {
+	secrets uintptr
+	lane    [7]uint64
+	any     byte
+	kept    [128]byte
+	len     uintptr
+	lanes   uintptr
+}
+
+// All of the library, which only the trampolines call.
+func library()
+
+//go:noescape
+func v1(data []byte) uint64
+
+//go:noescape
+func v1Seeded(data []byte, secrets *SecretsV1) uint64
+
+//go:noescape
+func v1WithSeed(data []byte, seed uint64) uint64
+
+//go:noescape
+func v2_0(data []byte) uint64
+
+//go:noescape
+func v2_0Seeded(data []byte, secrets *Secrets) uint64
+
+//go:noescape
+func v2_0WithSeed(data []byte, seed uint64) uint64
+
+//go:noescape
+func v2_1(data []byte) uint64
+
+//go:noescape
+func v2_1Seeded(data []byte, secrets *Secrets) uint64
+
+//go:noescape
+func v2_1WithSeed(data []byte, seed uint64) uint64
+
+//go:noescape
+func v2_2(data []byte) uint64
+
+//go:noescape
+func v2_2Seeded(data []byte, secrets *Secrets) uint64
+
+//go:noescape
+func v2_2WithSeed(data []byte, seed uint64) uint64
+
+//go:noescape
+func v3(data []byte) uint64
+
+//go:noescape
+func v3Seeded(data []byte, secrets *Secrets) uint64
+
+//go:noescape
+func v3WithSeed(data []byte, seed uint64) uint64
+
+//go:noescape
+func v3Micro(data []byte) uint64
+
+//go:noescape
+func v3MicroSeeded(data []byte, secrets *Secrets) uint64
+
+//go:noescape
+func v3MicroWithSeed(data []byte, seed uint64) uint64
+
+//go:noescape
+func v3Nano(data []byte) uint64
+
+//go:noescape
+func v3NanoSeeded(data []byte, secrets *Secrets) uint64
+
+//go:noescape
+func v3NanoWithSeed(data []byte, seed uint64) uint64
+
+//go:noescape
+func v3Protected(data []byte) uint64
+
+//go:noescape
+func v3ProtectedSeeded(data []byte, secrets *Secrets) uint64
+
+//go:noescape
+func makeSecrets(number uint64, secrets *Secrets)
+
+//go:noescape
+func seedSecrets(word uint64, secrets *Secrets)
+
+//go:noescape
+func v1MakeSecrets(number uint64, secrets *SecretsV1)
+
+//go:noescape
+func v1SeedSecrets(word uint64, secrets *SecretsV1)
+
+//go:noescape
+func streamWrite(stream *state, own *Secrets, data []byte)
+
+//go:noescape
+func streamFinish(stream *state, own *Secrets) uint64
+
+//go:noescape
+func streamReset(stream *state, own *Secrets)
+
+// The memmove of the code above, which a test calls.
+//
+//go:noescape
+func memmove(to *byte, from *byte, size uint64)

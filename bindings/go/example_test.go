@@ -1,0 +1,50 @@
+package rapidhash_test
+
+import (
+	"fmt"
+	"io"
+	"os"
+	"strings"
+
+	"yervound.example/rapidhash"
+)
+
+func Example() {
+	fmt.Println(rapidhash.V3([]byte("hello")))
+	fmt.Println(rapidhash.V3String("hello"))
+	// Output:
+	// 3327445792987248966
+	// 3327445792987248966
+}
+
+func ExampleV3WithSeed() {
+	fmt.Println(rapidhash.V3WithSeed([]byte("hello"), 0) == rapidhash.V3([]byte("hello")))
+	fmt.Println(rapidhash.V3WithSeed([]byte("hello"), 1) == rapidhash.V3([]byte("hello")))
+	// Output:
+	// true
+	// false
+}
+
+func ExampleStream() {
+	var stream rapidhash.Stream
+	if _, err := io.Copy(&stream, strings.NewReader("hello")); err != nil {
+		fmt.Fprintln(os.Stderr, err)
+	}
+	fmt.Println(stream.Sum64())
+	fmt.Printf("%x\n", stream.Sum(nil))
+	// Output:
+	// 3327445792987248966
+	// 2e2d7651b45f7946
+}
+
+func ExampleStream_MarshalBinary() {
+	first, second := rapidhash.NewV3(nil), new(rapidhash.Stream)
+	first.WriteString("hel")
+	saved, _ := first.MarshalBinary()
+	if err := second.UnmarshalBinary(saved); err != nil {
+		fmt.Fprintln(os.Stderr, err)
+	}
+	second.WriteString("lo")
+	fmt.Println(second.Sum64())
+	// Output: 3327445792987248966
+}
