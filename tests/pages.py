@@ -99,10 +99,15 @@ def vectors():
 
 
 def statements():
-    """The definitions and the contract that docs/PROVED.md shows are those of the sources."""
-    crate = TOP / "crates" / "rapidhash_portable"
-    sources = "".join(file.read_text() for file in [*crate.glob("specs/*.antt"), *crate.glob("src/*.rt")])
+    """The definitions, the contract and the clauses that docs/PROVED.md quotes are those of the sources."""
+    crates = TOP / "crates"
+    files = [*crates.glob("rapidhash*/specs/*.antt"), *crates.glob("rapidhash*/src/**/*.rt")]
+    sources = "".join(file.read_text() for file in files)
     page = (TOP / "docs" / "PROVED.md").read_text()
+    clauses = re.findall(r"`([^`\n]* [^`\n]*)`", page)
+    for clause in clauses:
+        if re.search("[≡→↔λ«]|\\[]|Absorbs|Appends|Answers|Marks", clause) and clause not in " ".join(sources.split()):
+            yield f"docs/PROVED.md quotes a clause that no source has: {clause}"
     blocks = re.findall(r"^```(?:antt|rust)\n(.*?)^```$", page, re.MULTILINE | re.DOTALL)
     for part in (part for block in blocks for part in block.split("\n\n")):
         if part.rstrip() not in sources:
