@@ -166,7 +166,7 @@ test:
 	done
 
 # Each bench by its file of figures, with its words. A bench that fails leaves the figures as they are.
-bench: bench/slices.tsv bench/speed.tsv bench/c.tsv bench/files.tsv bench/memory.tsv bench/tool.tsv
+bench: bench/slices.tsv bench/speed.tsv bench/c.tsv bench/files.tsv bench/memory.tsv bench/tool.tsv bench/packages.tsv
 	@bench/figures --write
 
 bench/slices.tsv: measured = slices default seeded
@@ -175,6 +175,7 @@ bench/c.tsv: measured = slices c seed stream
 bench/files.tsv: measured = files
 bench/memory.tsv: measured = memory
 bench/tool.tsv: measured = tool
+bench/packages.tsv: measured = packages
 
 .PHONY: always
 bench/%.tsv: always
