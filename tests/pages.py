@@ -13,7 +13,7 @@ import sys
 from cases import TOP, finish, tell
 
 PAGES = sorted([*TOP.glob("*.md"), *TOP.glob("docs/*.md"), *TOP.glob("*/NOTES.md"), TOP / "share" / "dist.md",
-                TOP / "rust" / "README.md"])
+                TOP / "rust" / "README.md", *TOP.glob("bindings/*/README.md")])
 # Folders that builds make, and what lies in an archive or in an installed copy alone.
 BUILT = ("build/", "crates/example_NAME", "tests/example_NAME")
 PATH = re.compile(r"`((?:crates|docs|tests|bench|bin|include|bindings|share|\.ci)/[^` ]*)`")
