@@ -15,7 +15,7 @@ from cases import TOP, finish, tell
 PAGES = sorted([*TOP.glob("*.md"), *TOP.glob("docs/*.md"), *TOP.glob("*/NOTES.md"), TOP / "share" / "dist.md",
                 TOP / "rust" / "README.md", *TOP.glob("bindings/*/README.md")])
 # Folders that builds make, and what lies in an archive or in an installed copy alone.
-BUILT = ("build/", "crates/example_NAME", "tests/example_NAME")
+BUILT = ("build/", "crates/example_NAME", "tests/example_NAME", "crates/first")
 PATH = re.compile(r"`((?:crates|docs|tests|bench|bin|include|bindings|share|\.ci)/[^` ]*)`")
 NAME = re.compile(r"`([A-Za-z]\w*(?:::\w+)*)`")
 
@@ -97,16 +97,17 @@ def vectors():
 
 
 def statements():
-    """The definitions and the contract that docs/PROVED.md shows are those of the sources."""
-    crate = TOP / "crates" / "rapidhash_portable"
-    sources = "".join(file.read_text() for file in [*crate.glob("specs/*.antt"), *crate.glob("src/*.rt")])
-    page = (TOP / "docs" / "PROVED.md").read_text()
-    blocks = re.findall(r"^```(?:antt|rust)\n(.*?)^```$", page, re.MULTILINE | re.DOTALL)
-    for part in (part for block in blocks for part in block.split("\n\n")):
-        if part.rstrip() not in sources:
-            yield f"docs/PROVED.md shows what no source has: {part.splitlines()[0]}"
-    if len(blocks) != 2:
-        yield f"docs/PROVED.md shows {len(blocks)} blocks"
+    """The definitions and the contracts that these pages show are those of the sources."""
+    files = [*TOP.glob("crates/*/specs/*.antt"), *TOP.glob("crates/*/src/**/*.rt")]
+    sources = "".join(file.read_text() for file in files)
+    for page, languages, count in (("docs/PROVED.md", "antt|rust", 2), ("docs/RATTLE.md", "antt", 3)):
+        text = (TOP / page).read_text()
+        blocks = re.findall(rf"^```(?:{languages})\n(.*?)^```$", text, re.MULTILINE | re.DOTALL)
+        for part in (part for block in blocks for part in block.split("\n\n")):
+            if part.rstrip() not in sources:
+                yield f"{page} shows what no source has: {part.splitlines()[0]}"
+        if len(blocks) != count:
+            yield f"{page} shows {len(blocks)} blocks"
 
 
 def made_by(*command):
