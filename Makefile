@@ -1,18 +1,18 @@
-# make             proves and builds the tools and the library for C, where they are missing or old
-# make check       proves everything, and runs all tests: what a push has to pass
-# make quick       lays the sources out, writes the Rust crate, checks the pages, and proves what changed
+# make             proves and builds the tools and the C library, if they are missing or old
+# make check       proves everything and runs all tests: must pass before a push
+# make quick       formats the sources, writes the Rust crate, checks the pages, and proves what changed
 # make test        proves and runs the tests of all crates, and runs the programs from end to end
-# make fmt         lays the sources out
-# make bench       takes the figures of bench/ and docs/ anew, beside the Rust crate that RAPIDHASH_CRATE names
-# make library     proves and builds the library for C, static and shared
+# make fmt         formats the sources
+# make bench       measures again what bench/*.tsv has, beside the Rust crate that RAPIDHASH_CRATE names
+# make library     proves and builds the C library, static and shared
 # make wasm        proves and builds the same library for WebAssembly, with addresses of 32 bits
 # make npm         packs bindings/javascript with that module, for npm install
 # make wheel       packs bindings/python with the library inside, for pip install
 # make sqlite      builds bindings/sqlite with the library inside, as an extension that SQLite loads
 # make postgresql  builds bindings/postgresql with the library inside, as an extension of PostgreSQL
 # make page        puts examples/browser with that package into build/browser, for any server of files
-# make install     copies what make has built, with manual pages and completions, under PREFIX
-# make dist        puts all that a user without the kit needs into one archive in build/
+# make install     installs what make has built, with manual pages and completions, under PREFIX
+# make dist        packs all that a user without the toolchain needs into one archive in build/
 # make deb         packs what make and make sqlite have built as packages of Debian, into build/debian
 # make vendor      copies the library into another Rattle repository: make vendor INTO=FOLDER
 # make test-vendor runs the merge gate of such a repository, which proves all from nothing
@@ -58,7 +58,7 @@ $(2): $$(filter crates.txt crates/rapidhash% crates/test_fakes/% crates/$(1)/%,$
 	@echo 'make: proving and building $(1), some minutes the first time' >&2
 	@mkdir -p build && touch build/$(1).begun
 	@(cd crates/$(1) && rt $(3)) </dev/null >build/$(1).log 2>&1 || { grep -m 20 -E 'error|not proved' build/$(1).log || \
-	  tail -n 5 build/$(1).log; echo 'make: the build failed; all that rt said is in build/$(1).log'; exit 2; } >&2
+	  tail -n 5 build/$(1).log; echo 'make: the build failed; full output: build/$(1).log'; exit 2; } >&2
 	@touch -r build/$(1).begun $(2)
 endef
 program = $(call product,$(1),crates/$(1)/out/$(1),run -- $(2))
@@ -189,7 +189,7 @@ install uninstall: export DATADIR := $(DATADIR)
 install uninstall: export DESTDIR := $(DESTDIR)
 
 install:
-	@$(MAKE) -q all || { echo 'make install: something is old or missing: run make first' >&2; exit 2; }
+	@$(MAKE) -q all || { echo 'make install: something is missing or out of date: run make first' >&2; exit 2; }
 	@bin/install
 
 uninstall:
@@ -213,7 +213,7 @@ dist: all $(folder) $(wheel)
 deb: all $(extension)
 	@rm -rf build/debian && mkdir -p build/debian/source && cp -r share/debian build/debian/source
 	@cd build/debian/source && TOP='$(CURDIR)' dpkg-buildpackage -b -us -uc >../log 2>&1 || \
-	  { tail -n 20 ../log; echo 'make: the packages failed; all that was said is in build/debian/log'; exit 2; } >&2
+	  { tail -n 20 ../log; echo 'make: the packages failed; full output: build/debian/log'; exit 2; } >&2
 
 vendor:
 	@bin/vendor "$(INTO)"

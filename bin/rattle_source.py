@@ -1,49 +1,36 @@
-"""Reads the items of Rattle crates from sources that `rt fmt` has laid out: their signatures, their
-preconditions and their doc comments, and under which names other modules re-export them."""
+"""Reads the items of Rattle crates from sources that `rt fmt` has laid out: their declarations, their
+preconditions and their doc comments, and the names under which other modules re-export them."""
 
 import re
+import textwrap
 from dataclasses import dataclass, field
 
-ITEM = re.compile(r"(pub(?:\(\w+\))? )?(?:const (?=fn)|unsafe )*(fn|struct|enum|trait|type|const|impl|mod|use)\b")
+ITEM = re.compile(r"(pub(?:\(\w+\))? )?(?:const (?=fn)|unsafe )*(fn|struct|enum|trait|type|const|impl|mod|use)\b ?(\w*)")
 
 
 @dataclass
 class Item:
-    """A function, type, constant, trait or impl block."""
+    """A function, type, constant, trait or impl block. The signature is its declaration without clauses and body."""
 
     kind: str
     name: str
-    signature: str
     is_public: bool
     doc: list
+    signature: str = ""
     needs: list = field(default_factory=list)
     traits: list = field(default_factory=list)
     members: list = field(default_factory=list)
     impls: list = field(default_factory=list)
 
-    def sentence(self):
-        return sentence_of(self.doc)
 
-
-def sentence_of(doc):
-    """The first sentence of a doc comment, on one line, with its links as bare names."""
+def first_sentence(doc):
     text = " ".join(doc[: doc.index("")] if "" in doc else doc)
-    first = re.match(r"(.+?\.)(?=\s|$)", text)
-    return re.sub(r"\[`((?:super|crate)::)?([^`]+)`\]", r"`\2`", first[1] if first else text)
+    return (re.match(r".+?\.(?=\s|$)", text) or re.match(".*", text))[0]
 
 
-def example_of(doc):
-    """The lines of the first code block of a doc comment, without imports and hidden lines."""
-    fences = [place for place, line in enumerate(doc) if line.startswith("```")]
-    block = doc[fences[0] + 1 : fences[1]] if len(fences) > 1 else []
-    shown = [line for line in block if not line.startswith(("use ", "# "))]
-    return shown[1:] if shown[:1] == [""] else shown
-
-
-def joined(lines):
-    """A declaration that stands on several lines, on one."""
-    text = " ".join(line.strip() for line in lines)
-    return re.sub(r",? ([>)\]])", r"\1", re.sub(r"([<(\[]) ", r"\1", text)).strip()
+def on_one_line(signature):
+    text = " ".join(signature.split())
+    return re.sub(r",? ([>)\]])", r"\1", re.sub(r"([<(\[]) ", r"\1", text))
 
 
 class Parser:
@@ -62,7 +49,7 @@ class Parser:
         return self.lines[start : self.at]
 
     def items(self, indent=""):
-        """The items up to the end of the file, or of the block that is indented so far."""
+        """The items up to the end of the file, or of the block with this indentation."""
         found, doc, attributes = [], [], ""
         while self.at < len(self.lines):
             line = self.lines[self.at]
@@ -77,36 +64,36 @@ class Parser:
                 self.take(lambda line: line.endswith(";"))
                 continue
             elif match := ITEM.match(text):
-                found.append(self.item(match, indent, doc, attributes))
+                item = self.item(match, indent, doc)
+                derived = re.search(r"derive\(([^)]*)\)", attributes)
+                item.traits = derived[1].split(", ") if derived else []
+                found += [item] * ("cfg(test)" not in attributes)
                 doc, attributes = [], ""
                 continue
             elif text.startswith("pub "):
                 raise SystemExit(f"what kind of item is this? {text}")
             self.at += 1
-        return [item for item in found if item]
+        return found
 
-    def item(self, match, indent, doc, attributes):
+    def item(self, match, indent, doc):
         """One item, whose first line is here."""
         kind = match[2]
+        item = Item(kind, match[3], match[1] == "pub ", doc)
         head = self.take(lambda line: line.endswith(";")) if kind == "use" else self.head()
-        text = joined(head).removesuffix("{").removesuffix(";").strip()
-        text = text.removeprefix(match[1] or "")
-        name = re.match(r"\w+", text[len(kind) :].strip())
-        item = Item(kind, name[0] if name else "", text, match[1] == "pub ", doc)
-        derived = re.search(r"derive\(([^)]*)\)", attributes)
-        item.traits = derived[1].split(", ") if derived else []
-        if kind == "const" and not head[-1].endswith(";"):
-            self.take(lambda line: line == indent + "};")
+        has_body = head[-1].endswith("{")
+        item.signature = textwrap.dedent("\n".join(head)).removesuffix("{").removesuffix(";").strip()
         if kind == "const":
-            item.signature = text.split(" =")[0]
-        if kind == "fn":
+            item.signature = item.signature.split(" =")[0]
+            if not head[-1].endswith(";"):
+                self.take(lambda line: line == indent + "};")
+        elif kind == "fn":
             self.function(item, head[-1], indent)
-        elif head[-1].endswith("{") and kind in ("struct", "enum"):
-            self.fields(item, indent)
-        elif head[-1].endswith("{") and kind in ("impl", "trait"):
+        elif has_body and kind in ("struct", "enum"):
+            item.signature += " {\n" + "".join(self.fields(kind, indent)) + "}"
+        elif has_body and kind in ("impl", "trait"):
             item.members = self.items(indent + "    ")
             self.at += 1
-        return None if "cfg(test)" in attributes else item
+        return item
 
     def head(self):
         """The lines of a declaration, before its clauses and its body."""
@@ -119,7 +106,7 @@ class Parser:
         return self.lines[start : self.at]
 
     def function(self, item, last, indent):
-        """The clauses of a function, of which the preconditions are kept. Its body is skipped."""
+        """Keeps the preconditions of a function and skips its body."""
         while not last.endswith((";", "{")):
             text = self.lines[self.at].strip()
             if text == "{":
@@ -135,13 +122,20 @@ class Parser:
         if not last.endswith(";"):
             self.take(lambda line: line == indent + "}")
 
-    def fields(self, item, indent):
-        """The public fields of a struct, or the variants of an enum, as a part of its signature."""
-        lines = [line.strip() for line in self.take(lambda line: line == indent + "}")[:-1]]
-        wanted = "pub " if item.kind == "struct" else ""
-        names = [line.rstrip(",") for line in lines if re.match(wanted + r"[\w]", line)]
-        if names:
-            item.signature += " { " + ", ".join(names) + " }"
+    def fields(self, kind, indent):
+        """The lines of the public fields of a struct or of the variants of an enum, with their comments."""
+        comment, hidden = [], 0
+        for line in self.take(lambda line: line == indent + "}")[:-1]:
+            text = line[len(indent) :]
+            if text.lstrip().startswith(("///", "#[")):
+                comment.append(text)
+            elif kind == "enum" or text.startswith("    pub "):
+                yield "".join(f"{it}\n" for it in [*comment, text])
+                comment = []
+            else:
+                comment, hidden = [], hidden + 1
+        if hidden:
+            yield "    // private fields\n"
 
 
 class Module:
@@ -157,18 +151,15 @@ class Module:
         self.uses = [item for item in items if item.kind == "use" and item.is_public]
         self.blocks = [item for item in items if item.kind == "impl"]
         folder = file.parent if file.name == "lib.rt" else file.with_suffix("")
-        self.public_modules = [item.name for item in items if item.kind == "mod" and item.is_public]
-        self.modules = {
-            item.name: Module(folder / f"{item.name}.rt", item.name, self)
-            for item in items
-            if item.kind == "mod"
-        }
+        inner = [item for item in items if item.kind == "mod"]
+        self.public_modules = [item.name for item in inner if item.is_public]
+        self.modules = {item.name: Module(folder / f"{item.name}.rt", item.name, self) for item in inner}
 
     def attach(self):
         """Hands each impl block to its type, which stands in its module or in one above. A block of a type with
         certain parameters goes to the alias of that type, if its module has one."""
         for block in self.blocks:
-            module, (block.name, whole) = self, parts_of(block.signature)
+            module, (block.name, whole) = self, parts_of(on_one_line(block.signature))
             alias = [item for item in self.items if item.signature.endswith(f" = {whole}")]
             name = alias[0].name if alias else re.match(r"\w+", whole)[0]
             while not any(item.name == name for item in module.items):
@@ -182,10 +173,9 @@ class Module:
         own = [(item.name, item) for item in self.items if item.is_public]
         found = own + [(name, self.modules[name]) for name in self.public_modules]
         for use in self.uses:
-            path, _, names = use.signature.removeprefix("use ").rpartition("::")
+            path, _, names = on_one_line(use.signature).removeprefix("pub use ").rpartition("::")
             module = self.walk(path.split("::"), crates)
-            for name in re.findall(r"\w+", names):
-                found.append((name, module.find(name, crates)))
+            found += [(name, module.find(name, crates)) for name in re.findall(r"\w+", names)]
         return found
 
     def walk(self, path, crates):
@@ -201,10 +191,7 @@ class Module:
         """The item or the module of a name here."""
         if name in self.modules:
             return self.modules[name]
-        for item in self.items:
-            if item.name == name:
-                return item
-        return dict(self.exports(crates))[name]
+        return next((item for item in self.items if item.name == name), None) or dict(self.exports(crates))[name]
 
 
 def parts_of(block):

@@ -175,13 +175,22 @@ serves_headers_elsewhere() {
     grep -F '"/opt/the\ headers"' "$stage/usr/lib/cmake/rapidhash_c/rapidhash_c-config.cmake"
 }
 
-# Where nothing is built, nothing is copied, and a line says what to run first.
+# If a single product is missing, nothing is copied, and a line says what to run first.
 wants_a_build_first() {
-  local said
+  local missing product said
   mkdir "$room/new" && git ls-files -z | xargs -0 cp --parents -t "$room/new" || return 1
-  ! said=$(PATH=$path make -s -C "$room/new" install PREFIX="$room/none" 2>&1) &&
-    [ ! -e "$room/none" ] && grep '^make install: .*: run make first$' <<<"$said"
+  for missing in none "${products[@]}"; do
+    for product in "${products[@]}"; do
+      install -D /dev/null "$room/new/$product" || return 1
+    done
+    rm -f "$room/new/$missing"
+    said=$(PATH=$path make -s -C "$room/new" install PREFIX="$room/$missing" 2>&1) && [ "$missing" = none ] && continue
+    [ ! -e "$room/$missing" ] && grep '^make install: .*: run make first$' <<<"$said" || return 1
+  done
 }
+# What make install copies, each after what it is made of.
+products=(crates/rapidhash_cli/out/rapidhash_cli crates/example_sums/out/example_sums
+  crates/rapidhash_c/out/librapidhash_c.a build/librapidhash_c.so.1)
 
 # A folder whose name the file for pkg-config cannot hold: the script's own check, since make expands some.
 refuses_characters() {

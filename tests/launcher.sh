@@ -88,7 +88,7 @@ tell two_first_calls_at_once $?
 new_repository
 printf 'echo "error: tail.rt:1: not proved"; exit 1\n' >during
 calls failed_build 2 '' 1 "$told"$'\nerror: tail.rt:1: not proved'\
-$'\nmake: the build failed; all that rt said is in build/rapidhash_cli.log\nmake: \*\*\*'*
+$'\nmake: the build failed; full output: build/rapidhash_cli.log\nmake: \*\*\*'*
 printf 'echo "no room on the device"; exit 1\n' >during
 calls failed_build_with_no_cause 2 '' 2 "$told"*'no room on the device'*'make: the build failed;'*
 rm during

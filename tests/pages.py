@@ -9,11 +9,13 @@ import re
 import runpy
 import subprocess
 import sys
+from xml.etree import ElementTree
 
 from cases import TOP, finish, tell
 
-PAGES = sorted([*TOP.glob("*.md"), *TOP.glob("docs/*.md"), *TOP.glob("*/NOTES.md"), TOP / "share" / "dist.md",
-                TOP / "rust" / "README.md", *TOP.glob("bindings/*/README.md")])
+MADE = TOP / "docs" / "api"
+PAGES = sorted([*TOP.glob("*.md"), *TOP.glob("docs/*.md"), *MADE.glob("*.md"), *TOP.glob("*/NOTES.md"),
+                *TOP.glob("bindings/*/README.md"), TOP / "share" / "dist.md", TOP / "rust" / "README.md"])
 # Folders that builds make, and what lies in an archive or in an installed copy alone.
 BUILT = ("build/", "crates/example_NAME", "tests/example_NAME", "crates/first")
 PATH = re.compile(r"`((?:crates|docs|tests|bench|bin|include|bindings|share|\.ci)/[^` ]*)`")
@@ -40,7 +42,7 @@ def links():
             for target in re.findall(r"\]\(([^)#]+)", line):
                 if "://" not in target and not (page.parent / target).exists():
                     yield f"{place(page, number)}: no {target}"
-            for target in re.findall(r"\bdocs/\w+\.md\b", line):
+            for target in re.findall(r"\bdocs/[\w/]+\.md\b", line):
                 if not (TOP / target).exists():
                     yield f"{place(page, number)}: no {target}"
 
@@ -58,7 +60,7 @@ def paths():
 
 
 def limits():
-    for page in PAGES:
+    for page in (page for page in PAGES if page.parent != MADE):
         lines = len(page.read_text().splitlines())
         most = 149 if page == TOP / "README.md" else 200
         if lines > most:
@@ -97,9 +99,13 @@ def vectors():
 
 
 def statements():
-    """The definitions and the contracts that these pages show are those of the sources."""
+    """The definitions, the contracts and the clauses that these pages quote are those of the sources."""
     files = [*TOP.glob("crates/*/specs/*.antt"), *TOP.glob("crates/*/src/**/*.rt")]
     sources = "".join(file.read_text() for file in files)
+    text = (TOP / "docs" / "PROVED.md").read_text()
+    for clause in re.findall(r"`([^`\n]* [^`\n]*)`", text):
+        if re.search("[≡→↔λ«]|\\[]|Absorbs|Appends|Answers|Marks", clause) and clause not in " ".join(sources.split()):
+            yield f"docs/PROVED.md quotes a clause that no source has: {clause}"
     for page, languages, count in (("docs/PROVED.md", "antt|rust", 2), ("docs/RATTLE.md", "antt", 3)):
         text = (TOP / page).read_text()
         blocks = re.findall(rf"^```(?:{languages})\n(.*?)^```$", text, re.MULTILINE | re.DOTALL)
@@ -121,8 +127,23 @@ def calls():
     return made_by("bin/api", "--check")
 
 
+def version():
+    return made_by("bin/version", "--check")
+
+
 def figures():
     return made_by("bench/figures", "--check")
+
+
+def pictures():
+    """Each picture is well-formed, has a title, and has colours for dark pages."""
+    for file in TOP.glob("docs/images/*.svg"):
+        try:
+            style = ElementTree.parse(file).findtext("{*}style") or ""
+            if "prefers-color-scheme: dark" not in style or not ElementTree.parse(file).findtext("{*}title"):
+                yield f"{file.name} has no title, or no colours for dark pages"
+        except ElementTree.ParseError as error:
+            yield f"{file.name}: {error}"
 
 
 def ratios():
@@ -138,38 +159,6 @@ def ratios():
         yield f"the ratios are {found}"
 
 
-VERSIONS = {
-    "CHANGELOG.md": r"^## (\d+\.\d+)",
-    "Makefile": r"^name = yervound-(\d+\.\d+)-",
-    "share/rapidhash_c.pc.in": r"^Version: (\d+\.\d+)$",
-    "share/rapidhash_c-config-version.cmake": r'VERSION "(\d+\.\d+)"',
-    "share/rapidhash.1": r'^\.TH .*"Yervound (\d+\.\d+)"',
-    "share/rapidsum.1": r'^\.TH .*"Yervound (\d+\.\d+)"',
-    "share/rapidhash_c.3": r'^\.TH .*"Yervound (\d+\.\d+)"',
-    "include/rapidhash_c.h": r'VERSION_STRING "(\d+\.\d+)"',
-    "crates/example_sums/src/words.rt": r'\.version\("(\d+\.\d+)"\)',
-    "bindings/python/rapidhash/__init__.py": r'^__version__ = "(\d+\.\d+)\.\d+"',
-    "bindings/python/rapidhash/__init__.py": r'^__version__ = "(\d+\.\d+)\.\d+"',
-    "bindings/javascript/package.json": r'"version": "(\d+\.\d+)\.\d+"',
-    "bindings/postgresql/rapidhash.control": r"^default_version = '(\d+\.\d+)'",
-    "share/debian/changelog": r"^yervound \((\d+\.\d+)\.\d+\)",
-    "rust/Cargo.toml": r'^version = "(\d+\.\d+)\.\d+"',
-}
-
-
-def version():
-    wanted = None
-    for name, pattern in VERSIONS.items():
-        found = re.search(pattern, (TOP / name).read_text(), re.MULTILINE)
-        wanted = wanted or (found and found[1])
-        if found is None or found[1] != wanted:
-            yield f"{name} has {found and found[1]}, and CHANGELOG.md {wanted}"
-    major, minor = wanted.split(".")
-    clause = f"ensures {{ result ≡ {100 * int(major) + int(minor)} }}"
-    if clause not in (TOP / "crates/rapidhash_c/src/lib.rt").read_text():
-        yield f"rapidhash_c_version has no clause {clause}"
-
-
-for check in (links, paths, limits, names, vectors, version, statements, ratios, calls, figures):
+for check in (links, paths, limits, names, vectors, version, statements, ratios, calls, figures, pictures):
     tell(check.__name__, *check())
 finish()

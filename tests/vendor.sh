@@ -71,25 +71,25 @@ replaces_a_copy() {
 }
 
 refuses_no_folder() {
-  refused 'give the top folder of the repository: make vendor INTO=FOLDER' "$vendor" '' &&
-    refused "$room/none is no folder" "$vendor" "$room/none"
+  refused 'missing the top directory of the repository: make vendor INTO=FOLDER' "$vendor" '' &&
+    refused "$room/none is not a directory" "$vendor" "$room/none"
 }
 
 refuses_a_crate_of_another() {
   mkdir -p "$room/another/crates/rapidhash" && echo mine >"$room/another/crates/rapidhash/mine"
-  refused "$room/another/crates/rapidhash is there, and no copy of the library" "$vendor" "$room/another" &&
+  refused "$room/another/crates/rapidhash exists and is not a copy made by make vendor" "$vendor" "$room/another" &&
     [ "$(cd "$room/another" && find . -type f)" = ./crates/rapidhash/mine ]
 }
 
 # Nobody, not even root, can make a folder in /proc.
 tells_a_folder_that_is_not_writable() {
-  refused 'could not write into /proc' "$vendor" /proc
+  refused 'cannot write to /proc' "$vendor" /proc
 }
 
 # No file may have more than 4 KiB, so the copy fails half way, as it does on a full disk. Then the copy from before is
 # whole, and nothing else is left.
 keeps_what_was_there() {
-  refused "could not copy rapidhash_portable, so $room/a folder/crates is as it was" \
+  refused "cannot copy rapidhash_portable; $room/a folder/crates is unchanged" \
     prlimit --fsize=4096 "$vendor" "$room/a folder" && is_copy "$room/a folder"
 }
 

@@ -1,5 +1,5 @@
-// Takes files that are chosen or dropped, and hashes one after another, each in a worker of its own:
-// the page stays awake, and the worker's memory goes with it.
+// Hashes the files that a user chooses or drops, one after another, each in its own worker: the page
+// stays responsive, and the memory of a worker is freed with it.
 import { hex } from "./rapidhash.mjs";
 
 const names = {
@@ -12,7 +12,7 @@ const status = document.getElementById("status");
 const count = new Intl.NumberFormat("en");
 let last = Promise.resolve();
 
-/** Shows a file that waits, with a row for each version, and returns its parts. */
+/** Shows a waiting file, with a row for each version, and returns its parts. */
 function show(file) {
   const template = document.getElementById("result");
   const article = template.content.cloneNode(true).firstElementChild;
@@ -37,14 +37,14 @@ function show(file) {
   return { article, progress, state, button, cells };
 }
 
-/** Writes a hash to its row, or the reason why there is none. */
+/** Writes a hash to its row, or the reason for its absence. */
 function write(cells, hash) {
   const isHash = typeof hash === "bigint";
   cells[0].textContent = isHash ? hex(hash) : hash;
   cells[1].textContent = isHash ? String(hash) : "";
 }
 
-/** Hashes a file in a worker, and resolves when it has ended. */
+/** Hashes a file in a worker and resolves at the end. */
 function hash(file, parts) {
   if (parts.article.dataset.end) return undefined;
   const worker = new Worker("worker.mjs", { type: "module" });

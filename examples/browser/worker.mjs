@@ -1,11 +1,11 @@
-// Hashes one file, and tells the page how far it is: { done }, { hashes } so far, and at last { end }.
+// Hashes one file and reports to the page: { done } bytes, the { hashes } so far, and finally the { end }.
 import { load } from "./rapidhash.mjs";
 
-// V1, V2 and protected V3 hash a whole message, for which a longer file has no room here.
+// V1, V2 and protected V3 need the whole message in memory, where a longer file does not fit.
 const most = 2 ** 30;
 const pause = 100;
 
-/** Hashes by pieces, and returns the bytes if the file is short enough to keep. */
+/** Hashes a file in pieces and returns its bytes if it is short enough to keep. */
 async function byPieces(file, hashers) {
   const kept = file.size <= most ? new Uint8Array(file.size) : undefined;
   const digests = () => Object.fromEntries(hashers.map(([name, hasher]) => [name, hasher.digest()]));
@@ -25,7 +25,7 @@ async function byPieces(file, hashers) {
   return kept;
 }
 
-/** Hashes a file by all versions. */
+/** Hashes a file with all versions. */
 async function hash(file) {
   const calls = await load();
   const { v1, v2_0, v2_1, v2_2, v3Protected, V3, V3Micro, V3Nano } = calls;

@@ -13,7 +13,8 @@ pub use readers::{
     rapidhash_v1_file, rapidhash_v1_file_inline, rapidhash_v1_file_seeded, rapidhash_v1_source,
 };
 
-/// Returns the hash of `bytes` with the default seed and secrets.
+/// Returns the hash of `bytes` with the default seed and secrets. The value is the same on every
+/// machine and in every version, so it may be stored. It is not cryptographic.
 ///
 /// ```
 /// use rapidhash::v1::rapidhash_v1;
@@ -25,7 +26,8 @@ pub fn rapidhash_v1(bytes: &[u8]) -> u64 {
     rapidhash_v1_inline::<MIXED, UNROLLED, PLAIN, false>(bytes, RapidSecrets::default_ref())
 }
 
-/// Returns the hash of `bytes` with the caller's seed and secrets.
+/// Returns the hash of `bytes` with the caller's seed and secrets. Collisions that were prepared
+/// for other secrets fail, but whoever sees hashes may still find these.
 ///
 /// ```
 /// use rapidhash::v1::{DEFAULT_RAPID_SECRETS, rapidhash_v1_seeded};
@@ -39,10 +41,12 @@ pub fn rapidhash_v1_seeded(bytes: &[u8], secrets: &RapidSecrets) -> u64 {
 
 /// Returns the hash of `bytes` with every option.
 ///
-/// - `AVALANCHE` mixes the last product once more, as the C++ library does.
-/// - `COMPACT` takes rows one by one instead of two at a time: less code, the same value.
-/// - `PROTECTED` mixes each product with its factors.
-/// - `V1_BUG` folds a row at 48 bytes, as versions 1.x of the Rust crate did.
+/// - `AVALANCHE` mixes the last product once more. Without it the values are not those of the C++
+///   library: leave it out only if what uses the hash mixes by itself.
+/// - `COMPACT` folds one row at a time instead of two: less code, the same value.
+/// - `PROTECTED` mixes each product with its factors, so that bytes which equal a secret cannot
+///   erase what came before them. The value is another, and the call is slower.
+/// - `V1_BUG` folds a row at 48 bytes, for values that versions 1.x of the Rust crate have stored.
 ///
 /// ```
 /// use rapidhash::v1::{DEFAULT_RAPID_SECRETS, rapidhash_v1_inline};

@@ -42,9 +42,11 @@ pub fn rapidhash_v2_2_seeded(bytes: &[u8], secrets: &RapidSecrets) -> u64 {
 /// Returns the hash of `bytes` with every option.
 ///
 /// - `MINOR` is 0, 1 or 2, for V2.0, V2.1 and V2.2.
-/// - `AVALANCHE` mixes the last product once more, as the C++ library does.
-/// - `COMPACT` takes rows one by one instead of two at a time: less code, the same value.
-/// - `PROTECTED` mixes each product with its factors.
+/// - `AVALANCHE` mixes the last product once more. Without it the values are not those of the C++
+///   library: leave it out only if what uses the hash mixes by itself.
+/// - `COMPACT` folds one row at a time instead of two: less code, the same value.
+/// - `PROTECTED` mixes each product with its factors, so that bytes which equal a secret cannot
+///   erase what came before them. The value is another, and the call is slower.
 ///
 /// ```
 /// use rapidhash::v2::{DEFAULT_RAPID_SECRETS, rapidhash_v2_inline};

@@ -20,7 +20,8 @@ pub use stream::{
     RapidStreamHasherInlineV3, RapidStreamHasherLanes, RapidStreamHasherV3,
 };
 
-/// Returns the hash of `bytes` with the default seed and secrets.
+/// Returns the hash of `bytes` with the default seed and secrets. The value is the same on every
+/// machine and in every version, so it may be stored. It is not cryptographic.
 ///
 /// ```
 /// use rapidhash::v3::rapidhash_v3;
@@ -36,7 +37,8 @@ pub fn rapidhash_v3(bytes: &[u8]) -> u64
     hash::<7, 1, MIXED, UNROLLED, PLAIN>(bytes, secrets.seed, &secrets.secrets)
 }
 
-/// Returns the hash of `bytes` with the caller's seed and secrets.
+/// Returns the hash of `bytes` with the caller's seed and secrets. Collisions that were prepared
+/// for other secrets fail, but whoever sees hashes may still find these.
 ///
 /// ```
 /// use rapidhash::v3::{RapidSecrets, rapidhash_v3_seeded};
@@ -53,9 +55,11 @@ pub fn rapidhash_v3_seeded(bytes: &[u8], secrets: &RapidSecrets) -> u64
 
 /// Returns the hash of `bytes` with every option.
 ///
-/// - `AVALANCHE` mixes the last product once more, as the C++ library does.
-/// - `COMPACT` takes rows one by one instead of two at a time: less code, the same value.
-/// - `PROTECTED` mixes each product with its factors.
+/// - `AVALANCHE` mixes the last product once more. Without it the values are not those of the C++
+///   library: leave it out only if what uses the hash mixes by itself.
+/// - `COMPACT` folds one row at a time instead of two: less code, the same value.
+/// - `PROTECTED` mixes each product with its factors, so that bytes which equal a secret cannot
+///   erase what came before them. The value is another, and the call is slower.
 ///
 /// ```
 /// use rapidhash::v3::{DEFAULT_RAPID_SECRETS, rapidhash_v3_inline};
