@@ -1,9 +1,11 @@
-/* The rapidhash family in C++, over rapidhash_c.h: hashes of strings and bytes, a hasher for std::unordered_map and
- * std::unordered_set, streams, and hashes as bytes and digits.
+/* rapidhash for C++: hashes of strings and bytes, a hasher for std::unordered_map and std::unordered_set, streams, and
+ * conversions of a hash to bytes and digits.
  *
- * All hashes here are V3; rapidhash_c.h has the other versions. Works with C++11 to C++23, with exceptions and without.
- * Link with -lrapidhash_c. A program that includes the C++ library's rapidhash.h too cannot use this header: a function
- * of that one has the name of this namespace.
+ *     std::uint64_t hash = rapidhash::hash("hello");
+ *
+ * Everything here is V3; rapidhash_c.h has the other versions, the preconditions, and what to know about values and
+ * security. Works with C++11 to C++23, with or without exceptions. Link with -lrapidhash_c. A program that includes the
+ * C++ library's rapidhash.h cannot use this header: that one has a function with the name of this namespace.
  */
 #ifndef RAPIDHASH_HPP
 #define RAPIDHASH_HPP
@@ -21,7 +23,7 @@
 
 namespace rapidhash {
 
-/* A seed and seven secrets: the struct of C. */
+/* A seed and seven secrets: the struct of rapidhash_c.h. */
 using secrets = ::rapidhash_secrets;
 
 static_assert(CHAR_BIT == 8 && sizeof(std::size_t) == 8, "the library is for bytes of 8 bits and addresses of 64");
@@ -32,14 +34,15 @@ static_assert(std::is_standard_layout<::rapidhash_stream>::value
                   && std::is_trivially_copyable<::rapidhash_stream>::value,
               "a stream of C is plain");
 
-/* One seed word, with which the default secrets are used. A type of its own, so that no length is taken for a seed.
- * Anyone who knows the default secrets can find keys with the same hash for every word: see make_secrets. */
+/* A seed word for the default secrets. It is a separate type, so that a length is never mistaken for a seed.
+ *
+ * Security: a seed word does not stop an attacker, since the default secrets are public. See make_secrets. */
 struct seed {
     std::uint64_t word;
     explicit constexpr seed(std::uint64_t number) noexcept : word(number) {}
 };
 
-/* A seed and secrets made from a number. If other people choose the keys, take a number that nobody knows. */
+/* Derives a seed and secrets from `number`. If others choose the keys, use a random number. */
 inline secrets make_secrets(std::uint64_t number) noexcept
 {
     secrets made;
@@ -47,7 +50,7 @@ inline secrets make_secrets(std::uint64_t number) noexcept
     return made;
 }
 
-/* The default secrets, with the seed that a word stands for. */
+/* Returns the default secrets with a seed derived from the word `start`. */
 inline secrets seed_secrets(seed start) noexcept
 {
     secrets made;
@@ -55,8 +58,8 @@ inline secrets seed_secrets(seed start) noexcept
     return made;
 }
 
-/* Bytes that live elsewhere: what the functions below take. A string, a string_view, a vector, an array or a span of
- * bytes or characters becomes one by itself, and so does a text that ends with a zero character, without the zero. */
+/* A view of bytes, the argument of the functions below. A std::string, string_view, vector, array or span of bytes or
+ * characters converts implicitly, and so does a C string, without its terminating zero. It owns nothing. */
 class bytes {
     template <class Range>
     using element = typename std::remove_pointer<decltype(std::declval<const Range &>().data())>::type;
@@ -79,7 +82,7 @@ private:
     std::size_t size_;
 };
 
-/* The hash with the default seed and secrets, with a seed word, and with a seed and secrets. */
+/* Returns the hash with the default seed and secrets, with a seed word, or with the caller's seed and secrets. */
 inline std::uint64_t hash(bytes message) noexcept
 {
     return ::rapidhash_v3(message.data(), message.size());
@@ -100,8 +103,8 @@ inline std::uint64_t hash(bytes message, const secrets &own) noexcept
     return ::rapidhash_v3_seeded(message.data(), message.size(), &own);
 }
 
-/* The hasher of a table whose keys are strings or other bytes. From C++20 on, a table that also has std::equal_to<>
- * finds a std::string by a string_view or a text, without a copy. If other people choose the keys, make secrets:
+/* Hashes the keys of an unordered container. Since C++20, a container with std::equal_to<> finds a std::string by a
+ * string_view or a C string, without a copy. If others choose the keys, make secrets from a random number:
  * std::unordered_set<std::string, rapidhash::hasher> names(0, rapidhash::hasher(rapidhash::make_secrets(number))); */
 class hasher {
 public:
@@ -117,7 +120,7 @@ private:
     secrets secrets_;
 };
 
-/* A message in pieces. It keeps its secrets itself, so that it can be copied and moved at any time. */
+/* Hashes a message in pieces. It contains its secrets and can be copied and moved. One thread at a time. */
 class stream {
 public:
     stream() noexcept : stream(seed(0)) {}
@@ -133,7 +136,7 @@ public:
         return *this;
     }
 
-    /* Adds a piece to the message. */
+    /* Appends a piece to the message. */
     stream &update(bytes piece) noexcept
     {
         ::rapidhash_stream_write(&state_, piece.data(), piece.size());
@@ -142,10 +145,10 @@ public:
 
     stream &update(const void *data, std::size_t size) noexcept { return update(bytes(data, size)); }
 
-    /* The hash of the message so far. It changes nothing, and more pieces may follow. */
+    /* Returns the hash of the message so far. Does not modify the stream; more pieces may follow. */
     std::uint64_t finish() const noexcept { return ::rapidhash_stream_finish(&state_); }
 
-    /* Forgets the message, and keeps the secrets. */
+    /* Empties the message; keeps the secrets. */
     void reset() noexcept { ::rapidhash_stream_reset(&state_); }
 
 private:
@@ -153,7 +156,7 @@ private:
     ::rapidhash_stream state_;
 };
 
-/* A hash as 8 bytes, the highest first, and back: the same on every machine, so that it can be stored. */
+/* Convert a hash to 8 bytes, most significant first, and back: the same on every machine, so they can be stored. */
 inline std::array<unsigned char, 8> to_canonical(std::uint64_t hash) noexcept
 {
     std::array<unsigned char, 8> stored;
@@ -166,7 +169,7 @@ inline std::uint64_t from_canonical(const std::array<unsigned char, 8> &stored) 
     return ::rapidhash_from_canonical(stored.data());
 }
 
-/* The same bytes as 16 hexadecimal digits, as rapidsum prints them. */
+/* Returns the same bytes as 16 hexadecimal digits, as rapidsum prints them. */
 inline std::string to_hex(std::uint64_t hash)
 {
     std::string digits(16, '0');
@@ -175,7 +178,7 @@ inline std::string to_hex(std::uint64_t hash)
     return digits;
 }
 
-/* Reads 16 hexadecimal digits, also in upper case. For anything else it is false, and leaves the hash alone. */
+/* Parses exactly 16 hexadecimal digits, in either case. For anything else returns false and does not modify `hash`. */
 inline bool from_hex(bytes digits, std::uint64_t &hash) noexcept
 {
     const char *const text = static_cast<const char *>(digits.data());

@@ -1,19 +1,25 @@
-/* The rapidhash family of hashes, from a library of which every function is proved.
+/* rapidhash: fast, non-cryptographic 64-bit hashes, from a formally verified library.
  *
- * A call takes the bytes as a pointer and a length and returns their hash as a 64-bit number, the
- * same on every run. It allocates nothing, keeps no state, calls nothing but memmove (a start of a
- * stream calls memset), and may run in any number of threads at once.
+ *     uint64_t hash = rapidhash_v3("hello", 5);
  *
- * The archive and the shared library are for x86-64 Linux. The numbers are the same on every machine
- * that computes these hashes, whatever its byte order. To store a hash so that it reads the same
- * everywhere, write its canonical bytes: rapidhash_to_canonical.
+ * Link with -lrapidhash_c (pkg-config: rapidhash_c). The built libraries are for x86-64 Linux; cargo builds the same
+ * library for other machines. The header works with C89 to C23 and C++98 to C++23, and its names do not clash with the
+ * C++ library's rapidhash.h. C++ programs can include rapidhash.hpp instead.
  *
- * Preconditions of each hash: `bytes` points to `len` readable bytes, `len` is below 2^63, and
- * nothing writes the bytes during the call. If `len` is 0, any pointer is allowed, also NULL.
- * `secrets` points to a seed and secrets that nothing writes during the call; it is not NULL.
+ * Values. A hash is the same on every run and every machine, and will not change in any later version. To store one,
+ * write its canonical bytes: rapidhash_to_canonical.
  *
- * Works with C89 to C23 and with C++98 to C++23. Link with -lrapidhash_c: pkg-config knows it as
- * rapidhash_c. C++ programs may take rapidhash.hpp. The names do not clash with those of the C++ library's rapidhash.h.
+ * Security. These hashes are not cryptographic. The default secrets are public, so messages can be found that collide
+ * under every seed word. If others choose the messages, use rapidhash_make_secrets with a random number.
+ *
+ * Threads and memory. The functions allocate no memory, keep no global state and are thread-safe. They call only
+ * memmove, and memset to start a stream.
+ *
+ * Preconditions of every hash function:
+ * - `bytes` points to `len` readable bytes, and `len` is below 2^63. If `len` is 0, `bytes` may be any pointer, even
+ *   NULL.
+ * - `secrets` is not NULL.
+ * - Nothing writes to the bytes or the secrets during the call.
  */
 #ifndef RAPIDHASH_C_H
 #define RAPIDHASH_C_H
@@ -22,8 +28,7 @@
 #include <stdint.h>
 #include <string.h>
 
-/* The version of this library. The hashes are those of the Rust crate rapidhash 4.5.1, and no later
- * version of this library will change one. */
+/* The version of this header. The hashes are those of the Rust crate rapidhash 4.5.1. */
 #define RAPIDHASH_C_VERSION_MAJOR 1
 #define RAPIDHASH_C_VERSION_MINOR 0
 #define RAPIDHASH_C_VERSION_STRING "1.0"
@@ -41,39 +46,39 @@
 extern "C" {
 #endif
 
-/* The version number of the library that the program runs with. A shared library may be another
- * version than this header: then this is not RAPIDHASH_C_VERSION_NUMBER. */
+/* Returns the version of the library that the program is running with. It differs from RAPIDHASH_C_VERSION_NUMBER if
+ * the shared library and this header come from different versions. */
 uint32_t rapidhash_c_version(void);
 
-/* A seed and the secrets of V1. */
+/* A seed and secrets for V1. */
 struct rapidhash_v1_secrets {
     uint64_t seed;
     uint64_t secrets[3];
 };
 
-/* A seed and the secrets of all other versions. */
+/* A seed and secrets for every other version. */
 struct rapidhash_secrets {
     uint64_t seed;
     uint64_t secrets[7];
 };
 
-/* Makes a seed and secrets from a number, each with bits set in its upper, its middle and its lower
- * part: the crate's RapidSecrets::seed. `secrets` points to a struct that may hold anything before the
- * call, and that nothing else reads or writes during it; it is not NULL. Make them once and keep
- * them. */
+/* Derives a seed and secrets from `number`, as the Rust crate's RapidSecrets::seed. Use a random number if collisions
+ * must be hard to predict. Make the secrets once and reuse them.
+ *
+ * `secrets` must not be NULL. Its previous contents are ignored, and nothing else may access it during the call. */
 void rapidhash_v1_make_secrets(uint64_t number, struct rapidhash_v1_secrets *secrets);
 void rapidhash_make_secrets(uint64_t number, struct rapidhash_secrets *secrets);
 
-/* Makes the default secrets, and a seed from one seed word: the crate's RapidSecrets::seed_cpp. The
- * crate says that the C++ library takes its seed in this way. The default seed is that of word 0, but
- * in V1 that of 0xbdd89aa982704029. The preconditions are those above. Anyone who knows the default
- * secrets can find messages with the same hash for every seed word: if that matters, make secrets
- * from a number that nobody knows. */
+/* Sets the default secrets, and a seed derived from the word `seed`, as the Rust crate's RapidSecrets::seed_cpp. That
+ * crate says that the C++ library derives its seed in the same way. The default seed is that of word 0, and in V1 that
+ * of 0xbdd89aa982704029. The preconditions are those of rapidhash_make_secrets.
+ *
+ * Security: a seed word does not stop an attacker, since the default secrets are public. */
 void rapidhash_v1_seed_secrets(uint64_t seed, struct rapidhash_v1_secrets *secrets);
 void rapidhash_seed_secrets(uint64_t seed, struct rapidhash_secrets *secrets);
 
-/* The hash with the default seed and secrets. The crate's rapidhash_v1, rapidhash_v2_inline (of the
- * minor number, with AVALANCHE), rapidhash_v3, and the inline forms of micro and nano. */
+/* Returns the hash with the default seed and secrets. In the Rust crate: rapidhash_v1, rapidhash_v2_inline (with the
+ * minor number and AVALANCHE), rapidhash_v3, and the inline functions of micro and nano. */
 uint64_t rapidhash_v1(const void *bytes, size_t len);
 uint64_t rapidhash_v2_0(const void *bytes, size_t len);
 uint64_t rapidhash_v2_1(const void *bytes, size_t len);
@@ -82,7 +87,8 @@ uint64_t rapidhash_v3(const void *bytes, size_t len);
 uint64_t rapidhash_v3_micro(const void *bytes, size_t len);
 uint64_t rapidhash_v3_nano(const void *bytes, size_t len);
 
-/* The hash with the default secrets and one seed word, as rapidhash_seed_secrets takes it. */
+/* Returns the hash with the default secrets and a seed derived from the word `seed`, as by rapidhash_seed_secrets.
+ * Messages can be found that collide under every seed word. */
 uint64_t rapidhash_v1_with_seed(const void *bytes, size_t len, uint64_t seed);
 uint64_t rapidhash_v2_0_with_seed(const void *bytes, size_t len, uint64_t seed);
 uint64_t rapidhash_v2_1_with_seed(const void *bytes, size_t len, uint64_t seed);
@@ -91,7 +97,7 @@ uint64_t rapidhash_v3_with_seed(const void *bytes, size_t len, uint64_t seed);
 uint64_t rapidhash_v3_micro_with_seed(const void *bytes, size_t len, uint64_t seed);
 uint64_t rapidhash_v3_nano_with_seed(const void *bytes, size_t len, uint64_t seed);
 
-/* The hash with the caller's seed and secrets. */
+/* Returns the hash with the caller's seed and secrets. */
 uint64_t rapidhash_v1_seeded(const void *bytes, size_t len, const struct rapidhash_v1_secrets *secrets);
 uint64_t rapidhash_v2_0_seeded(const void *bytes, size_t len, const struct rapidhash_secrets *secrets);
 uint64_t rapidhash_v2_1_seeded(const void *bytes, size_t len, const struct rapidhash_secrets *secrets);
@@ -100,13 +106,13 @@ uint64_t rapidhash_v3_seeded(const void *bytes, size_t len, const struct rapidha
 uint64_t rapidhash_v3_micro_seeded(const void *bytes, size_t len, const struct rapidhash_secrets *secrets);
 uint64_t rapidhash_v3_nano_seeded(const void *bytes, size_t len, const struct rapidhash_secrets *secrets);
 
-/* V3 with PROTECTED, which mixes each product with its factors. The hashes are not those of V3. */
+/* Returns the protected V3 hash, which XORs the factors into each product. It differs from V3. */
 uint64_t rapidhash_v3_protected(const void *bytes, size_t len);
 uint64_t rapidhash_v3_protected_seeded(const void *bytes, size_t len, const struct rapidhash_secrets *secrets);
 
-/* A message in pieces, for V3, micro or nano. It may live on the stack or in an array, and may be
- * copied with =. Its secrets are not copied: they must stay in place as long as the stream is in use.
- * Start it before any other call, and do not touch its fields. */
+/* A streaming hasher for V3, micro or nano: hashes a message in pieces. Call a _start function before any other, and
+ * treat the fields as private. It can live on the stack or in an array and be copied with =. It refers to its secrets,
+ * which must stay at the same address while the stream or a copy of it is in use. One thread at a time. */
 struct rapidhash_stream {
     const struct rapidhash_secrets *secrets;
     uint64_t lane[7];
@@ -116,17 +122,17 @@ struct rapidhash_stream {
     size_t lanes;
 };
 
-/* Adds the next `len` bytes to the message. A stream is used by one thread at a time. */
+/* Appends the next `len` bytes to the message. */
 void rapidhash_stream_write(struct rapidhash_stream *stream, const void *bytes, size_t len);
 
-/* The hash of the message so far: that of rapidhash_v3_seeded, or of micro or nano, for the whole
- * message. It changes nothing, and more pieces may follow. */
+/* Returns the hash of the message so far: what rapidhash_v3_seeded, or that of micro or nano, returns for the whole
+ * message. Does not modify the stream; more bytes may follow. */
 uint64_t rapidhash_stream_finish(const struct rapidhash_stream *stream);
 
-/* Forgets the message. The secrets and the version do not change. */
+/* Empties the message; keeps the secrets and the version. */
 void rapidhash_stream_reset(struct rapidhash_stream *stream);
 
-/* Starts a stream with 7, 5 or 3 lanes. Use one of the three functions below. */
+/* Starts a stream with 7, 5 or 3 lanes. Call one of the three functions below instead. */
 RAPIDHASH_C_INLINE void rapidhash_stream_start(
     struct rapidhash_stream *stream, size_t lanes, const struct rapidhash_secrets *secrets)
 {
@@ -136,6 +142,7 @@ RAPIDHASH_C_INLINE void rapidhash_stream_start(
     rapidhash_stream_reset(stream);
 }
 
+/* Starts an empty stream, whose hash will be that of rapidhash_v3_seeded, or of micro or nano. */
 RAPIDHASH_C_INLINE void rapidhash_v3_start(
     struct rapidhash_stream *stream, const struct rapidhash_secrets *secrets)
 {
@@ -154,7 +161,7 @@ RAPIDHASH_C_INLINE void rapidhash_v3_nano_start(
     rapidhash_stream_start(stream, 3, secrets);
 }
 
-/* Writes a hash as 8 bytes, the highest first: the same on every machine. `bytes` has room for them. */
+/* Writes a hash as 8 bytes, most significant first, the same on every machine. `bytes` has room for 8 bytes. */
 RAPIDHASH_C_INLINE void rapidhash_to_canonical(uint64_t hash, unsigned char *bytes)
 {
     int at;
@@ -165,7 +172,7 @@ RAPIDHASH_C_INLINE void rapidhash_to_canonical(uint64_t hash, unsigned char *byt
     }
 }
 
-/* Reads a hash from the 8 bytes that rapidhash_to_canonical wrote. */
+/* Returns the hash that rapidhash_to_canonical wrote into these 8 bytes. */
 RAPIDHASH_C_INLINE uint64_t rapidhash_from_canonical(const unsigned char *bytes)
 {
     uint64_t hash = 0;

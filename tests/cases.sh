@@ -72,9 +72,11 @@ blocks() {
     inside { block = block $0 "\n" }' "$1"
 }
 
-# The commands of a page, at most three, print the hash of hello in the empty folder `$room/first`: PAGE
+# The commands of a page, at most three, which docs/BINDINGS.md shows too, print the hash of hello in the empty folder
+# `$room/first`: PAGE
 works_as_its_page_says() {
   blocks "$1" sh YERVOUND >"$room/commands" && [ "$(wc -l <"$room/commands")" -le 3 ] &&
+    [[ $(<"$top/docs/BINDINGS.md") == *"$(<"$room/commands")"* ]] &&
     mkdir "$room/first" && cd "$room/first" && YERVOUND=$top bash -e ../commands >../printed &&
     [ "$(tail -n 1 ../printed)" = 3327445792987248966 ]
 }

@@ -62,7 +62,7 @@ builds_the_rust_crate() {
 
 # The library for other machines is built and linked as C.md says.
 builds_for_other_machines() {
-  cd "$room/unpacked" && blocks C.md c main >hello.c && blocks C.md sh rust/capi >commands &&
+  cd "$room/unpacked" && blocks C.md c hello >hello.c && blocks C.md sh rust/capi >commands &&
     [ "$(bash -e commands)" = 3327445792987248966 ]
 }
 

@@ -115,14 +115,14 @@ refuses() {
     ! make -s -C "$top" uninstall DESTDIR="$room/refused" "$@"
 }
 
-# The first programs in C and C++, built and run as docs/C.md prints them, with the library below $HOME. README.md
-# has the lines for C too.
+# The programs of docs/C.md, built and run as the page prints them, with the library below $HOME. README.md has the
+# lines for the first one too.
 runs_as_the_pages_say() (
   export HOME=$room/home
   mkdir "$HOME" && installs PREFIX="$HOME/.local" && cd "$HOME" &&
-    blocks "$top/docs/C.md" c main >hello.c && blocks "$top/docs/C.md" cpp main >hello.cpp &&
-    blocks "$top/docs/C.md" sh pkg-config >commands &&
-    diff <(head -n 2 commands) <(blocks "$top/README.md" sh pkg-config) && prints_the_hash_of_hello 2
+    blocks "$top/docs/C.md" c hello >hello.c && blocks "$top/docs/C.md" cpp hello >hello.cpp &&
+    blocks "$top/docs/C.md" c stdin >hash_file.c && blocks "$top/docs/C.md" sh pkg-config >commands &&
+    diff <(head -n 2 commands) <(blocks "$top/README.md" sh pkg-config) && prints_the_hash_of_hello 3
 )
 
 # The commands print the hash so many times, and each says that it does: TIMES

@@ -17,7 +17,7 @@ MADE = TOP / "docs" / "api"
 PAGES = sorted([*TOP.glob("*.md"), *TOP.glob("docs/*.md"), *MADE.glob("*.md"), *TOP.glob("*/NOTES.md"),
                 *TOP.glob("bindings/*/README.md"), TOP / "share" / "dist.md", TOP / "rust" / "README.md"])
 # Folders that builds make, and what lies in an archive or in an installed copy alone.
-BUILT = ("build/", "crates/example_NAME", "tests/example_NAME")
+BUILT = ("build/", "crates/example_NAME", "tests/example_NAME", "crates/first")
 PATH = re.compile(r"`((?:crates|docs|tests|bench|bin|include|bindings|share|\.ci)/[^` ]*)`")
 NAME = re.compile(r"`([A-Za-z]\w*(?:::\w+)*)`")
 
@@ -99,21 +99,21 @@ def vectors():
 
 
 def statements():
-    """The definitions, the contract and the clauses that docs/PROVED.md quotes are those of the sources."""
-    crates = TOP / "crates"
-    files = [*crates.glob("rapidhash*/specs/*.antt"), *crates.glob("rapidhash*/src/**/*.rt")]
+    """The definitions, the contracts and the clauses that these pages quote are those of the sources."""
+    files = [*TOP.glob("crates/*/specs/*.antt"), *TOP.glob("crates/*/src/**/*.rt")]
     sources = "".join(file.read_text() for file in files)
-    page = (TOP / "docs" / "PROVED.md").read_text()
-    clauses = re.findall(r"`([^`\n]* [^`\n]*)`", page)
-    for clause in clauses:
+    text = (TOP / "docs" / "PROVED.md").read_text()
+    for clause in re.findall(r"`([^`\n]* [^`\n]*)`", text):
         if re.search("[≡→↔λ«]|\\[]|Absorbs|Appends|Answers|Marks", clause) and clause not in " ".join(sources.split()):
             yield f"docs/PROVED.md quotes a clause that no source has: {clause}"
-    blocks = re.findall(r"^```(?:antt|rust)\n(.*?)^```$", page, re.MULTILINE | re.DOTALL)
-    for part in (part for block in blocks for part in block.split("\n\n")):
-        if part.rstrip() not in sources:
-            yield f"docs/PROVED.md shows what no source has: {part.splitlines()[0]}"
-    if len(blocks) != 2:
-        yield f"docs/PROVED.md shows {len(blocks)} blocks"
+    for page, languages, count in (("docs/PROVED.md", "antt|rust", 2), ("docs/RATTLE.md", "antt", 3)):
+        text = (TOP / page).read_text()
+        blocks = re.findall(rf"^```(?:{languages})\n(.*?)^```$", text, re.MULTILINE | re.DOTALL)
+        for part in (part for block in blocks for part in block.split("\n\n")):
+            if part.rstrip() not in sources:
+                yield f"{page} shows what no source has: {part.splitlines()[0]}"
+        if len(blocks) != count:
+            yield f"{page} shows {len(blocks)} blocks"
 
 
 def made_by(*command):

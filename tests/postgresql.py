@@ -1,5 +1,5 @@
 #!/usr/bin/env python3
-"""Builds the extension for PostgreSQL as docs/BINDINGS.md says, installs it beside a copy of the server, starts that
+"""Builds the extension for PostgreSQL as its page says, installs it beside a copy of the server, starts that
 as a user without rights, and tests each function. It leaves the machine's own server alone. The values are those of the
 Rust crate. The last line counts the cases."""
 
@@ -10,7 +10,8 @@ import subprocess
 from pathlib import Path
 
 from cases import ROOM, TOP, compare, finish, tell
-from sql import HELLO, NOTHING, SEEDED, TEXT, TEXT_HASH, blocks, every_vector, lines_with_results, shell, signed
+from sql import HELLO, NOTHING, SEEDED, TEXT, TEXT_HASH
+from sql import blocks, every_vector, is_shown, lines_with_results, shell, signed
 
 # The folder of its databases, which has its socket too.
 DATA = ROOM / "data"
@@ -48,8 +49,8 @@ def install():
     words = {"PGHOST": str(DATA), "PGUSER": "test", "PGDATABASE": "postgres", "DESTDIR": str(ROOM)}
     [commands] = blocks("PostgreSQL", "sh")
     status, printed = shell(commands.replace("sudo ", ""), ROOM, **words)
-    compare("three_commands", (commands.count("\n"), status, printed.splitlines()[-2:]),
-            (3, 0, ["CREATE EXTENSION", str(HELLO)]))
+    compare("three_commands", (is_shown(commands), commands.count("\n"), status, printed.splitlines()[-2:]),
+            (True, 3, 0, ["CREATE EXTENSION", str(HELLO)]))
 
 
 def unpacked_archive():

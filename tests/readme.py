@@ -1,8 +1,8 @@
 #!/usr/bin/env python3
 """Runs what README.md shows: each command of its shell blocks, and its two programs in a new repository
 that the library was copied into. A command or a block that this test does not know is a failure, so
-nothing in README.md goes untried. The values are those of the Rust crate. With the words --repository FOLDER it
-only writes that repository, for tests/vendor.sh."""
+nothing in README.md goes untried. The program of docs/RATTLE.md runs there too. The values are those of the Rust
+crate. With the words --repository FOLDER it only writes that repository, for tests/vendor.sh."""
 
 import os
 import re
@@ -58,11 +58,16 @@ fn main(rt: HostRuntime) -> Result<()> {{
 }}
 """
 PRINTED = "43 14860858794976638546 43 11612086640089003834 2\n"
+# Calls of the functions of docs/RATTLE.md, for the end of its first one, and what it prints with them.
+CALLS = """    println!(rt; "{{}} {{}}", in_pieces(), of_reader(b"hello".as_slice())?)?;
+    println!(rt; "{{}} {{}} {{}}", of_file(&rt, "{file}")?, with_secrets(0x1234_5678), count(&rt, "a b a")?)?;
+"""
+TUTORIAL = "3327445792987248966\n3327445792987248966 3327445792987248966\n11612086640089003834 14860858794976638546 2\n"
 
 
-def blocks():
-    """The code blocks of README.md, each with its language."""
-    return re.findall(r"^```(\w+)\n(.*?)^```$", (TOP / "README.md").read_text(), re.MULTILINE | re.DOTALL)
+def blocks(page="README.md"):
+    """The code blocks of a page, each with its language."""
+    return re.findall(r"^```(\w+)\n(.*?)^```$", (TOP / page).read_text(), re.MULTILINE | re.DOTALL)
 
 
 def shell(command, folder, path=""):
@@ -136,9 +141,24 @@ def run_programs():
     compare("the programs of README.md", done.stdout, PRINTED)
 
 
+def run_tutorial():
+    """The blocks of docs/RATTLE.md as one program in that repository, which runs without a proof."""
+    repository = ROOM / "repository"
+    crate = repository / "crates" / "first"
+    (crate / "src").mkdir(parents=True)
+    first, *others = (text for language, text in blocks("docs/RATTLE.md") if language == "rust")
+    calls = CALLS.format(file=repository / "crates/readme/data/something")
+    program = "\n".join([first.replace("    Ok(())\n", f"{calls}    Ok(())\n"), *others])
+    (crate / "src" / "main.rt").write_text(program)
+    with open(repository / "crates.txt", "a") as rows:
+        rows.write("first: rapidhash anyhow\n")
+    compare("the program of docs/RATTLE.md", shell("rt try 2>/dev/null", crate).stdout, TUTORIAL)
+
+
 if sys.argv[1:2] == ["--repository"]:
     write_repository(Path(sys.argv[2]))
 else:
     run_shell_blocks()
     run_programs()
+    run_tutorial()
 finish()

@@ -1,7 +1,8 @@
 #!/usr/bin/env bash
 # Tests the Rust crate in rust/: that its sources are current, its layout and lints, its tests and examples with
-# the machine's compiler and with Debian's, the package that cargo makes, and the README's program in a folder
-# of its own. Debian's compiler is skipped if it is not installed. The last line counts the cases.
+# the machine's compiler and with Debian's, the package that cargo makes, the README's program in a folder
+# of its own, and the commands of docs/BINDINGS.md. Debian's compiler is skipped if it is not installed. The last line
+# counts the cases.
 set -u
 
 top=$(cd "$(dirname "${BASH_SOURCE[0]}")/.." && pwd) || exit 1
@@ -79,5 +80,6 @@ if [ -x /usr/bin/rustc ] && [ -x /usr/bin/cargo ]; then
 else
   printf "skipped Debian's compiler: no /usr/bin/rustc and /usr/bin/cargo\n"
 fi
+try commands works_as_its_page_says <(sed -n '/^## Rust$/,/^## Python$/p' "$top/docs/BINDINGS.md")
 
 finish

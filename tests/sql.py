@@ -1,4 +1,4 @@
-"""What the tests of both SQL databases share: known values, the vectors, and what docs/BINDINGS.md shows."""
+"""What the tests of both SQL databases share: known values, the vectors, and what their pages show."""
 
 import os
 import re
@@ -28,9 +28,14 @@ def shell(command, folder=TOP, **words):
 
 
 def blocks(name, language):
-    """The code blocks of a section of the page that are of one language."""
-    section = re.search(rf"^## {name}\n(.*?)(?=^## |\Z)", (TOP / "docs/BINDINGS.md").read_text(), re.M | re.S)[1]
-    return re.findall(rf"^```{language}\n(.*?)^```$", section, re.M | re.S)
+    """The code blocks of a package's page that are of one language."""
+    page = (TOP / "bindings" / name.lower() / "README.md").read_text()
+    return re.findall(rf"^```{language}\n(.*?)^```$", page, re.M | re.S)
+
+
+def is_shown(commands):
+    """Whether the page of all bindings has these commands too."""
+    return commands in (TOP / "docs/BINDINGS.md").read_text()
 
 
 def signed(number):

@@ -1,5 +1,5 @@
 #!/usr/bin/python3
-"""Builds the extension for SQLite as docs/BINDINGS.md says, loads it, and tests each function: the vectors, types,
+"""Builds the extension for SQLite as its page says, loads it, and tests each function: the vectors, types,
 errors, aggregates, what the page shows, and each allocation that fails. The values are those of the Rust crate. The
 last line counts the cases."""
 
@@ -10,7 +10,7 @@ import sqlite3
 
 from cases import ROOM, TOP, compare, finish, tell
 from sql import HELLO, NOTHING, SEEDED, TEXT, TEXT_HASH, VERSIONS
-from sql import blocks, every_vector, lines_with_results, shell, signed
+from sql import blocks, every_vector, is_shown, lines_with_results, shell, signed
 
 STREAMS = VERSIONS[4:7]
 REAL = "a REAL cannot be hashed: cast it to TEXT, BLOB or INTEGER"
@@ -56,7 +56,8 @@ def commands():
         (ROOM / name).mkdir()
     *build, load = first.splitlines()
     status, printed = shell(first, ROOM / "first")
-    compare("three_commands", (len(build), status, printed.splitlines()[-1:]), (2, 0, [str(HELLO)]))
+    found = (is_shown(first), len(build), status, printed.splitlines()[-1:])
+    compare("three_commands", found, (True, 2, 0, [str(HELLO)]))
     compare("installed_library", shell(second + load, ROOM / "second", **lay_out_installed()), (0, f"{HELLO}\n"))
     command = re.search(r"^\| `bindings/sqlite` .*`(cc .*)`", (TOP / "share/dist.md").read_text(), re.M)[1]
     compare("unpacked_archive", shell(f"{command}\n{load}", ROOM), (0, f"{HELLO}\n"))

@@ -51,15 +51,15 @@ func (secrets *SecretsV1) checked() *SecretsV1 {
 	return secrets
 }
 
-// MakeSecrets makes a seed and secrets from a number. Make them once and keep them. From a number that nobody knows
-// they keep others from choosing messages that collide.
+// MakeSecrets makes a seed and secrets from a number. Make them once and reuse them. If others choose the messages, use
+// a random number: the default secrets are public, so a seed word does not stop an attacker.
 func MakeSecrets(number uint64) *Secrets {
 	secrets := new(Secrets)
 	makeSecrets(number, secrets)
 	return secrets
 }
 
-// SeedSecrets returns the default secrets, and a seed made from one word as the C++ library takes it.
+// SeedSecrets returns the default secrets with a seed derived from a word, as V3WithSeed uses them.
 func SeedSecrets(word uint64) *Secrets {
 	secrets := new(Secrets)
 	seedSecrets(word, secrets)

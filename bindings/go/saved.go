@@ -64,7 +64,7 @@ func (stream *Stream) UnmarshalBinary(saved []byte) error {
 // What is wrong with a saved stream: after a folded block at least one byte is kept, and never more than a block.
 func check(saved []byte) error {
 	if len(saved) < len(magic) || string(saved[:len(magic)]) != magic {
-		return errors.New("rapidhash: these bytes are no saved Stream, or one of another version")
+		return errors.New("rapidhash: not a saved Stream, or one of another version")
 	}
 	if len(saved) != savedSize {
 		return fmt.Errorf("rapidhash: a saved Stream has %d bytes, not %d", savedSize, len(saved))

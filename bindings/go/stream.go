@@ -68,7 +68,7 @@ func (stream *Stream) ensureStarted() {
 // As many bytes of a piece are hashed by one call.
 const part = 1 << 20
 
-// Write adds a whole piece to the message, and the error is nil.
+// Write appends a piece to the message. It never returns an error.
 func (stream *Stream) Write(data []byte) (int, error) {
 	stream.ensureStarted()
 	rest := data
@@ -91,12 +91,12 @@ func (stream *Stream) Sum64() uint64 {
 	return streamFinish(&stream.inner, &stream.secrets)
 }
 
-// Sum appends the hash as 8 bytes, the highest first.
+// Sum appends the hash as 8 bytes, most significant first.
 func (stream *Stream) Sum(data []byte) []byte {
 	return binary.BigEndian.AppendUint64(data, stream.Sum64())
 }
 
-// Reset forgets the message, and keeps the secrets and the version.
+// Reset empties the message; it keeps the secrets and the version.
 func (stream *Stream) Reset() {
 	stream.ensureStarted()
 	streamReset(&stream.inner, &stream.secrets)

@@ -8,7 +8,7 @@ export function bytesOf(data) {
   if (typeof data === "string") return encoder.encode(data);
   if (data instanceof ArrayBuffer) return new Uint8Array(data);
   if (ArrayBuffer.isView(data)) return new Uint8Array(data.buffer, data.byteOffset, data.byteLength);
-  throw new TypeError("only a string, an ArrayBuffer or a view of one can be hashed");
+  throw new TypeError("expected a string, an ArrayBuffer or a view of one");
 }
 
 /** Writes a string as UTF-8 to an array that has room for it, and returns the count of bytes. */
@@ -39,10 +39,10 @@ export function choose(options = {}) {
   if (!isPlain(options)) throw new TypeError("options must be an object: { seed } or { secrets }");
   for (const name of Object.keys(options))
     if (name !== "seed" && name !== "secrets")
-      throw new TypeError(`there is no option ${name}, only seed and secrets`);
+      throw new TypeError(`unknown option '${name}': expected seed or secrets`);
   const { seed, secrets } = options;
   if (seed !== undefined && secrets !== undefined)
-    throw new TypeError("secrets have a seed of their own: give one of the two");
+    throw new TypeError("pass either seed or secrets, not both");
   if (secrets !== undefined && !(secrets instanceof BigUint64Array))
     throw new TypeError("secrets must be a BigUint64Array, the seed first");
   return { seed: seed === undefined ? undefined : word("seed", seed), secrets };
@@ -52,7 +52,7 @@ export function choose(options = {}) {
 export function piecesOf(source) {
   if (typeof source?.[Symbol.asyncIterator] === "function") return source;
   if (typeof source?.getReader === "function") return readAll(source.getReader());
-  throw new TypeError("only a stream or another async iterable can be read");
+  throw new TypeError("expected a stream or another async iterable");
 }
 
 async function* readAll(reader) {

@@ -1,9 +1,9 @@
-/** What is hashed: a string as its UTF-8, or bytes. */
+/** A message: a string, hashed as its UTF-8, or bytes. */
 export type Message = string | ArrayBuffer | ArrayBufferView;
 
 /**
- * A seed from 0 to 2^64 - 1, as a BigInt from 2^53 on; or secrets, of which the first word is the seed:
- * four words for V1, eight for all others. Never both.
+ * A seed from 0 to 2^64 - 1, as a BigInt from 2^53 on; or secrets, whose first word is the seed: four words for V1,
+ * eight for every other version. Never both. A seed word is no defence against chosen input: use makeSecrets there.
  */
 export type Options =
   | { readonly seed?: bigint | number; readonly secrets?: undefined }
@@ -23,21 +23,21 @@ export interface WebStream {
 /** A stream of Node or of the web, or any other pieces that come one after another. */
 export type Pieces = AsyncIterable<Message> | WebStream;
 
-/** A message in pieces. */
+/** Hashes a message in pieces. */
 export interface Hasher {
-  /** Adds a piece to the message, and returns the hasher. */
+  /** Appends a piece to the message. Returns the hasher. */
   update(data: Message): this;
-  /** Adds all pieces of a stream, and promises the hasher. */
+  /** Appends all pieces of a stream. Resolves to the hasher. */
   updateFrom(source: Pieces): Promise<this>;
-  /** The hash of the message so far. More pieces may follow. */
+  /** Returns the hash of the message so far. More pieces may follow. */
   digest(): bigint;
-  /** Forgets the message, keeps the secrets, and returns the hasher. */
+  /** Empties the message; keeps the secrets. Returns the hasher. */
   reset(): this;
-  /** A hasher with the same message so far, which goes on alone. */
+  /** Returns an independent hasher with the same message so far. */
   clone(): this;
 }
 
-/** The calls. A hash is from 0 to 2^64 - 1, the same on every machine. */
+/** The functions. A hash is from 0 to 2^64 - 1, the same on every machine. */
 export interface Rapidhash {
   v1(data: Message, options?: Options): bigint;
   v2_0(data: Message, options?: Options): bigint;
@@ -47,9 +47,9 @@ export interface Rapidhash {
   v3Micro(data: Message, options?: Options): bigint;
   v3Nano(data: Message, options?: Options): bigint;
   v3Protected(data: Message, options?: SecretsOption): bigint;
-  /** A seed and secrets with bits set in all parts, made from a number: for all versions but V1. */
+  /** Makes a seed and secrets from a number, for every version except V1. If others choose input, use a random one. */
   makeSecrets(number: bigint | number): BigUint64Array;
-  /** A seed made from a word, and the default secrets: for all versions but V1. */
+  /** Returns the default secrets with a seed derived from a word, for every version except V1. */
   seedSecrets(number: bigint | number): BigUint64Array;
   makeSecretsV1(number: bigint | number): BigUint64Array;
   seedSecretsV1(number: bigint | number): BigUint64Array;
@@ -60,13 +60,13 @@ export interface Rapidhash {
   readonly room: number;
 }
 
-/** The calls, over the module inside the package, or over another: its bytes, its path or its URL. */
+/** Loads the module inside the package, or another from its bytes, its path or its URL. */
 export function load(
   source?: ArrayBuffer | ArrayBufferView | string | { readonly href: string },
 ): Promise<Rapidhash>;
 
-/** The same at once, over the module inside the package or over the bytes of another. */
+/** Loads the module inside the package, or the bytes of another, synchronously. */
 export function loadSync(bytes?: ArrayBuffer | ArrayBufferView): Rapidhash;
 
-/** A hash as 16 lower-case hexadecimal digits. */
+/** Returns a hash as 16 lower-case hexadecimal digits. */
 export function hex(hash: bigint): string;

@@ -49,8 +49,8 @@ export class Library {
     try {
       this.exports.memory.grow(Math.ceil(missing / page));
     } catch {
-      throw new RangeError(`the engine has no memory for ${length} bytes at once: ` +
-        "V3, micro and nano hash such a message by pieces");
+      throw new RangeError(`not enough memory in WebAssembly for ${length} bytes at once: ` +
+        "V3, micro and nano hash such a message in pieces");
     }
     this.look();
   }
@@ -85,7 +85,7 @@ export class Library {
   /** Copies secrets into the memory, and returns where they are. */
   give(secrets, count) {
     if (secrets.length !== count)
-      throw new TypeError(`secrets must have ${count} words here, the seed first`);
+      throw new TypeError(`secrets must have ${count} words for this version, the seed first`);
     this.secrets.set(secrets);
     return this.pointers.secrets;
   }

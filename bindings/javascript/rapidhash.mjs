@@ -49,7 +49,7 @@ function form(library, name, count, lanes) {
   const seeded = library.exports[`${name}_seeded`];
   const general = (data, options) => {
     const { seed, secrets } = options === undefined ? none : choose(options);
-    if (seed !== undefined && !withSeed) throw new TypeError(`${name} takes secrets and no seed`);
+    if (seed !== undefined && !withSeed) throw new TypeError(`${name} does not take seed; pass secrets`);
     const message = messageOf(data);
     if (lanes && message.length > piece)
       return new Stream(library, lanes, { seed, secrets }).update(message).digest();

@@ -32,7 +32,7 @@ static PyObject *refuse(const char *why)
 static const void *words_of(PyObject *secrets, PyObject *class, Py_ssize_t size)
 {
     if (!PyObject_TypeCheck(secrets, (PyTypeObject *)class) || PyBytes_Size(secrets) != size)
-        return refuse("these are not the secrets that make_secrets makes for this version");
+        return refuse("secrets must come from make_secrets for this version");
     return PyBytes_AsString(secrets);
 }
 
@@ -47,7 +47,7 @@ static int read_word(PyObject *number, uint64_t *word)
     if (*word != UINT64_MAX || !PyErr_Occurred())
         return 0;
     if (PyErr_ExceptionMatches(PyExc_OverflowError))
-        PyErr_SetString(PyExc_OverflowError, "a seed is an integer from 0 to 2**64 - 1");
+        PyErr_SetString(PyExc_OverflowError, "seed or number must be from 0 to 2**64 - 1");
     return -1;
 }
 
@@ -57,7 +57,7 @@ static int sort(PyObject *const *args, Py_ssize_t count, PyObject *names, PyObje
     static const char *const known[3] = {"data", "seed", "secrets"};
     Py_ssize_t at, named = names == NULL ? 0 : PyTuple_Size(names);
     if (count > 3)
-        return refuse("at most three arguments are taken: data, seed, secrets"), -1;
+        return refuse("expected at most three arguments: data, seed, secrets"), -1;
     for (at = 0; at < count; at++)
         sorted[at] = args[at];
     for (at = 0; at < named; at++) {
@@ -65,10 +65,10 @@ static int sort(PyObject *const *args, Py_ssize_t count, PyObject *names, PyObje
         while (which < 3 && PyUnicode_CompareWithASCIIString(PyTuple_GetItem(names, at), known[which]) != 0)
             which++;
         if (which == 3 || sorted[which] != NULL)
-            return refuse("an argument has an unknown name, or is given twice"), -1;
+            return refuse("an argument has an unknown name or is passed twice"), -1;
         sorted[which] = args[count + at];
     }
-    return sorted[0] == NULL ? refuse("the argument data is missing"), -1 : 0;
+    return sorted[0] == NULL ? refuse("missing argument: data"), -1 : 0;
 }
 
 /* Reads the seed or the secrets of a call: 0, or -1 with an error set. */
@@ -78,7 +78,7 @@ static int read_start(const struct form *form, PyObject *module, PyObject *const
     int has_seed = sorted[1] != NULL && sorted[1] != Py_None;
     if (sorted[2] != NULL && sorted[2] != Py_None) {
         if (has_seed)
-            return refuse("secrets have a seed of their own: give one of the two"), -1;
+            return refuse("pass either seed or secrets, not both"), -1;
         start->secrets = form->is_v1 ? words_of(sorted[2], classes->secrets_v1, sizeof(struct rapidhash_v1_secrets))
                                      : words_of(sorted[2], classes->secrets, sizeof(struct rapidhash_secrets));
         return start->secrets == NULL ? -1 : 0;
@@ -86,7 +86,7 @@ static int read_start(const struct form *form, PyObject *module, PyObject *const
     if (!has_seed)
         return 0;
     if (form->with_seed == NULL)
-        return refuse("this form takes secrets and no seed word"), -1;
+        return refuse("v3_protected does not take seed; pass secrets"), -1;
     start->has_seed = 1;
     return read_word(sorted[1], &start->seed);
 }
@@ -163,9 +163,10 @@ MAKER(seeded, rapidhash_seed_secrets, rapidhash_secrets)
 
 #define CALL(name) \
     {#name, (PyCFunction)(void (*)(void))call_##name, METH_FASTCALL | METH_KEYWORDS, \
-     PyDoc_STR(#name "($module, data, seed=None, secrets=None)\n--\n\nThe " #name " hash of `data`.\n\n" \
-               "With `seed`, a word as the C++ library takes it; with `secrets`, those of make_secrets; else the\n" \
-               "default seed and secrets.")}
+     PyDoc_STR(#name "($module, data, seed=None, secrets=None)\n--\n\nReturns the " #name " hash of `data`.\n\n" \
+               "Pass `seed`, a word for the default secrets, or `secrets` from make_secrets. A seed word is no\n" \
+               "defence against chosen input. Raises BufferError if `data` is not contiguous, OverflowError for\n" \
+               "a seed outside 0 to 2**64 - 1, and TypeError for both.")}
 
 static PyMethodDef calls[] = {
     CALL(v1), CALL(v2_0), CALL(v2_1), CALL(v2_2), CALL(v3), CALL(v3_micro), CALL(v3_nano), CALL(v3_protected),

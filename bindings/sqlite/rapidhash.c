@@ -1,4 +1,4 @@
-/* The rapidhash family as functions of SQL: an extension that SQLite loads. docs/BINDINGS.md has every call. */
+/* The rapidhash family as functions of SQL: an extension that SQLite loads. README.md has every call. */
 #include <rapidhash_c.h>
 #include <sqlite3ext.h>
 

@@ -19,11 +19,11 @@ const range = "must be from 0 to 2n ** 64n - 1n";
 test("refused options", () => {
   const refused = [
     [7n, options], ["7", options], [null, options], [own, options], [new Map([["seed", 7n]]), options],
-    [{ sed: 7n }, "there is no option sed, only seed and secrets"],
-    [{ seed: 1n, secret: own }, "there is no option secret, only seed and secrets"],
+    [{ sed: 7n }, "unknown option 'sed': expected seed or secrets"],
+    [{ seed: 1n, secret: own }, "unknown option 'secret': expected seed or secrets"],
     [{ seed: null }, kind], [{ seed: "7" }, kind], [{ seed: true }, kind],
     [{ secrets: null }, words], [{ secrets: [1n, 2n, 3n, 4n] }, words],
-    [{ seed: 1n, secrets: own }, "secrets have a seed of their own: give one of the two"],
+    [{ seed: 1n, secrets: own }, "pass either seed or secrets, not both"],
   ];
   for (const [given, message] of refused)
     for (const call of [() => v3(data, given), () => v2_2(data, given), () => new V3(given)])
@@ -46,18 +46,18 @@ test("refused words", () => {
 });
 
 test("refused counts", () => {
-  const message = (count) => `secrets must have ${count} words here, the seed first`;
+  const message = (count) => `secrets must have ${count} words for this version, the seed first`;
   for (const call of [v2_0, v2_1, v2_2, v3, v3Micro, v3Nano, v3Protected])
     assert.throws(() => call(data, { secrets: own.slice(0, 4) }), { name: "TypeError", message: message(8) });
   assert.throws(() => new V3({ secrets: own.slice(0, 4) }), { name: "TypeError", message: message(8) });
   assert.throws(() => v1(data, { secrets: own }), { name: "TypeError", message: message(4) });
   assert.throws(() => v3Protected(data, { seed: 1n }),
-    { name: "TypeError", message: "rapidhash_v3_protected takes secrets and no seed" });
+    { name: "TypeError", message: "rapidhash_v3_protected does not take seed; pass secrets" });
 });
 
 test("refused messages", () => {
   const wanted = {
-    name: "TypeError", message: "only a string, an ArrayBuffer or a view of one can be hashed",
+    name: "TypeError", message: "expected a string, an ArrayBuffer or a view of one",
   };
   for (const message of [7, 7n, null, undefined, true, [1, 2], { length: 3 }, new Blob(["a"])])
     for (const call of [v1, v2_0, v2_1, v2_2, v3, v3Micro, v3Nano, v3Protected, (m) => new V3().update(m)])
@@ -75,7 +75,7 @@ test("a stream that fails, and what is none", async () => {
   await assert.rejects(new V3().updateFrom(reader), { name: "Error", message: "broken" });
   for (const source of [data, "text", [data], 7, null, undefined])
     await assert.rejects(new V3().updateFrom(source),
-      { name: "TypeError", message: "only a stream or another async iterable can be read" });
+      { name: "TypeError", message: "expected a stream or another async iterable" });
   let [cancelled, pulled] = [0, 0];
   const numbers = () => new ReadableStream({
     pull(controller) {
@@ -87,6 +87,6 @@ test("a stream that fails, and what is none", async () => {
     },
   });
   for (const source of [numbers(), { getReader: () => numbers().getReader() }])
-    await assert.rejects(new V3().updateFrom(source), { name: "TypeError", message: /can be hashed/ });
+    await assert.rejects(new V3().updateFrom(source), { name: "TypeError", message: /^expected a string/ });
   assert.equal(cancelled, 2);
 });

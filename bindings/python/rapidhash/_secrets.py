@@ -14,7 +14,7 @@ class _Words(bytes):
 
     def __new__(cls, packed: bytes):
         if len(packed) != 8 * cls._count:
-            raise ValueError(f"{cls.__name__} has {8 * cls._count} bytes: make_secrets makes them")
+            raise ValueError(f"{cls.__name__} must have {8 * cls._count} bytes: use make_secrets")
         return super().__new__(cls, packed)
 
     @property
