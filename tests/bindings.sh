@@ -4,11 +4,7 @@
 # hashes beside those of the Rust crate, the package for Go in both its forms, and the library that cargo makes of the
 # Rust crate for other machines. A language that is not on this machine is skipped and not counted. The last line
 # counts the cases.
-set -u
-
-top=$(cd "$(dirname "${BASH_SOURCE[0]}")/.." && pwd) || exit 1
-# shellcheck source=tests/cases.sh
-. "$top/tests/cases.sh"
+. "$(dirname "$0")/cases.sh"
 header=$top/include/rapidhash_c.h
 archive=$top/crates/rapidhash_c/out/librapidhash_c.a
 shared=$top/build/librapidhash_c.so.1

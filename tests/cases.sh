@@ -1,6 +1,9 @@
 # What a script of tests reads first: `room`, a folder of its own that goes when the script ends, and the
 # counts of its cases. `top` is the repository.
-# shellcheck shell=bash disable=SC2154
+# shellcheck shell=bash
+set -u
+
+top=$(cd "$(dirname "${BASH_SOURCE[0]}")/.." && pwd) || exit 1
 room=$(mktemp -d) || exit 1
 trap 'chmod -R u+rwx "$room"; rm -rf "$room"' EXIT
 passed=0

@@ -1,11 +1,7 @@
 #!/usr/bin/env bash
 # Packs the packages of Debian, and installs, uses and removes them in a root that has the C library and nothing
 # else. It is skipped where not run as root, or without what builds and checks packages. The last line counts the cases.
-set -u
-
-top=$(cd "$(dirname "${BASH_SOURCE[0]}")/.." && pwd) || exit 1
-# shellcheck source=tests/cases.sh
-. "$top/tests/cases.sh"
+. "$(dirname "$0")/cases.sh"
 packages=$top/build/debian
 root=$room/root
 library=$root/usr/lib/x86_64-linux-gnu

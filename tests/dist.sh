@@ -1,11 +1,7 @@
 #!/usr/bin/env bash
 # Makes the archive for users without the kit, unpacks it in a room of its own, and uses what is in it.
 # The last line counts the cases.
-set -u
-
-top=$(cd "$(dirname "${BASH_SOURCE[0]}")/.." && pwd) || exit 1
-# shellcheck source=tests/cases.sh
-. "$top/tests/cases.sh"
+. "$(dirname "$0")/cases.sh"
 
 makes_the_archive() {
   make -s -C "$top" dist </dev/null && tar -C "$room" -xzf "$top"/build/yervound-*.tar.gz &&

@@ -1,11 +1,7 @@
 #!/usr/bin/env bash
 # Runs the built tool as its users do, and compares what it prints and how it ends: the hashes of each
 # version, however the bytes come, the words, and the help. The last line counts the cases.
-set -u
-
-top=$(cd "$(dirname "${BASH_SOURCE[0]}")/.." && pwd) || exit 1
-# shellcheck source=tests/tool_room.sh
-. "$top/tests/tool_room.sh"
+. "$(dirname "$0")/tool_room.sh"
 
 # The bytes of a file in pieces, with a pause before each.
 slowly() {

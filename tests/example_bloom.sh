@@ -1,12 +1,7 @@
 #!/usr/bin/env bash
 # shellcheck disable=SC2094 # A list that a program reads twice.
 # Runs crates/example_bloom as its users do, on good and on bad input. The last line counts the cases.
-set -u
-
-top=$(cd "$(dirname "${BASH_SOURCE[0]}")/.." && pwd) || exit 1
-name=example_bloom
-# shellcheck source=tests/example_room.sh
-. "$top/tests/example_room.sh"
+. "$(dirname "$0")/example_room.sh"
 
 # The same where up to a hundred of ten thousand lines may be found: NAME COMMAND..
 mostly_absent() {

@@ -1,12 +1,7 @@
 #!/usr/bin/env bash
 # Runs crates/example_dedupe as its users do: on folders, against fdupes where that is installed, on words that it
 # refuses, and where reading, writing or memory fails. The last line counts the cases.
-set -u
-
-top=$(cd "$(dirname "${BASH_SOURCE[0]}")/.." && pwd) || exit 1
-name=example_dedupe
-# shellcheck source=tests/example_room.sh
-. "$top/tests/example_room.sh"
+. "$(dirname "$0")/example_room.sh"
 
 # Groups of names, sorted.
 groups_of() {

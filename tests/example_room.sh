@@ -1,8 +1,8 @@
 # What the tests of the example programs read first: a copy of the built program in a folder of its own, ways to run it,
-# and the cases that programs share. `top` is the repository, `name` the program.
-# shellcheck shell=bash disable=SC2154
-# shellcheck source=tests/cases.sh
-. "$top/tests/cases.sh"
+# and the cases that programs share. `name` is the program, whose name the script has.
+# shellcheck shell=bash
+. "$(dirname "$0")/cases.sh"
+name=$(basename "$0" .sh)
 prepare_by make -s -C "$top" "$name"
 program=$room/$name
 cp "$top/crates/$name/out/$name" "$program" && mkdir "$room/at" && cd "$room/at" || exit 1

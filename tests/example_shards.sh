@@ -1,12 +1,7 @@
 #!/usr/bin/env bash
 # Runs crates/example_shards as its users do: on lines, on words that it refuses, and where reading, writing or memory
 # fails. The last line counts the cases.
-set -u
-
-top=$(cd "$(dirname "${BASH_SOURCE[0]}")/.." && pwd) || exit 1
-name=example_shards
-# shellcheck source=tests/example_room.sh
-. "$top/tests/example_room.sh"
+. "$(dirname "$0")/example_room.sh"
 
 # The node of a line comes first, and the line is kept as it is.
 seq 1 10000 >lines

@@ -3,12 +3,7 @@
 # Runs crates/example_sums beside sha256sum: in each case both print the same lines but for the
 # hashes, the same messages but for the program's name, and end with the same status. Then come the
 # cases that sha256sum has no word for. The last line counts the cases.
-set -u
-
-top=$(cd "$(dirname "${BASH_SOURCE[0]}")/.." && pwd) || exit 1
-name=example_sums
-# shellcheck source=tests/example_room.sh
-. "$top/tests/example_room.sh"
+. "$(dirname "$0")/example_room.sh"
 export LC_ALL=C
 
 # Makes the files of a case: three names, one of them with a newline, a backslash and a return.

@@ -1,11 +1,7 @@
 #!/usr/bin/env bash
 # Installs the programs and the library for C into a room of its own, uses each installed file, and
 # removes them again. Then come folders with names of other kinds. The last line counts the cases.
-set -u
-
-top=$(cd "$(dirname "${BASH_SOURCE[0]}")/.." && pwd) || exit 1
-# shellcheck source=tests/cases.sh
-. "$top/tests/cases.sh"
+. "$(dirname "$0")/cases.sh"
 prefix=$room/usr
 cd "$top" || exit 1
 

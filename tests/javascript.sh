@@ -2,11 +2,7 @@
 # Packs the package for JavaScript, installs it from an empty folder as its page says, and tests what is
 # installed: in Node, its types, and in browsers, with the page examples/browser. A program that is not on
 # this machine is named, and its cases are not counted. The last line counts the cases.
-set -u
-
-top=$(cd "$(dirname "${BASH_SOURCE[0]}")/.." && pwd) || exit 1
-# shellcheck source=tests/cases.sh
-. "$top/tests/cases.sh"
+. "$(dirname "$0")/cases.sh"
 # No registry is asked, whatever npm would ask by itself.
 export npm_config_offline=true npm_config_audit=false npm_config_update_notifier=false
 

@@ -1,11 +1,7 @@
 #!/usr/bin/env bash
 # Runs bin/rapidhash in a small copy of the repository, where a script in the place of rt builds a program
 # that prints the sources and its arguments. So no case has to prove anything. The last line counts.
-set -u
-
-top=$(cd "$(dirname "${BASH_SOURCE[0]}")/.." && pwd) || exit 1
-# shellcheck source=tests/cases.sh
-. "$top/tests/cases.sh"
+. "$(dirname "$0")/cases.sh"
 cd "$room" || exit 1
 
 # The stand-in for rt: it waits for the lock as rt does, takes the text of the sources, runs the file

@@ -2,11 +2,7 @@
 # Tests the Rust crate in rust/: that its sources are current, its layout and lints, its tests and examples with
 # the machine's compiler and with Debian's, the package that cargo makes, and the README's program in a folder
 # of its own. Debian's compiler is skipped if it is not installed. The last line counts the cases.
-set -u
-
-top=$(cd "$(dirname "${BASH_SOURCE[0]}")/.." && pwd) || exit 1
-# shellcheck source=tests/cases.sh
-. "$top/tests/cases.sh"
+. "$(dirname "$0")/cases.sh"
 export CARGO_TARGET_DIR=$room/target CARGO_NET_OFFLINE=true
 
 # Debian's cargo, with its compiler.
