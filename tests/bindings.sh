@@ -81,13 +81,6 @@ calls_from_cpp() {
     "$archive" -o "$room/cpp_header" && "$room/cpp_header" "$room/rapidhash_vectors.tsv"
 }
 
-by_pkg_config() {
-  local words
-  words=$(PKG_CONFIG_PATH=$room/lib/pkgconfig pkg-config --cflags --libs rapidhash_c) || return 1
-  # shellcheck disable=SC2086
-  calls_from_c cc "$top/tests/c_library.c" $words
-}
-
 # The functions of a text that has no comments: what each returns, its name and its parameters.
 signatures() {
   tr -s ' \n' ' ' | grep -oE '(void|uint64_t|uint32_t) rapidhash_[a-z0-9_]+\([^()]*\)' | sed 's/( /(/' | sort
@@ -178,7 +171,7 @@ test_library_of_rust() {
   try rust_names defines_the_header '' -D "$shared"
   try rust_soname bash -c 'readelf -dW "$1" | grep -F "SONAME" | grep -F "[librapidhash_c.so.1]"' - "$shared"
   try rust_c_archive calls_from_c cc -std=c99 -I"$top/include" "$top/tests/c_library.c" "$archive"
-  try rust_c_shared by_pkg_config
+  try rust_c_shared builds_by_pkg_config "$room/lib"
   try_with rust_cpp_header g++ calls_from_cpp g++ c++11
   try rust_python calls_from_python
   try_with rust_go go in_go go test -count 1 -tags rapidhash_cgo .
@@ -201,7 +194,7 @@ try code_and_data keeps_code_and_data_apart
 try unwind_tables keeps_unwind_tables
 try c_archive calls_from_c cc -std=c99 -I"$top/include" "$top/tests/c_library.c" "$archive"
 try c_shared calls_from_c cc -std=c99 -I"$top/include" "$top/tests/c_library.c" "$shared"
-try c_by_pkg_config by_pkg_config
+try c_by_pkg_config builds_by_pkg_config "$room/lib"
 try cpp_archive calls_from_c c++ -I"$top/include" -x c++ "$top/tests/c_library.c" -x none "$archive"
 for standard in c++11 c++17 c++20; do
   try_with "cpp_header_$standard" g++ calls_from_cpp g++ "$standard"

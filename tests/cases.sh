@@ -68,6 +68,24 @@ has_the_licences() {
   done
 }
 
+# A program in C of every call, built by the words that pkg-config tells and run with the shared library: the
+# library's folder. A blank in those words has a backslash, as the shell reads it.
+builds_by_pkg_config() {
+  local words
+  words=$(PKG_CONFIG_LIBDIR=$1/pkgconfig pkg-config --cflags --libs rapidhash_c) &&
+    eval "cc -O2 -Wall -Werror '$top/tests/c_library.c' $words -o '$room/c_library'" &&
+    LD_LIBRARY_PATH=$1 "$room/c_library" &&
+    readelf -d "$room/c_library" | grep -q 'NEEDED.*librapidhash_c\.so\.1'
+}
+
+# Programs in C and C++ find an installed library by CMake, and use it as shared library and as archive: PREFIX
+builds_by_cmake() {
+  python3 "$top/share/vectors.py" "$top/crates/test_replay/data" >"$room/vectors" &&
+    cmake -S "$top/tests/cmake" -B "$room/cmake" -D CMAKE_PREFIX_PATH="$1" -D VECTORS="$room/vectors" &&
+    grep "^rapidhash_c_DIR:PATH=$1/" "$room/cmake/CMakeCache.txt" &&
+    cmake --build "$room/cmake" && (cd "$room/cmake" && ctest | tee /dev/stderr | grep '100%.* out of 4$')
+}
+
 # The code blocks of a page that have a word: PAGE LANGUAGE WORD
 blocks() {
   awk -v language="$2" -v word="$3" '
