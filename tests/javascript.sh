@@ -9,8 +9,10 @@ export npm_config_offline=true npm_config_audit=false npm_config_update_notifier
 # The package has all of its files and no other, with the licences of the repository.
 has_its_files() {
   local folder=$room/first/node_modules/yervound-rapidhash
-  has_the_licences "$folder" && (cd "$folder" && LC_ALL=C ls) | diff - <(printf '%s\n' LICENSE-APACHE LICENSE-MIT NOTICE README.md \
-    arguments.mjs index.d.ts library.mjs module.mjs package.json rapidhash.mjs stream.mjs)
+  has_the_licences "$folder" && (cd "$folder" && LC_ALL=C ls) | diff - <(
+    printf '%s\n' LICENSE-APACHE LICENSE-MIT NOTICE README.md arguments.mjs index.d.ts library.mjs module.mjs \
+      package.json rapidhash.mjs stream.mjs
+  )
 }
 
 # Lays the tests out beside the installed package, with the files that they read.
