@@ -27,6 +27,12 @@ def shell(command, folder=TOP, **words):
     return done.returncode, done.stdout
 
 
+def unpack(folder, binding):
+    """Lays the library out in a folder with the source of a binding, as they lie in the archive."""
+    return shell(f"make -s install PREFIX='{folder}' && mkdir '{folder}/bindings' && "
+                 f"cp -r bindings/{binding} '{folder}/bindings'")
+
+
 def blocks(name, language):
     """The code blocks of a section of the page that are of one language."""
     section = re.search(rf"^## {name}\n(.*?)(?=^## |\Z)", (TOP / "docs/BINDINGS.md").read_text(), re.M | re.S)[1]
