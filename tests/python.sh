@@ -7,14 +7,10 @@
 python=/usr/bin/python3
 unset RAPIDHASH_LIBRARY PYTHONPATH
 
-# The commands that the page prints for an environment, at most three, and what they print in an empty folder.
+# The commands that the page prints, in an environment.
 installs_as_the_page_says() {
-  "$python" -m venv "$room/extension" && mkdir "$room/empty" && cd "$room/empty" &&
-    sed -n '/^## Python$/,/^## J/p' "$top/docs/BINDINGS.md" | sed -n '/^```sh$/,/^```$/p' | grep -v '^```' \
-      >../commands &&
-    [ "$(wc -l <../commands)" -le 3 ] &&
-    PATH=$room/extension/bin:$PATH YERVOUND=$top bash -e ../commands >../printed &&
-    [ "$(tail -n 1 ../printed)" = 3327445792987248966 ]
+  "$python" -m venv "$room/extension" &&
+    PATH=$room/extension/bin:$PATH works_as_its_page_says <(sed -n '/^## Python$/,/^## J/p' "$top/docs/BINDINGS.md")
 }
 
 # The wheel for each Python, which pip passes by where the other one will do.
