@@ -10,14 +10,11 @@ archive=$top/crates/rapidhash_c/out/librapidhash_c.a
 shared=$top/build/librapidhash_c.so.1
 export GOCACHE=$room/go GOPROXY=off
 
-# Lays the library out in the room as an installed one, with a file for pkg-config and the vectors.
+# Lays the two files of a library out in the room as installed ones, with the vectors.
 lay_out() {
-  mkdir -p "$room/lib/pkgconfig" "$room/include" && cp "$header" "$room/include" &&
-    cp "$archive" "$room/lib" && cp "$shared" "$room/lib/librapidhash_c.so.1" &&
-    ln -s librapidhash_c.so.1 "$room/lib/librapidhash_c.so" &&
-    python3 "$top/share/vectors.py" "$top/crates/test_replay/data" >"$room/rapidhash_vectors.tsv" &&
-    sed "s|@PREFIX@|$room|; s|@INCLUDEDIR@|$room/include|" \
-      "$top/share/rapidhash_c.pc.in" >"$room/lib/pkgconfig/rapidhash_c.pc"
+  make -s -C "$top" install PREFIX="$room" && cp "$archive" "$room/lib" &&
+    cp "$shared" "$room/lib/librapidhash_c.so.1" &&
+    python3 "$top/share/vectors.py" "$top/crates/test_replay/data" >"$room/rapidhash_vectors.tsv"
 }
 
 # The header alone in an empty program: COMPILER LANGUAGE STANDARD
@@ -177,7 +174,7 @@ test_library_of_rust() {
   try_with rust_go go in_go go test -count 1 -tags rapidhash_cgo .
 }
 
-prepare_by make -s -C "$top" library
+prepare_by make -s -C "$top"
 prepare_by lay_out
 
 for standard in c89 c99 c11 c17 c2x; do
