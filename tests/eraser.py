@@ -12,7 +12,7 @@ from types import SimpleNamespace
 from cases import TOP, compare, finish, tell
 
 sys.path.insert(0, str(TOP / "bin"))
-from eraser import Eraser, Refused  # noqa: E402
+from eraser import Refused, erase  # noqa: E402
 
 rust_crate = SimpleNamespace(**runpy.run_path(str(TOP / "bin" / "rust_crate")))
 
@@ -108,7 +108,7 @@ def sources():
 
 def erased(text):
     try:
-        return Eraser(text).erase()
+        return erase(text)
     except Refused as refused:
         return refused
 
