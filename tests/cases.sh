@@ -103,7 +103,7 @@ works_as_its_page_says() {
 # Commands that fail to write, or have only so much memory.
 to_a_full_disk() { "$@" >/dev/full; }
 to_no_output() { "$@" >&-; }
-to_a_closed_pipe() { "$top/tests/closed_pipe" "$@"; }
+to_a_closed_pipe() { perl -e 'pipe R, W; close R; open STDOUT, ">&", W; exec @ARGV' "$@"; }
 in_kibibytes() (ulimit -v "$1" && exec "${@:2}")
 
 # Prints the counts, and ends with their status.
