@@ -181,12 +181,8 @@ bench/%.tsv: always
 	@mkdir -p build && bench/$(measured) >build/$*.tsv && mv build/$*.tsv $@
 
 # The folders go to bin/install as variables, so that no character of theirs is one of the shell's.
-install uninstall: export PREFIX := $(PREFIX)
-install uninstall: export BINDIR := $(BINDIR)
-install uninstall: export LIBDIR := $(LIBDIR)
-install uninstall: export INCLUDEDIR := $(INCLUDEDIR)
-install uninstall: export DATADIR := $(DATADIR)
-install uninstall: export DESTDIR := $(DESTDIR)
+folders = PREFIX BINDIR LIBDIR INCLUDEDIR DATADIR DESTDIR
+$(foreach name,$(folders),$(eval install uninstall: export $(name) := $$($(name))))
 
 install:
 	@$(MAKE) -q all || { echo 'make install: something is missing or out of date: run make first' >&2; exit 2; }
