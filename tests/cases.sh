@@ -68,6 +68,11 @@ has_the_licences() {
   done
 }
 
+# The tool of an installed or unpacked library prints the hash of a line: PREFIX
+prints_the_known_hash() {
+  [ "$(echo something | "$1/bin/rapidhash" --v1)" = 15965596575264898037 ]
+}
+
 # A program in C of every call, built by the words that pkg-config tells and run with the shared library: the
 # library's folder. A blank in those words has a backslash, as the shell reads it.
 builds_by_pkg_config() {
