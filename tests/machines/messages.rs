@@ -129,7 +129,9 @@ fn one(draws: &mut Draws, message: &[u8]) -> Result<u64, String> {
         Ok(whole)
     } else {
         let length = message.len();
-        Err(format!("{length} bytes in pieces have another hash than the whole"))
+        Err(format!(
+            "{length} bytes in pieces have another hash than the whole"
+        ))
     }
 }
 
