@@ -5,18 +5,14 @@
 # make fmt         formats the sources
 # make bench       measures again what bench/*.tsv has, beside the Rust crate that RAPIDHASH_CRATE names
 # make library     proves and builds the C library, static and shared
-# make wasm        proves and builds the same library for WebAssembly, with addresses of 32 bits
-# make npm         packs bindings/javascript with that module, for npm install
-# make wheel       packs bindings/python with the library inside, for pip install
-# make sqlite      builds bindings/sqlite with the library inside, as an extension that SQLite loads
-# make postgresql  builds bindings/postgresql with the library inside, as an extension of PostgreSQL
-# make page        puts examples/browser with that package into build/browser, for any server of files
-# make install     installs what make has built, with manual pages and completions, under PREFIX
+# make wasm        builds the same library for WebAssembly, with addresses of 32 bits
+# make npm, wheel, sqlite and postgresql build the bindings with the library inside: see docs/BINDINGS.md
+# make page        puts examples/browser with the package for npm into build/browser, for any server of files
+# make install     installs what make has built, with manual pages and completions, under PREFIX; uninstall removes it
 # make dist        packs all that a user without the toolchain needs into one archive in build/
 # make deb         packs what make and make sqlite have built as packages of Debian, into build/debian
 # make vendor      copies the library into another Rattle repository: make vendor INTO=FOLDER
 # make test-vendor runs the merge gate of such a repository, which proves all from nothing
-# make uninstall   removes what make install put there
 # make clean       removes what the builds left
 
 PREFIX = /usr/local
@@ -182,12 +178,8 @@ bench/%.tsv: always
 	@mkdir -p build && bench/$(measured) >build/$*.tsv && mv build/$*.tsv $@
 
 # The folders go to bin/install as variables, so that no character of theirs is one of the shell's.
-install uninstall: export PREFIX := $(PREFIX)
-install uninstall: export BINDIR := $(BINDIR)
-install uninstall: export LIBDIR := $(LIBDIR)
-install uninstall: export INCLUDEDIR := $(INCLUDEDIR)
-install uninstall: export DATADIR := $(DATADIR)
-install uninstall: export DESTDIR := $(DESTDIR)
+folders = PREFIX BINDIR LIBDIR INCLUDEDIR DATADIR DESTDIR
+$(foreach name,$(folders),$(eval install uninstall: export $(name) := $$($(name))))
 
 install:
 	@$(MAKE) -q all || { echo 'make install: something is missing or out of date: run make first' >&2; exit 2; }

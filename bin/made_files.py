@@ -11,11 +11,8 @@ TOP = Path(__file__).resolve().parent.parent
 def stale_lines(name, text):
     """The differences between a file and what it should be."""
     file = TOP / name
-    old = file.read_text() if file.exists() else ""
-    lines = difflib.unified_diff(
-        old.splitlines(), text.splitlines(), name, "what it should be", n=0, lineterm=""
-    )
-    return list(lines)
+    old = file.read_text().splitlines() if file.exists() else []
+    return [*difflib.unified_diff(old, text.splitlines(), name, "what it should be", n=0, lineterm="")]
 
 
 def run(script, usage, files):
@@ -27,6 +24,7 @@ def run(script, usage, files):
     stale = []
     for name, text in files.items():
         if words == ["--write"]:
+            (TOP / name).parent.mkdir(parents=True, exist_ok=True)
             (TOP / name).write_text(text)
         elif words == ["--check"]:
             stale += stale_lines(name, text)

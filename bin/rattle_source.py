@@ -33,109 +33,73 @@ def on_one_line(signature):
     return re.sub(r",? ([>)\]])", r"\1", re.sub(r"([<(\[]) ", r"\1", text))
 
 
-class Parser:
-    """Reads the items of one file. Since the file is laid out, the indentation tells where each ends."""
+def blocks(lines, indent):
+    """The lines of each item with this indentation: its comments, its declaration and its body."""
+    block, is_open = [], False
+    for line in filter(None, lines):
+        block.append(line)
+        is_outer = line[len(indent)] != " "
+        if is_outer:
+            is_open = line.endswith(("{", "[", "("))
+        if line.strip().startswith("//"):
+            continue
+        if is_outer and line.endswith(("}", ";")) or not is_open and line.endswith(";"):
+            yield block
+            block = []
 
-    def __init__(self, lines):
-        self.lines = lines
-        self.at = 0
 
-    def take(self, is_last):
-        """The lines from here to the first one that is the last."""
-        start = self.at
-        while not is_last(self.lines[self.at]):
-            self.at += 1
-        self.at += 1
-        return self.lines[start : self.at]
-
-    def items(self, indent=""):
-        """The items up to the end of the file, or of the block with this indentation."""
-        found, doc, attributes = [], [], ""
-        while self.at < len(self.lines):
-            line = self.lines[self.at]
-            if indent and line == indent[4:] + "}":
-                break
-            text = line.strip()
-            if text.startswith("///"):
-                doc.append(text[4:])
-            elif text.startswith("#["):
-                attributes += text
-            elif text.startswith("ghost "):
-                self.take(lambda line: line.endswith(";"))
-                continue
-            elif match := ITEM.match(text):
-                item = self.item(match, indent, doc)
-                derived = re.search(r"derive\(([^)]*)\)", attributes)
-                item.traits = derived[1].split(", ") if derived else []
-                found += [item] * ("cfg(test)" not in attributes)
-                doc, attributes = [], ""
-                continue
-            elif text.startswith("pub "):
-                raise SystemExit(f"what kind of item is this? {text}")
-            self.at += 1
-        return found
-
-    def item(self, match, indent, doc):
-        """One item, whose first line is here."""
-        kind = match[2]
-        item = Item(kind, match[3], match[1] == "pub ", doc)
-        head = self.take(lambda line: line.endswith(";")) if kind == "use" else self.head()
-        has_body = head[-1].endswith("{")
-        item.signature = textwrap.dedent("\n".join(head)).removesuffix("{").removesuffix(";").strip()
+def items(lines, indent=""):
+    """The items with this indentation. Since a file is laid out, the indentation tells where each ends."""
+    for block in blocks(lines, indent):
+        texts = [line.strip() for line in block]
+        start = next((at for at, text in enumerate(texts) if ITEM.match(text)), None)
+        if start is None and any(text.startswith("pub ") for text in texts):
+            raise SystemExit(f"what kind of item is this? {texts}")
+        attributes = "".join(text for text in texts[:start] if text.startswith("#["))
+        if start is None or "cfg(test)" in attributes:
+            continue
+        access, kind, name = ITEM.match(texts[start]).groups()
+        item = Item(kind, name, access == "pub ", [text[4:] for text in texts[:start] if text.startswith("///")])
+        derived = re.search(r"derive\(([^)]*)\)", attributes)
+        item.traits = derived[1].split(", ") if derived else []
+        end = len(block) if kind == "use" else end_of_declaration(texts, start)
+        item.signature = textwrap.dedent("\n".join(block[start:end])).removesuffix("{").removesuffix(";").strip()
         if kind == "const":
             item.signature = item.signature.split(" =")[0]
-            if not head[-1].endswith(";"):
-                self.take(lambda line: line == indent + "};")
-        elif kind == "fn":
-            self.function(item, head[-1], indent)
-        elif has_body and kind in ("struct", "enum"):
-            item.signature += " {\n" + "".join(self.fields(kind, indent)) + "}"
-        elif has_body and kind in ("impl", "trait"):
-            item.members = self.items(indent + "    ")
-            self.at += 1
-        return item
+        elif kind == "fn" and not texts[end - 1].endswith(("{", ";")):
+            clauses = " ".join(texts[end : texts.index("{", end) if "{" in texts[end:] else None])
+            item.needs = re.findall(r"requires\*? ?\w* ?\{ (.*?) \};?(?= requires| ensures|$)", clauses)
+        elif kind in ("struct", "enum") and texts[end - 1].endswith("{"):
+            item.signature += " {\n" + "".join(fields(block[end:-1], kind, indent)) + "}"
+        elif kind in ("impl", "trait"):
+            item.members = [*items(block[end:-1], indent + "    ")]
+        yield item
 
-    def head(self):
-        """The lines of a declaration, before its clauses and its body."""
-        start = self.at
-        while not self.lines[self.at].endswith(("{", ";")):
-            self.at += 1
-            if self.lines[self.at].strip().startswith(("requires", "ensures", "{")):
-                return self.lines[start : self.at]
-        self.at += 1
-        return self.lines[start : self.at]
 
-    def function(self, item, last, indent):
-        """Keeps the preconditions of a function and skips its body."""
-        while not last.endswith((";", "{")):
-            text = self.lines[self.at].strip()
-            if text == "{":
-                break
-            clause = []
-            while not clause or text.count("{") > text.count("}"):
-                clause.append(self.lines[self.at].strip())
-                text = " ".join(clause)
-                self.at += 1
-            if found := re.match(r"requires\*? ?\w* ?\{ (.*) \};?$", text):
-                item.needs.append(found[1])
-            last = ";" if text.endswith(";") else ""
-        if not last.endswith(";"):
-            self.take(lambda line: line == indent + "}")
+def end_of_declaration(texts, start):
+    """The place behind a declaration, before its clauses and its body."""
+    for at, text in enumerate(texts[start:], start):
+        if text.startswith(("requires", "ensures")) or text == "{":
+            return at
+        if text.endswith(("{", ";")):
+            return at + 1
+    return len(texts)
 
-    def fields(self, kind, indent):
-        """The lines of the public fields of a struct or of the variants of an enum, with their comments."""
-        comment, hidden = [], 0
-        for line in self.take(lambda line: line == indent + "}")[:-1]:
-            text = line[len(indent) :]
-            if text.lstrip().startswith(("///", "#[")):
-                comment.append(text)
-            elif kind == "enum" or text.startswith("    pub "):
-                yield "".join(f"{it}\n" for it in [*comment, text])
-                comment = []
-            else:
-                comment, hidden = [], hidden + 1
-        if hidden:
-            yield "    // private fields\n"
+
+def fields(lines, kind, indent):
+    """The lines of the public fields of a struct or of the variants of an enum, with their comments."""
+    comment, hidden = [], 0
+    for line in lines:
+        text = line[len(indent) :]
+        if text.lstrip().startswith(("///", "#[")):
+            comment.append(text)
+        elif kind == "enum" or text.startswith("    pub "):
+            yield "".join(f"{it}\n" for it in [*comment, text])
+            comment = []
+        else:
+            comment, hidden = [], hidden + 1
+    if hidden:
+        yield "    // private fields\n"
 
 
 class Module:
@@ -146,12 +110,12 @@ class Module:
         self.top = parent.top if parent else self
         lines = file.read_text().splitlines()
         self.doc = [line[4:] for line in lines if line.startswith("//!")]
-        items = Parser(lines).items()
-        self.items = [item for item in items if item.kind not in ("impl", "mod", "use")]
-        self.uses = [item for item in items if item.kind == "use" and item.is_public]
-        self.blocks = [item for item in items if item.kind == "impl"]
+        found = [*items(lines)]
+        self.items = [item for item in found if item.kind not in ("impl", "mod", "use")]
+        self.uses = [item for item in found if item.kind == "use" and item.is_public]
+        self.blocks = [item for item in found if item.kind == "impl"]
         folder = file.parent if file.name == "lib.rt" else file.with_suffix("")
-        inner = [item for item in items if item.kind == "mod"]
+        inner = [item for item in found if item.kind == "mod"]
         self.public_modules = [item.name for item in inner if item.is_public]
         self.modules = {item.name: Module(folder / f"{item.name}.rt", item.name, self) for item in inner}
 

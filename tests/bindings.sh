@@ -4,29 +4,22 @@
 # hashes beside those of the Rust crate, the package for Go in both its forms, and the library that cargo makes of the
 # Rust crate for other machines. A language that is not on this machine is skipped and not counted. The last line
 # counts the cases.
-set -u
-
-top=$(cd "$(dirname "${BASH_SOURCE[0]}")/.." && pwd) || exit 1
-# shellcheck source=tests/cases.sh
-. "$top/tests/cases.sh"
+. "$(dirname "$0")/cases.sh"
 header=$top/include/rapidhash_c.h
 archive=$top/crates/rapidhash_c/out/librapidhash_c.a
 shared=$top/build/librapidhash_c.so.1
 export GOCACHE=$room/go GOPROXY=off
 
-# Lays the library out in the room as an installed one, with a file for pkg-config and the vectors.
+# Lays the two files of a library out in the room as installed ones, with the vectors.
 lay_out() {
-  mkdir -p "$room/lib/pkgconfig" "$room/include" && cp "$header" "$room/include" &&
-    cp "$archive" "$room/lib" && cp "$shared" "$room/lib/librapidhash_c.so.1" &&
-    ln -s librapidhash_c.so.1 "$room/lib/librapidhash_c.so" &&
-    python3 "$top/share/vectors.py" "$top/crates/test_replay/data" >"$room/rapidhash_vectors.tsv" &&
-    sed "s|@PREFIX@|$room|; s|@INCLUDEDIR@|$room/include|" \
-      "$top/share/rapidhash_c.pc.in" >"$room/lib/pkgconfig/rapidhash_c.pc"
+  make -s -C "$top" install PREFIX="$room" && cp "$archive" "$room/lib" &&
+    cp "$shared" "$room/lib/librapidhash_c.so.1" &&
+    python3 "$top/share/vectors.py" "$top/crates/test_replay/data" >"$room/rapidhash_vectors.tsv"
 }
 
-# The header alone in an empty program: COMPILER LANGUAGE STANDARD
+# The header alone in an empty program: STANDARD
 compiles_alone() {
-  "$1" -x "$2" "-std=$3" -pedantic -Wall -Wextra -Werror -fsyntax-only -I"$top/include" - \
+  cc -x "${1//[0-9]*/}" "-std=$1" -pedantic -Wall -Wextra -Werror -fsyntax-only -I"$top/include" - \
     <<<'#include <rapidhash_c.h>'
 }
 
@@ -38,13 +31,10 @@ declared() {
 # A file defines the names of the header, and no others: what stands behind each name, and the words of nm
 defines_the_header() {
   declared | sed "s/\$/$1/" >"$room/declared"
-  shift
-  [ "$(wc -l <"$room/declared")" -gt 20 ] || {
-    echo 'the header is laid out otherwise than this test reads it'
-    return 1
-  }
-  nm "$@" --defined-only --extern-only --format=posix >"$room/nm" || return 1
-  awk 'NF > 1 { print $1 }' "$room/nm" | sort | diff "$room/declared" -
+  # A header that is laid out otherwise than this test reads it has fewer.
+  [ "$(wc -l <"$room/declared")" -gt 20 ] &&
+    nm "${@:2}" --defined-only --extern-only --format=posix >"$room/nm" &&
+    awk 'NF > 1 { print $1 }' "$room/nm" | sort | diff "$room/declared" -
 }
 
 # Programs find each name by the release that had it first, and no name of the shared library lacks a library.
@@ -83,13 +73,6 @@ calls_from_c() {
 calls_from_cpp() {
   "$1" "-std=$2" -O2 -Wall -Wextra -Wpedantic -Werror -fno-exceptions -I"$top/include" "$top/tests/cpp_header.cpp" \
     "$archive" -o "$room/cpp_header" && "$room/cpp_header" "$room/rapidhash_vectors.tsv"
-}
-
-by_pkg_config() {
-  local words
-  words=$(PKG_CONFIG_PATH=$room/lib/pkgconfig pkg-config --cflags --libs rapidhash_c) || return 1
-  # shellcheck disable=SC2086
-  calls_from_c cc "$top/tests/c_library.c" $words
 }
 
 # The functions of a text that has no comments: what each returns, its name and its parameters.
@@ -182,20 +165,17 @@ test_library_of_rust() {
   try rust_names defines_the_header '' -D "$shared"
   try rust_soname bash -c 'readelf -dW "$1" | grep -F "SONAME" | grep -F "[librapidhash_c.so.1]"' - "$shared"
   try rust_c_archive calls_from_c cc -std=c99 -I"$top/include" "$top/tests/c_library.c" "$archive"
-  try rust_c_shared by_pkg_config
+  try rust_c_shared builds_by_pkg_config "$room/lib"
   try_with rust_cpp_header g++ calls_from_cpp g++ c++11
   try rust_python calls_from_python
   try_with rust_go go in_go go test -count 1 -tags rapidhash_cgo .
 }
 
-prepare_by make -s -C "$top" library
+prepare_by make -s -C "$top"
 prepare_by lay_out
 
-for standard in c89 c99 c11 c17 c2x; do
-  try "header_$standard" compiles_alone cc c "$standard"
-done
-for standard in c++98 c++11 c++17 c++20 c++23; do
-  try "header_$standard" compiles_alone c++ c++ "$standard"
+for standard in c89 c99 c11 c17 c2x c++98 c++11 c++17 c++20 c++23; do
+  try "header_$standard" compiles_alone "$standard"
 done
 try names_of_the_archive defines_the_header '' "$archive"
 try names_of_the_shared_library defines_the_header @@RAPIDHASH_1.0 -D "$shared"
@@ -205,7 +185,7 @@ try code_and_data keeps_code_and_data_apart
 try unwind_tables keeps_unwind_tables
 try c_archive calls_from_c cc -std=c99 -I"$top/include" "$top/tests/c_library.c" "$archive"
 try c_shared calls_from_c cc -std=c99 -I"$top/include" "$top/tests/c_library.c" "$shared"
-try c_by_pkg_config by_pkg_config
+try c_by_pkg_config builds_by_pkg_config "$room/lib"
 try cpp_archive calls_from_c c++ -I"$top/include" -x c++ "$top/tests/c_library.c" -x none "$archive"
 for standard in c++11 c++17 c++20; do
   try_with "cpp_header_$standard" g++ calls_from_cpp g++ "$standard"

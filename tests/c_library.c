@@ -36,21 +36,17 @@ struct form {
     uint64_t of_default, of_word, of_own;
 };
 
+#define FORM(name, len, hash, of_default, of_word, of_own) \
+    {name, len, hash, hash##_with_seed, hash##_seeded, of_default, of_word, of_own}
 static const struct form forms[] = {
-    {"v2.0", 60, rapidhash_v2_0, rapidhash_v2_0_with_seed, rapidhash_v2_0_seeded,
-     UINT64_C(13186137053657766175), UINT64_C(10726147324944781525), UINT64_C(7480442917932512801)},
-    {"v2.1", 60, rapidhash_v2_1, rapidhash_v2_1_with_seed, rapidhash_v2_1_seeded,
-     UINT64_C(13012060828128651499), UINT64_C(10166538060445963011), UINT64_C(15302905912564408163)},
-    {"v2.2", 60, rapidhash_v2_2, rapidhash_v2_2_with_seed, rapidhash_v2_2_seeded,
-     UINT64_C(6181707366222537282), UINT64_C(10905583924937672291), UINT64_C(11896991483551387597)},
-    {"v3", 120, rapidhash_v3, rapidhash_v3_with_seed, rapidhash_v3_seeded,
-     UINT64_C(7088138960297660729), UINT64_C(8806718467852582029), UINT64_C(13105958653737073913)},
-    {"micro", 120, rapidhash_v3_micro, rapidhash_v3_micro_with_seed, rapidhash_v3_micro_seeded,
-     UINT64_C(3055975138125564292), UINT64_C(13208658450986943527), UINT64_C(5648300410578423183)},
-    {"nano", 120, rapidhash_v3_nano, rapidhash_v3_nano_with_seed, rapidhash_v3_nano_seeded,
-     UINT64_C(3778853990780631382), UINT64_C(1125117906108554434), UINT64_C(4961128163384780230)},
+    FORM("v2.0", 60, rapidhash_v2_0, 13186137053657766175u, 10726147324944781525u, 7480442917932512801u),
+    FORM("v2.1", 60, rapidhash_v2_1, 13012060828128651499u, 10166538060445963011u, 15302905912564408163u),
+    FORM("v2.2", 60, rapidhash_v2_2, 6181707366222537282u, 10905583924937672291u, 11896991483551387597u),
+    FORM("v3", 120, rapidhash_v3, 7088138960297660729u, 8806718467852582029u, 13105958653737073913u),
+    FORM("micro", 120, rapidhash_v3_micro, 3055975138125564292u, 13208658450986943527u, 5648300410578423183u),
+    FORM("nano", 120, rapidhash_v3_nano, 3778853990780631382u, 1125117906108554434u, 4961128163384780230u),
     {"protected", 120, rapidhash_v3_protected, NULL, rapidhash_v3_protected_seeded,
-     UINT64_C(4753706306364957255), 0, UINT64_C(9934095814131968034)},
+     4753706306364957255u, 0, 9934095814131968034u},
 };
 
 static void check_form(const struct form *form)
@@ -72,30 +68,27 @@ static void check_form(const struct form *form)
 /* V1 has secrets of another type. */
 static void check_v1(void)
 {
-    const uint64_t of_default = UINT64_C(13504714392771582078), of_word = UINT64_C(16595489079910452471);
-    const uint64_t default_word = UINT64_C(0xbdd89aa982704029);
+    const uint64_t of_default = 13504714392771582078u, of_word = 16595489079910452471u;
+    const uint64_t default_word = 0xbdd89aa982704029u;
     struct rapidhash_v1_secrets secrets;
 
     compare("v1", "with the default secrets", rapidhash_v1(bytes, 60), of_default);
     compare("v1", "with secrets of one's own", rapidhash_v1_seeded(bytes, 60, &own_of_v1),
-            UINT64_C(13848206912060221315));
+            13848206912060221315u);
     compare("v1", "with its default word", rapidhash_v1_with_seed(bytes, 60, default_word), of_default);
     compare("v1", "with the seed word 1", rapidhash_v1_with_seed(bytes, 60, 1), of_word);
     rapidhash_v1_seed_secrets(default_word, &secrets);
     compare("v1", "with the secrets of its default word", rapidhash_v1_seeded(bytes, 60, &secrets), of_default);
     rapidhash_v1_seed_secrets(1, &secrets);
     compare("v1", "with the secrets of word 1", rapidhash_v1_seeded(bytes, 60, &secrets), of_word);
-    compare("v1", "of a line", rapidhash_v1("something\n", 10), UINT64_C(15965596575264898037));
+    compare("v1", "of a line", rapidhash_v1("something\n", 10), 15965596575264898037u);
 }
 
 static void check_made_secrets(void)
 {
-    static const struct rapidhash_secrets known = {UINT64_C(0x6d95b902ea9b0223), {
-        UINT64_C(0x4e6220ca4fb6cfce), UINT64_C(0x192d182c120632f7), UINT64_C(0xf457c94ec4a04866),
-        UINT64_C(0x4197ccbf5bf8f9d7), UINT64_C(0xfe96dfa00f02022d), UINT64_C(0x7c8eb6ba6268e054),
-        UINT64_C(0x6333af257102a99e)}};
-    static const char *const names[] = {"made secret 0", "made secret 1", "made secret 2", "made secret 3",
-                                        "made secret 4", "made secret 5", "made secret 6"};
+    static const struct rapidhash_secrets known = {0x6d95b902ea9b0223u, {
+        0x4e6220ca4fb6cfceu, 0x192d182c120632f7u, 0xf457c94ec4a04866u, 0x4197ccbf5bf8f9d7u,
+        0xfe96dfa00f02022du, 0x7c8eb6ba6268e054u, 0x6333af257102a99eu}};
     struct rapidhash_v1_secrets of_v1;
     struct rapidhash_secrets of_others;
     int i;
@@ -103,11 +96,11 @@ static void check_made_secrets(void)
     rapidhash_v1_make_secrets(0x12345678, &of_v1);
     compare("v1", "made seed", of_v1.seed, known.seed);
     for (i = 0; i < 3; i++)
-        compare("v1", names[i], of_v1.secrets[i], known.secrets[i]);
+        compare("v1", "a made secret", of_v1.secrets[i], known.secrets[i]);
     rapidhash_make_secrets(0x12345678, &of_others);
     compare("all but v1", "made seed", of_others.seed, known.seed);
     for (i = 0; i < 7; i++)
-        compare("all but v1", names[i], of_others.secrets[i], known.secrets[i]);
+        compare("all but v1", "a made secret", of_others.secrets[i], known.secrets[i]);
 }
 
 struct stream_form {
@@ -119,12 +112,9 @@ struct stream_form {
 };
 
 static const struct stream_form stream_forms[] = {
-    {"v3", rapidhash_v3_start, rapidhash_v3,
-     UINT64_C(13105958653737073913), UINT64_C(3141031059669918984)},
-    {"micro", rapidhash_v3_micro_start, rapidhash_v3_micro,
-     UINT64_C(5648300410578423183), UINT64_C(3665126695038604524)},
-    {"nano", rapidhash_v3_nano_start, rapidhash_v3_nano,
-     UINT64_C(4961128163384780230), UINT64_C(13390060429168413506)},
+    {"v3", rapidhash_v3_start, rapidhash_v3, 13105958653737073913u, 3141031059669918984u},
+    {"micro", rapidhash_v3_micro_start, rapidhash_v3_micro, 5648300410578423183u, 3665126695038604524u},
+    {"nano", rapidhash_v3_nano_start, rapidhash_v3_nano, 4961128163384780230u, 13390060429168413506u},
 };
 
 /* Pieces of 1, 2, 3 bytes and so on, after a reset of a stream that had other bytes. The stream is
@@ -164,26 +154,21 @@ static void check_copy(const struct stream_form *form)
 
 static void check_large(const struct stream_form *form)
 {
-    static const struct {
-        size_t size;
-        const char *what;
-    } pieces[] = {{16, "in pieces of 16 bytes"}, {64, "in pieces of 64 bytes"}, {112, "in pieces of 112 bytes"},
-                  {1024, "in pieces of 1,024 bytes"}, {65536, "in pieces of 65,536 bytes"},
-                  {sizeof large, "in one large piece"}};
+    static const size_t sizes[] = {16, 64, 112, 1024, 65536, sizeof large};
     struct rapidhash_secrets secrets;
     struct rapidhash_stream stream;
+    char what[40];
     size_t i, at;
 
     compare(form->name, "of a large message", form->hash(large, sizeof large), form->of_large);
     rapidhash_seed_secrets(0, &secrets);
     form->start(&stream, &secrets);
-    for (i = 0; i < sizeof pieces / sizeof pieces[0]; i++) {
+    for (i = 0; i < sizeof sizes / sizeof sizes[0]; i++) {
         rapidhash_stream_reset(&stream);
-        for (at = 0; at < sizeof large; at += pieces[i].size) {
-            size_t left = sizeof large - at;
-            rapidhash_stream_write(&stream, large + at, left < pieces[i].size ? left : pieces[i].size);
-        }
-        compare(form->name, pieces[i].what, rapidhash_stream_finish(&stream), form->of_large);
+        for (at = 0; at < sizeof large; at += sizes[i])
+            rapidhash_stream_write(&stream, large + at, sizes[i] < sizeof large - at ? sizes[i] : sizeof large - at);
+        snprintf(what, sizeof what, "in pieces of %lu bytes", (unsigned long)sizes[i]);
+        compare(form->name, what, rapidhash_stream_finish(&stream), form->of_large);
     }
 }
 
@@ -211,10 +196,10 @@ static void check_canonical(void)
     unsigned char stored[8];
     int i;
 
-    rapidhash_to_canonical(UINT64_C(0xf01ed23cb45a9678), stored);
+    rapidhash_to_canonical(0xf01ed23cb45a9678u, stored);
     for (i = 0; i < 8; i++)
         compare("canonical bytes", "byte", stored[i], known[i]);
-    compare("canonical bytes", "read", rapidhash_from_canonical(known), UINT64_C(0xf01ed23cb45a9678));
+    compare("canonical bytes", "read", rapidhash_from_canonical(known), 0xf01ed23cb45a9678u);
 }
 
 int main(void)
@@ -228,7 +213,7 @@ int main(void)
     compare("the library", "version", rapidhash_c_version(), RAPIDHASH_C_VERSION_NUMBER);
     if (sizeof(size_t) == 8)
         compare("a stream", "size", sizeof(struct rapidhash_stream), 216);
-    compare("v3", "of no bytes", rapidhash_v3(NULL, 0), UINT64_C(232177599295442350));
+    compare("v3", "of no bytes", rapidhash_v3(NULL, 0), 232177599295442350u);
     check_v1();
     for (i = 0; i < sizeof forms / sizeof forms[0]; i++)
         check_form(&forms[i]);

@@ -1,6 +1,9 @@
 # What a script of tests reads first: `room`, a folder of its own that goes when the script ends, and the
 # counts of its cases. `top` is the repository.
-# shellcheck shell=bash disable=SC2154
+# shellcheck shell=bash
+set -u
+
+top=$(cd "$(dirname "${BASH_SOURCE[0]}")/.." && pwd) || exit 1
 room=$(mktemp -d) || exit 1
 trap 'chmod -R u+rwx "$room"; rm -rf "$room"' EXIT
 passed=0
@@ -65,6 +68,29 @@ has_the_licences() {
   done
 }
 
+# The tool of an installed or unpacked library prints the hash of a line: PREFIX
+prints_the_known_hash() {
+  [ "$(echo something | "$1/bin/rapidhash" --v1)" = 15965596575264898037 ]
+}
+
+# A program in C of every call, built by the words that pkg-config tells and run with the shared library: the
+# library's folder. A blank in those words has a backslash, as the shell reads it.
+builds_by_pkg_config() {
+  local words
+  words=$(PKG_CONFIG_LIBDIR=$1/pkgconfig pkg-config --cflags --libs rapidhash_c) &&
+    eval "cc -O2 -Wall -Werror '$top/tests/c_library.c' $words -o '$room/c_library'" &&
+    LD_LIBRARY_PATH=$1 "$room/c_library" &&
+    readelf -d "$room/c_library" | grep -q 'NEEDED.*librapidhash_c\.so\.1'
+}
+
+# Programs in C and C++ find an installed library by CMake, and use it as shared library and as archive: PREFIX
+builds_by_cmake() {
+  python3 "$top/share/vectors.py" "$top/crates/test_replay/data" >"$room/vectors" &&
+    cmake -S "$top/tests/cmake" -B "$room/cmake" -D CMAKE_PREFIX_PATH="$1" -D VECTORS="$room/vectors" &&
+    grep "^rapidhash_c_DIR:PATH=$1/" "$room/cmake/CMakeCache.txt" &&
+    cmake --build "$room/cmake" && (cd "$room/cmake" && ctest | tee /dev/stderr | grep '100%.* out of 4$')
+}
+
 # The code blocks of a page that have a word: PAGE LANGUAGE WORD
 blocks() {
   awk -v language="$2" -v word="$3" '
@@ -84,7 +110,7 @@ works_as_its_page_says() {
 # Commands that fail to write, or have only so much memory.
 to_a_full_disk() { "$@" >/dev/full; }
 to_no_output() { "$@" >&-; }
-to_a_closed_pipe() { "$top/tests/closed_pipe" "$@"; }
+to_a_closed_pipe() { perl -e 'pipe R, W; close R; open STDOUT, ">&", W; exec @ARGV' "$@"; }
 in_kibibytes() (ulimit -v "$1" && exec "${@:2}")
 
 # Prints the counts, and ends with their status.

@@ -1,14 +1,12 @@
-#!/usr/bin/env python3
+#!/usr/bin/python3
 """Presses the tab key in bash, zsh and fish after lines that begin with rapidhash and rapidsum, and compares
 what the line becomes, or what is offered. A shell that is not installed has no cases."""
 
 import os
-import pty
-import select
 import shutil
 import subprocess
-import time
 
+import pexpect
 from cases import ROOM, TOP, compare, finish
 
 SHARE = TOP / "share"
@@ -50,58 +48,29 @@ OFFERS = [
 ]
 
 # How each shell starts, what it reads first, and how the words of its line are shown.
-BASH = (["bash", "--norc", "--noprofile", "-i"],
-        [f". '{SHARE}/rapidhash.bash'", f". '{SHARE}/rapidsum.bash'", "bind 'set bell-style none'"])
-ZSH = (["zsh", "-f", "-i"],
-       ["bindkey -e", "setopt no_beep no_list_beep no_auto_menu", "fpath=($FOLDER/functions $fpath)",
-        "autoload -Uz compinit", "compinit -u -D"])
+SHELLS = {
+    "bash": (["--norc", "--noprofile", "-i"],
+             [f". '{SHARE}/rapidhash.bash'", f". '{SHARE}/rapidsum.bash'", "bind 'set bell-style none'"]),
+    "zsh": (["-f", "-i"],
+            ["bindkey -e", "setopt no_beep no_list_beep no_auto_menu", "fpath=($FOLDER/functions $fpath)",
+             "autoload -Uz compinit", "compinit -u -D"]),
+}
 SHOW = "show() { printf '<<'; printf '%s|' \"$@\"; printf '>>\\n'; }"
 
 
-class Terminal:
-    """A shell at a terminal of its own."""
-
-    def __init__(self, command, lines):
-        environment = dict(os.environ, FOLDER=str(ROOM), TERM="dumb", PS1="$ ", COLUMNS="200", HOME=str(ROOM))
-        environment.pop("FOLD", None)
-        self.process, self.file = pty.fork()
-        if self.process == 0:
-            os.chdir(ROOM)
-            os.execvpe(command[0], command, environment)
-        self.text = ""
-        for line in [*lines, SHOW]:
-            os.write(self.file, line.encode() + b"\r")
-        os.write(self.file, b"show ready\r")
-        self.read_until("<<ready|>>")
-
-    def read_until(self, wanted, seconds=20):
-        """What the shell prints up to a text, or within some seconds."""
-        end = time.monotonic() + seconds
-        self.text = ""
-        while wanted not in self.text and time.monotonic() < end:
-            if select.select([self.file], [], [], 0.1)[0]:
-                self.text += os.read(self.file, 65536).decode(errors="replace")
-        return self.text
-
-    def words_after_tab(self, line):
-        """The words of the line after the tab key: it is shown by a word before it, put there by Ctrl-A."""
-        os.write(self.file, line.encode() + b"\t\x01show \x05\r")
-        text = self.read_until("|>>\r\n")
-        return text.rpartition("<<")[2].partition("|>>")[0].rstrip("/")
-
-    def close(self):
-        os.write(self.file, b"\x03exit\r")
-        os.close(self.file)
-        os.waitpid(self.process, 0)
-
-
-def press_tabs(shell, start):
-    if shutil.which(shell) is None:
-        return
-    terminal = Terminal(*start)
+def press_tabs(shell, words, lines):
+    """Shows the words of each line after the tab key, by a word before it that Ctrl-A has put there."""
+    environment = dict(os.environ, FOLDER=str(ROOM), TERM="dumb", PS1="$ ", HOME=str(ROOM))
+    environment.pop("FOLD", None)
+    terminal = pexpect.spawn(shell, words, cwd=ROOM, env=environment, dimensions=(24, 200), encoding="utf-8", timeout=20)
+    for line in [*lines, SHOW, "show ready"]:
+        terminal.send(f"{line}\r")
+    terminal.expect_exact("<<ready|>>\r\n")
     for name, line, wanted in LINES:
-        compare(f"{shell}: {name}", terminal.words_after_tab(line), wanted)
-    terminal.close()
+        terminal.send(f"{line}\t\x01show \x05\r")
+        terminal.expect([r"<<([^\r]*)\|>>\r\n", pexpect.TIMEOUT])
+        compare(f"{shell}: {name}", terminal.match[1].rstrip("/") if terminal.match_index == 0 else terminal.before, wanted)
+    terminal.close(force=True)
 
 
 def ask_fish():
@@ -119,7 +88,8 @@ for made in ("only", "-dash"):
 (ROOM / "functions").mkdir()
 for program in ("rapidhash", "rapidsum"):
     shutil.copy(SHARE / f"{program}.zsh", ROOM / "functions" / f"_{program}")
-press_tabs("bash", BASH)
-press_tabs("zsh", ZSH)
+for program, how in SHELLS.items():
+    if shutil.which(program):
+        press_tabs(program, *how)
 ask_fish()
 finish()

@@ -9,6 +9,7 @@
 #include <functional>
 #include <iterator>
 #include <memory>
+#include <numeric>
 #include <sstream>
 #include <unordered_map>
 #include <unordered_set>
@@ -39,10 +40,9 @@ static const rapidhash::secrets own = {1, {2, 3, 5, 7, 11, 13, 17}};
 /* The bytes 0 to 119, whose hashes tests/c_library.c has too. */
 static std::vector<unsigned char> counted()
 {
-    std::vector<unsigned char> message;
+    std::vector<unsigned char> message(120);
 
-    for (unsigned char byte = 0; byte < 120; byte++)
-        message.push_back(byte);
+    std::iota(message.begin(), message.end(), 0);
     return message;
 }
 

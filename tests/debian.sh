@@ -1,11 +1,7 @@
 #!/usr/bin/env bash
 # Packs the packages of Debian, and installs, uses and removes them in a root that has the C library and nothing
 # else. It is skipped where not run as root, or without what builds and checks packages. The last line counts the cases.
-set -u
-
-top=$(cd "$(dirname "${BASH_SOURCE[0]}")/.." && pwd) || exit 1
-# shellcheck source=tests/cases.sh
-. "$top/tests/cases.sh"
+. "$(dirname "$0")/cases.sh"
 packages=$top/build/debian
 root=$room/root
 library=$root/usr/lib/x86_64-linux-gnu
@@ -63,18 +59,9 @@ FILES
 
 # A program of every call, and the dependency that its own package would have.
 links_by_pkg_config() {
-  local words
-  words=$(PKG_CONFIG_LIBDIR=$library/pkgconfig pkg-config --cflags --libs rapidhash_c) &&
-    cc -O2 "$top/tests/c_library.c" $words -o "$root/c_library" && chroot "$root" /c_library &&
+  builds_by_pkg_config "$library" && cp "$room/c_library" "$root" && chroot "$root" /c_library &&
     cd "$packages/source" && dpkg-shlibdeps -O -Sdebian/librapidhash-c1 "$root/c_library" |
     tee /dev/stderr | grep 'librapidhash-c1 (>= 1\.0\.0)'
-}
-
-links_by_cmake() {
-  python3 "$top/share/vectors.py" "$top/crates/test_replay/data" >"$room/vectors" &&
-    cmake -S "$top/tests/cmake" -B "$room/cmake" -D CMAKE_PREFIX_PATH="$root/usr" -D VECTORS="$room/vectors" &&
-    grep -x "rapidhash_c_DIR:PATH=$library/cmake/rapidhash_c" "$room/cmake/CMakeCache.txt" &&
-    cmake --build "$room/cmake" && cd "$room/cmake" && ctest
 }
 
 loads_into_sqlite() {
@@ -118,7 +105,7 @@ try install installs
 try programs prints_the_known_hashes
 try code keeps_the_code
 try pkg_config links_by_pkg_config
-try cmake links_by_cmake
+try cmake builds_by_cmake "$root/usr"
 try sqlite loads_into_sqlite
 try manuals_and_completions has_manuals_and_completions
 try licences has_the_licences_of_debian

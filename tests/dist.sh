@@ -1,19 +1,11 @@
 #!/usr/bin/env bash
 # Makes the archive for users without the kit, unpacks it in a room of its own, and uses what is in it.
 # The last line counts the cases.
-set -u
-
-top=$(cd "$(dirname "${BASH_SOURCE[0]}")/.." && pwd) || exit 1
-# shellcheck source=tests/cases.sh
-. "$top/tests/cases.sh"
+. "$(dirname "$0")/cases.sh"
 
 makes_the_archive() {
   make -s -C "$top" dist </dev/null && tar -C "$room" -xzf "$top"/build/yervound-*.tar.gz &&
     mv "$room"/yervound-* "$room/unpacked" && has_the_licences "$room/unpacked"
-}
-
-prints_the_known_hash() {
-  [ "$(echo something | "$room/unpacked/bin/rapidhash" --v1)" = 15965596575264898037 ]
 }
 
 # Every case of the vector file agrees. Each of the eight calls has 72 with the default secrets and 72 with
@@ -33,22 +25,6 @@ tells_a_wrong_vector() {
   cp -r "$room/unpacked" "$room/turned" &&
     sed -i '$ s/$/0/' "$room/turned/rapidhash_vectors.tsv" &&
     ! python3 -B "$room/turned/check_vectors.py"
-}
-
-# The file for pkg-config finds the library where the archive was unpacked.
-links_where_it_stands() {
-  local words
-  words=$(PKG_CONFIG_PATH=$room/unpacked/lib/pkgconfig pkg-config --cflags --libs rapidhash_c) ||
-    return 1
-  # shellcheck disable=SC2086
-  cc -O2 "$top/tests/c_library.c" $words -o "$room/c_library" &&
-    LD_LIBRARY_PATH=$room/unpacked/lib "$room/c_library"
-}
-
-# So does CMake, for programs in C and C++.
-builds_by_cmake() {
-  cmake -S "$top/tests/cmake" -B "$room/cmake" -D CMAKE_PREFIX_PATH="$room/unpacked" \
-    -D VECTORS="$room/unpacked/rapidhash_vectors.tsv" && cmake --build "$room/cmake" && cd "$room/cmake" && ctest
 }
 
 # A program finds the Rust crate where the archive was unpacked.
@@ -80,11 +56,12 @@ installs_a_wheel() {
 }
 
 try archive makes_the_archive
-try program prints_the_known_hash
+try program prints_the_known_hash "$room/unpacked"
 try vectors agrees_with_the_vectors
 try wrong_vector tells_a_wrong_vector
-try library links_where_it_stands
-try_with cmake cmake builds_by_cmake
+# The files for pkg-config and CMake find the library where the archive was unpacked.
+try library builds_by_pkg_config "$room/unpacked/lib"
+try_with cmake cmake builds_by_cmake "$room/unpacked"
 try rust_crate builds_the_rust_crate
 try library_of_rust builds_for_other_machines
 try_with module node loads_the_module

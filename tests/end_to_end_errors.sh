@@ -1,11 +1,7 @@
 #!/usr/bin/env bash
 # Runs the built tool where it has to fail: words that are refused, reads, writes and memory. The last line counts
 # the cases.
-set -u
-
-top=$(cd "$(dirname "${BASH_SOURCE[0]}")/.." && pwd) || exit 1
-# shellcheck source=tests/tool_room.sh
-. "$top/tests/tool_room.sh"
+. "$(dirname "$0")/tool_room.sh"
 # The program by itself, since a limit on memory would stop the launcher's shell too.
 program=$top/crates/rapidhash_cli/out/rapidhash_cli
 exec </dev/null

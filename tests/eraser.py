@@ -1,17 +1,18 @@
 #!/usr/bin/env python3
 """Tests bin/eraser.py: each ghost form, what it must keep, and what it must refuse. Then checks each source of
-the Rust crate against the Rattle source that it was made from, by a walk of its own: the tokens of the one
-stand in the other in the same order, and each gap is a known ghost form or a row of bin/rust_crate."""
+the Rust crate against the Rattle source that it was made from, by patterns of its own: without the known ghost
+forms and the rows of bin/rust_crate both have the same tokens."""
 
 import re
 import runpy
 import sys
+from difflib import unified_diff
 from types import SimpleNamespace
 
 from cases import TOP, compare, finish, tell
 
 sys.path.insert(0, str(TOP / "bin"))
-from eraser import Eraser, Refused  # noqa: E402
+from eraser import Refused, erase  # noqa: E402
 
 rust_crate = SimpleNamespace(**runpy.run_path(str(TOP / "bin" / "rust_crate")))
 
@@ -54,75 +55,42 @@ REFUSED = {
     "a raw string": 'f(r"requires {");',
 }
 
-# The walk of its own: how a ghost form begins, in words with single spaces, and what ends it.
-GHOST = [
-    (r"(requires|ensures) (\* )?(\w+ )?\{", "}"),
-    (r"ghost use ", ";"),
-    (r"ghost \w+ [:=] \{", "} ,;"),
-    (r"# (! )?\[ tactic ", "]"),
-    (r"impl (< [^{]* > )?Model (< [^{]* > )?for [^{]*\{", "}"),
-    (r"use std : : marker : : Model ", ";"),
-    (r"[+,] Drop ", "Drop"),
-]
+# The forms once more, each as its words with a space behind each. GROUP is a group in braces.
+GROUP = r"{ [^{}]*} "
+for _ in range(9):
+    GROUP = rf"{{ (?:[^{{}}]|{GROUP})*}} "
+FORMS = "|".join((
+    rf"(?:requires|ensures) (?:\* )?(?:\w+ )?{GROUP}",
+    "ghost use [^;]*; ",
+    rf"ghost \w+ [:=] {GROUP}[,;] ",
+    r"# (?:! )?\[ tactic [^]]*\] ",
+    rf"impl (?:< [^{{]*?> )?Model (?:< [^{{]*?> )?for [^{{]*{GROUP}",
+    "use std : : marker : : Model ; ",
+    "[+,] Drop ",
+))
 WORDS = re.compile(r'//[^\n]*|b?"(?:[^"\\]|\\.)*"|\'\\?.\'|\w+|\S', re.DOTALL)
 
 
 def words_of(text):
-    """The tokens of a text and its comments; a comma before a closing bracket is rustfmt's to set."""
-    words = [word.rstrip() for word in WORDS.findall(text)]
-    return [word for word, following in zip(words, words[1:] + [""]) if word != "," or following not in list(")]}>")]
+    """The tokens of a text and its comments, each on a line. Brackets in strings and comments are no brackets."""
+    words = (word.rstrip() for word in WORDS.findall(text))
+    return "".join(f"{re.sub('[][{}();]', '', word) if len(word) > 1 else word}\n" for word in words)
 
 
-def end_of(words, at, closing):
-    """The place behind the form that begins here."""
-    depth = 0
-    for place in range(at, len(words)):
-        depth += (words[place] in list("([{")) - (words[place] in list(")]}"))
-        if depth == 0 and words[place] in closing.split() and place > at:
-            more = closing.split()[1:] and place + 1 < len(words) and words[place + 1] in (",", ";")
-            return place + 1 + bool(more)
-    return len(words)
-
-
-def gap(words, at, left_out):
-    """The place behind the form or the left-out item that begins here, or None."""
-    ahead = " ".join(words[at : at + 60]) + " "
-    for begin, closing in GHOST:
-        if re.match(begin, ahead):
-            return end_of(words, at, closing)
-    start = at
-    while words[start].startswith("///"):
-        start += 1
-    item = " ".join(words[start : start + 12])
-    if not any(item.startswith(" ".join(words_of(begin))) for begin in left_out):
-        return None
-    if words[start] == "use":
-        return end_of(words, start, ";")
-    while words[start] != "{":
-        start = gap(words, start, []) or start + 1
-    return end_of(words, start, "}")
-
-
-def behind_gaps(words, at, left_out):
-    """The place behind all forms and items that begin here, one after another."""
-    while at < len(words) and (behind := gap(words, at, left_out)):
-        at = behind
-    return at
+def without(pattern, text):
+    return re.sub(f"^(?:{pattern})".replace(" ", "\n"), "", text, flags=re.MULTILINE)
 
 
 def difference(rattle, rust, left_out):
-    """Where the two texts part."""
-    theirs, ours = words_of(rattle), words_of(rust)
-    at, place = behind_gaps(theirs, 0, left_out), 0
-    while at < len(theirs) and place < len(ours):
-        following = behind_gaps(theirs, at + 1, left_out)
-        if theirs[at] == ours[place]:
-            place += 1
-        elif theirs[at] != "," or theirs[following] != ours[place] or ours[place] not in list(")]}>"):
-            break
-        at = following
-    left = " ".join(theirs[at : at + 8]), " ".join(ours[place : place + 8])
-    return ["{!r} is not {!r}".format(*left)] if any(left) else []
+    """Where Rattle's text without its ghost forms and the items left out is not Rust's."""
+    theirs = without(FORMS, words_of(rattle))
+    for begin in left_out:
+        words = re.escape(words_of(begin).removesuffix("\n"))
+        rest = "[^;]*; " if begin.startswith("use") else rf"[^{{]*{GROUP}"
+        theirs = without(rf"(?:///.* )*{words}\w* {rest}", theirs)
+    # A comma before a closing bracket is rustfmt's to set.
+    texts = [without(r", (?=[]})>] )", text).splitlines() for text in (theirs, words_of(rust))]
+    return unified_diff(*texts, "Rattle", "Rust", lineterm="")
 
 
 def sources():
@@ -140,7 +108,7 @@ def sources():
 
 def erased(text):
     try:
-        return Eraser(text).erase()
+        return erase(text)
     except Refused as refused:
         return refused
 

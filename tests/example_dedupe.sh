@@ -1,12 +1,7 @@
 #!/usr/bin/env bash
 # Runs crates/example_dedupe as its users do: on folders, against fdupes where that is installed, on words that it
 # refuses, and where reading, writing or memory fails. The last line counts the cases.
-set -u
-
-top=$(cd "$(dirname "${BASH_SOURCE[0]}")/.." && pwd) || exit 1
-name=example_dedupe
-# shellcheck source=tests/example_room.sh
-. "$top/tests/example_room.sh"
+. "$(dirname "$0")/example_room.sh"
 
 # Groups of names, sorted.
 groups_of() {
@@ -22,12 +17,9 @@ printf 'Same\n' >tree/below/c
 printf 'more than the others\n' >tree/d
 : >tree/empty
 : >tree/below/void
-printf 'tree/a\ntree/below/b\n\ntree/below/void\ntree/empty\n\n' >wanted
-prints groups_of_equal_files "$program" tree
-printf 'tree/a\ntree/below/b\n\n' >wanted
-prints files_by_their_names "$program" tree/a tree/below/b tree/d
-: >wanted
-prints a_file_that_is_named_twice_is_no_group "$program" tree/a tree/a tree/d
+answers groups_of_equal_files 'tree/a\ntree/below/b\n\ntree/below/void\ntree/empty\n\n' '' "$program" tree
+answers files_by_their_names 'tree/a\ntree/below/b\n\n' '' "$program" tree/a tree/below/b tree/d
+answers a_file_that_is_named_twice_is_no_group '' '' "$program" tree/a tree/a tree/d
 
 # Symbolic links are left out, and a loop of them does no harm. A file has a group of its own names.
 cp tree/a links/a
@@ -40,8 +32,7 @@ prints links_of_a_file_are_no_group "$program" links
 head -c 40000 /dev/zero | tee odd/zeros >odd/copy
 (head -c 39999 /dev/zero && printf x) >odd/other
 head -c 39999 /dev/zero >odd/shorter
-printf 'odd/copy\nodd/zeros\n\n' >wanted
-prints long_files "$program" odd
+answers long_files 'odd/copy\nodd/zeros\n\n' '' "$program" odd
 
 # Two file systems number their files alike.
 if unshare -rm true 2>/dev/null; then
@@ -77,7 +68,8 @@ fault memory_refused 1 'out of memory' in_kibibytes 5000 "$program" /usr
 # What cannot be read is told, and the run goes on.
 touch odd/$'bad\xff'
 "$program" odd >out 2>"$room/log"
-[ $? -eq 1 ] && [ "$(cat "$room/log")" = 'example_dedupe: odd: contains a file name that is not valid UTF-8' ] && cmp -s out wanted
+[ $? -eq 1 ] && cmp -s out wanted &&
+  [ "$(cat "$room/log")" = 'example_dedupe: odd: contains a file name that is not valid UTF-8' ]
 tell a_name_below_that_is_not_utf_8 $?
 rm odd/$'bad\xff'
 mkdir odd/locked && chmod 000 odd/other odd/locked

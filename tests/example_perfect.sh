@@ -1,12 +1,7 @@
 #!/usr/bin/env bash
 # shellcheck disable=SC2094 # A list that a program reads twice.
 # Runs crates/example_perfect as its users do, on good and on bad input. The last line counts the cases.
-set -u
-
-top=$(cd "$(dirname "${BASH_SOURCE[0]}")/.." && pwd) || exit 1
-name=example_perfect
-# shellcheck source=tests/example_room.sh
-. "$top/tests/example_room.sh"
+. "$(dirname "$0")/example_room.sh"
 
 # The lines of a list with their numbers.
 numbered() {
@@ -34,18 +29,11 @@ seq 1 1000 >few
 seq 1 2000 >asked
 (numbered few; seq 1001 2000 | sed 's/^/absent /') >wanted
 prints a_list_that_takes_many_seeds "$program" few <asked
-printf '3 plum\n2 \nabsent fig\n' >wanted
-printf 'plum\n\nfig' >asked
-prints last_lines_without_a_newline "$program" fruit <asked
-printf '1 \377\nabsent \376\n' >wanted
+answers last_lines_without_a_newline '3 plum\n2 \nabsent fig\n' 'plum\n\nfig' "$program" fruit
 printf '\377\n' >bytes
-printf '\377\n\376\n' >asked
-prints lines_that_are_not_utf_8 "$program" bytes <asked
-printf 'absent fig\nabsent \n' >wanted
-printf 'fig\n\n' >asked
-prints an_empty_list_has_no_line "$program" /dev/null <asked
-: >wanted
-prints no_line_is_asked "$program" fruit </dev/null
+answers lines_that_are_not_utf_8 '1 \377\nabsent \376\n' '\377\n\376\n' "$program" bytes
+answers an_empty_list_has_no_line 'absent fig\nabsent \n' 'fig\n\n' "$program" /dev/null
+answers no_line_is_asked '' '' "$program" fruit
 
 exec </dev/null
 printf 'one\ntwo\nthree\ntwo\nfour\n' >twice
@@ -54,16 +42,10 @@ fault no_list_is_named 2 'expected exactly one LIST' "$program"
 fault two_lists_are_named 2 'expected exactly one LIST' "$program" odd even
 fault list_with_the_name_of_an_option 1 'could not read --size: No such file or directory (os error 2)' \
   "$program" --size
-fault name_that_is_not_utf_8 1 'could not read the arguments as UTF-8: invalid data' "$program" $'\377'
-fault missing_list 1 'could not read missing: No such file or directory (os error 2)' "$program" missing
-fault list_that_is_a_folder 1 "could not read $room: Is a directory (os error 21)" "$program" "$room"
-fails_to_read "$program" fruit
-fails_to_write "$program" odd <odd
-head -c 100000000 /dev/zero >large
-fault memory_refused_to_a_list 1 'could not read large: out of memory' in_kibibytes 60000 "$program" large
+refuses_lists
 seq 1 1000000 >million
 fault memory_refused_to_the_keys 1 'memory allocation failed' in_kibibytes 20000 "$program" million
-fault memory_refused_to_a_table 1 'cannot build a table from million: out of memory' in_kibibytes 60000 "$program" million
-fault memory_refused_to_a_line 1 'out of memory' in_kibibytes 60000 "$program" fruit <large
+fault memory_refused_to_a_table 1 'cannot build a table from million: out of memory' \
+  in_kibibytes 60000 "$program" million
 
 finish

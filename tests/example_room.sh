@@ -1,8 +1,8 @@
 # What the tests of the example programs read first: a copy of the built program in a folder of its own, ways to run it,
-# and the cases that programs share. `top` is the repository, `name` the program.
-# shellcheck shell=bash disable=SC2154
-# shellcheck source=tests/cases.sh
-. "$top/tests/cases.sh"
+# and the cases that programs share. `name` is the program, whose name the script has.
+# shellcheck shell=bash
+. "$(dirname "$0")/cases.sh"
+name=$(basename "$0" .sh)
 prepare_by make -s -C "$top" "$name"
 program=$room/$name
 cp "$top/crates/$name/out/$name" "$program" && mkdir "$room/at" && cd "$room/at" || exit 1
@@ -13,6 +13,13 @@ prints() {
   shift
   "$@" >out 2>"$room/log" && [ ! -s "$room/log" ] && cmp out wanted >"$room/log"
   tell "$case" $?
+}
+
+# The same where the file wanted and standard input are given as printf takes them: NAME WANTED INPUT COMMAND..
+answers() {
+  # shellcheck disable=SC2059
+  printf "$2" >wanted && printf "$3" >input
+  prints "$1" "${@:4}" <input
 }
 
 # A run that prints nothing but a message, and perhaps the usage after it: NAME STATUS MESSAGE COMMAND..
@@ -33,6 +40,19 @@ fails_to_write() {
   fault full_disk 1 'could not write standard output: No space left on device (os error 28)' to_a_full_disk "$@"
   fault closed_pipe 1 'could not write standard output: Broken pipe (os error 32)' to_a_closed_pipe "$@"
   fault no_output 1 'could not write standard output: Bad file descriptor (os error 9)' to_no_output "$@"
+}
+
+# What a program does that reads its keys from lists, of which one is fruit: the lists it cannot read. `$room/large` is
+# one that does not fit into memory.
+refuses_lists() {
+  fault name_that_is_not_utf_8 1 'could not read the arguments as UTF-8: invalid data' "$program" $'\377'
+  fault missing_list 1 'could not read missing: No such file or directory (os error 2)' "$program" missing
+  fault list_that_is_a_folder 1 "could not read $room: Is a directory (os error 21)" "$program" "$room"
+  fails_to_read "$program" fruit
+  fails_to_write "$program" odd <odd
+  head -c 100000000 /dev/zero >large
+  fault memory_refused_to_a_list 1 'could not read large: out of memory' in_kibibytes 60000 "$program" large
+  fault memory_refused_to_a_line 1 'out of memory' in_kibibytes 60000 "$program" fruit <large
 }
 
 # Another user, if this one may read all: then what is unreadable shows only to that one.

@@ -1,12 +1,7 @@
 #!/usr/bin/env bash
 # Runs crates/example_shards as its users do: on lines, on words that it refuses, and where reading, writing or memory
 # fails. The last line counts the cases.
-set -u
-
-top=$(cd "$(dirname "${BASH_SOURCE[0]}")/.." && pwd) || exit 1
-name=example_shards
-# shellcheck source=tests/example_room.sh
-. "$top/tests/example_room.sh"
+. "$(dirname "$0")/example_room.sh"
 
 # The node of a line comes first, and the line is kept as it is.
 seq 1 10000 >lines
@@ -26,11 +21,9 @@ tell lines_move_only_to_the_added_node $?
 cp two wanted
 prints a_removed_node_leaves_no_trace "$program" red blue <lines
 
-printf 'a\xff\n\nlast' >asked
-printf 'red\ta\xff\nred\t\nred\tlast\n' >wanted
-prints bytes_that_are_no_text_and_a_last_line_without_its_end "$program" red <asked
-: >wanted
-prints no_lines "$program" red </dev/null
+answers bytes_that_are_no_text_and_a_last_line_without_its_end 'red\ta\xff\nred\t\nred\tlast\n' 'a\xff\n\nlast' \
+  "$program" red
+answers no_lines '' '' "$program" red
 
 fault no_arguments 2 'missing NODE argument' "$program"
 fault a_node_twice 2 "duplicate node 'red'" "$program" red blue red

@@ -3,12 +3,7 @@
 # Runs crates/example_sums beside sha256sum: in each case both print the same lines but for the
 # hashes, the same messages but for the program's name, and end with the same status. Then come the
 # cases that sha256sum has no word for. The last line counts the cases.
-set -u
-
-top=$(cd "$(dirname "${BASH_SOURCE[0]}")/.." && pwd) || exit 1
-name=example_sums
-# shellcheck source=tests/example_room.sh
-. "$top/tests/example_room.sh"
+. "$(dirname "$0")/example_room.sh"
 export LC_ALL=C
 
 # Makes the files of a case: three names, one of them with a newline, a backslash and a return.
@@ -107,20 +102,16 @@ says() {
 }
 
 # The line of a known hash, which rapidhash prints in decimal.
-echo 'a1266b469390773a  first' >wanted
-prints known_line "$program" first
-echo 'first: OK' >wanted
+answers known_line 'a1266b469390773a  first\n' '' "$program" first
 echo 'A1266B469390773A  first' >upper
-prints upper_case "$program" -c upper
+answers upper_case 'first: OK\n' '' "$program" -c upper
 
 # The values of the Rust crate for the bytes 0 to 119, or 0 to 59, with the default seed and with seed word 1.
 printf '%b' "$(printf '\\x%02x' {0..119})" >bytes && head -c 60 bytes >half
 while read -r version file plain seeded; do
-  printf '%016x  %s\n' "$plain" "$file" >wanted
-  prints "version_$version" "$program" -a "$version" "$file"
-  printf 'RAPIDHASH-V%s:0000000000000001 (%s) = %016x\n' "$(tr '[:lower:]' '[:upper:]' <<<"${version#v}")" "$file" \
-    "$seeded" >wanted
-  prints "seed_of_$version" "$program" --seed 1 --tag --algorithm "$version" "$file"
+  answers "version_$version" "$(printf %016x "$plain")  $file\n" '' "$program" -a "$version" "$file"
+  answers "seed_of_$version" "RAPIDHASH-${version^^}:0000000000000001 ($file) = $(printf %016x "$seeded")\n" '' \
+    "$program" --seed 1 --tag --algorithm "$version" "$file"
   cat out >>list_of_all
   echo "$file: OK" >>wanted_of_all
 done <<'VALUES'
@@ -134,8 +125,8 @@ v3-nano bytes 3778853990780631382 1125117906108554434
 VALUES
 cp wanted_of_all wanted
 prints a_list_of_all_versions "$program" -c list_of_all
-"$program" --seed 1 bytes >list && echo 'bytes: OK' >wanted
-prints check_with_a_seed "$program" --seed 1 -c list
+"$program" --seed 1 bytes >list
+answers check_with_a_seed 'bytes: OK\n' '' "$program" --seed 1 -c list
 says check_without_the_seed 'did NOT match' "$program" -c list
 printf 'RAPIDHASH-V4 (first) = a1266b469390773a\n' >list
 says unknown_version_in_a_list 'no properly formatted' "$program" -c list
@@ -164,7 +155,6 @@ truncate -s 300000000 sparse
 script -qec "$program sparse" log </dev/null >/dev/null 2>&1
 grep -q '128 MiB.*256 MiB' log && grep -qP '\r\x1b\[Kc266dafd0143ba3a  sparse' log
 tell progress_on_a_terminal_is_erased $?
-echo 'c266dafd0143ba3a  sparse' >wanted
-prints no_progress_elsewhere "$program" sparse
+answers no_progress_elsewhere 'c266dafd0143ba3a  sparse\n' '' "$program" sparse
 
 finish

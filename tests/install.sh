@@ -1,11 +1,7 @@
 #!/usr/bin/env bash
 # Installs the programs and the library for C into a room of its own, uses each installed file, and
 # removes them again. Then come folders with names of other kinds. The last line counts the cases.
-set -u
-
-top=$(cd "$(dirname "${BASH_SOURCE[0]}")/.." && pwd) || exit 1
-# shellcheck source=tests/cases.sh
-. "$top/tests/cases.sh"
+. "$(dirname "$0")/cases.sh"
 prefix=$room/usr
 cd "$top" || exit 1
 
@@ -23,10 +19,6 @@ installs() {
   PATH=$path make -s -C "$top" install "$@"
 }
 
-prints_the_known_hash() {
-  [ "$(echo something | "$prefix/bin/rapidhash" --v1)" = 15965596575264898037 ]
-}
-
 # A line of a known hash is printed, and reads back.
 prints_and_checks_a_sum() {
   echo something >"$room/file" &&
@@ -34,43 +26,24 @@ prints_and_checks_a_sum() {
     "$prefix/bin/rapidsum" "$room/file" | "$prefix/bin/rapidsum" --check | grep -qx "$room/file: OK"
 }
 
-# Builds the example by some words of the compiler, and runs it with the installed shared library.
-runs_the_example() {
-  cc -O2 -Wall -Werror "$top/tests/c_library.c" "$@" -o "$room/c_library" &&
-    LD_LIBRARY_PATH=$prefix/lib "$room/c_library"
-}
-
-# The words that pkg-config tells, as the shell reads them, are all that a C program needs: they link the shared
-# library. A blank in them has a backslash.
-links_by_pkg_config() {
-  local words
-  words=$(PKG_CONFIG_PATH=$prefix/lib/pkgconfig pkg-config --cflags --libs rapidhash_c) &&
-    eval "runs_the_example $words" && readelf -d "$room/c_library" | grep -q 'NEEDED.*librapidhash_c\.so\.1'
-}
-
 links_the_archive() {
-  runs_the_example -I"$prefix/include" "$prefix/lib/librapidhash_c.a"
+  cc -O2 -Wall -Werror -I"$prefix/include" "$top/tests/c_library.c" "$prefix/lib/librapidhash_c.a" \
+    -o "$room/c_library" && "$room/c_library"
 }
 
 # Every option that the help of a program names stands in a file: PROGRAM, how many there are, FILE.
 names_every_option() {
-  local program=$1 count=$2 file=$3 option options pattern
-  options=$("$prefix/bin/$program" --help | grep -oE '^ .{0,5} --[a-z0-9.-]+' | grep -oE -- '--.*')
-  [ "$(wc -w <<<"$options")" -eq "$count" ] || {
-    echo "the help does not name $count options, but: $options"
-    return 1
-  }
-  for option in $options; do
+  local option pattern
+  "$prefix/bin/$1" --help | grep -oE '^ .{0,5} --[a-z0-9.-]+' | grep -oE -- '--.*' >"$room/options"
+  while read -r option; do
     pattern=${option//./[.]}
-    case $file in
+    case $3 in
     */_*) pattern="${pattern}[}'=]*\\[" ;; # zsh offers what has a description, and excludes other options.
     *) pattern="(^|[^a-z0-9.-]|--)${pattern#--}([^a-z0-9.-]|[.] |\$)" ;;
     esac
-    sed 's/\\//g' "$file" | grep -qE -e "$pattern" || {
-      echo "$option is not in $file"
-      return 1
-    }
-  done
+    sed 's/\\//g' "$3" | grep -qE -e "$pattern" || { echo "no $option in $3" && return 1; }
+  done <"$room/options"
+  [ "$(wc -l <"$room/options")" -eq "$2" ] || { cat "$room/options" && return 1; }
 }
 
 # The manual page has no fault of form, and lines of at most 80 bytes.
@@ -102,7 +75,7 @@ listed() {
 serves_a_folder_of_any_name() {
   local place="$room/a folder & |more"
   installs PREFIX="$place" && diff <(listed "$prefix") <(listed "$place") &&
-    (prefix=$place && prints_the_known_hash && links_by_pkg_config) &&
+    prints_the_known_hash "$place" && builds_by_pkg_config "$place/lib" &&
     echo mine >"$room/a" && echo mine >"$place/bin/mine" &&
     make -s -C "$top" uninstall PREFIX="$place" && [ -e "$room/a" ] && [ "$(listed "$place")" = ./bin/mine ]
 }
@@ -140,31 +113,26 @@ by_cmake_as_the_page_says() (
 
 # The whole folder can be moved: no file names the place it was installed in.
 serves_a_moved_folder() {
-  local prefix="$room/second place"
-  mv "$room/home/.local" "$prefix" && ! grep -rlF "$room/home" "$prefix" && links_by_pkg_config
+  local place="$room/second place"
+  mv "$room/home/.local" "$place" && ! grep -rlF "$room/home" "$place" && builds_by_pkg_config "$place/lib"
 }
 
-# Programs in C and C++ find the moved folder by CMake, and use both libraries.
-builds_by_cmake() {
-  python3 share/vectors.py crates/test_replay/data >"$room/vectors" &&
-    cmake -S tests/cmake -B "$room/cmake" -D CMAKE_PREFIX_PATH="$room/second place" -D VECTORS="$room/vectors" &&
-    grep "^rapidhash_c_DIR:PATH=$room/second place/" "$room/cmake/CMakeCache.txt" &&
-    cmake --build "$room/cmake" && (cd "$room/cmake" && ctest | tee /dev/stderr | grep '100%.* out of 4$') &&
+links_both_by_cmake() {
+  builds_by_cmake "$room/second place" &&
     readelf -d "$room/cmake/c_rapidhash_c" | grep -F '[librapidhash_c.so.1]' &&
     ! readelf -d "$room/cmake/cpp_rapidhash_c_static" | grep -F librapidhash_c
 }
 
 # Below DESTDIR, and with folders of its own for programs and libraries.
 serves_a_packager() {
-  local stage=$room/stage pc
-  installs DESTDIR="$stage" PREFIX=/usr BINDIR=/opt/bin LIBDIR=/usr/lib/here DATADIR=/opt/share || return 1
-  pc=$stage/usr/lib/here/pkgconfig/rapidhash_c.pc
+  local stage=$room/stage pc=$room/stage/usr/lib/here/pkgconfig/rapidhash_c.pc
+  local folders=(DESTDIR="$stage" PREFIX=/usr BINDIR=/opt/bin LIBDIR=/usr/lib/here DATADIR=/opt/share)
+  installs "${folders[@]}" || return 1
   told_folder() { realpath -s "$(pkg-config --variable="$1" "$pc")"; }
   [ "$(told_folder prefix)" = "$stage/usr" ] && [ "$(told_folder libdir)" = "$stage/usr/lib/here" ] &&
     [ "$(told_folder includedir)" = "$stage/usr/include" ] && [ -x "$stage/opt/bin/rapidsum" ] &&
     [ -e "$stage/opt/share/man/man1/rapidhash.1" ] &&
-    make -s -C "$top" uninstall DESTDIR="$stage" PREFIX=/usr BINDIR=/opt/bin LIBDIR=/usr/lib/here \
-      DATADIR=/opt/share && is_empty "$stage"
+    make -s -C "$top" uninstall "${folders[@]}" && is_empty "$stage"
 }
 
 # Headers outside PREFIX keep their whole name.
@@ -212,14 +180,14 @@ has_the_modes() {
 try build make -s -C "$top"
 try build_again builds_nothing_anew
 try install installs PREFIX="$prefix"
-try program prints_the_known_hash
+try program prints_the_known_hash "$prefix"
 try program_of_sums prints_and_checks_a_sum
-try shared_library links_by_pkg_config
+try shared_library builds_by_pkg_config "$prefix/lib"
 try static_library links_the_archive
 try first_program runs_as_the_pages_say
 try_with first_program_by_cmake cmake by_cmake_as_the_page_says
 try moved_folder serves_a_moved_folder
-try_with cmake cmake builds_by_cmake
+try_with cmake cmake links_both_by_cmake
 try licences has_the_licences "$prefix/share/doc/rapidhash"
 try modes has_the_modes
 try manual is_a_clean_manual rapidhash.1
@@ -227,11 +195,10 @@ try manual_of_sums is_a_clean_manual rapidsum.1
 try manual_of_the_library is_a_clean_manual rapidhash_c.3
 try example_of_the_manual compares_by_the_manual
 cd "$top" || exit 1
-for file in man/man1/NAME.1 bash-completion/completions/NAME zsh/site-functions/_NAME \
-  fish/vendor_completions.d/NAME.fish; do
-  for program in 'rapidhash 8' 'rapidsum 14'; do
-    read -r name count <<<"$program"
-    place=${file/NAME/$name}
+for program in 'rapidhash 8' 'rapidsum 14'; do
+  read -r name count <<<"$program"
+  for place in "man/man1/$name.1" "bash-completion/completions/$name" "zsh/site-functions/_$name" \
+    "fish/vendor_completions.d/$name.fish"; do
     try "options_in_$(basename "$place")" names_every_option "$name" "$count" "$prefix/share/$place"
   done
 done

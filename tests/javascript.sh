@@ -2,20 +2,17 @@
 # Packs the package for JavaScript, installs it from an empty folder as its page says, and tests what is
 # installed: in Node, its types, and in browsers, with the page examples/browser. A program that is not on
 # this machine is named, and its cases are not counted. The last line counts the cases.
-set -u
-
-top=$(cd "$(dirname "${BASH_SOURCE[0]}")/.." && pwd) || exit 1
-# shellcheck source=tests/cases.sh
-. "$top/tests/cases.sh"
+. "$(dirname "$0")/cases.sh"
 # No registry is asked, whatever npm would ask by itself.
 export npm_config_offline=true npm_config_audit=false npm_config_update_notifier=false
 
 # The package has all of its files and no other, with the licences of the repository.
 has_its_files() {
-  local folder=$room/first/node_modules/yervound-rapidhash file
-  for file in LICENSE-MIT LICENSE-APACHE NOTICE; do cmp "$top/$file" "$folder/$file" || return 1; done
-  (cd "$folder" && LC_ALL=C ls) | diff - <(printf '%s\n' LICENSE-APACHE LICENSE-MIT NOTICE README.md \
-    arguments.mjs index.d.ts library.mjs module.mjs package.json rapidhash.mjs stream.mjs)
+  local folder=$room/first/node_modules/yervound-rapidhash
+  has_the_licences "$folder" && (cd "$folder" && LC_ALL=C ls) | diff - <(
+    printf '%s\n' LICENSE-APACHE LICENSE-MIT NOTICE README.md arguments.mjs index.d.ts library.mjs module.mjs \
+      package.json rapidhash.mjs stream.mjs
+  )
 }
 
 # Lays the tests out beside the installed package, with the files that they read.
@@ -46,24 +43,19 @@ test_package() {
   try_with types_alone tsc compiles --lib es2020 node_modules/yervound-rapidhash/index.d.ts
 }
 
-# A server of the files in a folder, in the variable `server`, and its process in `serving`: FOLDER
+# A server of the room, whose address comes into the variable `server`.
 serve() {
-  local count
-  : >"$room/server.log"
-  python3 -u -m http.server 0 --bind 127.0.0.1 --directory "$1" >"$room/server.log" 2>&1 &
-  serving=$!
-  for ((count = 0; count < 100; count++)); do
-    server=$(grep -oE 'http://127[.0-9]+:[0-9]+' "$room/server.log") && return
-    sleep 0.1
+  python3 -u -m http.server 0 --bind 127.0.0.1 --directory "$room" >>"$room/server.log" 2>&1 &
+  until server=$(grep -oE 'http://127[.0-9]+:[0-9]+' "$room/server.log"); do
+    kill -0 "$!" && sleep 0.1 || return 1
   done
-  return 1
 }
 
 # Lays out what both browsers are served: the tests beside the package, and the page. The hashes of the two
 # files that no vector has are those of the C library for x86-64.
 lay_out_for_browsers() {
-  make -s -C "$top" library page && cp "$top"/tests/browsers/* "$room/first" &&
-    mkdir "$room/files" && cd "$room/files" && mv ../first/large . && cat large large >double &&
+  make -s -C "$top" library page && cp "$top"/tests/browsers/* "$room/first" && cp -r "$top/build/browser" "$room" &&
+    serve && mkdir "$room/files" && cd "$room/files" && mv ../first/large . && cat large large >double &&
     truncate -s 1073741825 long && : >empty &&
     RAPIDHASH_LIBRARY=$top/build/librapidhash_c.so.1 PYTHONPATH=$top/bindings/python \
       python3 -B "$room/first/hashes.py" double long >hashes
@@ -71,42 +63,30 @@ lay_out_for_browsers() {
 
 # The tests of the package in a browser: PROGRAM
 runs_in_a_browser() {
-  local status
-  serve "$room/first" || return
-  (cd "$room/first" && BROWSER=$1 SERVER=$server node --test suite.test.mjs)
-  status=$?
-  kill "$serving"
-  return "$status"
+  cd "$room/first" && BROWSER=$1 SERVER=$server/first node --test suite.test.mjs
 }
 
 # The page in a browser, which asks its server for the page's own files and for nothing else: PROGRAM
 shows_the_page() {
-  local status
-  serve "$top/build/browser" || return
-  (cd "$room/first" && BROWSER=$1 PAGE=$server FILES=$room/files node --test page.test.mjs)
-  status=$?
-  kill "$serving"
-  [ "$status" -eq 0 ] && grep -q '"GET /page.mjs HTTP' "$room/server.log" &&
-    ! grep '" [0-9]* -$' "$room/server.log" | grep -vE '"GET /[a-z]+\.(html|mjs|css) HTTP/1\.1" (200|304) -$'
+  : >"$room/server.log"
+  cd "$room/first" && BROWSER=$1 PAGE=$server/browser FILES=$room/files node --test page.test.mjs &&
+    grep -q '"GET /browser/page.mjs HTTP' "$room/server.log" &&
+    ! grep '" [0-9]* -$' "$room/server.log" | grep -vE '"GET /browser/[a-z]+\.(html|mjs|css) HTTP/1\.1" (200|304) -$'
 }
 
-# Each browser with the program that drives it.
+# Each browser where the program is that drives it.
 test_browsers() {
-  local browser driver
   try lay_out_for_browsers lay_out_for_browsers
-  while read -r browser driver; do
-    try_with "package_in_$browser" "$driver" runs_in_a_browser "$browser"
-    try_with "page_in_$browser" "$driver" shows_the_page "$browser"
-  done <<<$'chromium chromedriver\nfirefox-esr firefox-esr'
+  try_with package_in_chromium chromedriver runs_in_a_browser chromium
+  try_with page_in_chromium chromedriver shows_the_page chromium
+  try_with package_in_firefox-esr firefox-esr runs_in_a_browser firefox-esr
+  try_with page_in_firefox-esr firefox-esr shows_the_page firefox-esr
+  jobs -p | xargs kill
 }
 
-if ! command -v node >/dev/null; then
-  printf 'skipped javascript: no node\n'
-elif ! command -v npm >/dev/null; then
-  printf 'skipped javascript: no npm\n'
-else
-  test_package
-  test_browsers
-fi
-
+for program in node npm; do
+  command -v "$program" >/dev/null || { echo "skipped javascript: no $program" && finish; }
+done
+test_package
+test_browsers
 finish

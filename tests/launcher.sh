@@ -1,11 +1,7 @@
 #!/usr/bin/env bash
 # Runs bin/rapidhash in a small copy of the repository, where a script in the place of rt builds a program
 # that prints the sources and its arguments. So no case has to prove anything. The last line counts.
-set -u
-
-top=$(cd "$(dirname "${BASH_SOURCE[0]}")/.." && pwd) || exit 1
-# shellcheck source=tests/cases.sh
-. "$top/tests/cases.sh"
+. "$(dirname "$0")/cases.sh"
 cd "$room" || exit 1
 
 # The stand-in for rt: it waits for the lock as rt does, takes the text of the sources, runs the file
@@ -17,15 +13,16 @@ exec 9>>../../../lock && flock 9
 echo run >>../../../starts
 text=$(cat ../*/src/*.rt)
 echo 'rt: chose --jobs 4'
-[ ! -e ../../../during ] || . ../../../during
+. ../../../during
 mkdir -p out && printf '#!/bin/sh\nprintf "%%s\\n" "%s" "$@"\ncat\nexit 7\n' "$text" >out/rapidhash_cli
 chmod +x out/rapidhash_cli
 RT
 chmod +x kit/rt
 
-# A repository with nothing built, whose sources are older than what is built next.
+# A repository with nothing built, whose sources are older than what is built next, and what a build does besides:
+# COMMANDS
 new_repository() {
-  chmod -R u+w . && rm -rf repo starts during
+  chmod -R u+w . && rm -rf repo starts && echo "$1" >during
   mkdir -p repo/bin repo/crates/rapidhash/src repo/crates/rapidhash_cli/src
   cp "$top/bin/rapidhash" repo/bin && cp "$top/Makefile" "$top/crates.txt" repo
   echo first >repo/crates/rapidhash/src/lib.rt
@@ -46,7 +43,7 @@ calls() {
 }
 
 told='make: proving and building rapidhash_cli, some minutes the first time'
-new_repository
+new_repository ''
 calls first_call 7 $'first\na  b\n\n\xff\ninput' 1 "$told" 'a  b' '' $'\xff'
 calls second_call_builds_nothing 7 $'first\ninput' 1 ''
 ln -sf ../repo/bin/rapidhash kit/linked
@@ -69,14 +66,12 @@ for crate in rapidhash_portable rapidhash_tool rapidhash_cli; do
   calls "new_folder_of_$crate" 7 $'second\ninput' $((builds += 1)) "$told"
 done
 
-new_repository
-echo 'echo third >../rapidhash/src/lib.rt' >during
+new_repository 'echo third >../rapidhash/src/lib.rt'
 calls edit_during_a_build 7 $'first\ninput' 1 "$told"
-rm during
+echo >during
 calls call_after_such_an_edit 7 $'third\ninput' 2 "$told"
 
-new_repository
-echo 'sleep 1' >during
+new_repository 'sleep 1'
 export PATH=$room/kit:$PATH
 echo input | "$tool" >first_out 2>/dev/null &
 sleep 0.5
@@ -85,15 +80,14 @@ wait
 [ "$(cat first_out other_out)" = $'first\ninput\nfirst\nother\ninput' ]
 tell two_first_calls_at_once $?
 
-new_repository
-printf 'echo "error: tail.rt:1: not proved"; exit 1\n' >during
+new_repository 'echo "error: tail.rt:1: not proved"; exit 1'
 calls failed_build 2 '' 1 "$told"$'\nerror: tail.rt:1: not proved'\
 $'\nmake: the build failed; full output: build/rapidhash_cli.log\nmake: \*\*\*'*
-printf 'echo "no room on the device"; exit 1\n' >during
+echo 'echo "no room on the device"; exit 1' >during
 calls failed_build_with_no_cause 2 '' 2 "$told"*'no room on the device'*'make: the build failed;'*
-rm during
+echo >during
 calls call_after_a_failed_build 7 $'first\ninput' 3 "$told"
-new_repository
+new_repository ''
 mkdir few && ln -s "$(command -v make)" "$(command -v sh)" /usr/bin/{dirname,readlink,find} few
 PATH=$room/few repo/bin/rapidhash >out 2>"$room/log"
 [ $? -eq 2 ] && [ ! -s out ] && [ ! -e starts ] &&

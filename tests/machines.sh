@@ -7,13 +7,9 @@
 #
 # Debian's packages are unpacked in build/machines, or the folder that RAPIDHASH_MACHINES names, which
 # stays for later runs. Nothing is installed.
-set -u
-
-top=$(cd "$(dirname "${BASH_SOURCE[0]}")/.." && pwd) || exit 1
+. "$(dirname "$0")/cases.sh"
 folder=$(realpath -m "${RAPIDHASH_MACHINES:-$top/build/machines}")
 root=$folder/root
-room=$(mktemp -d) || exit 1
-trap 'rm -rf "$room"' EXIT
 export APT_CONFIG=$folder/apt/apt.conf
 
 # The machines: Debian's name, rustc's, GNU's and qemu's. What has no qemu runs without it.
@@ -114,7 +110,7 @@ build_c() {
     "${cc[@]}" -O2 -I"$top/include" "$top/tests/c_library.c" "$out/librapidhash_c.a" -o "$out/c_library"
 }
 
-# Prints the line of a case: NAME COMMAND..
+# Prints the line of a case, whose log stays, since other machines run beside this one: NAME COMMAND..
 try() {
   local name=$1 log=$room/$1.log
   shift
@@ -182,6 +178,5 @@ for row in "${machines[@]}"; do
 done | tee "$room/lines"
 skipped=$(sed -n 's/^skipped \([^:]*\):.*/\1/p' "$room/lines" | xargs)
 [ -z "$skipped" ] || printf 'skipped %s: %s\n' "$(wc -w <<<"$skipped")" "$skipped"
-failed=$(grep -c '^FAILED ' "$room/lines")
-printf '%s passed, %s failed\n' "$(grep -c '^ok ' "$room/lines")" "$failed"
-[ "$failed" -eq 0 ]
+passed=$(grep -c '^ok ' "$room/lines") failed=$(grep -c '^FAILED ' "$room/lines")
+finish

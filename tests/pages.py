@@ -22,52 +22,40 @@ PATH = re.compile(r"`((?:crates|docs|tests|bench|bin|include|bindings|share|\.ci
 NAME = re.compile(r"`([A-Za-z]\w*(?:::\w+)*)`")
 
 
-def prose(page):
-    """The lines of a page with their numbers, outside code blocks."""
-    is_code = False
-    for number, line in enumerate(page.read_text().splitlines(), 1):
-        if line.startswith("```"):
-            is_code = not is_code
-        elif not is_code:
-            yield number, line
-
-
-def place(page, number):
-    return f"{page.relative_to(TOP)}:{number}"
+def prose(pages):
+    """The lines of pages outside code blocks: the page, the place and the text of each."""
+    for page in pages:
+        is_code = False
+        for number, line in enumerate(page.read_text().splitlines(), 1):
+            if line.startswith("```"):
+                is_code = not is_code
+            elif not is_code:
+                yield page, f"{page.relative_to(TOP)}:{number}", line
 
 
 def links():
-    for page in PAGES:
-        for number, line in prose(page):
-            for target in re.findall(r"\]\(([^)#]+)", line):
-                if "://" not in target and not (page.parent / target).exists():
-                    yield f"{place(page, number)}: no {target}"
-            for target in re.findall(r"\bdocs/[\w/]+\.md\b", line):
-                if not (TOP / target).exists():
-                    yield f"{place(page, number)}: no {target}"
+    for page, place, line in prose(PAGES):
+        targets = [page.parent / target for target in re.findall(r"\]\(([^)#]+)", line) if "://" not in target]
+        targets += [TOP / target for target in re.findall(r"\bdocs/[\w/]+\.md\b", line)]
+        yield from (f"{place}: no {target}" for target in targets if not target.exists())
 
 
 def paths():
-    for page in PAGES:
-        if page.name == "dist.md" or page.parent.name == "rust":
-            continue
-        for number, line in prose(page):
-            for path in PATH.findall(line):
-                if "/out/" in path or path.startswith(BUILT):
-                    continue
-                if not any(TOP.glob(path.rstrip("/"))):
-                    yield f"{place(page, number)}: no {path}"
+    for _, place, line in prose(page for page in PAGES if page.name != "dist.md" and page.parent.name != "rust"):
+        for path in PATH.findall(line):
+            if "/out/" not in path and not path.startswith(BUILT) and not any(TOP.glob(path.rstrip("/"))):
+                yield f"{place}: no {path}"
 
 
 def limits():
-    for page in (page for page in PAGES if page.parent != MADE):
+    pages = [page for page in PAGES if page.parent != MADE]
+    for page in pages:
         lines = len(page.read_text().splitlines())
-        most = 149 if page == TOP / "README.md" else 200
-        if lines > most:
+        if lines > (149 if page == TOP / "README.md" else 200):
             yield f"{page.relative_to(TOP)} has {lines} lines"
-        for number, line in prose(page):
-            if len(line) > 120 and not line.startswith("|"):
-                yield f"{place(page, number)} has {len(line)} columns"
+    for _, place, line in prose(pages):
+        if len(line) > 120 and not line.startswith("|"):
+            yield f"{place} has {len(line)} columns"
 
 
 def words_of_the_code():
@@ -82,12 +70,9 @@ def words_of_the_code():
 
 def names():
     words = words_of_the_code()
-    for page in (TOP / "docs" / "PROVED.md", TOP / "docs" / "ARCHITECTURE.md", TOP / "docs" / "C.md"):
-        for number, line in prose(page):
-            for name in NAME.findall(line):
-                for part in name.split("::"):
-                    if part not in words:
-                        yield f"{place(page, number)}: no {part} of {name} in the code"
+    for _, place, line in prose(TOP / "docs" / name for name in ("PROVED.md", "ARCHITECTURE.md", "C.md")):
+        for name in NAME.findall(line):
+            yield from (f"{place}: no {part} of {name} in the code" for part in name.split("::") if part not in words)
 
 
 def vectors():
@@ -116,23 +101,10 @@ def statements():
             yield f"{page} shows {len(blocks)} blocks"
 
 
-def made_by(*command):
+def made_by(script):
     """What a script that makes a page of the sources tells where the page is not current."""
-    done = subprocess.run(command, cwd=TOP, stdout=subprocess.PIPE, stderr=subprocess.STDOUT, text=True)
-    if done.returncode != 0:
-        yield from done.stdout.splitlines() or [f"{command[0]} ended with status {done.returncode}"]
-
-
-def calls():
-    return made_by("bin/api", "--check")
-
-
-def version():
-    return made_by("bin/version", "--check")
-
-
-def figures():
-    return made_by("bench/figures", "--check")
+    done = subprocess.run([script, "--check"], cwd=TOP, stdout=subprocess.PIPE, stderr=subprocess.STDOUT, text=True)
+    return done.stdout.splitlines() or [f"{script} ended with status {done.returncode}"] if done.returncode else []
 
 
 def pictures():
@@ -159,6 +131,8 @@ def ratios():
         yield f"the ratios are {found}"
 
 
-for check in (links, paths, limits, names, vectors, version, statements, ratios, calls, figures, pictures):
+for check in (links, paths, limits, names, vectors, statements, ratios, pictures):
     tell(check.__name__, *check())
+for made, maker in (("calls", "bin/api"), ("version", "bin/version"), ("figures", "bench/figures")):
+    tell(made, *made_by(maker))
 finish()

@@ -11,7 +11,7 @@ from pathlib import Path
 
 from cases import ROOM, TOP, compare, finish, tell
 from sql import HELLO, NOTHING, SEEDED, TEXT, TEXT_HASH
-from sql import blocks, every_vector, is_shown, lines_with_results, shell, signed
+from sql import blocks, every_vector, is_shown, lines_with_results, shell, signed, unpack
 
 # The folder of its databases, which has its socket too.
 DATA = ROOM / "data"
@@ -56,10 +56,7 @@ def install():
 def unpacked_archive():
     """The command of the archive's page builds and installs the same functions."""
     place = ROOM / "unpacked"
-    shutil.copytree(TOP / "bindings/postgresql", place / "bindings/postgresql")
-    for name, folder in (("crates/rapidhash_c/out/librapidhash_c.a", "lib"), ("include/rapidhash_c.h", "include")):
-        (place / folder).mkdir()
-        shutil.copy(TOP / name, place / folder)
+    unpack(place, "postgresql")
     command = re.search(r"^\| `bindings/postgresql` .*`(make .*)`", (TOP / "share/dist.md").read_text(), re.M)[1]
     status, printed = shell(command.replace("sudo ", ""), place, DESTDIR=str(place))
     names = [shell(f"nm -D --defined-only {folder}/rapidhash.so | cut -d ' ' -f 2-") for folder in (

@@ -2,11 +2,7 @@
 # Packs the wheels for Python, installs each in a fresh environment without a network, and tests what is
 # installed: one wheel over ctypes, and one with an extension where a C compiler and the headers of Python are.
 # What is not on this machine is named, and its cases are not counted. The last line counts the cases.
-set -u
-
-top=$(cd "$(dirname "${BASH_SOURCE[0]}")/.." && pwd) || exit 1
-# shellcheck source=tests/cases.sh
-. "$top/tests/cases.sh"
+. "$(dirname "$0")/cases.sh"
 # The Python for which Debian has what builds wheels.
 python=/usr/bin/python3
 unset RAPIDHASH_LIBRARY PYTHONPATH

@@ -3,11 +3,7 @@
 # the machine's compiler and with Debian's, the package that cargo makes, the README's program in a folder
 # of its own, and the commands of docs/BINDINGS.md. Debian's compiler is skipped if it is not installed. The last line
 # counts the cases.
-set -u
-
-top=$(cd "$(dirname "${BASH_SOURCE[0]}")/.." && pwd) || exit 1
-# shellcheck source=tests/cases.sh
-. "$top/tests/cases.sh"
+. "$(dirname "$0")/cases.sh"
 export CARGO_TARGET_DIR=$room/target CARGO_NET_OFFLINE=true
 
 # Debian's cargo, with its compiler.

@@ -27,6 +27,12 @@ def shell(command, folder=TOP, **words):
     return done.returncode, done.stdout
 
 
+def unpack(folder, binding):
+    """Lays the library out in a folder with the source of a binding, as they lie in the archive."""
+    return shell(f"make -s install PREFIX='{folder}' && mkdir '{folder}/bindings' && "
+                 f"cp -r bindings/{binding} '{folder}/bindings'")
+
+
 def blocks(name, language):
     """The code blocks of a package's page that are of one language."""
     page = (TOP / "bindings" / name.lower() / "README.md").read_text()

@@ -3,14 +3,13 @@
 errors, aggregates, what the page shows, and each allocation that fails. The values are those of the Rust crate. The
 last line counts the cases."""
 
-import os
 import re
 import shutil
 import sqlite3
 
 from cases import ROOM, TOP, compare, finish, tell
 from sql import HELLO, NOTHING, SEEDED, TEXT, TEXT_HASH, VERSIONS
-from sql import blocks, every_vector, is_shown, lines_with_results, shell, signed
+from sql import blocks, every_vector, is_shown, lines_with_results, shell, signed, unpack
 
 STREAMS = VERSIONS[4:7]
 REAL = "a REAL cannot be hashed: cast it to TEXT, BLOB or INTEGER"
@@ -34,31 +33,18 @@ MEMORY = """cc -std=c99 -g -Wall -Wextra -Werror -fsanitize=address,undefined -f
 "$ROOM/test_memory" """
 
 
-def lay_out_installed():
-    """The library and the extension's source as they stand in an installed folder or an unpacked archive."""
-    for name in ("lib/pkgconfig", "include"):
-        (ROOM / name).mkdir(parents=True)
-    shutil.copytree(TOP / "bindings/sqlite", ROOM / "bindings/sqlite")
-    shutil.copy(TOP / "include/rapidhash_c.h", ROOM / "include")
-    for name in ("crates/rapidhash_c/out/librapidhash_c.a", "build/librapidhash_c.so.1"):
-        shutil.copy(TOP / name, ROOM / "lib")
-    os.symlink("librapidhash_c.so.1", ROOM / "lib/librapidhash_c.so")
-    text = (TOP / "share/rapidhash_c.pc.in").read_text()
-    text = text.replace("@PREFIX@", str(ROOM)).replace("@INCLUDEDIR@", str(ROOM / "include"))
-    (ROOM / "lib/pkgconfig/rapidhash_c.pc").write_text(text)
-    return {"PKG_CONFIG_PATH": str(ROOM / "lib/pkgconfig"), "LD_LIBRARY_PATH": str(ROOM / "lib")}
-
-
 def commands():
     """The three commands in an empty folder, the one over an installed library, and that of the archive's page."""
     first, second = blocks("SQLite", "sh")
+    installed = {"PKG_CONFIG_PATH": f"{ROOM}/lib/pkgconfig", "LD_LIBRARY_PATH": f"{ROOM}/lib"}
     for name in ("first", "second"):
         (ROOM / name).mkdir()
     *build, load = first.splitlines()
     status, printed = shell(first, ROOM / "first")
     found = (is_shown(first), len(build), status, printed.splitlines()[-1:])
     compare("three_commands", found, (True, 2, 0, [str(HELLO)]))
-    compare("installed_library", shell(second + load, ROOM / "second", **lay_out_installed()), (0, f"{HELLO}\n"))
+    unpack(ROOM, "sqlite")
+    compare("installed_library", shell(second + load, ROOM / "second", **installed), (0, f"{HELLO}\n"))
     command = re.search(r"^\| `bindings/sqlite` .*`(cc .*)`", (TOP / "share/dist.md").read_text(), re.M)[1]
     compare("unpacked_archive", shell(f"{command}\n{load}", ROOM), (0, f"{HELLO}\n"))
 

@@ -1,9 +1,8 @@
 # What the tests of the tool read first: a room to work in, the tool, its lines, and how to compare what
-# a run leaves. `top` is the repository. The numbers are those of the Rust crate.
-# shellcheck shell=bash disable=SC2154
+# a run leaves. The numbers are those of the Rust crate.
+# shellcheck shell=bash
+. "$(dirname "$0")/cases.sh"
 tool=$top/bin/rapidhash
-# shellcheck source=tests/cases.sh
-. "$top/tests/cases.sh"
 cd "$room" || exit 1
 
 # A run of the tool that prints a hash and nothing else: NAME HASH WORDS..

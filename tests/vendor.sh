@@ -4,11 +4,7 @@
 #
 # With the word ci it also runs the merge gate of such a repository, which proves all from nothing and
 # runs the programs of README.md. That takes some minutes: make test-vendor.
-set -u
-
-top=$(cd "$(dirname "${BASH_SOURCE[0]}")/.." && pwd) || exit 1
-# shellcheck source=tests/cases.sh
-. "$top/tests/cases.sh"
+. "$(dirname "$0")/cases.sh"
 exec </dev/null
 library=$room/library
 vendor=$library/bin/vendor

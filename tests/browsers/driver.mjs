@@ -2,7 +2,7 @@
 // that it speaks itself, since Debian has no geckodriver. Both know WebDriver's commands.
 import { spawn } from "node:child_process";
 import { once } from "node:events";
-import { mkdtempSync, rmSync, writeFileSync } from "node:fs";
+import { mkdtempSync, readFileSync, rmSync, writeFileSync } from "node:fs";
 import { connect } from "node:net";
 import { tmpdir } from "node:os";
 import { join } from "node:path";
@@ -24,13 +24,15 @@ export async function waitFor(what, seconds, attempt) {
   throw new Error(`waited ${seconds} s for ${what}${fault ? `: ${fault.message}` : ""}`);
 }
 
-/** Starts a program in a folder of its own, and returns the folder and how to end both. */
+/** Starts a program in a folder of its own, and returns the folder, what it has printed and how to end it. */
 function start(program, words, prepare = () => {}) {
   const folder = mkdtempSync(join(tmpdir(), "browser-"));
   prepare(folder);
   const child = spawn(program, words.map((word) => word.replace("FOLDER", folder)),
-    { stdio: "ignore", env: { ...process.env, HOME: folder, TMPDIR: folder } });
+    { stdio: ["ignore", "pipe", "ignore"], env: { ...process.env, HOME: folder, TMPDIR: folder } });
   const gone = once(child, "exit");
+  let text = "";
+  child.stdout.on("data", (part) => text += part);
   child.on("error", () => {});
   const end = async () => {
     child.kill();
@@ -38,22 +40,12 @@ function start(program, words, prepare = () => {}) {
     if (child.exitCode === null) child.kill("SIGKILL");
     rmSync(folder, { recursive: true, force: true, maxRetries: 5, retryDelay: 200 });
   };
-  return { folder, end };
-}
-
-/** A port of this machine that is free now. */
-async function freePort() {
-  const { createServer } = await import("node:net");
-  const server = createServer().listen(0, "127.0.0.1");
-  await once(server, "listening");
-  const { port } = server.address();
-  server.close();
-  return port;
+  return { folder, printed: () => text, end };
 }
 
 async function chromium() {
-  const port = await freePort();
-  const { folder, end } = start("chromedriver", [`--port=${port}`]);
+  const { folder, printed, end } = start("chromedriver", ["--port=0"]);
+  const port = await waitFor("chromedriver", 20, () => /successfully on port (\d+)/.exec(printed())?.[1]);
   const send = async (method, path, body) => {
     const answer = await fetch(`http://127.0.0.1:${port}${path}`, { method, body: body && JSON.stringify(body) });
     const { value } = await answer.json();
@@ -63,7 +55,6 @@ async function chromium() {
   const args = ["--headless=new", "--no-sandbox", "--disable-dev-shm-usage", "--window-size=1000,760",
     `--user-data-dir=${folder}/profile`];
   const wanted = { alwaysMatch: { browserName: "chrome", "goog:chromeOptions": { args } } };
-  await waitFor("chromedriver", 20, () => send("GET", "/status"));
   const { sessionId, capabilities } = await send("POST", "/session", { capabilities: wanted });
   const path = `/session/${sessionId}`;
   return {
@@ -83,11 +74,8 @@ async function chromium() {
 
 /** Firefox's own protocol: `LENGTH:[0, NUMBER, COMMAND, WORDS]`, and `[1, NUMBER, ERROR, RESULT]` back. */
 async function marionette(port) {
-  const socket = await waitFor("Firefox", 30, async () => {
-    const opened = connect(port, "127.0.0.1");
-    await once(opened, "connect");
-    return opened;
-  });
+  const socket = connect(port, "127.0.0.1");
+  await once(socket, "connect");
   const waiting = new Map();
   let [bytes, count] = [Buffer.alloc(0), 0];
   socket.on("data", (part) => {
@@ -114,10 +102,10 @@ async function marionette(port) {
 }
 
 async function firefox(program) {
-  const port = await freePort();
-  const { end } = start(program, ["--headless", "--marionette", "--profile", "FOLDER", "--no-remote"],
-    (folder) => writeFileSync(join(folder, "user.js"), `user_pref("marionette.port", ${port});\n`));
-  const send = await marionette(port);
+  const { folder, end } = start(program, ["--headless", "--marionette", "--profile", "FOLDER", "--no-remote"],
+    (folder) => writeFileSync(join(folder, "user.js"), 'user_pref("marionette.port", 0);\n'));
+  const port = await waitFor("Firefox", 30, () => readFileSync(join(folder, "MarionetteActivePort"), "utf8"));
+  const send = await marionette(Number(port));
   const { capabilities } = await send("WebDriver:NewSession", { capabilities: {} });
   return {
     version: `Firefox ${capabilities.browserVersion}`,

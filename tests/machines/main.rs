@@ -17,16 +17,9 @@ use std::process::ExitCode;
 fn main() -> ExitCode {
     let words: Vec<String> = env::args().skip(1).collect();
     let words: Vec<&str> = words.iter().map(String::as_str).collect();
-    let order = if cfg!(target_endian = "big") {
-        "big"
-    } else {
-        "little"
-    };
-    println!(
-        "{}, {} bits, {order}-endian",
-        env::consts::ARCH,
-        usize::BITS
-    );
+    let order = ["little", "big"][usize::from(cfg!(target_endian = "big"))];
+    let (machine, bits) = (env::consts::ARCH, usize::BITS);
+    println!("{machine}, {bits} bits, {order}-endian");
     let outcome = match words[..] {
         ["vectors", folder] => vectors(Path::new(folder)),
         ["messages", count] => match count.parse() {
@@ -51,9 +44,5 @@ fn vectors(folder: &Path) -> Result<(), String> {
     if !unknown.is_empty() {
         return Err(format!("nothing replays {}", unknown.join(", ")));
     }
-    if good {
-        Ok(())
-    } else {
-        Err("not all cases agree".into())
-    }
+    good.then_some(()).ok_or("not all cases agree".into())
 }

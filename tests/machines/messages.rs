@@ -1,21 +1,13 @@
 //! Hashes of random messages by all forms, with all options, and a checksum of them.
 
-use crate::replay::forms::{Form, Options, Start, hash};
+use crate::replay::forms::Form::{self, Micro, Nano, V1, V1Bug, V2Minor0, V2Minor1, V2Minor2, V3};
+use crate::replay::forms::{Options, Start, hash};
 use crate::replay::items::{self, Item};
 use crate::replay::rules::start_of;
 use crate::replay::streams::{self, Step};
 use rapidhash::{v1, v3};
 
-const FORMS: [Form; 8] = [
-    Form::V1,
-    Form::V1Bug,
-    Form::V2Minor0,
-    Form::V2Minor1,
-    Form::V2Minor2,
-    Form::V3,
-    Form::Micro,
-    Form::Nano,
-];
+const FORMS: [Form; 8] = [V1, V1Bug, V2Minor0, V2Minor1, V2Minor2, V3, Micro, Nano];
 
 /// Messages are cut from a room of this many bytes, at any place, so at any alignment.
 const ROOM: usize = 16384;
@@ -116,9 +108,9 @@ fn one(draws: &mut Draws, message: &[u8]) -> Result<u64, String> {
         protected,
     };
     let (form, lanes) = match draws.below(FORMS.len() + 4) {
-        8 => (Form::V3, 7),
-        9 => (Form::Micro, 5),
-        10 => (Form::Nano, 3),
+        8 => (V3, 7),
+        9 => (Micro, 5),
+        10 => (Nano, 3),
         11 => {
             let options = items::Options {
                 avalanche,
@@ -126,11 +118,8 @@ fn one(draws: &mut Draws, message: &[u8]) -> Result<u64, String> {
                 compact,
                 protected,
             };
-            return Ok(items::hash(
-                options,
-                &start.seven,
-                &in_memory(draws, message),
-            ));
+            let items = in_memory(draws, message);
+            return Ok(items::hash(options, &start.seven, &items));
         }
         place => return Ok(hash(FORMS[place], options, &start, message)),
     };
@@ -139,9 +128,9 @@ fn one(draws: &mut Draws, message: &[u8]) -> Result<u64, String> {
     if streams::hashes(lanes, (avalanche, protected), &start.seven, &steps)? == [whole] {
         Ok(whole)
     } else {
+        let length = message.len();
         Err(format!(
-            "{} bytes in pieces have another hash than the whole",
-            message.len()
+            "{length} bytes in pieces have another hash than the whole"
         ))
     }
 }
