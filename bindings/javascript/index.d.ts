@@ -3,7 +3,7 @@ export type Message = string | ArrayBuffer | ArrayBufferView;
 
 /**
  * A seed from 0 to 2^64 - 1, as a BigInt from 2^53 on; or secrets, whose first word is the seed: four words for V1,
- * eight for every other version. Never both. A seed word is no defence against chosen input: use makeSecrets there.
+ * eight for every other version. Never both. A seed word does not protect against chosen input: use makeSecrets there.
  */
 export type Options =
   | { readonly seed?: bigint | number; readonly secrets?: undefined }

@@ -9,7 +9,7 @@ use Rattle.example_sums.specs.declared.algorithm.Version.{Version}
 use Rattle.example_sums.specs.declared.algorithm.Version.TheVariants.{V1, V2Minor0, V2Minor1, V2Minor2, V3, V3Micro, V3Nano}
 
 -- each version is read from its own text
-pub by_version : (version : Version) (rest text : List ℕ) (result : Option (Version × Bor (List ℕ))) → ReadsVersions text result
+by_version : (version : Version) (rest text : List ℕ) (result : Option (Version × Bor (List ℕ))) → ReadsVersions text result
     → text ≡ version_text version ++ rest → (slice_index rest 0 ≡ 45 → ⊥) → HasRead result version rest
 unfolding version_text
 by_version V1 rest text result reads is plain = reads.v1 rest is
@@ -21,10 +21,17 @@ by_version V3Micro rest text result reads is plain = reads.micro rest is
 by_version V3Nano rest text result reads is plain = reads.nano rest is
 
 -- what follows a version does not begin with a hyphen
-pub no_hyphen : (seed : Option ℕ) (rest : List ℕ) → slice_index (seed_text seed ++ 32 ∷ rest) 0 ≡ 45 → ⊥
+no_hyphen : (seed : Option ℕ) (rest : List ℕ) → slice_index (seed_text seed ++ 32 ∷ rest) 0 ≡ 45 → ⊥
 unfolding seed_text
 no_hyphen None rest found = let bad : 32 ≡ 45 = found in absurd (omega (arith, bad))
 no_hyphen (Some word) rest found = let bad : 58 ≡ 45 = found in absurd (omega (arith, bad))
+
+-- the version of a tag is read, before its seed
+pub version_read : (algorithm : Algorithm) (rest text : List ℕ) (result : Option (Version × Bor (List ℕ))) → ReadsVersions text result
+    → text ≡ version_text algorithm.version ++ (seed_text algorithm.seed ++ 32 ∷ rest)
+    → HasRead result algorithm.version (seed_text algorithm.seed ++ 32 ∷ rest)
+version_read algorithm rest text result reads is =
+    by_version algorithm.version (seed_text algorithm.seed ++ 32 ∷ rest) text result reads is (no_hyphen algorithm.seed rest)
 
 -- a seed word is read, and so is its absence
 pub by_seed : (seed : Option ℕ) (rest text : List ℕ) (result : Option (Option ℕ × Bor (List ℕ)))

@@ -136,7 +136,7 @@ fn verdicts(rt: HostRuntime) {
     }
 }
 
-// A line that names its version has that one's hash, whatever the call asks for.
+// A line that names its version is checked with it, and not with the version of the call.
 #[test]
 fn versions_of_lines(rt: HostRuntime) {
     let rows = [

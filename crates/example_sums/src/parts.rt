@@ -1,36 +1,10 @@
 //! The parts of a line: the version, the hash and the text of the name.
 
-ghost use Rattle.std.specs.Prelude.{
-  ◌≡◌,
-  ◌==◌,
-  ◌++◌,
-  ◌∷◌,
-  [],
-  ◌<◌,
-  ◌^◌,
-  ℕ,
-  List,
-  None,
-  Option,
-  Some,
-  codes,
-  length,
-  slice_index,
-  true,
-  IfSome,
-  IsSomeAnd,
-};
+ghost use Rattle.std.specs.Prelude.{◌≡◌, ◌==◌, ◌++◌, ◌∷◌, [], ◌<◌, ◌^◌, ℕ, List, None, Some, length, slice_index, true, IsSomeAnd};
 ghost use Rattle.example_sums.specs.declared.algorithm.Algorithm.{Algorithm};
 ghost use Rattle.example_sums.specs.declared.line.Layout.{Layout};
-ghost use Rattle.example_sums.specs.Entry.{AreParts, Fits, ReadsVersions};
-ghost use Rattle.example_sums.specs.Line.{
-  body_of,
-  carried,
-  digits_of,
-  escaped,
-  tag_of,
-  value_of,
-};
+ghost use Rattle.example_sums.specs.Entry.{AreParts, Fits};
+ghost use Rattle.example_sums.specs.Line.{body_of, carried, digits_of, escaped, tag_of, value_of};
 
 use crate::algorithm::Algorithm;
 use crate::tag::split_tag;

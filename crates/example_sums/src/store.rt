@@ -25,7 +25,7 @@ pub trait Store {
 ///
 /// # Errors
 ///
-/// If the file cannot be opened, a read fails, or there is no memory for V1 or V2.
+/// If the file cannot be opened, a read fails, or an allocation for V1 or V2 fails.
 pub fn hash_named<S: Store, A: Allocator>(
     alloc: A,
     store: &S,

@@ -16,8 +16,8 @@ use std::io::Write;
 ///
 /// # Errors
 ///
-/// If the file cannot be read, an allocation fails, or a write fails. Only then may something have
-/// been written.
+/// If the file cannot be read, an allocation fails, or a write fails. After a failed write part of
+/// the line may have been written, after another error nothing.
 pub fn write_sum<S: Store, A: Allocator + Copy, W: Write>(
     alloc: A,
     store: &S,

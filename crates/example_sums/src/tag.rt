@@ -1,36 +1,9 @@
 //! The tag of a line: its version and its seed.
 
-ghost use Rattle.std.specs.Prelude.{
-  ◌≡◌,
-  ◌==◌,
-  ◌++◌,
-  ◌∷◌,
-  [],
-  ◌<◌,
-  ◌^◌,
-  ℕ,
-  List,
-  None,
-  Option,
-  Some,
-  codes,
-  length,
-  slice_index,
-  true,
-  IfSome,
-  IsSomeAnd,
-};
+ghost use Rattle.std.specs.Prelude.{◌≡◌, ◌++◌, ◌∷◌, ◌<◌, ◌^◌, ℕ, List, None, Option, Some, codes, IfSome, IsSomeAnd};
 ghost use Rattle.example_sums.specs.declared.algorithm.Algorithm.{Algorithm};
-ghost use Rattle.example_sums.specs.declared.line.Layout.{Layout};
-ghost use Rattle.example_sums.specs.Entry.{AreParts, Fits, ReadsVersions};
-ghost use Rattle.example_sums.specs.Line.{
-  body_of,
-  carried,
-  digits_of,
-  escaped,
-  tag_of,
-  value_of,
-};
+ghost use Rattle.example_sums.specs.Entry.{ReadsVersions};
+ghost use Rattle.example_sums.specs.Line.{digits_of, tag_of};
 
 use crate::algorithm::{Algorithm, Version};
 use crate::parts::split_digits;

@@ -3,13 +3,11 @@ use Rattle.example_sums.proofs.Lines.{behind_backslash, empty-first, no_backslas
 use Rattle.example_sums.proofs.entry.entry_of.Goals as goal
 use Rattle.example_sums.proofs.entry.entry_of.Goals.{else-not-is_empty-via-then-not-is_empty+else-line-eq92, else-not-is_empty-via-else-not-is_empty}
 
--- src/entry.rt:97:1
 pub returns-then-line-eq92 : goal.returns-then-line-eq92
 returns-then-line-eq92 g c = λ layout algorithm hash name fits is.
     c.escaped_entry.ensures layout algorithm hash name fits
     (behind_backslash layout algorithm hash name c.args.line.now is c.if-line-eq92.true)
 
--- src/entry.rt:97:1
 pub returns-else-not-is_empty : goal.returns-else-not-is_empty
 returns-else-not-is_empty g c = λ layout algorithm hash name fits is.
     let other : slice_index c.args.line.now 0 ≡ 92 → ⊥ = elim c.else-not-is_empty.branch [

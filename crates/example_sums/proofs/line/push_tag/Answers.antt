@@ -9,7 +9,6 @@ joined start name version seed one two all is-one is-two is-all =
     is-all ∙ ap (λ (xs : List ℕ). xs ++ seed) (is-two ∙ ap (λ (xs : List ℕ). xs ++ version) is-one)
     ∙ append_assoc (start ++ name) version seed ∙ append_assoc start name (version ++ seed)
 
--- src/line.rt:79:1
 pub returns : goal.returns
 returns g c =
     let one = c.in_ok-extend_from_slice.ensures.items in

@@ -2,13 +2,11 @@ use Rattle.std.proofs.Common.{◌∙◌, sym}
 use Rattle.example_sums.proofs.Lines.{of_plain_line, of_tagged_line}
 use Rattle.example_sums.proofs.parts.split_line.Goals as goal
 
--- src/parts.rt:259:1
 pub returns-then-begins_as_tag : goal.returns-then-begins_as_tag
 returns-then-begins_as_tag c = λ layout algorithm hash name fits is.
     of_tagged_line layout algorithm hash name c.args.line.now c.split_tagged.result
     (sym c.begins_as_tag.ensures ∙ c.if-begins_as_tag.true) c.split_tagged.ensures fits is
 
--- src/parts.rt:259:1
 pub returns-else-begins_as_tag : goal.returns-else-begins_as_tag
 returns-else-begins_as_tag c = λ layout algorithm hash name fits is.
     of_plain_line layout algorithm hash name c.args.line.now c.split_plain.result

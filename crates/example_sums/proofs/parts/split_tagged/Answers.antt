@@ -2,20 +2,17 @@ use Rattle.std.proofs.Common.{◌++◌, ◌∷◌, [], Some, ap}
 use Rattle.example_sums.specs.Line.{digits_of}
 use Rattle.example_sums.proofs.parts.split_tagged.Goals as goal
 
--- src/parts.rt:241:29
 pub returns-in_err-algorithm : goal.returns-in_err-algorithm
 returns-in_err-algorithm c = λ algorithm hash text fits is.
     let rest = 40 ∷ (text ++ 41 ∷ 32 ∷ 61 ∷ 32 ∷ [] ++ digits_of hash) in
     absurd (rw c.in_err-algorithm.was at c.split_tag.ensures algorithm rest is fits.1)
 
--- src/parts.rt:242:24
 pub returns-in_err-text : goal.returns-in_err-text
 returns-in_err-text c = λ algorithm hash text fits is.
     let rest = 40 ∷ (text ++ 41 ∷ 32 ∷ 61 ∷ 32 ∷ [] ++ digits_of hash) in
     let tag = rw c.in_ok-algorithm.was at c.split_tag.ensures algorithm rest is fits.1 in
     absurd (rw c.in_err-text.was at c.split_value.ensures hash text fits.0 tag.1)
 
--- src/parts.rt:236:1
 pub returns : goal.returns
 returns c = λ algorithm hash text fits is.
     let rest = 40 ∷ (text ++ 41 ∷ 32 ∷ 61 ∷ 32 ∷ [] ++ digits_of hash) in

@@ -3,14 +3,12 @@ use Rattle.example_sums.specs.Line.{digits_of}
 use Rattle.example_sums.proofs.Lines.{digits-length}
 use Rattle.example_sums.proofs.parts.split_value.Goals as goal
 
--- src/parts.rt:199:27
 pub returns-in_err-front : goal.returns-in_err-front
 returns-in_err-front c = λ hash text fits is.
     let front = (32 ∷ 40 ∷ text) ++ 41 ∷ 32 ∷ 61 ∷ 32 ∷ [] in
     let same = c.without_return.ensures.digits front hash is in
     absurd (rw c.in_err-front.was at c.split_end.ensures front (digits_of hash) (same ∙ is) (digits-length hash))
 
--- src/parts.rt:200:16
 pub returns-in_err-text : goal.returns-in_err-text
 returns-in_err-text c = λ hash text fits is.
     let front = (32 ∷ 40 ∷ text) ++ 41 ∷ 32 ∷ 61 ∷ 32 ∷ [] in
@@ -18,7 +16,6 @@ returns-in_err-text c = λ hash text fits is.
     let parts = rw c.in_ok-front.was at c.split_end.ensures front (digits_of hash) (same ∙ is) (digits-length hash) in
     absurd (rw c.in_err-text.was at c.within_parentheses.ensures text parts.0)
 
--- src/parts.rt:201:16
 pub returns-in_err-hash : goal.returns-in_err-hash
 returns-in_err-hash c = λ hash text fits is.
     let front = (32 ∷ 40 ∷ text) ++ 41 ∷ 32 ∷ 61 ∷ 32 ∷ [] in
@@ -26,7 +23,6 @@ returns-in_err-hash c = λ hash text fits is.
     let parts = rw c.in_ok-front.was at c.split_end.ensures front (digits_of hash) (same ∙ is) (digits-length hash) in
     cc (sym c.in_err-hash.was ∙ c.number_of.ensures hash fits parts.1)
 
--- src/parts.rt:195:1
 pub returns : goal.returns
 returns c = λ hash text fits is.
     let front = (32 ∷ 40 ∷ text) ++ 41 ∷ 32 ∷ 61 ∷ 32 ∷ [] in
