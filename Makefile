@@ -195,7 +195,7 @@ dist: all $(folder) $(wheel)
 	  bindings rust | tar -C build/$(name) -xf -
 	cp -r build/npm build/$(name)/bindings/javascript
 	install -D -m 644 -t build/$(name)/wheels $(wheels)/*.whl
-	install -m 644 LICENSE-MIT LICENSE-APACHE NOTICE docs/C.md docs/ALGORITHM.md build/$(name)
+	install -m 644 LICENSE-MIT LICENSE-APACHE NOTICE docs/C.md docs/CPP.md docs/ALGORITHM.md build/$(name)
 	install -D -m 644 docs/images/lanes.svg build/$(name)/images/lanes.svg
 	install -m 644 share/dist.md build/$(name)/README.md
 	install -m 755 share/check_vectors.py build/$(name)

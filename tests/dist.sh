@@ -36,9 +36,9 @@ builds_the_rust_crate() {
     [ "$(cargo run --quiet --offline)" = 3327445792987248966 ]
 }
 
-# The library for other machines is built and linked as C.md says.
+# The library for other machines is built and linked as its page says.
 builds_for_other_machines() {
-  cd "$room/unpacked" && blocks C.md c hello >hello.c && blocks C.md sh rust/capi >commands &&
+  cd "$room/unpacked" && blocks C.md c hello >hello.c && blocks rust/capi/README.md sh rust/capi >commands &&
     [ "$(bash -e commands)" = 3327445792987248966 ]
 }
 

@@ -88,13 +88,14 @@ refuses() {
     ! make -s -C "$top" uninstall DESTDIR="$room/refused" "$@"
 }
 
-# The programs of docs/C.md, built and run as the page prints them, with the library below $HOME. README.md has the
-# lines for the first one too.
+# The programs of docs/C.md and docs/CPP.md, built and run as the pages print them, with the library below $HOME.
+# README.md has the lines for the first one too.
 runs_as_the_pages_say() (
   export HOME=$room/home
   mkdir "$HOME" && installs PREFIX="$HOME/.local" && cd "$HOME" &&
-    blocks "$top/docs/C.md" c hello >hello.c && blocks "$top/docs/C.md" cpp hello >hello.cpp &&
+    blocks "$top/docs/C.md" c hello >hello.c && blocks "$top/docs/CPP.md" cpp hello >hello.cpp &&
     blocks "$top/docs/C.md" c stdin >hash_file.c && blocks "$top/docs/C.md" sh pkg-config >commands &&
+    blocks "$top/docs/CPP.md" sh pkg-config >>commands &&
     diff <(head -n 2 commands) <(blocks "$top/README.md" sh pkg-config) && prints_the_hash_of_hello 3
 )
 
@@ -107,8 +108,8 @@ prints_the_hash_of_hello() {
 
 by_cmake_as_the_page_says() (
   export HOME=$room/home
-  cd "$HOME" && blocks "$top/docs/C.md" cmake project >CMakeLists.txt &&
-    blocks "$top/docs/C.md" sh cmake >commands && prints_the_hash_of_hello 1
+  cd "$HOME" && blocks "$top/docs/CPP.md" cmake project >CMakeLists.txt &&
+    blocks "$top/docs/CPP.md" sh cmake >commands && prints_the_hash_of_hello 1
 )
 
 # The whole folder can be moved: no file names the place it was installed in.

@@ -15,7 +15,8 @@ from cases import TOP, finish, tell
 
 MADE = TOP / "docs" / "api"
 PAGES = sorted([*TOP.glob("*.md"), *TOP.glob("docs/*.md"), *MADE.glob("*.md"), *TOP.glob("*/NOTES.md"),
-                *TOP.glob("bindings/*/README.md"), TOP / "share" / "dist.md", TOP / "rust" / "README.md"])
+                *TOP.glob("bindings/*/README.md"), TOP / "share" / "dist.md", TOP / "rust" / "README.md",
+                TOP / "rust" / "capi" / "README.md"])
 # Folders that builds make, and what lies in an archive or in an installed copy alone.
 BUILT = ("build/", "crates/example_NAME", "tests/example_NAME", "crates/first")
 PATH = re.compile(r"`((?:crates|docs|tests|bench|bin|include|bindings|share|\.ci)/[^` ]*)`")
@@ -70,7 +71,7 @@ def words_of_the_code():
 
 def names():
     words = words_of_the_code()
-    for _, place, line in prose(TOP / "docs" / name for name in ("PROVED.md", "ARCHITECTURE.md", "C.md")):
+    for _, place, line in prose(TOP / "docs" / name for name in ("PROVED.md", "ARCHITECTURE.md", "C.md", "CPP.md")):
         for name in NAME.findall(line):
             yield from (f"{place}: no {part} of {name} in the code" for part in name.split("::") if part not in words)
 
