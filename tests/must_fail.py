@@ -1,0 +1,148 @@
+#!/usr/bin/env python3
+"""Applies the edits of tests/must_fail/CRATE/, many per check, and tests that the checker refuses each edited
+function at the goal that its edit names. Words are names of crates; without any it tries all.
+
+An edit has the form of those in crates/CRATE/must-fail/, which `rt ci` tries one by one, and one more line:
+`refused: FUNCTION, GOAL`. Edits share a check only if none of their functions calls another, because the checker does
+not judge a function that calls a refused one."""
+
+import json
+import os
+import re
+import shutil
+import subprocess
+import sys
+from collections import defaultdict
+from concurrent.futures import ThreadPoolExecutor
+
+from cases import ROOM, TOP, finish, tell
+
+
+class Edit:
+    def __init__(self, file):
+        self.crate, self.name, self.changes = file.parent.name, file.stem, []
+        for key, text in (line.split(": ", 1) for line in file.read_text().splitlines()):
+            match key:
+                case "refused":
+                    self.function, self.goal = text.split(", ")
+                case "file":
+                    path = text
+                case "old":
+                    old = text
+                case "new":
+                    self.changes.append((path, old, text))
+
+    def finding(self, said):
+        """What is wrong with what a check said of the function, or nothing."""
+        if not said.startswith(("no proof", "not proved")):
+            return f"{self.function} is not refused: {said or 'the check says nothing of it'}"
+        return "" if f"`{self.goal}`" in said else f"{self.function} is refused, but not at {self.goal}: {said}"
+
+
+def reached_by(crate):
+    """For each function of a library, those of the same crate that it calls, at any depth."""
+    file = TOP / "crates" / crate / "out" / "rlib" / f"{crate}.rlib" / "toolchain" / "mir.json"
+    functions = json.loads(file.read_text()) if file.exists() else []
+    called = {name: set(re.findall(rf'"{crate}::([^"]+)"', json.dumps(body))) for name, *body in functions}
+    reached = {}
+
+    def visit(name):
+        if name not in reached:
+            reached[name] = set()
+            for callee in called.get(f"{crate}::{name}", ()):
+                reached[name] |= {callee} | visit(callee)
+        return reached[name]
+
+    return visit
+
+
+def rounds(crate, edits):
+    """Distributes edits to few lists, so that no function of a list reaches another."""
+    reach, lists = reached_by(crate), []
+
+    def fits(edit, chosen):
+        functions = {other.function for other in chosen}
+        return not functions & (reach(edit.function) | {edit.function}) and \
+            not any(edit.function in reach(function) for function in functions)
+
+    for edit in sorted(edits, key=lambda edit: len(reach(edit.function))):
+        chosen = next((chosen for chosen in lists if fits(edit, chosen)), None)
+        if chosen is None:
+            lists.append(chosen := [])
+        chosen.append(edit)
+    return lists
+
+
+def apply(edits, folder):
+    """Changes the files of a crate. Each old text must be in its file once, before any change."""
+    changes = defaultdict(list)
+    for edit in edits:
+        for path, old, new in edit.changes:
+            text = (folder / path).read_text()
+            if text.count(old) != 1:
+                raise ValueError(f"{edit.crate}/{edit.name}: its old text is in {path} {text.count(old)} times")
+            changes[path].append((text.index(old), old, new))
+    for path, places in changes.items():
+        text = (folder / path).read_text()
+        for start, old, new in sorted(places, reverse=True):
+            text = text[:start] + new + text[start + len(old):]
+        (folder / path).write_text(text)
+
+
+def link(source, target):
+    """Links a file of a build, or copies it to another file system. A check replaces such files, and changes none."""
+    try:
+        os.link(source, target)
+    except OSError:
+        shutil.copy2(source, target)
+
+
+def check(number, edits):
+    """Applies edits of one crate to a copy, and returns what the checker says of each function."""
+    crate, copy = edits[0].crate, ROOM / str(number)
+    folder = copy / "crates" / crate
+    shutil.copytree(TOP / "crates", copy / "crates", ignore=shutil.ignore_patterns("out", "must-fail", "data"))
+    for out in TOP.glob("crates/*/out"):
+        shutil.copytree(out, copy / out.relative_to(TOP), copy_function=link)
+    for name in ("crates.txt", "HANDLES"):
+        shutil.copy(TOP / name, copy)
+    apply(edits, folder)
+    words = [word for edit in edits for word in ("--only", edit.function)]
+    done = subprocess.run(["rt", "check", "--jobs", "1", *words], cwd=folder, stdin=subprocess.DEVNULL,
+                          stdout=subprocess.PIPE, stderr=subprocess.STDOUT, text=True)
+    shutil.rmtree(copy)
+    return said_by(done.stdout)
+
+
+def said_by(output):
+    """What a check says of each function: its verdict, the errors in its proof files, and the notes before it."""
+    said, notes = defaultdict(str), ""
+    for line in output.splitlines():
+        if error := re.match(r"\./proofs/(\S+)/\w+\.antt:", line):
+            said[error[1].replace("/", "::")] += line
+        elif verdict := re.match(r"fn \w+::(\S+): (.*)", line):
+            said[verdict[1]], notes = verdict[2] + said[verdict[1]] + notes, ""
+        else:
+            notes += line
+    return said
+
+
+def judge(number, edits):
+    """The edits, each with its finding. Edits hidden by a refused function that theirs calls are tried again."""
+    said = check(number, edits)
+    found = [(edit, edit.finding(said[edit.function])) for edit in edits]
+    hidden = [edit for edit, finding in found if finding and "it calls `" in finding]
+    hidden *= len(hidden) < len(edits)
+    found = [(edit, finding) for edit, finding in found if edit not in hidden]
+    return found + (judge(number, hidden) if hidden else [])
+
+
+crates = sys.argv[1:] or sorted(folder.name for folder in TOP.glob("tests/must_fail/*"))
+lists = []
+for crate in crates:
+    lists += rounds(crate, [Edit(file) for file in sorted(TOP.glob(f"tests/must_fail/{crate}/*.edit"))])
+with ThreadPoolExecutor(os.cpu_count()) as pool:
+    for found in pool.map(judge, range(len(lists)), lists):
+        for edit, finding in found:
+            tell(f"{edit.crate}/{edit.name}", *[finding] * bool(finding))
+finish()
