@@ -27,12 +27,12 @@ rowless-hash : (form : Form) (lanes : ℕ) (options : Options) (seed : ℕ) (sec
     → shape_of form (length x) ≡ no_rows lanes → rowless form options seed secrets x ≡ portable_hash form options seed secrets x
 rowless-hash form lanes options seed secrets x odd none =
     let start = start_seed form (length x) seed in
-    hash-is form options seed secrets x x start _ _ (rows-none form lanes (length x) options.protected secrets x start odd none) refl refl
+    sym (hash-is form options seed secrets x x start (rows-none form lanes (length x) options.protected secrets x start odd none))
 
 -- by V3 and its relatives it is one hash
 same-v3 : (lanes more : ℕ) (x : List ℕ) → lanes % 2 ≡ 1 → more % 2 ≡ 1 → lanes ≤ more → length x ≤ 16 * lanes
     → SameHash (V3 lanes) (V3 more) x
-unfolding start_seed tail_seed tail_places masks mixed_words last_words short_words
+unfolding tail_seed tail_places mixed_words last_words short_words
 same-v3 lanes more x odd odd' less few options seed secrets =
     let none = shape_of-v3-none lanes (length x) (omega arith) few in
     let none' = shape_of-v3-none more (length x) (omega arith) (omega arith) in
@@ -53,12 +53,12 @@ shape-same_v1 n other = grind (arith, nat_tests, other)
 
 -- so is its hash
 pub same_v1 : (x : List ℕ) → length x ≢ 48 → SameHash (V1 false) (V1 true) x
-unfolding value start_seed tail_seed tail_places masks mixed_words last_words short_words
+unfolding value tail_seed tail_places mixed_words last_words short_words
 same_v1 x other options seed secrets = cc (shape-same_v1 (length x) other)
 
 -- by two minors of V2 a message with rows has one hash
 same-v2-rows : (first second : ℕ) (x : List ℕ) → 64 < length x → SameHash (V2 first) (V2 second) x
-unfolding value start_seed tail_seed masks mixed_words
+unfolding value tail_seed mixed_words
 same-v2-rows first second x long options seed secrets =
     let over = above_limit first (length x) long in
     let over' = above_limit second (length x) long in
@@ -75,7 +75,7 @@ same-v2-rows first second x long options seed secrets =
 same-v2-rowless : (first second : ℕ) (x : List ℕ) → length x ≤ 56 → last_words (V2 first) x ≡ last_words (V2 second) x
     → ((secrets : List ℕ) → take ((length x - 1) / 16) (picked secrets (v2_rowless_places first)) ≡ take ((length x - 1) / 16) (picked secrets (v2_rowless_places second)))
     → SameHash (V2 first) (V2 second) x
-unfolding start_seed tail_seed masks mixed_words after_tail
+unfolding tail_seed mixed_words after_tail
 same-v2-rowless first second x few words tables options seed secrets =
     let below = below_limit first (length x) few in
     let below' = below_limit second (length x) few in

@@ -1,4 +1,25 @@
--- What definitions by cases are proved by: tests of numbers, and the definitions to open.
+-- What definitions by cases are proved by: tests of numbers, and lemmas on the cases that need one.
 use Rattle.std.proofs.lemmas.Bool.Decides.{nat_tests}
+use Rattle.rapidhash_portable.proofs.FoldedLemmas.{AfterRows-none}
+use Rattle.rapidhash_portable.proofs.FormLemmas.{shape_of-v3-none}
+use Rattle.rapidhash_portable.proofs.HashLemmas.{hash-short}
+use Rattle.rapidhash_portable.proofs.MemoryLemmas.{after_pairs-is, after_pairs-short}
+use Rattle.rapidhash_portable.proofs.ReadingLemmas.{HashesAll-known, MarksFailures-settles}
+use Rattle.rapidhash_portable.proofs.WordsLemmas.{last_words-long, last_words-short, packed, short_words-none}
 
 pub ruleset tests = (nat_tests)
+
+-- no bytes, few bytes, no rows
+pub ruleset no_bytes = (short_words-none)
+
+pub ruleset few_bytes = (nat_tests, packed)
+
+pub ruleset short = (nat_tests, hash-short)
+
+pub ruleset no_rows = (nat_tests, AfterRows-none, shape_of-v3-none)
+
+-- the in-memory core
+pub ruleset in_core = (after_pairs-is, after_pairs-short, last_words-long, last_words-short)
+
+-- readers
+pub ruleset of_reader = (HashesAll-known, MarksFailures-settles)

@@ -1,11 +1,9 @@
 use Rattle.std.proofs.Common.{false, bit_xor, length, arith, length-take-le}
-use Rattle.rapidhash_portable.specs.Form.{start_seed}
 use Rattle.rapidhash_portable.proofs.FormLemmas.{shape_of-v1-some}
 use Rattle.rapidhash_portable.proofs.ReadingLemmas.{last_16-front}
 use Rattle.rapidhash_portable.proofs.v1.readers.long.Goals as goal
 
 pub returns : goal.returns
-unfolding start_seed
 returns g c =
     let seed = c.args.seed in
     let f = c.in_ok-lanes.ensures.ok in
