@@ -25,7 +25,7 @@ FrontIsFolded-none protected secrets old lanes seed = record {
   bytes = [];
   taken = Consumes-nil old;
   count = refl;
-  prefix = PrefixIsFolded-none protected secrets [] lanes 0 (replicate lanes seed) (omega arith);
+  prefix = PrefixIsFolded-none (omega arith);
 }
 
 -- where a prefix of whole rows goes on over whole rows, nothing is left

@@ -54,7 +54,7 @@ PartsStandFor-none protected lanes s held steps any len =
     let none : chunk_count lanes 0 ≡ 0 = zero-div (16 * lanes) in
     let z : 16 * (lanes * 0) ≡ 0 = omega arith in
     record {
-      folded = rw (none, held) (HaveFolded-none protected s.secrets.now.secrets [] lanes (replicate 7 s.secrets.now.seed));
+      folded = rw (none, held) HaveFolded-none;
       steps = rw none steps;
       any = rw none any;
       buffered = rw (len, none, z) refl;

@@ -78,33 +78,21 @@ after_tail-whole protected table pair t seed n e =
     ap (λ cs. after_tail protected cs pair 0 t seed) (take_all n table (omega arith))
 
 -- the pairs of what is left of a message are the message's own
-fold_pairs-drop : (protected : Bool) (cs x : List ℕ) (first at seed : ℕ)
-    → fold_pairs protected cs (pair_of (drop (16 * first) x)) at seed ≡ fold_pairs protected cs (pair_of x) (first + at) seed
+fold_pairs-drop : (protected : Bool) (cs x : List ℕ) (first at place seed : ℕ) → place ≡ first + at
+    → fold_pairs protected cs (pair_of (drop (16 * first) x)) at seed ≡ fold_pairs protected cs (pair_of x) place seed
 unfolding fold_pairs
-fold_pairs-drop protected [] x first at seed = refl
-fold_pairs-drop protected (c ∷ cs) x first at seed =
-    let here : 16 * first + 16 * at ≡ 16 * (first + at) = omega arith in
-    let next : first + (at + 1) ≡ first + at + 1 = omega arith in
-    let pair = pair_at-drop x (16 * first) (16 * at) ∙ ap (pair_at x) here in
-    fold_pairs-drop protected cs x first (at + 1) (step protected c seed (pair_of (drop (16 * first) x) at))
-    ∙ ap (λ p. fold_pairs protected cs (pair_of x) (first + (at + 1)) (step protected c seed p)) pair
-    ∙ ap (λ k. fold_pairs protected cs (pair_of x) k (step protected c seed (pair_of x (first + at)))) next
-
--- the tail of what is left of a message is folded from the message's own pairs
-pub after_tail-drop : (protected : Bool) (table x : List ℕ) (first t seed : ℕ)
-    → after_tail protected table (pair_of (drop (16 * first) x)) 0 t seed ≡ after_tail protected table (pair_of x) first t seed
-unfolding after_tail
-after_tail-drop protected table x first t seed =
-    let e : first + 0 ≡ first = omega arith in
-    fold_pairs-drop protected (take ((t - 1) / 16) table) x first 0 seed ∙ ap (λ k. fold_pairs protected (take ((t - 1) / 16) table) (pair_of x) k seed) e
+fold_pairs-drop protected [] x first at place seed e = refl
+fold_pairs-drop protected (c ∷ cs) x first at place seed e =
+    let here : 16 * first + 16 * at ≡ 16 * place = omega arith in
+    fold_pairs-drop protected cs x first (at + 1) (place + 1) (step protected c seed (pair_of (drop (16 * first) x) at)) (omega arith)
+    ∙ ap (λ p. fold_pairs protected cs (pair_of x) (place + 1) (step protected c seed p)) (pair_at-drop x (16 * first) (16 * at) ∙ ap (pair_at x) here)
 
 -- a tail as what is left of a message
 pub after_tail-rest : (protected : Bool) (table x rest : List ℕ) (first seed : ℕ) → rest ≡ drop (16 * first) x
     → after_tail protected table (pair_of rest) 0 (length rest) seed ≡ after_tail protected table (pair_of x) first (length x - 16 * first) seed
+unfolding after_tail
 after_tail-rest protected table x rest first seed e =
-    ap (λ r. after_tail protected table (pair_of r) 0 (length r) seed) e
-    ∙ after_tail-drop protected table x first (length (drop (16 * first) x)) seed
-    ∙ ap (λ t. after_tail protected table (pair_of x) first t seed) (length-drop (16 * first) x)
+    rw (e, length-drop) (fold_pairs-drop protected (take ((length x - 16 * first - 1) / 16) table) x first 0 first seed (omega arith))
 
 -- a tail of at most 16 bytes has no pair
 pub after_tail-short : (protected : Bool) (table tail : List ℕ) (seed : ℕ) → length tail ≤ 16

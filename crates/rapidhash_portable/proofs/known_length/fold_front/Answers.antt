@@ -1,21 +1,11 @@
-use Rattle.std.proofs.Common.{◌≡◌, ◌-◌, ◌*◌, ◌++◌, not, nat_eq, length, take, drop, refl, sym, ◌∙◌, arith, length-take-le, le_refl}
+use Rattle.std.proofs.Common.{◌≡◌, ◌-◌, ◌*◌, ◌++◌, length, take, drop, sym, ◌∙◌, arith, length-take-le}
 use Rattle.std.proofs.lemmas.List.{take-append-le, take_all}
 use Rattle.std.proofs.lemmas.Result.{err_from_is_err_and}
 use Rattle.rapidhash_portable.specs.Lanes.{rows_in}
 use Rattle.rapidhash_portable.proofs.FoldedLemmas.{PrefixIsFolded-append}
 use Rattle.rapidhash_portable.proofs.ListLemmas.{refilled_room}
-use Rattle.rapidhash_portable.proofs.ReadingLemmas.{FellShort-front, FrontIsFolded-last, FrontIsFolded-more, FrontIsFolded-none}
+use Rattle.rapidhash_portable.proofs.ReadingLemmas.{FellShort-front, FrontIsFolded-last, FrontIsFolded-more}
 use Rattle.rapidhash_portable.proofs.known_length.fold_front.Goals as goal
-
-pub loop-left-init : goal.loop-left-init
-loop-left-init g c = record {
-  room = refl;
-  some = c.requires.long;
-  most = le_refl _;
-  front =
-      let none : c.args.len - c.args.len ≡ 0 = omega arith in
-      rw none (FrontIsFolded-none (not (nat_eq g.row.PROTECTED 0)) c.args.secrets.now _ g.row.LANES c.args.seed);
-}
 
 pub returns-in_err-fill-clause-short : goal.returns-in_err-fill-clause-short
 returns-in_err-fill-clause-short g c =

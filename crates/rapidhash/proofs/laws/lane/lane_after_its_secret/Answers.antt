@@ -17,7 +17,6 @@ mix-secret : (protected : Bool) (secret number : ℕ) → mix protected (bit_xor
 mix-secret protected secret number = ap (λ first. mix protected first number) (xor_self secret) ∙ mix-zero protected number
 
 pub returns-clause-pair : goal.returns-clause-pair
-unfolding step
 returns-clause-pair g c = c.rapid_mix.ensures
 
 pub returns-clause-value : goal.returns-clause-value
