@@ -1,4 +1,4 @@
--- What definitions by cases are proved by: tests of numbers, and lemmas on the cases that need one.
+-- What attributes name: tests of numbers, and the lemmas that bodies are proved by.
 use Rattle.std.proofs.lemmas.Bool.Decides.{nat_tests}
 use Rattle.rapidhash_portable.proofs.FoldedLemmas.{AfterRows-none}
 use Rattle.rapidhash_portable.proofs.FormLemmas.{shape_of-v3-none}
@@ -7,14 +7,12 @@ use Rattle.rapidhash_portable.proofs.MemoryLemmas.{after_pairs-is, after_pairs-s
 use Rattle.rapidhash_portable.proofs.ReadingLemmas.{FrontIsFolded-none, HashesAll-known, MarksFailures-settles}
 use Rattle.rapidhash_portable.proofs.SecretsLemmas.{AreFilled-more, chained-more, made_state-more}
 use Rattle.rapidhash_portable.proofs.TailLemmas.{after_tail-none, after_tail-more, after_tail-same, after_tail-whole}
-use Rattle.rapidhash_portable.proofs.WordsLemmas.{last_words-long, last_words-short, packed, short_words-none}
+use Rattle.rapidhash_portable.proofs.WordsLemmas.{last_words-long, last_words-short, short_words-none}
 
 pub ruleset tests = (nat_tests)
 
--- no bytes, few bytes, no rows
+-- no bytes, up to 16 bytes, no rows
 pub ruleset no_bytes = (short_words-none)
-
-pub ruleset few_bytes = (nat_tests, packed)
 
 pub ruleset short = (nat_tests, hash-short)
 

@@ -66,7 +66,7 @@ PrefixIsFolded-none {x = x} {width = width} h = record {
 -- how much is left
 pub PrefixIsFolded-left : {protected : Bool} {secrets x : List ℕ} {width least : ℕ} {starts held rest : List ℕ}
     (f : PrefixIsFolded protected secrets x width least starts held rest) → 16 * (width * f.rows) + length rest ≡ length x
-PrefixIsFolded-left {x = x} f = let h = f.left in omega (arith, ap length f.rest_is, length-drop {A = ℕ})
+PrefixIsFolded-left {x = x} f = omega (arith, ap length f.rest_is, length-drop {A = ℕ})
 
 -- further rows, of `n` bytes
 unfoldable pub PrefixIsFolded-more : {protected : Bool} {secrets x : List ℕ} {width least : ℕ} {starts held rest : List ℕ}
@@ -87,21 +87,18 @@ PrefixIsFolded-more {x = x} {width = width} f held' rest' more n g size room nex
 pub PrefixIsFolded-append : {protected : Bool} {secrets x : List ℕ} {width least : ℕ} {starts held rest : List ℕ} →
     PrefixIsFolded protected secrets x width least starts held rest → (y : List ℕ) →
     PrefixIsFolded protected secrets (x ++ y) width least starts held (rest ++ y)
-PrefixIsFolded-append {x = x} {width = width} f y =
-    let low = f.left in
-    record {
-      rows = f.rows;
-      lanes = HaveFolded-append f.lanes y (omega arith);
-      rest_is = ap (λ r. r ++ y) f.rest_is ∙ sym (drop-append-le (16 * (width * f.rows)) x y (omega arith));
-      left = omega (arith, length-append x y);
-    }
+PrefixIsFolded-append {x = x} {width = width} f y = record {
+  rows = f.rows;
+  lanes = HaveFolded-append f.lanes y (omega arith);
+  rest_is = ap (λ r. r ++ y) f.rest_is ∙ sym (drop-append-le (16 * (width * f.rows)) x y (omega arith));
+  left = omega (arith, length-append x y);
+}
 
 -- after the last row
 pub PrefixIsFolded-all : {protected : Bool} {secrets x : List ℕ} {width least : ℕ} {starts held rest : List ℕ}
     (f : PrefixIsFolded protected secrets x width least starts held rest) → length rest < 16 * width + least →
     rows_in width least (length x) ≡ f.rows
 PrefixIsFolded-all {x = x} {width = width} {least = least} {rest = rest} f few =
-    let some = f.left in
     let left = PrefixIsFolded-left f in
     rows_are width least f.rows (length rest) (length x) left (omega arith) few
 

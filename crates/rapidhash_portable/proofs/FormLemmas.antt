@@ -7,7 +7,7 @@ use Rattle.rapidhash_portable.specs.Folded.{AfterRows}
 use Rattle.rapidhash_portable.specs.Lanes.{rows_in, no_rows, wide_shape, mixed_shape}
 use Rattle.rapidhash_portable.specs.declared.form.Form.{Form}
 use Rattle.rapidhash_portable.specs.declared.form.Form.TheVariants.{V1, V2, V3}
-use Rattle.rapidhash_portable.specs.Form.{longest_rowless, v2_row_places, v2_rowless_places, shape_of, start_seed, tail_seed, tail_places}
+use Rattle.rapidhash_portable.specs.Form.{longest_rowless, v2_rowless_places, shape_of, start_seed, tail_seed, tail_places}
 use Rattle.rapidhash_portable.proofs.FoldedLemmas.{AfterRows-none}
 use Rattle.rapidhash_portable.proofs.LanesLemmas.{cond_same}
 
@@ -16,14 +16,6 @@ pub shape_of-v1-some : (bug : Bool) (n : ℕ) → longest_rowless (V1 bug) < n �
 unfolding shape_of
 shape_of-v1-some true n h = grind (arith, nat_tests)
 shape_of-v1-some false n h = grind (arith, nat_tests)
-
--- V2 above both its limits
-pub above_limit : (minor n : ℕ) → 64 < n → longest_rowless (V2 minor) < n
-above_limit minor n h = grind (arith, nat_tests)
-
--- V2 up to both its limits
-pub below_limit : (minor n : ℕ) → n ≤ 56 → n ≤ longest_rowless (V2 minor)
-below_limit minor n h = grind (arith, nat_tests)
 
 -- V2 up to its limit has no row
 pub shape_of-v2-none : (minor n : ℕ) → n ≤ longest_rowless (V2 minor) → shape_of (V2 minor) n ≡ no_rows 7
@@ -39,11 +31,6 @@ shape_of-v2-some minor n h = rw (lt-ltb (longest_rowless (V2 minor)) n h) refl
 pub tail_places-v2-none : (minor n : ℕ) → n ≤ longest_rowless (V2 minor) → tail_places (V2 minor) n ≡ v2_rowless_places minor
 unfolding tail_places
 tail_places-v2-none minor n h = rw (le-ltb (longest_rowless (V2 minor)) n h) refl
-
--- and behind rows
-pub tail_places-v2-some : (minor n : ℕ) → longest_rowless (V2 minor) < n → tail_places (V2 minor) n ≡ v2_row_places
-unfolding tail_places
-tail_places-v2-some minor n h = rw (lt-ltb (longest_rowless (V2 minor)) n h) refl
 
 -- V3 has no row where every lane would need a byte more
 pub shape_of-v3-none : (lanes n : ℕ) → 0 < lanes → n ≤ longest_rowless (V3 lanes) → shape_of (V3 lanes) n ≡ no_rows lanes

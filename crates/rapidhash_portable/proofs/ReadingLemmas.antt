@@ -113,7 +113,6 @@ pub HaveRead-more : (old now new : Option (List ℕ)) (Stands Stands' : List ℕ
     HaveRead old now Stands turn → Consumes now new (take n buf) → 0 < n → n ≤ length buf →
     ((x : List ℕ) → Stands x → Stands' (x ++ take n buf)) → HaveRead old new Stands' (turn + 1)
 HaveRead-more old now new Stands Stands' turn n buf h taken some fits more =
-    let so_far = h.some in
     record {
       bytes = h.bytes ++ take n buf;
       taken = Consumes-trans old now new h.bytes (take n buf) h.taken taken;

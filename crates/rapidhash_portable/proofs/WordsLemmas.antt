@@ -51,12 +51,6 @@ pub short_words-eight : (form : Form) (x : List ℕ) → 8 ≤ length x → shor
 unfolding short_words
 short_words-eight form x h = grind (arith, nat_tests)
 
--- a first byte packed above a last one
-pub packed : (a b : ℕ) → a < 256 → b < 256 → bit_or (a * 35184372088832 % 18446744073709551616) b ≡ a * 2 ^ 45 + b
-packed a b h k =
-    let e : a * 35184372088832 % 18446744073709551616 ≡ a * 2 ^ 45 = omega arith in
-    ap (λ v. bit_or v b) e ∙ or_shifted a 45 b (omega arith)
-
 -- three bytes packed
 pub packed_three : (a b c : ℕ) → a < 256 → b < 256 → c < 256
     → bit_or (bit_or (a * 72057594037927936 % 18446744073709551616) (b * 4294967296 % 18446744073709551616)) c ≡ a * 2 ^ 56 + b * 2 ^ 32 + c

@@ -99,7 +99,7 @@ pub(crate) fn words_to_7(bytes: &[u8]) -> (u64, u64)
 
 /// The two words of V3, micro, nano and the in-memory core, of 1 to 3 bytes.
 #[inline(always)]
-#[tactic(auto, using(crate::proofs::Cases::few_bytes), unfolding(crate::specs::Words::short_words))]
+#[tactic(auto, using(crate::proofs::Cases::tests), unfolding(crate::specs::Words::short_words))]
 pub(crate) fn words_to_3_v3(bytes: &[u8]) -> (u64, u64)
     requires some { 0 < length bytes.now }
     requires few { length bytes.now ≤ 3 }

@@ -1,5 +1,8 @@
-use Rattle.std.proofs.Common.{bit_xor, length, arith, length-take-le}
-use Rattle.rapidhash_portable.proofs.FormLemmas.{above_limit, shape_of-v2-some}
+use Rattle.std.proofs.Common.{◌<◌, bit_xor, length, arith, length-take-le}
+use Rattle.rapidhash_portable.specs.declared.form.Form.TheVariants.{V2}
+use Rattle.rapidhash_portable.specs.Form.{longest_rowless}
+use Rattle.rapidhash_portable.proofs.Cases.{tests}
+use Rattle.rapidhash_portable.proofs.FormLemmas.{shape_of-v2-some}
 use Rattle.rapidhash_portable.proofs.ReadingLemmas.{last_16-front}
 use Rattle.rapidhash_portable.proofs.v2.readers.long.Goals as goal
 
@@ -11,7 +14,7 @@ returns g c =
     let size = f.count in
     let last = length-take-le c.in_ok-lanes.n c.fold_front.new.buffer c.in_ok-lanes.ensures.last.1 in
     let rows = c.join_mixed-joined.ensures x (bit_xor seed c.args.len) f.prefix in
-    let above = above_limit g.row.MINOR (length x) (omega arith) in
+    let above : longest_rowless (V2 g.row.MINOR) < length x = grind (arith, tests) in
     let shape = shape_of-v2-some g.row.MINOR (length x) above in
     record {
       ok = record {
