@@ -1,7 +1,7 @@
 -- The answer of a hasher with a sponge and without one.
 use Rattle.std.proofs.Common.{◌≡◌, ℕ, Bool, true, false, List, refl}
 use Rattle.rapidhash_portable.specs.declared.form.Options.{Options}
-use Rattle.rapidhash.specs.Hasher.{closed, finished, pending, seed_after, width}
+use Rattle.rapidhash.specs.Hasher.{closed, finished, seed_after}
 use Rattle.rapidhash.specs.Sponge.{Item, block, end_of}
 
 -- with a sponge the last block is closed
