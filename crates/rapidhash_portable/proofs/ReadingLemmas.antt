@@ -79,9 +79,9 @@ last_16-front {lanes = lanes} {tail = tail} f some =
 
 -- the reader ends behind a front
 pub FellShort-front : {protected : Bool} {secrets : List ℕ} {old now : Option (List ℕ)} {len lanes seed : ℕ} {held tail : List ℕ} →
-    FrontIsFolded protected secrets old now len lanes seed held tail → (new : Option (List ℕ)) (size len' : ℕ) (failed : Bool) →
-    len + size ≤ len' → FellShort now new size failed → FellShort old new len' failed
-FellShort-front f new size len' failed h s = record {
+    FrontIsFolded protected secrets old now len lanes seed held tail → {new : Option (List ℕ)} {size len' : ℕ} {failed : Bool} →
+    FellShort now new size failed → len + size ≤ len' → FellShort old new len' failed
+FellShort-front f s h = record {
   bytes = f.bytes ++ s.bytes;
   taken = Consumes-trans _ _ _ _ _ f.taken s.taken;
   count = omega (arith, f.count, s.count, length-append f.bytes s.bytes);

@@ -26,26 +26,6 @@ fold_pairs-more protected table pair j seed h =
     ∙ fold_pairs-push protected (take j table) (get_or table j 0) pair 0 seed
     ∙ ap (λ k. step protected (get_or table j 0) (fold_pairs protected (take j table) pair 0 seed) (pair k)) e
 
--- no pair leaves the seed
-pub fold_pairs-none : (protected : Bool) (table : List ℕ) (pair : ℕ → ℕ × ℕ) (seed : ℕ) → fold_pairs protected (take 0 table) pair 0 seed ≡ seed
-unfolding fold_pairs
-fold_pairs-none protected table pair seed = refl
-
--- a tail that ends in the table
-pub after_tail-stop : (protected : Bool) (table : List ℕ) (pair : ℕ → ℕ × ℕ) (t seed j : ℕ) → 16 * j ≤ t - 1 → t ≤ 16 * j + 16
-    → after_tail protected table pair 0 t seed ≡ fold_pairs protected (take j table) pair 0 seed
-unfolding after_tail
-after_tail-stop protected table pair t seed j low high =
-    let e : (t - 1) / 16 ≡ j = omega arith in
-    ap (λ k. fold_pairs protected (take k table) pair 0 seed) e
-
--- a tail that takes the whole table
-pub after_tail-all : (protected : Bool) (table : List ℕ) (pair : ℕ → ℕ × ℕ) (t seed : ℕ) → 16 * length table ≤ t - 1
-    → after_tail protected table pair 0 t seed ≡ fold_pairs protected (take (length table) table) pair 0 seed
-unfolding after_tail
-after_tail-all protected table pair t seed low =
-    ap (λ cs. fold_pairs protected cs pair 0 seed) (take_all ((t - 1) / 16) table (omega arith) ∙ sym (take_all (length table) table (omega arith)))
-
 -- no secret
 pub after_tail-none : (protected : Bool) (pair : ℕ → ℕ × ℕ) (t seed : ℕ) → after_tail protected [] pair 0 t seed ≡ seed
 unfolding after_tail fold_pairs
@@ -97,5 +77,5 @@ after_tail-rest protected table x rest first seed e =
 -- a tail of at most 16 bytes has no pair
 pub after_tail-short : (protected : Bool) (table tail : List ℕ) (seed : ℕ) → length tail ≤ 16
     → after_tail protected table (pair_of tail) 0 (length tail) seed ≡ seed
-after_tail-short protected table tail seed h =
-    after_tail-stop protected table (pair_of tail) (length tail) seed 0 (omega arith) h ∙ fold_pairs-none protected table (pair_of tail) seed
+unfolding after_tail fold_pairs
+after_tail-short protected table tail seed h = let none : (length tail - 1) / 16 ≡ 0 = omega arith in rw none refl

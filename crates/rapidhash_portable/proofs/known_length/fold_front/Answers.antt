@@ -9,10 +9,9 @@ use Rattle.rapidhash_portable.proofs.known_length.fold_front.Goals as goal
 
 pub returns-in_err-fill-clause-short : goal.returns-in_err-fill-clause-short
 returns-in_err-fill-clause-short g c =
-    let k = length c.args.buffer.now - 16 in
-    let cut : length (take k c.loop-left.buffer) ≡ k = length-take-le k c.loop-left.buffer (omega arith) in
+    let cut = length-take-le (length c.args.buffer.now - 16) c.loop-left.buffer (omega arith) in
     let p = err_from_is_err_and c.from_residual.result c.from_residual.ensures.1 in
-    rw (p.1, p.2) (FellShort-front c.loop-left.invariant.front _ (length (take k c.loop-left.buffer)) _ _ (omega arith) c.in_err-fill.ensures.short)
+    rw (p.1, p.2) (FellShort-front c.loop-left.invariant.front c.in_err-fill.ensures.short (omega arith))
 
 pub loop-left-preserved : goal.loop-left-preserved
 loop-left-preserved g c =
@@ -34,10 +33,9 @@ loop-left-preserved g c =
 
 pub returns-in_err-fill-2-clause-short : goal.returns-in_err-fill-2-clause-short
 returns-in_err-fill-2-clause-short g c =
-    let k = c.loop-left.left in
-    let cut : length (take k c.loop-left.buffer) ≡ k = length-take-le k c.loop-left.buffer (omega arith) in
+    let cut = length-take-le c.loop-left.left c.loop-left.buffer (omega arith) in
     let p = err_from_is_err_and c.from_residual-in_err-fill-2.result c.from_residual-in_err-fill-2.ensures.1 in
-    rw (p.1, p.2) (FellShort-front c.loop-left.invariant.front _ (length (take k c.loop-left.buffer)) _ _ (omega arith) c.in_err-fill-2.ensures.short)
+    rw (p.1, p.2) (FellShort-front c.loop-left.invariant.front c.in_err-fill-2.ensures.short (omega arith))
 
 pub returns-clause-ok : goal.returns-clause-ok
 returns-clause-ok g c =
