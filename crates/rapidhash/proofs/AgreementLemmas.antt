@@ -1,42 +1,25 @@
 -- Where two forms have one hash of a message.
-use Rattle.std.proofs.Common.{◌≡◌, ◌≢◌, ℕ, zero, suc, ◌-◌, ◌*◌, ◌/◌, ◌%◌, ◌≤◌, ◌<◌, true, false, ◌⊎◌, inl, inr, ⊎_elim, List, [], ◌∷◌, length, take, get_or, refl, sym, ◌∙◌, arith}
+use Rattle.std.proofs.Common.{◌≡◌, ◌≢◌, ℕ, zero, suc, ◌-◌, ◌*◌, ◌/◌, ◌%◌, ◌≤◌, ◌<◌, true, false, ◌⊎◌, inl, inr, ⊎_elim, List, [], ◌∷◌, length, take, refl, sym, ◌∙◌, arith}
 use Rattle.std.proofs.lemmas.Bool.Decides.{nat_tests}
-use Rattle.rapidhash_portable.specs.declared.form.Form.{Form}
 use Rattle.rapidhash_portable.specs.declared.form.Form.TheVariants.{V1, V2, V3}
-use Rattle.rapidhash_portable.specs.declared.form.Options.{Options}
-use Rattle.rapidhash_portable.specs.Form.{masks, shape_of, start_seed, tail_places, tail_seed, v2_rowless_places}
-use Rattle.rapidhash_portable.specs.Hash.{close, portable_hash, value}
-use Rattle.rapidhash_portable.specs.Lanes.{no_rows, pair_of}
+use Rattle.rapidhash_portable.specs.Form.{longest_rowless, shape_of, start_seed, tail_places, tail_seed, v2_rowless_places}
+use Rattle.rapidhash_portable.specs.Hash.{value}
 use Rattle.rapidhash_portable.specs.Tail.{after_tail, picked}
 use Rattle.rapidhash_portable.specs.Words.{last_words, mixed_words, short_words}
-use Rattle.rapidhash_portable.proofs.FormLemmas.{above_limit, below_limit, rows-none, shape_of-v2-none, shape_of-v2-some, shape_of-v3-none, tail_places-v2-none, tail_places-v2-some}
+use Rattle.rapidhash_portable.proofs.FormLemmas.{rows-none, shape_of-v2-none, shape_of-v3-none, tail_places-v2-none}
 use Rattle.rapidhash_portable.proofs.HashLemmas.{hash-is}
 use Rattle.rapidhash_portable.proofs.WordsLemmas.{last_words-long}
 use Rattle.rapidhash.specs.Laws.{SameHash}
 
--- the value of a message of which no row is folded
-abbrev rowless : Form → Options → ℕ → List ℕ → List ℕ → ℕ
-rowless form options seed secrets x =
-    let n = length x in
-    let start = tail_seed form secrets n (start_seed form n seed) in
-    close options (mixed_words form n n (last_words form x))
-    (after_tail options.protected (picked secrets (tail_places form n)) (pair_of x) 0 n start) (get_or secrets 1 0) (masks form secrets n n)
-
--- which is its hash
-rowless-hash : (form : Form) (lanes : ℕ) (options : Options) (seed : ℕ) (secrets x : List ℕ) → lanes % 2 ≡ 1
-    → shape_of form (length x) ≡ no_rows lanes → rowless form options seed secrets x ≡ portable_hash form options seed secrets x
-rowless-hash form lanes options seed secrets x odd none =
-    let start = start_seed form (length x) seed in
-    hash-is form options seed secrets x x start _ _ (rows-none form lanes (length x) options.protected secrets x start odd none) refl refl
-
 -- by V3 and its relatives it is one hash
 same-v3 : (lanes more : ℕ) (x : List ℕ) → lanes % 2 ≡ 1 → more % 2 ≡ 1 → lanes ≤ more → length x ≤ 16 * lanes
     → SameHash (V3 lanes) (V3 more) x
-unfolding start_seed tail_seed tail_places masks mixed_words last_words short_words
+unfolding tail_seed tail_places mixed_words last_words short_words
 same-v3 lanes more x odd odd' less few options seed secrets =
-    let none = shape_of-v3-none lanes (length x) (omega arith) few in
-    let none' = shape_of-v3-none more (length x) (omega arith) (omega arith) in
-    sym (rowless-hash (V3 lanes) lanes options seed secrets x odd none) ∙ rowless-hash (V3 more) more options seed secrets x odd' none'
+    let start = start_seed (V3 lanes) (length x) seed in
+    let rows = rows-none (V3 lanes) lanes (length x) options.protected secrets x start odd (shape_of-v3-none lanes (length x) (omega arith) few) in
+    let rows' = rows-none (V3 more) more (length x) options.protected secrets x start odd' (shape_of-v3-none more (length x) (omega arith) (omega arith)) in
+    hash-is (V3 lanes) options seed secrets x x start rows ∙ sym (hash-is (V3 more) options seed secrets x x start rows')
 
 -- micro and V3
 pub same_micro : (x : List ℕ) → length x ≤ 80 → SameHash (V3 5) (V3 7) x
@@ -53,37 +36,29 @@ shape-same_v1 n other = grind (arith, nat_tests, other)
 
 -- so is its hash
 pub same_v1 : (x : List ℕ) → length x ≢ 48 → SameHash (V1 false) (V1 true) x
-unfolding value start_seed tail_seed tail_places masks mixed_words last_words short_words
+unfolding value tail_seed tail_places mixed_words last_words short_words
 same_v1 x other options seed secrets = cc (shape-same_v1 (length x) other)
 
 -- by two minors of V2 a message with rows has one hash
 same-v2-rows : (first second : ℕ) (x : List ℕ) → 64 < length x → SameHash (V2 first) (V2 second) x
-unfolding value start_seed tail_seed masks mixed_words
+unfolding value tail_seed mixed_words shape_of tail_places
 same-v2-rows first second x long options seed secrets =
-    let over = above_limit first (length x) long in
-    let over' = above_limit second (length x) long in
-    cc (
-      shape_of-v2-some first (length x) over,
-      shape_of-v2-some second (length x) over',
-      tail_places-v2-some first (length x) over,
-      tail_places-v2-some second (length x) over',
-      last_words-long (V2 first) x (omega arith),
-      last_words-long (V2 second) x (omega arith),
-    )
+    grind (arith, nat_tests, last_words-long (V2 first) x (omega arith), last_words-long (V2 second) x (omega arith))
 
 -- and one without rows has where the last words agree, and the secrets of as many pairs as its tail has
 same-v2-rowless : (first second : ℕ) (x : List ℕ) → length x ≤ 56 → last_words (V2 first) x ≡ last_words (V2 second) x
     → ((secrets : List ℕ) → take ((length x - 1) / 16) (picked secrets (v2_rowless_places first)) ≡ take ((length x - 1) / 16) (picked secrets (v2_rowless_places second)))
     → SameHash (V2 first) (V2 second) x
-unfolding start_seed tail_seed masks mixed_words after_tail
+unfolding tail_seed mixed_words after_tail
 same-v2-rowless first second x few words tables options seed secrets =
-    let below = below_limit first (length x) few in
-    let below' = below_limit second (length x) few in
-    let hash = rowless-hash (V2 first) 7 options seed secrets x refl (shape_of-v2-none first (length x) below) in
-    let hash' = rowless-hash (V2 second) 7 options seed secrets x refl (shape_of-v2-none second (length x) below') in
+    let below : length x ≤ longest_rowless (V2 first) = grind (arith, nat_tests) in
+    let below' : length x ≤ longest_rowless (V2 second) = grind (arith, nat_tests) in
+    let start = start_seed (V2 first) (length x) seed in
+    let rows = rows-none (V2 first) 7 (length x) options.protected secrets x start refl (shape_of-v2-none first (length x) below) in
+    let rows' = rows-none (V2 second) 7 (length x) options.protected secrets x start refl (shape_of-v2-none second (length x) below') in
     let places = tail_places-v2-none first (length x) below in
     let places' = tail_places-v2-none second (length x) below' in
-    cc (hash, hash', places, places', words, tables secrets)
+    cc (hash-is (V2 first) options seed secrets x x start rows, hash-is (V2 second) options seed secrets x x start rows', places, places', words, tables secrets)
 
 -- V2.0 and V2.1 agree up to the limit of the one and above that of the other
 pub same_v2_0 : (x : List ℕ) → (length x ≤ 56) ⊎ (64 < length x) → SameHash (V2 0) (V2 1) x

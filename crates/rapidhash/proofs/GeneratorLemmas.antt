@@ -5,17 +5,13 @@ use Rattle.std.specs.Int.{w64, to_le_bytes}
 use Rattle.rand_core.specs.Steps.{word_bytes, first_bytes, fill_via_u64}
 use Rattle.rapidhash.specs.Generator.{state_after, word_of, next_word, bytes_of_words, words_for, first_bytes_of}
 
--- one step after `count` steps
-step_more : (seed count : ℕ) → state_after (state_after seed count) 1 ≡ state_after seed (suc count)
-step_more seed count = omega arith
-
 -- the bytes of the next words are those of words 1 to `count`, and as many steps are taken
 words_are : (count seed : ℕ) → seed < 2 ^ 64 → word_bytes (to_le_bytes w64) next_word count seed ≡ (bytes_of_words seed count, state_after seed count)
 unfolding word_bytes
 words_are zero seed h = ap (λ (n : ℕ). let p : List ℕ × ℕ = ([], n) in p) (sym (mod-eq_of_lt h) ∙ omega arith)
 words_are (suc count) seed h =
     let before = words_are count seed h in
-    let e = step_more seed count in
+    let e : state_after (state_after seed count) 1 ≡ state_after seed (suc count) = omega arith in
     ap (λ (p : List ℕ × ℕ). let q : List ℕ × ℕ = (p.0 ++ to_le_bytes w64 (next_word p.1).0, (next_word p.1).1) in q) before
     ∙ ap (λ (n : ℕ). let q : List ℕ × ℕ = (bytes_of_words seed count ++ to_le_bytes w64 (word_of n), n) in q) e
 

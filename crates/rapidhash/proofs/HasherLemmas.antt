@@ -1,9 +1,10 @@
 -- One item more: what it does to the steps, to the seed and to the last block of a hasher.
-use Rattle.std.proofs.Common.{Fits, w8, get_or, ◌≡◌, ℕ, ◌+◌, ◌*◌, ◌^◌, ◌<◌, ◌≤◌, Bool, true, false, cond, nat_le, List, [], ◌∷◌, ◌++◌, refl, sym, ap, ◌∙◌, arith, fold, All, append_assoc}
+use Rattle.std.proofs.Common.{Fits, w8, get_or, ◌≡◌, ℕ, ◌+◌, ◌*◌, ◌^◌, ◌<◌, ◌≤◌, Bool, true, false, nat_le, List, [], ◌∷◌, ◌++◌, refl, sym, ap, ◌∙◌, arith, fold, All, append_assoc}
 use Rattle.std.proofs.lemmas.List.{append-nil, get_or_default}
 use Rattle.std.proofs.lemmas.List.Elements.{All-append, All-cons, All-nil}
 use Rattle.std.proofs.lemmas.List.Sums.{fold-append}
 use Rattle.std.proofs.lemmas.Bool.{le-leb, lt-leb}
+use Rattle.std.proofs.lemmas.Bool.Decides.{nat_tests}
 use Rattle.rapidhash_portable.specs.declared.form.Options.{Options}
 use Rattle.rapidhash_portable.specs.Memory.{memory_hash}
 use Rattle.rapidhash.specs.Hasher.{StandsFor, closed, finished, pending, seed_after, step, steps, steps_from, steps_of, width}
@@ -17,17 +18,11 @@ steps_from-snoc b c (x ∷ xs) y =
     ap (λ (r : List Item). steps_of b c x ++ r) (steps_from-snoc b (end_after c x) xs y)
     ∙ sym (append_assoc (steps_of b c x) (steps_from b (end_after c x) xs) (steps_of b (end_from (end_after c x) xs) y))
 
--- an integer's step reads only the number of the block that it closes
-number_steps-same : (fits : Bool) (b d : ℕ → ℕ) (c : ℕ × ℕ) → ((m : ℕ) → m < (cond fits c (c.0 + 1, 0)).0 → b m ≡ d m)
-    → cond fits [] (Wide (b c.0) ∷ []) ≡ cond fits [] (Wide (d c.0) ∷ [])
-number_steps-same true b d c h = refl
-number_steps-same false b d c h = ap (λ (n : ℕ). Wide n ∷ []) (h c.0 (omega arith))
-
--- so do an item's steps
+-- an item's steps read only the number of the block that an integer closes
 steps_of-same : (b d : ℕ → ℕ) (c : ℕ × ℕ) (y : Item) → ((m : ℕ) → m < (end_after c y).0 → b m ≡ d m) → steps_of b c y ≡ steps_of d c y
 steps_of-same b d c (Bytes x) h = refl
 steps_of-same b d c (Wide v) h = refl
-steps_of-same b d c (Num w v) h = number_steps-same (nat_le (c.1 + w) 128) b d c h
+steps_of-same b d c (Num w v) h = grind (arith, nat_tests, h c.0)
 
 -- so do the steps of a list
 steps_from-same : (b d : ℕ → ℕ) (c : ℕ × ℕ) (xs : List Item) → ((m : ℕ) → m < (end_from c xs).0 → b m ≡ d m) → steps_from b c xs ≡ steps_from d c xs
@@ -59,25 +54,15 @@ seed_after-snoc options s start xs y =
     ap (λ (l : List Item). fold (step options s) start l) (steps-snoc xs y)
     ∙ fold-append (step options s) start (steps true xs) (steps_of (block xs) (end_of xs) y)
 
--- with a sponge the pending number is the last block's
-pending-on : (xs : List Item) → pending true xs ≡ block xs (end_of xs).0
-unfolding pending
-pending-on xs = refl
-
--- and its width ends where the block ends
-pub width-on : (xs : List Item) → width true xs ≡ (end_of xs).1
-unfolding width
-width-on xs = refl
-
 -- the pending number after one item more
 pending-snoc : (xs : List Item) (y : Item)
     → pending true (xs ++ y ∷ []) ≡ block xs (end_after (end_of xs) y).0 + share (end_after (end_of xs) y).0 (end_of xs) y
 pending-snoc xs y =
-    pending-on (xs ++ y ∷ []) ∙ ap (λ (c : ℕ × ℕ). block (xs ++ y ∷ []) c.0) (end_of-snoc xs y) ∙ block-snoc xs y (end_after (end_of xs) y).0
+    ap (λ (c : ℕ × ℕ). block (xs ++ y ∷ []) c.0) (end_of-snoc xs y) ∙ block-snoc xs y (end_after (end_of xs) y).0
 
 -- and its width
 width-snoc : (xs : List Item) (y : Item) → width true (xs ++ y ∷ []) ≡ (end_after (end_of xs) y).1
-width-snoc xs y = width-on (xs ++ y ∷ []) ∙ ap (λ (c : ℕ × ℕ). c.1) (end_of-snoc xs y)
+width-snoc xs y = ap (λ (c : ℕ × ℕ). c.1) (end_of-snoc xs y)
 
 -- the items stay in range
 items-snoc : (xs : List Item) (y : Item) → All IsItem xs → IsItem y → All IsItem (xs ++ y ∷ [])
@@ -100,7 +85,7 @@ stands-snoc options s seed v w start xs y seed' v' w' i e f g h = record {
 -- without a sponge each item is a step
 stands-step : (options : Options) (s : List ℕ) (seed v w start : ℕ) (xs : List Item) (y : Item) → IsItem y
     → StandsFor options false s seed v w start xs → StandsFor options false s (step options s seed y) v w start (xs ++ y ∷ [])
-unfolding seed_after steps pending width
+unfolding seed_after steps
 stands-step options s seed v w start xs y i h = record {
   start_fits = h.start_fits;
   items_fit = items-snoc xs y h.items_fit i;
@@ -115,8 +100,8 @@ pub stands-behind : (options : Options) (sponge : Bool) (s : List ℕ) (seed v w
     → StandsFor options sponge s seed v w start xs → StandsFor options sponge s seed v' w' start (xs ++ Num k n ∷ [])
 stands-behind options false s seed v w start xs k n v' w' t i room e f h = absurd (cc)
 stands-behind options true s seed v w start xs k n v' w' t i room e f h =
-    let we : w ≡ (end_of xs).1 = h.bits_are ∙ width-on xs in
-    let ve : v ≡ block xs (end_of xs).0 = h.number_is ∙ pending-on xs in
+    let we : w ≡ (end_of xs).1 = h.bits_are in
+    let ve : v ≡ block xs (end_of xs).0 = h.number_is in
     let fits : nat_le ((end_of xs).1 + k) 128 ≡ true = le-leb _ _ (rw (← we) room) in
     stands-snoc options s seed v w start xs (Num k n) seed v' w' i (rw fits refl) (f ∙ rw (fits, we) refl) (e ∙ rw (fits, own_block, we, ve) refl) h
 
@@ -126,8 +111,8 @@ pub stands-opening : (options : Options) (sponge : Bool) (s : List ℕ) (seed v 
     → StandsFor options sponge s seed v w start xs → StandsFor options sponge s seed' v' w' start (xs ++ Num k n ∷ [])
 stands-opening options false s seed v w start xs k n seed' v' w' t i full d e f h = absurd (cc)
 stands-opening options true s seed v w start xs k n seed' v' w' t i full d e f h =
-    let we : w ≡ (end_of xs).1 = h.bits_are ∙ width-on xs in
-    let ve : v ≡ block xs (end_of xs).0 = h.number_is ∙ pending-on xs in
+    let we : w ≡ (end_of xs).1 = h.bits_are in
+    let ve : v ≡ block xs (end_of xs).0 = h.number_is in
     let opens : nat_le ((end_of xs).1 + k) 128 ≡ false = lt-leb _ _ (rw (← we) full) in
     let none : block xs ((end_of xs).0 + 1) ≡ 0 = block-behind xs _ (omega arith) in
     stands-snoc options s seed v w start xs (Num k n) seed' v' w' i (d ∙ rw (opens, ve) refl) (f ∙ rw opens (omega arith)) (e ∙ rw (opens, own_block, none) (omega arith)) h
@@ -144,7 +129,7 @@ pub stands-bytes : (options : Options) (sponge : Bool) (s : List ℕ) (seed v w 
     → seed' ≡ memory_hash options x seed s
     → StandsFor options sponge s seed v w start xs → StandsFor options sponge s seed' v w start (xs ++ Bytes x ∷ [])
 stands-bytes options true s seed v w start xs x seed' i d h =
-    stands-snoc options s seed v w start xs (Bytes x) seed' v w i d (h.bits_are ∙ width-on xs) (omega (arith, h.number_is, pending-on xs)) h
+    stands-snoc options s seed v w start xs (Bytes x) seed' v w i d h.bits_are (omega (arith, h.number_is)) h
 stands-bytes options false s seed v w start xs x seed' i d h = rw d (stands-step options s seed v w start xs (Bytes x) i h)
 
 -- a number of 128 bits, which is a step at once
@@ -152,7 +137,7 @@ pub stands-wide : (options : Options) (sponge : Bool) (s : List ℕ) (seed v w s
     → seed' ≡ step options s seed (Wide n)
     → StandsFor options sponge s seed v w start xs → StandsFor options sponge s seed' v w start (xs ++ Wide n ∷ [])
 stands-wide options true s seed v w start xs n seed' i d h =
-    stands-snoc options s seed v w start xs (Wide n) seed' v w i d (h.bits_are ∙ width-on xs) (omega (arith, h.number_is, pending-on xs)) h
+    stands-snoc options s seed v w start xs (Wide n) seed' v w i d h.bits_are (omega (arith, h.number_is)) h
 stands-wide options false s seed v w start xs n seed' i d h = rw d (stands-step options s seed v w start xs (Wide n) i h)
 
 -- the answer from what represents a start and a list
@@ -163,7 +148,7 @@ stands-finish options sponge s seed v w start xs h i = closed options s (h.seed_
 
 -- a new hasher represents its start and no item
 pub stands-new : (options : Options) (sponge : Bool) (s : List ℕ) (start : ℕ) → start < 2 ^ 64 → StandsFor options sponge s start 0 0 start []
-unfolding seed_after steps pending width block end_of
+unfolding seed_after steps block end_of
 stands-new options true s start h = record { start_fits = h; items_fit = All-nil IsItem; seed_is = refl; number_is = refl; bits_are = refl }
 stands-new options false s start h = record { start_fits = h; items_fit = All-nil IsItem; seed_is = refl; number_is = refl; bits_are = refl }
 

@@ -45,20 +45,17 @@ pub record AgreeBefore (x y : List Num) (i : ℕ) (d : Num) : Type 0 where
 -- the same blocks from an end on: the same number there
 same_at_from : (c : ℕ × ℕ) (x y : List Num) (i : ℕ) (d : Num) → AgreeBefore x y i d
     → ((m : ℕ) → block_from m c (map item_of x) ≡ block_from m c (map item_of y)) → value_of (get_or x i d) ≡ value_of (get_or y i d)
-same_at_from c [] y i d a h = absurd (let l = a.inside in omega (arith, l))
-same_at_from c (p ∷ x) [] i d a h = absurd (let w = a.widths in cc w)
+same_at_from c [] y i d a h = absurd (omega arith)
+same_at_from c (p ∷ x) [] i d a h = absurd (cc (a.widths))
 same_at_from c (p ∷ x) (q ∷ y) zero d a h =
-    let e : width_of p ≡ width_of q = let w = a.widths in cc w in
+    let e : width_of p ≡ width_of q = cc (a.widths) in
     first_number-same c (width_of p) (value_of p) (value_of q) (map item_of x) (map item_of y) a.first_fits (rw e a.second_fits) (λ m. h m ∙ rw e refl)
 same_at_from c (p ∷ x) (q ∷ y) (suc i) d a h =
-    let t = a.before in
-    let w = a.widths in
-    let l = a.inside in
-    let e : p ≡ q = cc t in
+    let e : p ≡ q = cc (a.before) in
     let rest : AgreeBefore x y i d = record {
-      inside = omega (arith, l);
-      widths = cc w;
-      before = cc t;
+      inside = omega arith;
+      widths = cc (a.widths);
+      before = cc (a.before);
       first_fits = a.first_fits;
       second_fits = a.second_fits;
     } in
@@ -78,8 +75,6 @@ pub same_front : (x y : List Num) (i : ℕ) (d : Num) → AgreeBefore x y i d �
     → take (i + 1) x ≡ take (i + 1) y
 same_front x y i d a e =
     let n = same_length x y a.widths in
-    let l = a.inside in
-    let s : get_or x i d ≡ get_or y i d =
     let widths = width_at x y i d a.widths in
-    cc (num_of-is (get_or x i d), num_of-is (get_or y i d), widths, e) in
-    take_more_same x y i d l (omega (arith, n, l)) a.before s
+    let here : get_or x i d ≡ get_or y i d = cc (num_of-is (get_or x i d), num_of-is (get_or y i d), widths, e) in
+    take_more_same x y i d a.inside (omega arith) a.before here

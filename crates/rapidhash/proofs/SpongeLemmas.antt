@@ -25,16 +25,11 @@ pub block-snoc : (xs : List Item) (y : Item) (m : ℕ) → block (xs ++ y ∷ []
 unfolding block end_of
 block-snoc xs y m = block_from-snoc m (0, 0) xs y
 
--- an integer stands in the block where the one before it ends, or in the next
-place-grows : (fits : Bool) (c : ℕ × ℕ) → c.0 ≤ (cond fits c (c.0 + 1, 0)).0
-place-grows true c = omega arith
-place-grows false c = omega arith
-
--- so no item ends in a block before
+-- an integer is placed in the block where the one before it ends, or in the next, so no item ends in a block before
 pub end_after-grows : (c : ℕ × ℕ) (y : Item) → c.0 ≤ (end_after c y).0
 end_after-grows c (Bytes x) = omega arith
 end_after-grows c (Wide v) = omega arith
-end_after-grows c (Num w v) = place-grows (nat_le (c.1 + w) 128) c
+end_after-grows c (Num w v) = grind (arith, nat_tests)
 
 -- nor does a list
 pub end_from-grows : (c : ℕ × ℕ) (xs : List Item) → c.0 ≤ (end_from c xs).0

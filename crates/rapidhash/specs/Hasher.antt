@@ -33,12 +33,12 @@ unfoldable pub seed_after : Options → Bool → List ℕ → ℕ → List Item 
 seed_after options sponge secrets start items = fold (step options secrets) start (steps sponge items)
 
 -- the number of the last block, which is 0 where there is none
-unfoldable pub pending : Bool → List Item → ℕ
+abbrev pub pending : Bool → List Item → ℕ
 pending true items = block items (end_of items).0
 pending false items = 0
 
 -- the width of the last block, which is 0 where there is none
-unfoldable pub width : Bool → List Item → ℕ
+abbrev pub width : Bool → List Item → ℕ
 width true items = (end_of items).1
 width false items = 0
 

@@ -57,6 +57,7 @@ pub fn replay<A: Allocator, const AVALANCHE: bool, const PROTECTED: bool>(
 }
 
 /// As [`replay`], with 7, 5 or 3 lanes: V3, micro or nano.
+#[tactic(auto, unfolding(crate::specs::Replay::finishes_from))]
 pub fn replay_lanes<A: Allocator, const LANES: usize, const AVALANCHE: bool, const PROTECTED: bool>(
     alloc: A,
     secrets: &RapidSecrets,

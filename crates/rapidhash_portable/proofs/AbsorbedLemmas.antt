@@ -2,7 +2,8 @@
 use Rattle.std.proofs.Common.{◌≡◌, ℕ, ◌+◌, ◌-◌, ◌*◌, ◌/◌, ◌≤◌, ◌<◌, Bool, List, [], ◌∷◌, ◌++◌, map, length, get_or, slice_index, take, refl, sym, ap, ◌∙◌, arith, length-append, ⊎_elim, zero-add, subst}
 use Rattle.std.proofs.Math.Seq.{get_or-append_seam}
 use Rattle.std.specs.List.{range_with_len}
-use Rattle.std.proofs.lemmas.Bool.{cases_lt, lt-ltb, le-ltb}
+use Rattle.std.proofs.lemmas.Bool.{cases_lt}
+use Rattle.std.proofs.lemmas.Bool.Decides.{nat_tests}
 use Rattle.std.proofs.lemmas.List.{length-take, get_or_append_left}
 use Rattle.std.proofs.lemmas.List.FromFn.{length-map-range_with_len, get_or-map-range_with_len}
 use Rattle.rapidhash_portable.specs.declared.form.Shape.{Shape}
@@ -38,10 +39,8 @@ column-same : (pair pair' : ℕ → ℕ × ℕ) (shape : Shape) (lane n : ℕ) �
 unfolding column
 column-same pair pair' shape lane n same l h =
     let wide = pairs_of-same pair pair' 0 shape.lanes shape.rows lane n same l (omega arith) in
-    ⊎_elim
-    (λ few. rw (lt-ltb lane 3 few) (cc (wide, pairs_of-same pair pair' (shape.lanes * shape.rows) 3 shape.threes lane n same few (omega arith))))
-    (λ many. rw (le-ltb lane 3 many) (cc wide))
-    (cases_lt lane 3)
+    let threes = pairs_of-same pair pair' (shape.lanes * shape.rows) 3 shape.threes lane n same in
+    grind (arith, nat_tests, wide, threes)
 
 -- so do the joined lanes
 after_lanes-same : (protected : Bool) (secrets : List ℕ) (pair pair' : ℕ → ℕ × ℕ) (shape : Shape) (seed n : ℕ) → Agree n pair pair'

@@ -1,5 +1,5 @@
 -- Little-endian words: of a part of a message, and that the bytes follow from a word.
-use Rattle.std.proofs.Common.{◌≡◌, ℕ, ◌+◌, ◌≤◌, ◌<◌, List, ◌++◌, length, get_or, drop, arith, add_assoc, get_or-drop, zero, suc, ◌-◌, ◌*◌, ◌^◌, [], ◌∷◌, sum_by, sym, ap, ◌∙◌, ⊎_elim}
+use Rattle.std.proofs.Common.{◌≡◌, ℕ, ◌+◌, ◌≤◌, ◌<◌, List, ◌++◌, length, get_or, drop, arith, add_assoc, get_or-drop, zero, suc, ◌*◌, ◌^◌, [], ◌∷◌, sum_by, sym, ap, ◌∙◌, ⊎_elim}
 use Rattle.std.proofs.lemmas.List.{get_or_append_left}
 use Rattle.rapidhash_portable.specs.Bytes.{word64, little_endian, word32}
 use Rattle.std.specs.List.{range_with_len}
@@ -58,37 +58,29 @@ module _ (x : List ℕ) (bytes : (k : ℕ) → get_or x k 0 < 256) where
 -- equal numbers have equal bytes
 module _ (x y : List ℕ) (x_bytes : (k : ℕ) → get_or x k 0 < 256) (y_bytes : (k : ℕ) → get_or y k 0 < 256) where
   -- byte by byte, from the last one on
-  same_bytes : (count a b : ℕ) → little_endian count x a ≡ little_endian count y b → (j : ℕ) → j < count → get_or x (a + j) 0 ≡ get_or y (b + j) 0
-  same_bytes zero a b e j h = absurd (omega arith)
-  same_bytes (suc count) a b e j h =
+  same_bytes : (count a b : ℕ) → little_endian count x a ≡ little_endian count y b → (i k : ℕ) → a ≤ i → i < a + count → i + b ≡ k + a → get_or x i 0 ≡ get_or y k 0
+  same_bytes zero a b e i k low high same = absurd (omega arith)
+  same_bytes (suc count) a b e i k low high same =
       let parts = same_from_place (get_or x (a + count) 0) (little_endian count x a) (get_or y (b + count) 0) (little_endian count y b) (256 ^ count)
       (little_endian-below x x_bytes count a) (little_endian-below y y_bytes count b)
       (sym (little_endian-more x a count) ∙ e ∙ little_endian-more y b count) in
       ⊎_elim
-      (λ l. same_bytes count a b parts.1 j l)
-      (λ l. let i : j ≡ count = omega arith in rw i parts.0)
-      (cases_lt j count)
+      (λ l. same_bytes count a b parts.1 i k low l same)
+      (λ l. let at : i ≡ a + count = omega arith in let at' : k ≡ b + count = omega arith in rw (at, at') parts.0)
+      (cases_lt i (a + count))
 
   -- in two words of 4 bytes
   pub same_in_word32 : (a b : ℕ) → word32 x a ≡ word32 y b → a ≡ b → (i : ℕ) → a ≤ i → i < a + 4 → get_or x i 0 ≡ get_or y i 0
   unfolding word32
-  same_in_word32 a b e f i low high =
-      let p : a + (i - a) ≡ i = omega arith in
-      let q : b + (i - a) ≡ i = omega arith in
-      ap (λ k. get_or x k 0) (sym p) ∙ same_bytes 4 a b e (i - a) (omega arith) ∙ ap (λ k. get_or y k 0) q
+  same_in_word32 a b e f i low high = same_bytes 4 a b e i i low high (omega arith)
 
   -- in two words of 8 bytes
   pub same_in_word64 : (a b : ℕ) → word64 x a ≡ word64 y b → a ≡ b → (i : ℕ) → a ≤ i → i < a + 8 → get_or x i 0 ≡ get_or y i 0
   unfolding word64
-  same_in_word64 a b e f i low high =
-      let p : a + (i - a) ≡ i = omega arith in
-      let q : b + (i - a) ≡ i = omega arith in
-      ap (λ k. get_or x k 0) (sym p) ∙ same_bytes 8 a b e (i - a) (omega arith) ∙ ap (λ k. get_or y k 0) q
+  same_in_word64 a b e f i low high = same_bytes 8 a b e i i low high (omega arith)
 
   -- in two pairs
   pub same_in_pair : (a b : ℕ) → pair_at x a ≡ pair_at y b → a ≡ b → (i : ℕ) → a ≤ i → i < a + 16 → get_or x i 0 ≡ get_or y i 0
   same_in_pair a b e f i low high =
-      ⊎_elim
-      (λ l. same_in_word64 a b (ap (λ p. p.0) e) f i low l)
-      (λ l. same_in_word64 (a + 8) (b + 8) (ap (λ p. p.1) e) (omega arith) i l (omega arith))
-      (cases_lt i (a + 8))
+      let first = same_in_word64 a b (ap (λ p. p.0) e) f i in
+      grind (arith, cases_lt i (a + 8), first, same_in_word64 (a + 8) (b + 8) (ap (λ p. p.1) e) (omega arith) i)

@@ -1,4 +1,31 @@
--- What definitions by cases are proved by: tests of numbers, and the definitions to open.
+-- What attributes name: tests of numbers, and the lemmas that bodies are proved by.
 use Rattle.std.proofs.lemmas.Bool.Decides.{nat_tests}
+use Rattle.rapidhash_portable.proofs.FoldedLemmas.{AfterRows-none}
+use Rattle.rapidhash_portable.proofs.FormLemmas.{shape_of-v3-none}
+use Rattle.rapidhash_portable.proofs.HashLemmas.{hash-short}
+use Rattle.rapidhash_portable.proofs.MemoryLemmas.{after_pairs-is, after_pairs-short}
+use Rattle.rapidhash_portable.proofs.ReadingLemmas.{FrontIsFolded-none, HashesAll-known, MarksFailures-settles}
+use Rattle.rapidhash_portable.proofs.SecretsLemmas.{AreFilled-more, chained-more, made_state-more}
+use Rattle.rapidhash_portable.proofs.TailLemmas.{after_tail-none, after_tail-more, after_tail-same, after_tail-whole}
+use Rattle.rapidhash_portable.proofs.WordsLemmas.{last_words-long, last_words-short, short_words-none}
 
 pub ruleset tests = (nat_tests)
+
+-- no bytes, up to 16 bytes, no rows
+pub ruleset no_bytes = (short_words-none)
+
+pub ruleset short = (nat_tests, hash-short)
+
+pub ruleset no_rows = (nat_tests, AfterRows-none, shape_of-v3-none)
+
+-- the tail
+pub ruleset tail = (nat_tests, after_tail-none, after_tail-more, after_tail-same, after_tail-whole)
+
+-- secrets
+pub ruleset filled = (AreFilled-more, chained-more, made_state-more)
+
+-- the in-memory core
+pub ruleset in_core = (after_pairs-is, after_pairs-short, last_words-long, last_words-short)
+
+-- readers
+pub ruleset of_reader = (FrontIsFolded-none, HashesAll-known, MarksFailures-settles)

@@ -4,71 +4,28 @@ use Rattle.std.proofs.lemmas.Bool.{cases_lt}
 use Rattle.std.proofs.lemmas.List.{drop-append-le, drop-drop, get_or-replicate, get_or-take, length-replicate, length-take-le, take-append-drop}
 use Rattle.rapidhash_portable.specs.declared.form.Shape.{Shape}
 use Rattle.rapidhash_portable.specs.Folded.{AfterRows, HaveFolded, PrefixIsFolded}
-use Rattle.rapidhash_portable.specs.Lanes.{joined, lane_of, mixed_shape, no_rows, pair_at, pair_of, pairs_of, rows_in, step, wide_shape}
-use Rattle.rapidhash_portable.proofs.LanesLemmas.{after_lanes-none, column-rest, column-three, column-wide, joined-lanes, lane_of-append, lane_of-pairs_more, lane_of-pairs_none, pairs_of-append, pairs_of-drop, pairs_of-split, rows_are}
+use Rattle.rapidhash_portable.specs.Lanes.{joined, lane_of, mixed_shape, no_rows, pair_of, pairs_of, rows_in, wide_shape}
+use Rattle.rapidhash_portable.proofs.LanesLemmas.{after_lanes-none, column-rest, column-three, column-wide, joined-lanes, lane_of-append, pairs_of-append, pairs_of-drop, pairs_of-split, rows_are}
 
 -- ---- lanes
 
 -- before the first row
-pub HaveFolded-none : (protected : Bool) (secrets x : List ℕ) (width : ℕ) (starts : List ℕ) → HaveFolded protected secrets x width starts starts 0
-HaveFolded-none protected secrets x width starts = record {
-  whole = refl;
-  folded = λ i _. sym (lane_of-pairs_none protected (get_or secrets i 0) x 0 width i (get_or starts i 0));
-  kept = λ _ _. refl;
-}
-
--- a lane after the first row
-lane_of-one : (protected : Bool) (secret : ℕ) (x : List ℕ) (width i start : ℕ) →
-    lane_of protected secret (pairs_of (pair_of x) 0 width 1 i) start ≡ step protected secret start (pair_at x (16 * i))
-lane_of-one protected secret x width i start =
-    let at : 16 * (0 + (width * 0 + i)) ≡ 16 * i = omega arith in
-    lane_of-pairs_more protected secret x 0 width 0 i start
-    ∙ ap (λ v. step protected secret v (pair_at x (16 * (0 + (width * 0 + i))))) (lane_of-pairs_none protected secret x 0 width i start)
-    ∙ ap (λ k. step protected secret start (pair_at x k)) at
-
--- a lane after the first two rows
-lane_of-two : (protected : Bool) (secret : ℕ) (x : List ℕ) (width i start : ℕ) →
-    lane_of protected secret (pairs_of (pair_of x) 0 width 2 i) start
-    ≡ step protected secret (step protected secret start (pair_at x (16 * i))) (pair_at x (16 * (width + i)))
-lane_of-two protected secret x width i start =
-    let at : 16 * (0 + (width * 1 + i)) ≡ 16 * (width + i) = omega arith in
-    lane_of-pairs_more protected secret x 0 width 1 i start
-    ∙ ap (λ v. step protected secret v (pair_at x (16 * (0 + (width * 1 + i))))) (lane_of-one protected secret x width i start)
-    ∙ ap (λ k. step protected secret (step protected secret start (pair_at x (16 * i))) (pair_at x k)) at
-
--- after the first row
-pub HaveFolded-one : (protected : Bool) (secrets x : List ℕ) (width : ℕ) (starts held : List ℕ) → length held ≡ length starts →
-    ((i : ℕ) → i < width → get_or held i 0 ≡ step protected (get_or secrets i 0) (get_or starts i 0) (pair_at x (16 * i))) →
-    ((i : ℕ) → width ≤ i → get_or held i 0 ≡ get_or starts i 0) → HaveFolded protected secrets x width starts held 1
-HaveFolded-one protected secrets x width starts held size stepped kept = record {
-  whole = size;
-  folded = λ i l. stepped i l ∙ sym (lane_of-one protected (get_or secrets i 0) x width i (get_or starts i 0));
-  kept = kept;
-}
-
--- after the first two rows
-pub HaveFolded-two : (protected : Bool) (secrets x : List ℕ) (width : ℕ) (starts held : List ℕ) → length held ≡ length starts →
-    ((i : ℕ) → i < width → get_or held i 0
-    ≡ step protected (get_or secrets i 0) (step protected (get_or secrets i 0) (get_or starts i 0) (pair_at x (16 * i))) (pair_at x (16 * (width + i)))) →
-    ((i : ℕ) → width ≤ i → get_or held i 0 ≡ get_or starts i 0) → HaveFolded protected secrets x width starts held 2
-HaveFolded-two protected secrets x width starts held size stepped kept = record {
-  whole = size;
-  folded = λ i l. stepped i l ∙ sym (lane_of-two protected (get_or secrets i 0) x width i (get_or starts i 0));
-  kept = kept;
-}
+pub HaveFolded-none : {protected : Bool} {secrets x : List ℕ} {width : ℕ} {starts : List ℕ} → HaveFolded protected secrets x width starts starts 0
+unfolding lane_of pairs_of
+HaveFolded-none = record { whole = refl; folded = λ _ _. refl; kept = λ _ _. refl }
 
 -- further rows
 pub HaveFolded-more : {protected : Bool} {secrets x : List ℕ} {width : ℕ} {starts held : List ℕ} {rows : ℕ} →
-    HaveFolded protected secrets x width starts held rows → (rest held' : List ℕ) (more : ℕ) → rest ≡ drop (16 * (width * rows)) x →
+    HaveFolded protected secrets x width starts held rows → {rest held' : List ℕ} {more : ℕ} (n : ℕ) → n ≡ 16 * (width * rows) → rest ≡ drop n x →
     HaveFolded protected secrets rest width held held' more → HaveFolded protected secrets x width starts held' (rows + more)
-HaveFolded-more {protected} {secrets} {x} {width} {starts} {held} {rows} f rest held' more rest_is g = record {
+HaveFolded-more {protected} {secrets} {x} {width} {starts} {held} {rows} f {rest} {held'} {more} n size rest_is g = record {
   whole = g.whole ∙ f.whole;
   folded = λ i l.
       let secret = get_or secrets i 0 in
       let first = pairs_of (pair_of x) 0 width rows i in
       let second = pairs_of (pair_of x) (width * rows) width more i in
       g.folded i l
-      ∙ ap (λ r. lane_of protected secret (pairs_of (pair_of r) 0 width more i) (get_or held i 0)) rest_is
+      ∙ ap (λ r. lane_of protected secret (pairs_of (pair_of r) 0 width more i) (get_or held i 0)) (rest_is ∙ ap (λ k. drop k x) size)
       ∙ ap (λ ps. lane_of protected secret ps (get_or held i 0)) (pairs_of-drop x (width * rows) width more i)
       ∙ ap (lane_of protected secret second) (f.folded i l)
       ∙ sym (lane_of-append protected secret first second (get_or starts i 0))
@@ -97,11 +54,11 @@ HaveFolded-take {protected} {secrets} {width} {starts} {held} {rows} n x f fits 
 -- ---- a prefix
 
 -- no row yet
-pub PrefixIsFolded-none : (protected : Bool) (secrets x : List ℕ) (width least : ℕ) (starts : List ℕ) → least ≤ length x →
+pub PrefixIsFolded-none : {protected : Bool} {secrets x : List ℕ} {width least : ℕ} {starts : List ℕ} → least ≤ length x →
     PrefixIsFolded protected secrets x width least starts starts x
-PrefixIsFolded-none protected secrets x width least starts h = record {
+PrefixIsFolded-none {x = x} {width = width} h = record {
   rows = 0;
-  lanes = HaveFolded-none protected secrets x width starts;
+  lanes = HaveFolded-none;
   rest_is = let z : 16 * (width * 0) ≡ 0 = omega arith in rw z refl;
   left = omega arith;
 }
@@ -109,7 +66,7 @@ PrefixIsFolded-none protected secrets x width least starts h = record {
 -- how much is left
 pub PrefixIsFolded-left : {protected : Bool} {secrets x : List ℕ} {width least : ℕ} {starts held rest : List ℕ}
     (f : PrefixIsFolded protected secrets x width least starts held rest) → 16 * (width * f.rows) + length rest ≡ length x
-PrefixIsFolded-left {x = x} f = let h = f.left in omega (arith, ap length f.rest_is, length-drop {A = ℕ})
+PrefixIsFolded-left {x = x} f = omega (arith, ap length f.rest_is, length-drop {A = ℕ})
 
 -- further rows, of `n` bytes
 unfoldable pub PrefixIsFolded-more : {protected : Bool} {secrets x : List ℕ} {width least : ℕ} {starts held rest : List ℕ}
@@ -121,7 +78,7 @@ PrefixIsFolded-more {x = x} {width = width} f held' rest' more n g size room nex
     let at : 16 * (width * f.rows) + n ≡ 16 * (width * (f.rows + more)) = omega arith in
     record {
       rows = f.rows + more;
-      lanes = HaveFolded-more f.lanes _ held' more f.rest_is g;
+      lanes = HaveFolded-more f.lanes _ refl f.rest_is g;
       rest_is = next ∙ ap (drop n) f.rest_is ∙ drop-drop n (16 * (width * f.rows)) x ∙ ap (λ k. drop k x) at;
       left = omega arith;
     }
@@ -130,21 +87,18 @@ PrefixIsFolded-more {x = x} {width = width} f held' rest' more n g size room nex
 pub PrefixIsFolded-append : {protected : Bool} {secrets x : List ℕ} {width least : ℕ} {starts held rest : List ℕ} →
     PrefixIsFolded protected secrets x width least starts held rest → (y : List ℕ) →
     PrefixIsFolded protected secrets (x ++ y) width least starts held (rest ++ y)
-PrefixIsFolded-append {x = x} {width = width} f y =
-    let low = f.left in
-    record {
-      rows = f.rows;
-      lanes = HaveFolded-append f.lanes y (omega arith);
-      rest_is = ap (λ r. r ++ y) f.rest_is ∙ sym (drop-append-le (16 * (width * f.rows)) x y (omega arith));
-      left = omega (arith, length-append x y);
-    }
+PrefixIsFolded-append {x = x} {width = width} f y = record {
+  rows = f.rows;
+  lanes = HaveFolded-append f.lanes y (omega arith);
+  rest_is = ap (λ r. r ++ y) f.rest_is ∙ sym (drop-append-le (16 * (width * f.rows)) x y (omega arith));
+  left = omega (arith, length-append x y);
+}
 
 -- after the last row
 pub PrefixIsFolded-all : {protected : Bool} {secrets x : List ℕ} {width least : ℕ} {starts held rest : List ℕ}
     (f : PrefixIsFolded protected secrets x width least starts held rest) → length rest < 16 * width + least →
     rows_in width least (length x) ≡ f.rows
 PrefixIsFolded-all {x = x} {width = width} {least = least} {rest = rest} f few =
-    let some = f.left in
     let left = PrefixIsFolded-left f in
     rows_are width least f.rows (length rest) (length x) left (omega arith) few
 

@@ -5,7 +5,7 @@ use Rattle.std.specs.Int.Bits.{xor_self}
 use Rattle.std.proofs.lemmas.Bool.{lt-ltb, le-ltb}
 use Rattle.std.proofs.lemmas.List.{append-nil, get_or-replicate, length-replicate}
 use Rattle.std.proofs.lemmas.List.FromFn.{map-range_with_len_more, fill_by_all, length-map-range_with_len, get_or-map-range_with_len}
-use Rattle.std.proofs.lemmas.List.Sums.{fold_push, fold-append}
+use Rattle.std.proofs.lemmas.List.Sums.{fold-append}
 use Rattle.std.proofs.lemmas.Nat.{div-mul-add, mul-add-lt}
 use Rattle.rapidhash_portable.specs.declared.form.Shape.{Shape}
 use Rattle.rapidhash_portable.specs.Lanes.{pair_of, pair_at, step, pairs_of, column, lane_of, joined, after_lanes, rows_in, no_rows}
@@ -67,23 +67,6 @@ pairs_of-split x width rows (suc more) place =
     ∙ ap (λ n. map f (range_with_len 0 rows) ++ map g (range_with_len 0 n)) e'
 
 -- ---- one lane
-
--- a lane with no row
-pub lane_of-pairs_none : (protected : Bool) (secret : ℕ) (x : List ℕ) (first width place seed : ℕ) →
-    lane_of protected secret (pairs_of (pair_of x) first width 0 place) seed ≡ seed
-unfolding lane_of pairs_of
-lane_of-pairs_none protected secret x first width place seed = refl
-
--- a lane with one more row
-pub lane_of-pairs_more : (protected : Bool) (secret : ℕ) (x : List ℕ) (first width rows place seed : ℕ) →
-    lane_of protected secret (pairs_of (pair_of x) first width (rows + 1) place) seed
-    ≡ step protected secret (lane_of protected secret (pairs_of (pair_of x) first width rows place) seed)
-    (pair_at x (16 * (first + (width * rows + place))))
-unfolding lane_of pairs_of
-lane_of-pairs_more protected secret x first width rows place seed =
-    let at = λ (row : ℕ). pair_at x (16 * (first + (width * row + place))) in
-    ap (fold (step protected secret) seed) (map-range_with_len_more at 0 rows rows (omega arith))
-    ∙ fold_push (step protected secret) seed (map at (range_with_len 0 rows)) (at rows)
 
 -- a lane over two lists of pairs
 pub lane_of-append : (protected : Bool) (secret : ℕ) (xs ys : List (ℕ × ℕ)) (seed : ℕ) →
@@ -156,9 +139,9 @@ joined-replicate lanes seed odd =
 -- no row at all
 pub after_lanes-none : (protected : Bool) (secrets x : List ℕ) (lanes seed : ℕ) → lanes % 2 ≡ 1 →
     seed ≡ after_lanes protected secrets (pair_of x) (no_rows lanes) seed
+unfolding lane_of pairs_of
 after_lanes-none protected secrets x lanes seed odd =
     sym (joined-replicate lanes seed odd)
     ∙ joined-lanes protected secrets x (no_rows lanes) seed (replicate lanes seed) (length-replicate lanes seed)
     (λ i l. get_or-replicate lanes i seed 0 l
-    ∙ sym (lane_of-pairs_none protected (get_or secrets i 0) x 0 lanes i seed)
     ∙ ap (λ c. lane_of protected (get_or secrets i 0) c seed) (sym (column-wide x lanes 0 i)))

@@ -25,7 +25,7 @@ FrontIsFolded-none protected secrets old lanes seed = record {
   bytes = [];
   taken = Consumes-nil old;
   count = refl;
-  prefix = PrefixIsFolded-none protected secrets [] lanes 0 (replicate lanes seed) (omega arith);
+  prefix = PrefixIsFolded-none (omega arith);
 }
 
 -- where a prefix of whole rows goes on over whole rows, nothing is left
@@ -79,9 +79,9 @@ last_16-front {lanes = lanes} {tail = tail} f some =
 
 -- the reader ends behind a front
 pub FellShort-front : {protected : Bool} {secrets : List ℕ} {old now : Option (List ℕ)} {len lanes seed : ℕ} {held tail : List ℕ} →
-    FrontIsFolded protected secrets old now len lanes seed held tail → (new : Option (List ℕ)) (size len' : ℕ) (failed : Bool) →
-    len + size ≤ len' → FellShort now new size failed → FellShort old new len' failed
-FellShort-front f new size len' failed h s = record {
+    FrontIsFolded protected secrets old now len lanes seed held tail → {new : Option (List ℕ)} {size len' : ℕ} {failed : Bool} →
+    FellShort now new size failed → len + size ≤ len' → FellShort old new len' failed
+FellShort-front f s h = record {
   bytes = f.bytes ++ s.bytes;
   taken = Consumes-trans _ _ _ _ _ f.taken s.taken;
   count = omega (arith, f.count, s.count, length-append f.bytes s.bytes);
@@ -113,7 +113,6 @@ pub HaveRead-more : (old now new : Option (List ℕ)) (Stands Stands' : List ℕ
     HaveRead old now Stands turn → Consumes now new (take n buf) → 0 < n → n ≤ length buf →
     ((x : List ℕ) → Stands x → Stands' (x ++ take n buf)) → HaveRead old new Stands' (turn + 1)
 HaveRead-more old now new Stands Stands' turn n buf h taken some fits more =
-    let so_far = h.some in
     record {
       bytes = h.bytes ++ take n buf;
       taken = Consumes-trans old now new h.bytes (take n buf) h.taken taken;

@@ -84,18 +84,15 @@ pub record AreFilled (rule : ℕ → ℕ) (secrets : List ℕ) (size count : ℕ
 -- one secret more
 pub AreFilled-more : {rule : ℕ → ℕ} {secrets : List ℕ} {size count : ℕ} → AreFilled rule secrets size count → (secret : ℕ) →
     secret ≡ rule count → count < size → AreFilled rule (set secrets count secret) size (count + 1)
-AreFilled-more {rule} {secrets} {size} {count} f secret is less =
-    let whole = f.whole in
-    record {
-      whole = length-set secrets count secret ∙ whole;
-      made = λ k l. ap (λ v. get_or (set secrets count v) k 0) is ∙ fill_by_more rule secrets count 0 (omega arith) f.made k l;
-    }
+AreFilled-more {rule} {secrets} {size} {count} f secret is less = record {
+  whole = length-set secrets count secret ∙ f.whole;
+  made = λ k l. ap (λ v. get_or (set secrets count v) k 0) is ∙ fill_by_more rule secrets count 0 (omega arith) f.made k l;
+}
 
 -- all of them, which are good where the rule's are
 pub AreFilled-good : {rule : ℕ → ℕ} {secrets : List ℕ} {size count : ℕ} → AreFilled rule secrets size count → size ≤ count →
     ((k : ℕ) → IsGood (rule k)) → All IsGood secrets
 AreFilled-good {rule} {secrets} f enough good =
-    let whole = f.whole in
     All-from_get_or IsGood secrets 0 (λ k l. subst IsGood (sym (f.made k (omega arith))) (good k))
 
 -- the default seed of V2 and V3 as a number

@@ -54,7 +54,7 @@ PartsStandFor-none protected lanes s held steps any len =
     let none : chunk_count lanes 0 ≡ 0 = zero-div (16 * lanes) in
     let z : 16 * (lanes * 0) ≡ 0 = omega arith in
     record {
-      folded = rw (none, held) (HaveFolded-none protected s.secrets.now.secrets [] lanes (replicate 7 s.secrets.now.seed));
+      folded = rw (none, held) HaveFolded-none;
       steps = rw none steps;
       any = rw none any;
       buffered = rw (len, none, z) refl;
@@ -101,10 +101,10 @@ PartsStandFor-rest protected {lanes} s y carried tail kept' kept'' i j count r f
 module _ {protected : Bool} {lanes : ℕ} {s : Parts} {x : List ℕ}
     (count : IsLaneCount lanes) (h : PartsStandFor protected lanes s x) (size : length s.kept ≡ 128) (fits : s.len ≤ 16 * lanes) where
   low : folded_bytes lanes (length x) ≤ length x - 1
-  low = let least = count.least in chunk_count-low lanes (length x) (omega arith)
+  low = chunk_count-low lanes (length x) (omega arith)
 
   length-kept : length (take s.len (drop 16 s.kept)) ≡ s.len
-  length-kept = let most = count.most in length-take-le s.len (drop 16 s.kept) (omega (arith, length-drop 16 s.kept))
+  length-kept = length-take-le s.len (drop 16 s.kept) (omega (arith, length-drop 16 s.kept))
 
   -- the buffered bytes and the folded ones are all
   pub length-buffered : folded_bytes lanes (length x) + s.len ≡ length x
@@ -118,8 +118,6 @@ module _ {protected : Bool} {lanes : ℕ} {s : Parts} {x : List ℕ}
   pub PartsStandFor-fits : (d kept' : List ℕ) (j : ℕ) → s.len + length d ≤ 16 * lanes → kept' ≡ put_mid (16 + s.len) j s.kept d →
       PartsStandFor protected lanes (record s { kept = kept'; len = s.len + length d }) (x ++ d)
   PartsStandFor-fits d kept' j room e =
-      let least = count.least in
-      let most = count.most in
       let whole = length-buffered in
       let edge = low in
       let same : chunk_count lanes (length (x ++ d)) ≡ chunk_count lanes (length x) =
@@ -138,7 +136,6 @@ module _ {protected : Bool} {lanes : ℕ} {s : Parts} {x : List ℕ}
   pub filled_chunk : (d kept' : List ℕ) (j : ℕ) → 16 * lanes - s.len < length d → kept' ≡ put_mid (16 + s.len) j s.kept (take (16 * lanes - s.len) d) →
       take (16 * lanes) (drop 16 kept') ≡ take (16 * lanes) (take s.len (drop 16 s.kept) ++ d)
   filled_chunk d kept' j enough e =
-      let most = count.most in
       let room : ℕ = 16 * lanes - s.len in
       let head : List ℕ = take room d in
       let old : List ℕ = take s.len (drop 16 s.kept) in
@@ -173,7 +170,6 @@ module _ {protected : Bool} {lanes : ℕ} {s : Parts} {x : List ℕ}
   -- with a chunk the message is longer than that
   pub chunk-below : s.any ≡ true → 16 * lanes < length x
   chunk-below on =
-      let least = count.least in
       let some = mul_some lanes (chunk_count lanes (length x)) (ltb-true 0 (chunk_count lanes (length x)) (sym h.any ∙ on)) in
       omega (arith, low)
 
@@ -190,7 +186,6 @@ module _ {protected : Bool} {lanes : ℕ} {s : Parts} {x : List ℕ}
   -- the kept bytes are its last ones
   pub last_16-kept : s.any ≡ true → last_16 (take (16 + s.len) s.kept) ≡ last_16 x
   last_16-kept on =
-      let least = count.least in
       let chunk = ltb-true 0 (chunk_count lanes (length x)) (sym h.any ∙ on) in
       let some = mul_some lanes (chunk_count lanes (length x)) chunk in
       let edge = low in

@@ -26,26 +26,6 @@ fold_pairs-more protected table pair j seed h =
     ∙ fold_pairs-push protected (take j table) (get_or table j 0) pair 0 seed
     ∙ ap (λ k. step protected (get_or table j 0) (fold_pairs protected (take j table) pair 0 seed) (pair k)) e
 
--- no pair leaves the seed
-pub fold_pairs-none : (protected : Bool) (table : List ℕ) (pair : ℕ → ℕ × ℕ) (seed : ℕ) → fold_pairs protected (take 0 table) pair 0 seed ≡ seed
-unfolding fold_pairs
-fold_pairs-none protected table pair seed = refl
-
--- a tail that ends in the table
-pub after_tail-stop : (protected : Bool) (table : List ℕ) (pair : ℕ → ℕ × ℕ) (t seed j : ℕ) → 16 * j ≤ t - 1 → t ≤ 16 * j + 16
-    → after_tail protected table pair 0 t seed ≡ fold_pairs protected (take j table) pair 0 seed
-unfolding after_tail
-after_tail-stop protected table pair t seed j low high =
-    let e : (t - 1) / 16 ≡ j = omega arith in
-    ap (λ k. fold_pairs protected (take k table) pair 0 seed) e
-
--- a tail that takes the whole table
-pub after_tail-all : (protected : Bool) (table : List ℕ) (pair : ℕ → ℕ × ℕ) (t seed : ℕ) → 16 * length table ≤ t - 1
-    → after_tail protected table pair 0 t seed ≡ fold_pairs protected (take (length table) table) pair 0 seed
-unfolding after_tail
-after_tail-all protected table pair t seed low =
-    ap (λ cs. fold_pairs protected cs pair 0 seed) (take_all ((t - 1) / 16) table (omega arith) ∙ sym (take_all (length table) table (omega arith)))
-
 -- no secret
 pub after_tail-none : (protected : Bool) (pair : ℕ → ℕ × ℕ) (t seed : ℕ) → after_tail protected [] pair 0 t seed ≡ seed
 unfolding after_tail fold_pairs
@@ -78,36 +58,24 @@ after_tail-whole protected table pair t seed n e =
     ap (λ cs. after_tail protected cs pair 0 t seed) (take_all n table (omega arith))
 
 -- the pairs of what is left of a message are the message's own
-fold_pairs-drop : (protected : Bool) (cs x : List ℕ) (first at seed : ℕ)
-    → fold_pairs protected cs (pair_of (drop (16 * first) x)) at seed ≡ fold_pairs protected cs (pair_of x) (first + at) seed
+fold_pairs-drop : (protected : Bool) (cs x : List ℕ) (first at place seed : ℕ) → place ≡ first + at
+    → fold_pairs protected cs (pair_of (drop (16 * first) x)) at seed ≡ fold_pairs protected cs (pair_of x) place seed
 unfolding fold_pairs
-fold_pairs-drop protected [] x first at seed = refl
-fold_pairs-drop protected (c ∷ cs) x first at seed =
-    let here : 16 * first + 16 * at ≡ 16 * (first + at) = omega arith in
-    let next : first + (at + 1) ≡ first + at + 1 = omega arith in
-    let pair = pair_at-drop x (16 * first) (16 * at) ∙ ap (pair_at x) here in
-    fold_pairs-drop protected cs x first (at + 1) (step protected c seed (pair_of (drop (16 * first) x) at))
-    ∙ ap (λ p. fold_pairs protected cs (pair_of x) (first + (at + 1)) (step protected c seed p)) pair
-    ∙ ap (λ k. fold_pairs protected cs (pair_of x) k (step protected c seed (pair_of x (first + at)))) next
-
--- the tail of what is left of a message is folded from the message's own pairs
-pub after_tail-drop : (protected : Bool) (table x : List ℕ) (first t seed : ℕ)
-    → after_tail protected table (pair_of (drop (16 * first) x)) 0 t seed ≡ after_tail protected table (pair_of x) first t seed
-unfolding after_tail
-after_tail-drop protected table x first t seed =
-    let e : first + 0 ≡ first = omega arith in
-    fold_pairs-drop protected (take ((t - 1) / 16) table) x first 0 seed ∙ ap (λ k. fold_pairs protected (take ((t - 1) / 16) table) (pair_of x) k seed) e
+fold_pairs-drop protected [] x first at place seed e = refl
+fold_pairs-drop protected (c ∷ cs) x first at place seed e =
+    let here : 16 * first + 16 * at ≡ 16 * place = omega arith in
+    fold_pairs-drop protected cs x first (at + 1) (place + 1) (step protected c seed (pair_of (drop (16 * first) x) at)) (omega arith)
+    ∙ ap (λ p. fold_pairs protected cs (pair_of x) (place + 1) (step protected c seed p)) (pair_at-drop x (16 * first) (16 * at) ∙ ap (pair_at x) here)
 
 -- a tail as what is left of a message
 pub after_tail-rest : (protected : Bool) (table x rest : List ℕ) (first seed : ℕ) → rest ≡ drop (16 * first) x
     → after_tail protected table (pair_of rest) 0 (length rest) seed ≡ after_tail protected table (pair_of x) first (length x - 16 * first) seed
+unfolding after_tail
 after_tail-rest protected table x rest first seed e =
-    ap (λ r. after_tail protected table (pair_of r) 0 (length r) seed) e
-    ∙ after_tail-drop protected table x first (length (drop (16 * first) x)) seed
-    ∙ ap (λ t. after_tail protected table (pair_of x) first t seed) (length-drop (16 * first) x)
+    rw (e, length-drop) (fold_pairs-drop protected (take ((length x - 16 * first - 1) / 16) table) x first 0 first seed (omega arith))
 
 -- a tail of at most 16 bytes has no pair
 pub after_tail-short : (protected : Bool) (table tail : List ℕ) (seed : ℕ) → length tail ≤ 16
     → after_tail protected table (pair_of tail) 0 (length tail) seed ≡ seed
-after_tail-short protected table tail seed h =
-    after_tail-stop protected table (pair_of tail) (length tail) seed 0 (omega arith) h ∙ fold_pairs-none protected table (pair_of tail) seed
+unfolding after_tail fold_pairs
+after_tail-short protected table tail seed h = let none : (length tail - 1) / 16 ≡ 0 = omega arith in rw none refl

@@ -51,12 +51,6 @@ pub short_words-eight : (form : Form) (x : List ℕ) → 8 ≤ length x → shor
 unfolding short_words
 short_words-eight form x h = grind (arith, nat_tests)
 
--- a first byte packed above a last one
-pub packed : (a b : ℕ) → a < 256 → b < 256 → bit_or (a * 35184372088832 % 18446744073709551616) b ≡ a * 2 ^ 45 + b
-packed a b h k =
-    let e : a * 35184372088832 % 18446744073709551616 ≡ a * 2 ^ 45 = omega arith in
-    ap (λ v. bit_or v b) e ∙ or_shifted a 45 b (omega arith)
-
 -- three bytes packed
 pub packed_three : (a b c : ℕ) → a < 256 → b < 256 → c < 256
     → bit_or (bit_or (a * 72057594037927936 % 18446744073709551616) (b * 4294967296 % 18446744073709551616)) c ≡ a * 2 ^ 56 + b * 2 ^ 32 + c
@@ -92,53 +86,36 @@ module _ (x y : List ℕ) (x_bytes : (k : ℕ) → get_or x k 0 < 256) (y_bytes 
   -- the last sixteen bytes
   pub same_last : last_16 x ≡ last_16 y → (i : ℕ) → length x - 16 ≤ i → i < length x → 16 < length x → get_or x i 0 ≡ get_or y i 0
   same_last e i low high long =
-      ⊎_elim
-      (λ l. same_in_word64 x y x_bytes y_bytes (length x - 16) (length y - 16) (ap (λ p. p.0) e) (omega arith) i low (omega arith))
-      (λ l. same_in_word64 x y x_bytes y_bytes (length x - 8) (length y - 8) (ap (λ p. p.1) e) (omega arith) i l (omega arith))
-      (cases_lt i (length x - 8))
+      let first = same_in_word64 x y x_bytes y_bytes (length x - 16) (length y - 16) (ap (λ p. p.0) e) (omega arith) i in
+      let second = same_in_word64 x y x_bytes y_bytes (length x - 8) (length y - 8) (ap (λ p. p.1) e) (omega arith) i in
+      grind (arith, cases_lt i (length x - 8), first, second)
 
   -- up to 3 bytes: the first, the middle one and the last
   same_few : length x < 4 → get_or x 0 0 ≡ get_or y 0 0 → get_or x (length x / 2) 0 ≡ get_or y (length y / 2) 0
       → get_or x (length x - 1) 0 ≡ get_or y (length y - 1) 0 → SameBytes x y
-  same_few few first middle last i h =
-      ⊎_elim
-      (λ l. same_at x y 0 0 i first (omega arith) (omega arith))
-      (λ l. ⊎_elim
-      (λ m. same_at x y (length x / 2) (length y / 2) i middle (omega arith) (omega arith))
-      (λ m. same_at x y (length x - 1) (length y - 1) i last (omega arith) (omega arith))
-      (cases_lt i (length x - 1)))
-      (cases_lt i 1)
+  same_few few first middle last i h = grind (arith, cases_lt i 1, cases_lt i (length x - 1))
 
   -- 4 to 8 bytes: the first four and the last four
   same_four : 4 ≤ length x → length x ≤ 8 → word32 x 0 ≡ word32 y 0 → word32 x (length x - 4) ≡ word32 y (length y - 4) → SameBytes x y
   same_four some few first last i h =
-      ⊎_elim
-      (λ l. same_in_word32 x y x_bytes y_bytes 0 0 first refl i (omega arith) (omega arith))
-      (λ l. same_in_word32 x y x_bytes y_bytes (length x - 4) (length y - 4) last (omega arith) i (omega arith) (omega arith))
-      (cases_lt i 4)
+      let front = same_in_word32 x y x_bytes y_bytes 0 0 first refl i in
+      let back = same_in_word32 x y x_bytes y_bytes (length x - 4) (length y - 4) last (omega arith) i in
+      grind (arith, cases_lt i 4, front, back)
 
   -- 8 to 16 bytes: the first eight and the last eight
   same_eight : 8 ≤ length x → length x ≤ 16 → word64 x 0 ≡ word64 y 0 → word64 x (length x - 8) ≡ word64 y (length y - 8) → SameBytes x y
   same_eight some few first last i h =
-      ⊎_elim
-      (λ l. same_in_word64 x y x_bytes y_bytes 0 0 first refl i (omega arith) (omega arith))
-      (λ l. same_in_word64 x y x_bytes y_bytes (length x - 8) (length y - 8) last (omega arith) i (omega arith) (omega arith))
-      (cases_lt i 8)
+      let front = same_in_word64 x y x_bytes y_bytes 0 0 first refl i in
+      let back = same_in_word64 x y x_bytes y_bytes (length x - 8) (length y - 8) last (omega arith) i in
+      grind (arith, cases_lt i 8, front, back)
 
   -- the same by words of four
   same_eight_fours : 8 ≤ length x → length x ≤ 16 → word32 x 0 ≡ word32 y 0 → word32 x 4 ≡ word32 y 4
       → word32 x (length x - 8) ≡ word32 y (length y - 8) → word32 x (length x - 4) ≡ word32 y (length y - 4) → SameBytes x y
   same_eight_fours some few first second third last i h =
-      ⊎_elim
-      (λ l. same_in_word32 x y x_bytes y_bytes 0 0 first refl i (omega arith) (omega arith))
-      (λ l. ⊎_elim
-      (λ m. same_in_word32 x y x_bytes y_bytes 4 4 second refl i (omega arith) (omega arith))
-      (λ m. ⊎_elim
-      (λ n. same_in_word32 x y x_bytes y_bytes (length x - 8) (length y - 8) third (omega arith) i (omega arith) (omega arith))
-      (λ n. same_in_word32 x y x_bytes y_bytes (length x - 4) (length y - 4) last (omega arith) i (omega arith) (omega arith))
-      (cases_lt i (length x - 4)))
-      (cases_lt i 8))
-      (cases_lt i 4)
+      let of = λ (a b : ℕ) (e : word32 x a ≡ word32 y b) (f : a ≡ b). same_in_word32 x y x_bytes y_bytes a b e f i in
+      let back = of (length x - 4) (length y - 4) last (omega arith) in
+      grind (arith, cases_lt i 4, cases_lt i 8, cases_lt i (length x - 4), of 0 0 first refl, of 4 4 second refl, of (length x - 8) (length y - 8) third (omega arith), back)
 
   -- three bytes in one word
   same_packed : get_or x 0 0 * 2 ^ 56 + get_or x (length x / 2) 0 * 2 ^ 32 + get_or x (length x - 1) 0 ≡ get_or y 0 0 * 2 ^ 56 + get_or y (length y / 2) 0 * 2 ^ 32 + get_or y (length y - 1) 0

@@ -52,7 +52,7 @@ shape_of (V2 minor) n = if nat_lt (longest_rowless (V2 minor)) n then mixed_shap
 shape_of (V3 lanes) n = wide_shape lanes 1 n
 
 -- the seed that every lane starts from
-unfoldable pub start_seed : Form → ℕ → ℕ → ℕ
+abbrev pub start_seed : Form → ℕ → ℕ → ℕ
 start_seed (V1 bug) n seed = bit_xor seed n
 start_seed (V2 minor) n seed = bit_xor seed n
 start_seed (V3 lanes) n seed = if nat_lt 3 n && nat_lt n 17 then bit_xor seed n else seed
@@ -81,7 +81,7 @@ abbrev pub alternating_bits : ℕ
 alternating_bits = 0xaaaa_aaaa_aaaa_aaaa
 
 -- what the avalanche mixes into the two halves of the last product, where the tail has `t` of the `n` bytes
-unfoldable pub masks : Form → List ℕ → ℕ → ℕ → ℕ × ℕ
+abbrev pub masks : Form → List ℕ → ℕ → ℕ → ℕ × ℕ
 masks (V1 bug) secrets n t = (bit_xor (slice_index secrets 0) n, slice_index secrets 1)
 masks (V2 minor) secrets n t = (bit_xor alternating_bits n, slice_index secrets 1)
 masks (V3 lanes) secrets n t = (alternating_bits, bit_xor (slice_index secrets 1) t)

@@ -37,7 +37,7 @@ abbrev pub pair_of : List ℕ → ℕ → ℕ × ℕ
 pair_of x k = pair_at x (16 * k)
 
 -- one step of a lane that uses a secret word, on a pair
-unfoldable pub step : Bool → ℕ → ℕ → ℕ × ℕ → ℕ
+abbrev pub step : Bool → ℕ → ℕ → ℕ × ℕ → ℕ
 step protected secret lane pair = mix protected (bit_xor pair.0 secret) (bit_xor pair.1 lane)
 
 -- the pairs at one place of each row of `width` pairs, where the rows begin at pair `first`

@@ -10,6 +10,7 @@ use crate::lanes::{fold_row, join};
 /// Folds `ROWS` rows of `WIDTH` pairs into the first `WIDTH` lanes, and returns the bytes after
 /// them.
 #[inline(always)]
+#[tactic(auto, unfolding(crate::specs::Lanes::lane_of, crate::specs::Lanes::pairs_of))]
 fn fold_few_rows<
     'x,
     const LANES: usize,

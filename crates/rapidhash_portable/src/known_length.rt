@@ -43,6 +43,7 @@ pub(crate) fn fill<R: Read>(reader: &mut R, buf: &mut [u8]) -> Result<(), Stop>
 
 /// Reads `len` bytes and folds them into lanes that start from `seed`, except the last 16 or more,
 /// which it leaves at the head of the buffer. It returns the lanes and the number of bytes left.
+#[tactic(auto, using(crate::proofs::Cases::of_reader))]
 pub(crate) fn fold_front<R: Read, const LANES: usize, const PROTECTED: bool>(
     reader: &mut R,
     buffer: &mut [u8],

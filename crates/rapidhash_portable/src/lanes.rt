@@ -13,7 +13,7 @@ use crate::util::{rapid_mix, read_u64};
 
 /// Folds a row of `WIDTH` pairs at the head of `row` into the first `WIDTH` lanes.
 #[inline(always)]
-#[tactic(auto, unfolding(crate::specs::Lanes::step))]
+#[tactic(auto, unfolding(crate::specs::Lanes::lane_of, crate::specs::Lanes::pairs_of))]
 pub(crate) fn fold_row<const LANES: usize, const WIDTH: usize, const PROTECTED: bool>(
     lanes: &mut [u64; LANES],
     row: &[u8],
@@ -54,7 +54,7 @@ fn fold_two_rows<const LANES: usize, const WIDTH: usize, const PROTECTED: bool>(
 /// Folds two rows as [`fold_two_rows`] does, but lane by lane: lanes that are in memory are then
 /// loaded and stored once. For lanes in registers it needs one register more.
 #[inline(always)]
-#[tactic(auto, unfolding(crate::specs::Lanes::step))]
+#[tactic(auto, unfolding(crate::specs::Lanes::lane_of, crate::specs::Lanes::pairs_of))]
 pub(crate) fn fold_two_rows_by_lane<const LANES: usize, const WIDTH: usize, const PROTECTED: bool>(
     lanes: &mut [u64; LANES],
     rows: &[u8],

@@ -24,6 +24,7 @@ const LONGEST_NARROW: usize = 400;
 /// once more, `PROTECTED` mixes each product with its factors, and `COMPACT` changes the code but
 /// no value.
 #[inline(always)]
+#[tactic(auto, using(crate::proofs::Cases::no_bytes))]
 pub fn memory_hash<const AVALANCHE: bool, const COMPACT: bool, const PROTECTED: bool>(
     bytes: &[u8],
     seed: u64,
@@ -52,6 +53,7 @@ pub fn memory_hash<const AVALANCHE: bool, const COMPACT: bool, const PROTECTED: 
 /// of line again, so that a message without a row sets up no lanes.
 #[cold]
 #[inline(never)]
+#[tactic(auto, using(crate::proofs::Cases::no_rows), unfolding(crate::specs::Memory::memory_shape))]
 fn long<const AVALANCHE: bool, const COMPACT: bool, const PROTECTED: bool>(
     bytes: &[u8],
     seed: u64,
@@ -69,6 +71,7 @@ fn long<const AVALANCHE: bool, const COMPACT: bool, const PROTECTED: bool>(
 /// The value of a message with a row. Rows of three pairs alone are at most eight, too few to take
 /// two at a time.
 #[inline(never)]
+#[tactic(auto, using(crate::proofs::Cases::tests), unfolding(crate::specs::Memory::memory_shape))]
 fn with_rows<const AVALANCHE: bool, const COMPACT: bool, const PROTECTED: bool>(
     bytes: &[u8],
     seed: u64,
@@ -86,6 +89,7 @@ fn with_rows<const AVALANCHE: bool, const COMPACT: bool, const PROTECTED: bool>(
 
 /// The value of a longer message, by rows of seven pairs and then of three.
 #[inline(never)]
+#[tactic(auto, using(crate::proofs::Cases::tests), unfolding(crate::specs::Memory::memory_shape))]
 fn with_wide_rows<const AVALANCHE: bool, const COMPACT: bool, const PROTECTED: bool>(
     bytes: &[u8],
     seed: u64,
@@ -100,6 +104,7 @@ fn with_wide_rows<const AVALANCHE: bool, const COMPACT: bool, const PROTECTED: b
 
 /// The value above 16 bytes, made of the joined lanes and the tail.
 #[inline(always)]
+#[tactic(auto, using(crate::proofs::Cases::in_core))]
 fn close_tail<const AVALANCHE: bool, const PROTECTED: bool>(
     tail: &[u8],
     bytes: &[u8],
@@ -117,6 +122,7 @@ fn close_tail<const AVALANCHE: bool, const PROTECTED: bool>(
 
 /// The value, made of the last words and the seed after all pairs.
 #[inline(always)]
+#[tactic(auto, using(crate::proofs::Cases::in_core), unfolding(crate::specs::Memory::memory_hash))]
 fn close_sum<const AVALANCHE: bool, const PROTECTED: bool>(
     bytes: &[u8],
     words: (u64, u64),

@@ -165,6 +165,7 @@ pub(crate) const fn seed_of(number: u64) -> u64
 }
 
 /// `COUNT` secrets, the first made of the seed and each other of the one before.
+#[tactic(auto, using(crate::proofs::Cases::filled), unfolding(crate::specs::Secrets::chained))]
 pub(crate) const fn chain<const COUNT: usize>(seed: u64) -> [u64; COUNT]
     requires { COUNT ≤ 7 }
     ensures value { result ≡ chained_secrets COUNT seed }
@@ -209,6 +210,7 @@ pub(crate) fn global_seed_of(random: u64) -> u64
 }
 
 /// The seven secrets that a random word makes, each of the one before.
+#[tactic(auto, using(crate::proofs::Cases::filled), unfolding(crate::specs::Secrets::made_state))]
 pub(crate) fn made_secrets(random: u64) -> [u64; 7]
     ensures value { result ≡ made_secrets random }
     ensures good { All IsGood result }

@@ -18,6 +18,7 @@ pub(crate) fn last_16(bytes: &[u8]) -> (u64, u64)
 
 /// The first, the middle and the last of 1 to 3 bytes in one word.
 #[inline(always)]
+#[tactic(auto, using(crate::proofs::WordsLemmas::packed_three))]
 fn three_bytes(bytes: &[u8]) -> u64
     requires { 0 < length bytes.now }
     ensures { result ≡ three_bytes bytes.now }
@@ -98,6 +99,7 @@ pub(crate) fn words_to_7(bytes: &[u8]) -> (u64, u64)
 
 /// The two words of V3, micro, nano and the in-memory core, of 1 to 3 bytes.
 #[inline(always)]
+#[tactic(auto, using(crate::proofs::Cases::tests), unfolding(crate::specs::Words::short_words))]
 pub(crate) fn words_to_3_v3(bytes: &[u8]) -> (u64, u64)
     requires some { 0 < length bytes.now }
     requires few { length bytes.now ≤ 3 }

@@ -55,7 +55,7 @@ pub(crate) fn shape_of(form: Form, n: usize) -> Shape
 }
 
 /// The seed that every lane starts from.
-#[tactic(auto, using(crate::proofs::Cases::tests), unfolding(crate::proofs::Cases::start_seed))]
+#[tactic(auto, using(crate::proofs::Cases::tests))]
 pub(crate) fn start_seed(form: Form, n: usize, seed: u64) -> u64
     ensures { result ≡ start_seed form n seed }
 {
@@ -199,7 +199,6 @@ pub(crate) fn mixed_words(form: Form, n: usize, t: usize, words: (u64, u64)) -> 
 }
 
 /// What the avalanche mixes into the halves of the last product.
-#[tactic(auto, unfolding(rapidhash_portable::specs::Form::masks))]
 pub(crate) fn masks(form: Form, secrets: &[u64], n: usize, t: usize) -> (u64, u64)
     ensures { result ≡ masks form secrets.now n t }
 {

@@ -6,7 +6,7 @@ ghost use Rattle.rapidhash.specs.Generator.{moment_of, seed_at_moment, state_aft
 ghost use Rattle.rapidhash_portable.specs.Multiply.{mix};
 ghost use Rattle.rapidhash_portable.specs.Secrets.{s1};
 
-use crate::hashes::mix;
+use crate::walk::mix;
 
 /// What a step adds to the state: the first default secret.
 const STEP: u64 = 0x2d35_8dcc_aa6c_78a5;

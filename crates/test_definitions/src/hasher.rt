@@ -6,8 +6,9 @@ ghost use Rattle.rapidhash.specs.Sponge.{Wide, block};
 ghost use Rattle.test_definitions.specs.Items.{item_of};
 
 use crate::blocks::{block, end_after, end_of, value_of, width_of};
-use crate::hashes::{memory_hash, mix};
+use crate::hashes::memory_hash;
 use crate::secrets::secret;
+use crate::walk::mix;
 use rapidhash::laws::Num;
 use rapidhash_portable::form::Options;
 

@@ -15,15 +15,17 @@ mod hasher;
 mod hashes;
 mod secrets;
 mod streams;
+mod walk;
 mod words;
 
 pub use by_words::value_of_words;
 pub use generator::{other_word_of, seed_at_moment, state_after, word_of};
 pub use hasher::{Absorbed, finished};
-pub use hashes::{memory_hash, mix, portable_hash};
+pub use hashes::{memory_hash, portable_hash};
 pub use secrets::{
     chained, cpp_seeded, global_seed, made_secrets, reseeded, seeded, source_answer, source_next,
     source_start,
 };
 pub use streams::{chunk_count, finishes};
+pub use walk::mix;
 pub use words::absorbed_words;

@@ -3,7 +3,7 @@
 ghost use Rattle.std.specs.Prelude.{◌≡◌, slice_index};
 ghost use Rattle.rapidhash_portable.specs.Secrets.{chained, cpp_seeded, global_seed, made_secrets, made_state, premixed, reseeded, repaired, seeded, source_answer, source_next, source_start, with_bit};
 
-use crate::hashes::mix;
+use crate::walk::mix;
 
 /// The default secrets.
 const DEFAULT_SECRETS: [u64; 7] = [

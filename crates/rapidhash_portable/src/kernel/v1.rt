@@ -16,6 +16,7 @@ use crate::words::{last_16, words_to_3_v1, words_to_16_v1};
 /// each product with its factors, `V1_BUG` folds a row at 48 bytes, and `COMPACT` changes the code
 /// but no value.
 #[inline(always)]
+#[tactic(auto, using(crate::proofs::Cases::no_bytes))]
 pub fn hash<const AVALANCHE: bool, const COMPACT: bool, const PROTECTED: bool, const V1_BUG: bool>(
     bytes: &[u8],
     seed: u64,
@@ -39,6 +40,7 @@ pub fn hash<const AVALANCHE: bool, const COMPACT: bool, const PROTECTED: bool, c
 
 /// The hash of at most 16 bytes, made of their two words.
 #[inline(always)]
+#[tactic(auto, using(crate::proofs::Cases::short))]
 fn close_short<const AVALANCHE: bool, const PROTECTED: bool>(
     bytes: &[u8],
     words: (u64, u64),
@@ -56,6 +58,7 @@ fn close_short<const AVALANCHE: bool, const PROTECTED: bool>(
 
 /// The hash above 16 bytes. Messages of up to two rows make no call.
 #[inline(always)]
+#[tactic(auto, using(crate::proofs::Cases::no_rows), unfolding(crate::specs::Form::shape_of))]
 fn long<const AVALANCHE: bool, const COMPACT: bool, const PROTECTED: bool, const V1_BUG: bool>(
     bytes: &[u8],
     seed: u64,
@@ -80,6 +83,7 @@ fn long<const AVALANCHE: bool, const COMPACT: bool, const PROTECTED: bool, const
 
 /// The hash of a message that has `ROWS` rows, at least one.
 #[inline(always)]
+#[tactic(auto, using(crate::proofs::Cases::tests), unfolding(crate::specs::Form::shape_of))]
 fn few_rows<const ROWS: usize, const AVALANCHE: bool, const PROTECTED: bool, const V1_BUG: bool>(
     bytes: &[u8],
     seed: u64,
@@ -98,6 +102,7 @@ fn few_rows<const ROWS: usize, const AVALANCHE: bool, const PROTECTED: bool, con
 
 /// The hash of a message that has a row, out of line.
 #[inline(never)]
+#[tactic(auto, using(crate::proofs::Cases::tests), unfolding(crate::specs::Form::shape_of))]
 fn with_rows<const AVALANCHE: bool, const COMPACT: bool, const PROTECTED: bool, const V1_BUG: bool>(
     bytes: &[u8],
     seed: u64,

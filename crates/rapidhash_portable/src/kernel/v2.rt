@@ -16,6 +16,7 @@ use crate::words::{last_16, words_to_3_v2, words_to_7, words_to_16};
 /// Returns the hash of `bytes`. `AVALANCHE` mixes the last product once more, `PROTECTED` mixes
 /// each product with its factors, and `COMPACT` changes the code but no value.
 #[inline(always)]
+#[tactic(auto, using(crate::proofs::Cases::no_bytes))]
 pub fn hash<const MINOR: u8, const AVALANCHE: bool, const COMPACT: bool, const PROTECTED: bool>(
     bytes: &[u8],
     seed: u64,
@@ -44,6 +45,7 @@ pub fn hash<const MINOR: u8, const AVALANCHE: bool, const COMPACT: bool, const P
 
 /// The hash of at most 16 bytes, made of their two words.
 #[inline(always)]
+#[tactic(auto, using(crate::proofs::Cases::short))]
 fn close_short<const AVALANCHE: bool, const PROTECTED: bool>(
     bytes: &[u8],
     words: (u64, u64),
@@ -104,6 +106,7 @@ fn without_rows<const MINOR: u8, const AVALANCHE: bool, const PROTECTED: bool>(
 
 /// The hash of a message that has `ROWS` rows, all of three pairs.
 #[inline(always)]
+#[tactic(auto, using(crate::proofs::Cases::tests), unfolding(crate::specs::Form::shape_of))]
 fn few_rows<const MINOR: u8, const ROWS: usize, const AVALANCHE: bool, const PROTECTED: bool>(
     bytes: &[u8],
     seed: u64,
@@ -123,6 +126,7 @@ fn few_rows<const MINOR: u8, const ROWS: usize, const AVALANCHE: bool, const PRO
 
 /// The hash of a message that has a row, out of line.
 #[inline(never)]
+#[tactic(auto, using(crate::proofs::Cases::tests), unfolding(crate::specs::Form::shape_of))]
 fn with_rows<const MINOR: u8, const AVALANCHE: bool, const COMPACT: bool, const PROTECTED: bool>(
     bytes: &[u8],
     seed: u64,

@@ -18,6 +18,7 @@ use crate::words::{last_16, words_to_3_v3, words_to_7, words_to_16};
 /// value. Messages of up to `FEW` rows make no call, where it is 0, 1 or 2. A row of seven pairs is
 /// inlined only with the default secrets: with others it makes shorter messages slower.
 #[inline(always)]
+#[tactic(auto, using(crate::proofs::Cases::no_bytes))]
 pub fn hash<
     const LANES: usize,
     const FEW: usize,
@@ -54,6 +55,7 @@ pub fn hash<
 /// The hash of at most 16 bytes, made of their two words. From 4 bytes on the length is mixed into
 /// the seed.
 #[inline(always)]
+#[tactic(auto, using(crate::proofs::Cases::short))]
 fn close_short<const LANES: usize, const AVALANCHE: bool, const PROTECTED: bool>(
     bytes: &[u8],
     words: (u64, u64),
@@ -100,6 +102,7 @@ fn long<
 
 /// The hash above 16 bytes of a message that has no row.
 #[inline(always)]
+#[tactic(auto, using(crate::proofs::Cases::no_rows))]
 fn without_rows<const LANES: usize, const AVALANCHE: bool, const PROTECTED: bool>(
     bytes: &[u8],
     seed: u64,
@@ -116,6 +119,7 @@ fn without_rows<const LANES: usize, const AVALANCHE: bool, const PROTECTED: bool
 
 /// The hash above 16 bytes of a message that has `ROWS` rows.
 #[inline(always)]
+#[tactic(auto, unfolding(crate::specs::Form::shape_of))]
 fn few_rows<const LANES: usize, const ROWS: usize, const AVALANCHE: bool, const PROTECTED: bool>(
     bytes: &[u8],
     seed: u64,
@@ -134,6 +138,7 @@ fn few_rows<const LANES: usize, const ROWS: usize, const AVALANCHE: bool, const 
 
 /// The hash of a message that has a row, out of line.
 #[inline(never)]
+#[tactic(auto, unfolding(crate::specs::Form::shape_of))]
 fn with_rows<const LANES: usize, const AVALANCHE: bool, const COMPACT: bool, const PROTECTED: bool>(
     bytes: &[u8],
     seed: u64,

@@ -37,6 +37,7 @@ use std::io::{ErrorKind, Read};
 /// If the source is marked after the call, the error is the reader's own, also for an interrupted
 /// read. Otherwise it is `ErrorKind::UnexpectedEof`: the reader had fewer bytes, and all of them
 /// were read.
+#[tactic(auto, using(crate::proofs::Cases::of_reader))]
 pub fn rapidhash_v1_source<R: Read, const PROTECTED: bool>(
     source: &mut Source<R>,
     len: u64,

@@ -41,6 +41,7 @@ use std::io::{ErrorKind, Read};
 /// # Panics
 ///
 /// In Rust, if `MINOR` is above 2. Rattle's checker refuses such a call.
+#[tactic(auto, using(crate::proofs::Cases::of_reader))]
 pub fn rapidhash_v2_source<R: Read, const MINOR: u8, const PROTECTED: bool>(
     source: &mut Source<R>,
     len: u64,

@@ -195,6 +195,7 @@ pub fn rapidhash_v3_file_sized<R: Read + Drop, const SIZE: usize, const PROTECTE
 /// # Panics
 ///
 /// In Rust, if `LANES` is not 7, 5 or 3, or `SIZE` is 0. Rattle's checker refuses such a call.
+#[tactic(auto, using(crate::proofs::Cases::of_reader))]
 pub fn rapidhash_v3_file_lanes<
     R: Read + Drop,
     const LANES: usize,

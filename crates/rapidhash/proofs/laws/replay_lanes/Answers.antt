@@ -1,5 +1,4 @@
 use Rattle.std.proofs.Common.{◌≡◌, ◌+◌, ◌++◌, ◌∷◌, [], not, nat_eq, subst, sym, ap, ◌∙◌, arith, append_assoc, drop}
-use Rattle.std.proofs.lemmas.List.{append-nil, drop_all}
 use Rattle.rapidhash_portable.specs.declared.form.Form.TheVariants.{V3}
 use Rattle.rapidhash_portable.specs.Form.{options}
 use Rattle.rapidhash_portable.specs.Hash.{seeded_hash}
@@ -63,13 +62,3 @@ loop-op-preserved g c =
             );
           }
     ]
-
-pub returns : goal.returns
-unfolding finishes_from
-returns g c =
-    let chosen = options (not (nat_eq g.row.AVALANCHE 0)) (not (nat_eq g.row.PROTECTED 0)) in
-    let message = c.loop-op.invariant.message in
-    let none = drop_all c.loop-op.op-index c.args.ops.now (omega arith) in
-    sym (message.2
-    ∙ ap (λ o. c.loop-op.answers.items ++ finishes_from g.row.LANES chosen c.args.secrets.now message.0 o) none
-    ∙ append-nil _)

@@ -1,28 +1,17 @@
-use Rattle.std.proofs.Common.{◌≡◌, ◌-◌, ◌*◌, ◌++◌, not, nat_eq, length, take, drop, refl, sym, ◌∙◌, arith, length-take-le, le_refl}
+use Rattle.std.proofs.Common.{◌≡◌, ◌-◌, ◌*◌, ◌++◌, length, take, drop, sym, ◌∙◌, arith, length-take-le}
 use Rattle.std.proofs.lemmas.List.{take-append-le, take_all}
 use Rattle.std.proofs.lemmas.Result.{err_from_is_err_and}
 use Rattle.rapidhash_portable.specs.Lanes.{rows_in}
 use Rattle.rapidhash_portable.proofs.FoldedLemmas.{PrefixIsFolded-append}
 use Rattle.rapidhash_portable.proofs.ListLemmas.{refilled_room}
-use Rattle.rapidhash_portable.proofs.ReadingLemmas.{FellShort-front, FrontIsFolded-last, FrontIsFolded-more, FrontIsFolded-none}
+use Rattle.rapidhash_portable.proofs.ReadingLemmas.{FellShort-front, FrontIsFolded-last, FrontIsFolded-more}
 use Rattle.rapidhash_portable.proofs.known_length.fold_front.Goals as goal
-
-pub loop-left-init : goal.loop-left-init
-loop-left-init g c = record {
-  room = refl;
-  some = c.requires.long;
-  most = le_refl _;
-  front =
-      let none : c.args.len - c.args.len ≡ 0 = omega arith in
-      rw none (FrontIsFolded-none (not (nat_eq g.row.PROTECTED 0)) c.args.secrets.now _ g.row.LANES c.args.seed);
-}
 
 pub returns-in_err-fill-clause-short : goal.returns-in_err-fill-clause-short
 returns-in_err-fill-clause-short g c =
-    let k = length c.args.buffer.now - 16 in
-    let cut : length (take k c.loop-left.buffer) ≡ k = length-take-le k c.loop-left.buffer (omega arith) in
+    let cut = length-take-le (length c.args.buffer.now - 16) c.loop-left.buffer (omega arith) in
     let p = err_from_is_err_and c.from_residual.result c.from_residual.ensures.1 in
-    rw (p.1, p.2) (FellShort-front c.loop-left.invariant.front _ (length (take k c.loop-left.buffer)) _ _ (omega arith) c.in_err-fill.ensures.short)
+    rw (p.1, p.2) (FellShort-front c.loop-left.invariant.front c.in_err-fill.ensures.short (omega arith))
 
 pub loop-left-preserved : goal.loop-left-preserved
 loop-left-preserved g c =
@@ -44,10 +33,9 @@ loop-left-preserved g c =
 
 pub returns-in_err-fill-2-clause-short : goal.returns-in_err-fill-2-clause-short
 returns-in_err-fill-2-clause-short g c =
-    let k = c.loop-left.left in
-    let cut : length (take k c.loop-left.buffer) ≡ k = length-take-le k c.loop-left.buffer (omega arith) in
+    let cut = length-take-le c.loop-left.left c.loop-left.buffer (omega arith) in
     let p = err_from_is_err_and c.from_residual-in_err-fill-2.result c.from_residual-in_err-fill-2.ensures.1 in
-    rw (p.1, p.2) (FellShort-front c.loop-left.invariant.front _ (length (take k c.loop-left.buffer)) _ _ (omega arith) c.in_err-fill-2.ensures.short)
+    rw (p.1, p.2) (FellShort-front c.loop-left.invariant.front c.in_err-fill-2.ensures.short (omega arith))
 
 pub returns-clause-ok : goal.returns-clause-ok
 returns-clause-ok g c =

@@ -6,22 +6,9 @@ pub returns-then-value-clause-blocks : goal.returns-then-value-clause-blocks
 returns-then-value-clause-blocks c = (
   λ f. cc,
   λ h.
-      let agree : AgreeBefore c.args.x.now c.args.y.now c.loop-i.i _ = record {
-        inside = c.loop-i-test.true;
-        widths = c.requires;
-        before = c.loop-i.invariant;
-        first_fits = search rules;
-        second_fits = search rules;
-      } in
+      let agree : AgreeBefore c.args.x.now c.args.y.now c.loop-i.i _ = search rules in
       absurd (c.if-value.true (c.value.ensures.value ∙ same_at _ _ _ _ agree h ∙ sym c.value-in-loop-i.ensures.value)),
 )
 
 pub loop-i-preserved : goal.loop-i-preserved
-loop-i-preserved c =
-    same_front _ _ _ _ (record {
-      inside = c.loop-i-test.true;
-      widths = c.requires;
-      before = c.loop-i.invariant;
-      first_fits = search rules;
-      second_fits = search rules;
-    }) (sym c.value.ensures.value ∙ c.if-value.false ∙ c.value-in-loop-i.ensures.value)
+loop-i-preserved c = same_front _ _ _ _ (search rules) (sym c.value.ensures.value ∙ c.if-value.false ∙ c.value-in-loop-i.ensures.value)

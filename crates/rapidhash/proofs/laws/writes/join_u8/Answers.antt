@@ -4,6 +4,4 @@ use Rattle.rapidhash.proofs.laws.writes.join_u8.Goals as goal
 
 pub returns : goal.returns
 returns g c =
-    let low = c.ranges.low.fits in
-    let high = c.ranges.high.fits in
     joins-writes 8 _ _ (inl refl, omega arith) (inl refl, omega arith) (inr (inl refl), omega arith) c.write_u8.ensures c.write_u8-2.ensures

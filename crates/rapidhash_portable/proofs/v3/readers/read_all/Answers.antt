@@ -1,13 +1,10 @@
-use Rattle.std.proofs.Common.{◌≡◌, ◌<◌, ◌≤◌, ◌∙◌, ℕ, ap, arith, length, not, nat_eq, sym, true}
-use Rattle.std.proofs.KnownBytes.{Consumes-kept, Consumes-trans}
-use Rattle.std.proofs.lemmas.Bool.{true≢false}
+use Rattle.std.proofs.Common.{◌<◌, ◌≤◌, ◌∙◌, ℕ, ap, arith, length, not, nat_eq, true}
+use Rattle.std.proofs.KnownBytes.{Consumes-trans}
 use Rattle.std.proofs.lemmas.Grind.{common_steps}
 use Rattle.std.proofs.lemmas.List.{append-nil}
-use Rattle.std.proofs.lemmas.Result.{err_from_is_err_and}
 use Rattle.rapidhash_portable.specs.declared.form.Form.TheVariants.{V3}
 use Rattle.rapidhash_portable.specs.Form.{options}
 use Rattle.rapidhash_portable.specs.Hash.{seeded_hash}
-use Rattle.rapidhash_portable.specs.Source.{is_marked}
 use Rattle.rapidhash_portable.specs.Stream.{StreamStandsFor}
 use Rattle.rapidhash_portable.proofs.ReadingLemmas.{HaveRead-more}
 use Rattle.rapidhash_portable.proofs.v3.readers.read_all.Goals as goal
@@ -37,21 +34,3 @@ returns-then-n-eq0-clause-all g c =
       ok = (c.finish.ensures inv.read.bytes inv.read.stands ∙ ap (λ s. seeded_hash (V3 g.row.LANES) (options true (not (nat_eq g.row.PROTECTED 0))) s inv.read.bytes) inv.secrets, bytes.1 c.if-n-eq0.true room);
       endless = tt;
     }
-
-pub returns-in_err-n-clause-all : goal.returns-in_err-n-clause-all
-returns-in_err-n-clause-all g c =
-    let read = c.loop-turn.invariant.read in
-    let marked : is_marked c.read.new.self ≡ true = grind (arith, common_steps) in
-    let p = err_from_is_err_and c.from_residual.result c.from_residual.ensures.1 in
-    rw (p.1) (record {
-      bytes = read.bytes;
-      taken = Consumes-kept _ _ _ read.bytes read.taken c.in_err-n.ensures.bytes;
-      ok = tt;
-      endless = λ off. absurd (true≢false (sym marked ∙ off));
-    })
-
-pub returns-clause-all : goal.returns-clause-all
-returns-clause-all g c =
-    let read = c.loop-turn.invariant.read in
-    let some = read.some in
-    record { bytes = read.bytes; taken = read.taken; ok = tt; endless = λ _. omega arith }

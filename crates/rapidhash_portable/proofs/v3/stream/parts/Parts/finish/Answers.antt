@@ -6,7 +6,6 @@ pub returns : goal.returns
 returns g c = λ x h.
     let s = c.args.self.now in
     let count = c.requires.lanes in
-    let least = count.least in
     let on : s.any ≡ _ = c.if-not-self.false in
     let long = chunk-below count h (omega arith) c.requires.fits on in
     let new : take (16 + s.len - 16) (drop 16 s.kept) ≡ take s.len (drop 16 s.kept) = let e : 16 + s.len - 16 ≡ s.len = omega arith in ap (λ (n : ℕ). take n (drop 16 s.kept)) e in

@@ -13,9 +13,6 @@ pub returns-clause-adds : goal.returns-clause-adds
 returns-clause-adds g c = λ x h.
     let s = c.args.self.now in
     let d = c.args.piece.now in
-    let least = c.requires.lanes.least in
-    let most = c.requires.lanes.most in
-    let fits = c.requires.fits in
     let sixteen : length c.if-end-ge16.carried ≡ 16 = omega arith in
     let size : ℕ = 16 * g.row.LANES in
     let room : ℕ = size - s.len in
@@ -44,7 +41,7 @@ returns-clause-adds g c = λ x h.
           ∙ ap (λ (k : ℕ). take 16 (drop (k - 16) (x ++ d))) at
           )
     ] in
-    let less : length tail < length (x ++ d) = omega (arith, total, fewer, whole, least, fits) in
+    let less : length tail < length (x ++ d) = omega (arith, total, fewer, whole) in
     let kept' : List ℕ = put_mid 0 16 kept c.copy_from_slice-2.new.self in
     let ec : kept' ≡ put_mid 0 16 kept c.if-end-ge16.carried = ap (λ (l : List ℕ). put_mid 0 16 kept l) c.copy_from_slice-2.ensures.after in
     let et : put_mid 16 (16 + length tail - 16) kept' c.copy_from_slice-3.new.self ≡ put_mid 16 (16 + length tail - 16) kept' tail = ap (λ (l : List ℕ). put_mid 16 (16 + length tail - 16) kept' l) c.copy_from_slice-3.ensures.after in

@@ -1,9 +1,0 @@
-use Rattle.std.proofs.Common.{not, nat_eq, arith}
-use Rattle.rapidhash_portable.proofs.FoldedLemmas.{HaveFolded-one}
-use Rattle.rapidhash_portable.proofs.lanes.fold_row.Goals as goal
-
-pub returns : goal.returns
-returns g c =
-    let l = c.loop-i.invariant in
-    HaveFolded-one (not (nat_eq g.row.PROTECTED 0)) c.args.secrets.now c.args.row.now g.row.WIDTH c.args.lanes.now c.loop-i.lanes (cc)
-    (λ i k. l.done i (omega arith)) (λ i k. l.ahead i (omega arith))
