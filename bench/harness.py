@@ -6,6 +6,7 @@ import datetime
 import math
 import os
 import re
+import statistics
 import subprocess
 import sys
 from pathlib import Path
@@ -83,6 +84,13 @@ def build(crate, source):
     return programs | {name: [build_rust(name, source)] for name in CRATES}
 
 
+def random_file(name, megabytes):
+    with open(ROOM / name, "wb") as out:
+        for _ in range(megabytes):
+            out.write(os.urandom(1 << 20))
+    return ROOM / name
+
+
 def take(programs, words, scale):
     """Runs each program once. It prints a value, which must be the same for all but XXH3, and its time."""
     values, times = {}, {}
@@ -127,7 +135,8 @@ class Processors:
     def nanos(self, number):
         """What the fixed loop takes on a processor now. This program and those that it starts stay there."""
         os.sched_setaffinity(0, {number})
-        return int(subprocess.run([self.program], stdout=subprocess.PIPE, check=True).stdout)
+        turns = subprocess.run([self.program], stdout=subprocess.PIPE, check=True).stdout.split()
+        return statistics.median_low(map(int, turns))
 
     def measure(self, work, *words):
         """What work(*words) returns, on a processor that was quiet before and after it. If none was in TRIES

@@ -1,9 +1,8 @@
-// Prints how many nanoseconds a fixed loop takes, the median of 150 turns. The loop keeps the units that add
-// busy and a product under way, so it takes longer where the processor runs slowly or shares its core.
+// Prints how many nanoseconds a fixed loop takes, 150 times. The loop keeps the units that add busy and a product
+// under way, so it takes longer if the processor runs slowly or shares its core.
 
 #include <stdint.h>
 #include <stdio.h>
-#include <stdlib.h>
 #include <time.h>
 
 static uint64_t now(void) {
@@ -23,17 +22,9 @@ static uint64_t turn(void) {
     return now() - start;
 }
 
-static int compare(const void *left, const void *right) {
-    uint64_t a = *(const uint64_t *)left, b = *(const uint64_t *)right;
-    return (a > b) - (a < b);
-}
-
 int main(void) {
-    uint64_t turns[150];
     for (int i = 0; i < 150; i++) {
-        turns[i] = turn();
+        printf("%llu\n", (unsigned long long)turn());
     }
-    qsort(turns, 150, sizeof turns[0], compare);
-    printf("%llu\n", (unsigned long long)turns[75]);
     return 0;
 }

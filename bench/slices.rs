@@ -135,11 +135,6 @@ mod library {
     }
 }
 
-#[inline(always)]
-fn start<const PLACE: u64>(sum: u64) -> u64 {
-    (0..PLACE).fold(sum, |sum, _| (sum ^ sum / 128).wrapping_mul(3))
-}
-
 #[inline(never)]
 fn call<const FORM: u8, const PLACE: u64>(text: &[u8], secrets: &Secrets) -> u64 {
     library::hash::<FORM>(text, secrets) ^ PLACE
@@ -152,7 +147,7 @@ fn hash_all<const FORM: u8, const CALL: bool, const PLACE: u64>(
     passes: u64,
     sum: u64,
 ) -> u64 {
-    let mut sum = start::<PLACE>(sum);
+    let mut sum = (0..PLACE).fold(sum, |sum, _| (sum ^ sum / 128).wrapping_mul(3));
     for _ in 0..passes {
         for text in list {
             let hash = match CALL {

@@ -28,17 +28,12 @@ struct row {
     int is_call;
 };
 
-static uint64_t mix(uint64_t a, uint64_t b)
-{
-    __uint128_t product = (__uint128_t)a * b;
-    return (uint64_t)product ^ (uint64_t)(product >> 64);
-}
-
 /* The next word of the generator that the other programs draw their bytes from. */
 static uint64_t next_word(uint64_t *state)
 {
     *state += UINT64_C(0x2d358dccaa6c78a5);
-    return mix(*state, *state ^ UINT64_C(0x8bb84b93962eacc9));
+    __uint128_t product = (__uint128_t)*state * (*state ^ UINT64_C(0x8bb84b93962eacc9));
+    return (uint64_t)product ^ (uint64_t)(product >> 64);
 }
 
 static uint64_t added(uint64_t sum, uint64_t hash)
@@ -80,14 +75,8 @@ static inline __attribute__((always_inline)) uint64_t xxh3(struct text text)
         return row.is_call ? fold(row, sum, call_##place) : fold(row, sum, xxh3);             \
     }
 
-AT_PLACE(0)
-AT_PLACE(1)
-AT_PLACE(2)
-AT_PLACE(3)
-AT_PLACE(4)
-AT_PLACE(5)
-AT_PLACE(6)
-AT_PLACE(7)
+AT_PLACE(0) AT_PLACE(1) AT_PLACE(2) AT_PLACE(3)
+AT_PLACE(4) AT_PLACE(5) AT_PLACE(6) AT_PLACE(7)
 
 static uint64_t (*const PLACES[])(struct row, uint64_t) = {
     hash_all_0, hash_all_1, hash_all_2, hash_all_3, hash_all_4, hash_all_5, hash_all_6, hash_all_7,
