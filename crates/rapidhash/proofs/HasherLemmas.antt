@@ -9,7 +9,7 @@ use Rattle.rapidhash_portable.specs.declared.form.Options.{Options}
 use Rattle.rapidhash_portable.specs.Memory.{memory_hash}
 use Rattle.rapidhash.specs.Hasher.{StandsFor, closed, finished, pending, seed_after, step, steps, steps_from, steps_of, width}
 use Rattle.rapidhash.specs.Sponge.{Bytes, IsItem, Item, Num, Wide, block, end_after, end_from, end_of, share}
-use Rattle.rapidhash.proofs.SpongeLemmas.{block-behind, block-snoc, end_from-grows, end_of-snoc, own_block, share-before}
+use Rattle.rapidhash.proofs.SpongeLemmas.{block_from-behind, block_from-snoc, end_from-grows, end_from-snoc, own_block, share-before}
 
 -- the steps after one item more, where the blocks' numbers are `b`
 steps_from-snoc : (b : ℕ → ℕ) (c : ℕ × ℕ) (xs : List Item) (y : Item) → steps_from b c (xs ++ y ∷ []) ≡ steps_from b c xs ++ steps_of b (end_from c xs) y
@@ -36,13 +36,13 @@ steps_from-same b d c (x ∷ xs) h =
 -- one item more leaves the blocks before the last one as they are
 block-before : (xs : List Item) (y : Item) (m : ℕ) → m < (end_of (xs ++ y ∷ [])).0 → block (xs ++ y ∷ []) m ≡ block xs m
 block-before xs y m h =
-    let e = block-snoc xs y m in
-    let n = share-before m (end_of xs) y (rw end_of-snoc at h) in
+    let e = block_from-snoc m (0, 0) xs y in
+    let n = share-before m (end_of xs) y (rw end_from-snoc at h) in
     omega (arith, e, n)
 
 -- so the steps after one item more are those before it, and its own
 steps-snoc : (xs : List Item) (y : Item) → steps true (xs ++ y ∷ []) ≡ steps true xs ++ steps_of (block xs) (end_of xs) y
-unfolding steps end_of
+unfolding steps
 steps-snoc xs y =
     steps_from-same (block (xs ++ y ∷ [])) (block xs) (0, 0) (xs ++ y ∷ []) (block-before xs y) ∙ steps_from-snoc (block xs) (0, 0) xs y
 
@@ -58,11 +58,11 @@ seed_after-snoc options s start xs y =
 pending-snoc : (xs : List Item) (y : Item)
     → pending true (xs ++ y ∷ []) ≡ block xs (end_after (end_of xs) y).0 + share (end_after (end_of xs) y).0 (end_of xs) y
 pending-snoc xs y =
-    ap (λ (c : ℕ × ℕ). block (xs ++ y ∷ []) c.0) (end_of-snoc xs y) ∙ block-snoc xs y (end_after (end_of xs) y).0
+    ap (λ (c : ℕ × ℕ). block (xs ++ y ∷ []) c.0) (end_from-snoc (0, 0) xs y) ∙ block_from-snoc (end_after (end_of xs) y).0 (0, 0) xs y
 
 -- and its width
 width-snoc : (xs : List Item) (y : Item) → width true (xs ++ y ∷ []) ≡ (end_after (end_of xs) y).1
-width-snoc xs y = ap (λ (c : ℕ × ℕ). c.1) (end_of-snoc xs y)
+width-snoc xs y = ap (λ (c : ℕ × ℕ). c.1) (end_from-snoc (0, 0) xs y)
 
 -- the items stay in range
 items-snoc : (xs : List Item) (y : Item) → All IsItem xs → IsItem y → All IsItem (xs ++ y ∷ [])
@@ -114,7 +114,7 @@ stands-opening options true s seed v w start xs k n seed' v' w' t i full d e f h
     let we : w ≡ (end_of xs).1 = h.bits_are in
     let ve : v ≡ block xs (end_of xs).0 = h.number_is in
     let opens : nat_le ((end_of xs).1 + k) 128 ≡ false = lt-leb _ _ (rw (← we) full) in
-    let none : block xs ((end_of xs).0 + 1) ≡ 0 = block-behind xs _ (omega arith) in
+    let none : block xs ((end_of xs).0 + 1) ≡ 0 = block_from-behind _ (0, 0) xs (omega arith) in
     stands-snoc options s seed v w start xs (Num k n) seed' v' w' i (d ∙ rw (opens, ve) refl) (f ∙ rw opens (omega arith)) (e ∙ rw (opens, own_block, none) (omega arith)) h
 
 -- an integer with no sponge
@@ -148,7 +148,7 @@ stands-finish options sponge s seed v w start xs h i = closed options s (h.seed_
 
 -- a new hasher represents its start and no item
 pub stands-new : (options : Options) (sponge : Bool) (s : List ℕ) (start : ℕ) → start < 2 ^ 64 → StandsFor options sponge s start 0 0 start []
-unfolding seed_after steps block end_of
+unfolding seed_after steps
 stands-new options true s start h = record { start_fits = h; items_fit = All-nil IsItem; seed_is = refl; number_is = refl; bits_are = refl }
 stands-new options false s start h = record { start_fits = h; items_fit = All-nil IsItem; seed_is = refl; number_is = refl; bits_are = refl }
 

@@ -2,11 +2,11 @@
 use Rattle.std.proofs.Common.{◌≡◌, ℕ, cond, nat_eq, zero, suc, ◌+◌, ◌^◌, ◌<◌, List, [], ◌∷◌, length, map, take, get_or, refl, sym, ap, ◌∙◌, arith}
 use Rattle.std.proofs.Math.ListN.{get_or-map}
 use Rattle.std.proofs.lemmas.List.{length-map, take_more_same}
-use Rattle.rapidhash.specs.Sponge.{Item, end_after, block_from, block}
+use Rattle.rapidhash.specs.Sponge.{Item, end_after, block_from}
 use Rattle.rapidhash.proofs.SpongeLemmas.{first_number-same}
 use Rattle.rapidhash.specs.declared.laws.blocks.Num.{Num}
 use Rattle.rapidhash.specs.declared.laws.blocks.Num.TheVariants.{N8, N16, N32, N64}
-use Rattle.rapidhash.specs.Laws.{width_of, value_of, item_of, SameBlocks}
+use Rattle.rapidhash.specs.Laws.{width_of, value_of, item_of}
 
 -- the number of a width and a value
 num_of : ℕ → ℕ → Num
@@ -43,7 +43,7 @@ pub record AgreeBefore (x y : List Num) (i : ℕ) (d : Num) : Type 0 where
   pub second_fits : value_of (get_or y i d) < 2 ^ width_of (get_or y i d)
 
 -- the same blocks from an end on: the same number there
-same_at_from : (c : ℕ × ℕ) (x y : List Num) (i : ℕ) (d : Num) → AgreeBefore x y i d
+pub same_at_from : (c : ℕ × ℕ) (x y : List Num) (i : ℕ) (d : Num) → AgreeBefore x y i d
     → ((m : ℕ) → block_from m c (map item_of x) ≡ block_from m c (map item_of y)) → value_of (get_or x i d) ≡ value_of (get_or y i d)
 same_at_from c [] y i d a h = absurd (omega arith)
 same_at_from c (p ∷ x) [] i d a h = absurd (cc (a.widths))
@@ -60,11 +60,6 @@ same_at_from c (p ∷ x) (q ∷ y) (suc i) d a h =
       second_fits = a.second_fits;
     } in
     same_at_from (end_after c (item_of p)) x y i d rest (λ m. rest-same m c p q (map item_of x) (map item_of y) e (h m))
-
--- the same blocks: the same number at the first place where two lists may differ
-pub same_at : (x y : List Num) (i : ℕ) (d : Num) → AgreeBefore x y i d → SameBlocks x y → value_of (get_or x i d) ≡ value_of (get_or y i d)
-unfolding block
-same_at x y i d a h = same_at_from (0, 0) x y i d a h
 
 -- lists of equal widths are equally long
 pub same_length : (x y : List Num) → map width_of x ≡ map width_of y → length x ≡ length y

@@ -3,27 +3,17 @@ use Rattle.std.proofs.Common.{◌⊎◌, inl, inr, ◌≡◌, ℕ, ◌+◌, ◌*
 use Rattle.std.proofs.lemmas.Nat.{pow-add, pow_pos}
 use Rattle.std.proofs.Math.Nat.{mul-div_cancel, mod-eq_of_lt, add-mul-mod_self_right}
 use Rattle.std.proofs.lemmas.Bool.Decides.{nat_tests}
-use Rattle.rapidhash.specs.Sponge.{Item, Bytes, Wide, Num, place_of, end_after, end_from, end_of, share, block_from, block}
+use Rattle.rapidhash.specs.Sponge.{Item, Bytes, Wide, Num, place_of, end_after, end_from, share, block_from}
 
 -- the end after one item more
-end_from-snoc : (c : ℕ × ℕ) (xs : List Item) (y : Item) → end_from c (xs ++ y ∷ []) ≡ end_after (end_from c xs) y
+pub end_from-snoc : (c : ℕ × ℕ) (xs : List Item) (y : Item) → end_from c (xs ++ y ∷ []) ≡ end_after (end_from c xs) y
 end_from-snoc c [] y = refl
 end_from-snoc c (x ∷ xs) y = end_from-snoc (end_after c x) xs y
 
--- the same, of a whole list
-pub end_of-snoc : (xs : List Item) (y : Item) → end_of (xs ++ y ∷ []) ≡ end_after (end_of xs) y
-unfolding end_of
-end_of-snoc xs y = end_from-snoc (0, 0) xs y
-
 -- a block after one item more
-block_from-snoc : (m : ℕ) (c : ℕ × ℕ) (xs : List Item) (y : Item) → block_from m c (xs ++ y ∷ []) ≡ block_from m c xs + share m (end_from c xs) y
+pub block_from-snoc : (m : ℕ) (c : ℕ × ℕ) (xs : List Item) (y : Item) → block_from m c (xs ++ y ∷ []) ≡ block_from m c xs + share m (end_from c xs) y
 block_from-snoc m c [] y = omega arith
 block_from-snoc m c (x ∷ xs) y = let e = block_from-snoc m (end_after c x) xs y in omega (arith, e)
-
--- the same, of a whole list
-pub block-snoc : (xs : List Item) (y : Item) (m : ℕ) → block (xs ++ y ∷ []) m ≡ block xs m + share m (end_of xs) y
-unfolding block end_of
-block-snoc xs y m = block_from-snoc m (0, 0) xs y
 
 -- an integer is placed in the block where the one before it ends, or in the next, so no item ends in a block before
 pub end_after-grows : (c : ℕ × ℕ) (y : Item) → c.0 ≤ (end_after c y).0
@@ -60,18 +50,13 @@ share-behind m c (Wide v) h = refl
 share-behind m c (Num w v) h = other_block _ _ _ (inl h)
 
 -- nothing stands in a block behind the last one
-block_from-behind : (m : ℕ) (c : ℕ × ℕ) (xs : List Item) → (end_from c xs).0 < m → block_from m c xs ≡ 0
+pub block_from-behind : (m : ℕ) (c : ℕ × ℕ) (xs : List Item) → (end_from c xs).0 < m → block_from m c xs ≡ 0
 block_from-behind m c [] h = refl
 block_from-behind m c (x ∷ xs) h =
     let g = end_from-grows (end_after c x) xs in
     let here = share-behind m c x (omega (arith, g)) in
     let rest = block_from-behind m (end_after c x) xs h in
     omega (arith, here, rest)
-
--- the same, of a whole list
-pub block-behind : (xs : List Item) (m : ℕ) → (end_of xs).0 < m → block xs m ≡ 0
-unfolding block end_of
-block-behind xs m h = block_from-behind m (0, 0) xs h
 
 -- nothing stands in a block before the first one
 block_from-before : (m : ℕ) (c : ℕ × ℕ) (xs : List Item) → m < c.0 → block_from m c xs ≡ 0

@@ -39,7 +39,7 @@ end_from end [] = end
 end_from end (item ∷ items) = end_from (end_after end item) items
 
 -- where the integers of a whole list end
-unfoldable pub end_of : List Item → ℕ × ℕ
+abbrev pub end_of : List Item → ℕ × ℕ
 end_of items = end_from (0, 0) items
 
 -- what an item adds to the number of a block
@@ -54,5 +54,5 @@ block_from place end [] = 0
 block_from place end (item ∷ items) = share place end item + block_from place (end_after end item) items
 
 -- the number of the block at a place: the sum of its integers, each times 2 to the power of its bit
-unfoldable pub block : List Item → ℕ → ℕ
+abbrev pub block : List Item → ℕ → ℕ
 block items place = block_from place (0, 0) items

@@ -17,18 +17,7 @@ word64-drop x n at = simp (get_or-drop, add_assoc)
 -- a word within the first part of a message
 pub word64-append : (x y : List ℕ) (at : ℕ) → at + 8 ≤ length x → word64 (x ++ y) at ≡ word64 x at
 unfolding word64
-word64-append x y at h =
-    let byte : (i : ℕ) → i < length x → get_or (x ++ y) i 0 ≡ get_or x i 0 = λ i l. get_or_append_left x y 0 i l in
-    cc (
-      byte (at + 0) (omega arith),
-      byte (at + 1) (omega arith),
-      byte (at + 2) (omega arith),
-      byte (at + 3) (omega arith),
-      byte (at + 4) (omega arith),
-      byte (at + 5) (omega arith),
-      byte (at + 6) (omega arith),
-      byte (at + 7) (omega arith),
-    )
+word64-append x y at h = grind (arith, get_or_append_left x y 0)
 
 -- a range of one number more
 range_more : (a n last : ℕ) → a + n ≡ last → range_with_len a (suc n) ≡ range_with_len a n ++ last ∷ []

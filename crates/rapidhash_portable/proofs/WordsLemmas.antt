@@ -5,7 +5,7 @@ use Rattle.std.proofs.lemmas.Bool.Decides.{nat_tests}
 use Rattle.std.proofs.lemmas.Nat.{or_shifted, same_from_place}
 use Rattle.rapidhash_portable.specs.declared.form.Form.{Form}
 use Rattle.rapidhash_portable.specs.declared.form.Form.TheVariants.{V1, V2, V3}
-use Rattle.rapidhash_portable.specs.Words.{last_words, last_16, mixed_words, short_words, words_to_3, words_to_7, words_to_16, three_bytes}
+use Rattle.rapidhash_portable.specs.Words.{last_words, last_16, mixed_words, short_words, words_to_3, words_to_7, words_to_16}
 use Rattle.rapidhash_portable.specs.Bytes.{word32, word64}
 use Rattle.rapidhash_portable.proofs.BytesLemmas.{word32-below, same_in_word32, same_in_word64}
 
@@ -63,15 +63,6 @@ packed_three a b c h k l =
     ∙ ap (λ v. bit_or v c) (or_shifted a 56 (b * 2 ^ 32) (omega arith) ∙ two)
     ∙ or_shifted (a * 2 ^ 24 + b) 32 c (omega arith)
     ∙ ap (λ v. v + c) (sym two)
-
--- the words of 1 to 3 bytes by V2.0 and V2.1
-words_to_3-old : (minor : ℕ) (x : List ℕ) → minor < 2 → words_to_3 (V2 minor) x ≡ (three_bytes x, 0)
-words_to_3-old minor x h = rw (lt-ltb minor 2 h) refl
-
--- and by V2.2
-words_to_3-new : (minor : ℕ) (x : List ℕ) → 2 ≤ minor
-    → words_to_3 (V2 minor) x ≡ (get_or x 0 0 * 2 ^ 56 + get_or x (length x - 1) 0, get_or x (length x / 2) 0)
-words_to_3-new minor x h = rw (le-ltb minor 2 h) refl
 
 -- two messages have the same bytes
 abbrev pub SameBytes : List ℕ → List ℕ → Type 0
@@ -137,10 +128,8 @@ module _ (x y : List ℕ) (x_bytes : (k : ℕ) → get_or x k 0 < 256) (y_bytes 
   same_to_3 (V1 bug) few e i h = same_packed (ap (λ p. p.0) e) few i h
   same_to_3 (V2 minor) few e i h =
       ⊎_elim
-      (λ old. same_packed (ap (λ p. p.0) (sym (words_to_3-old minor x old) ∙ e ∙ words_to_3-old minor y old)) few i h)
-      (λ new.
-      let both = sym (words_to_3-new minor x new) ∙ e ∙ words_to_3-new minor y new in
-      same_outer 56 (omega arith) (ap (λ p. p.0) both) (ap (λ p. p.1) both) few i h)
+      (λ old. let words = rw (lt-ltb minor 2 old) at e in same_packed (ap (λ p. p.0) words) few i h)
+      (λ new. let words = rw (le-ltb minor 2 new) at e in same_outer 56 (omega arith) (ap (λ p. p.0) words) (ap (λ p. p.1) words) few i h)
       (cases_lt minor 2)
   same_to_3 (V3 lanes) few e i h = same_outer 45 (omega arith) (ap (λ p. p.0) e) (ap (λ p. p.1) e) few i h
 

@@ -86,7 +86,6 @@ fn share(place: usize, end: (usize, usize), item: Absorbed<'_>) -> u128
 }
 
 /// Where the integers of a list end.
-#[tactic(auto, unfolding(rapidhash::specs::Sponge::end_of))]
 pub(crate) fn end_of(items: &[Absorbed<'_>]) -> (usize, usize)
     ensures end { result ≡ end_of (map item_of items.now) }
     ensures inside { result.1 ≤ 128 }

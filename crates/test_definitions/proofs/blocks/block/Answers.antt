@@ -4,7 +4,6 @@ use Rattle.test_definitions.proofs.BlocksLemmas.{one_more, one_part}
 use Rattle.test_definitions.proofs.blocks.block.Goals as goal
 
 pub loop-item-init : goal.loop-item-init
-unfolding block
 loop-item-init c = record {
   count = omega arith;
   inside = omega arith;

@@ -1,5 +1,5 @@
 use Rattle.std.proofs.Common.{rules, ◌∙◌, sym}
-use Rattle.rapidhash.proofs.LawsLemmas.{AgreeBefore, same_at, same_front}
+use Rattle.rapidhash.proofs.LawsLemmas.{AgreeBefore, same_at_from, same_front}
 use Rattle.rapidhash.proofs.laws.blocks.same_blocks.Goals as goal
 
 pub returns-then-value-clause-blocks : goal.returns-then-value-clause-blocks
@@ -7,7 +7,7 @@ returns-then-value-clause-blocks c = (
   λ f. cc,
   λ h.
       let agree : AgreeBefore c.args.x.now c.args.y.now c.loop-i.i _ = search rules in
-      absurd (c.if-value.true (c.value.ensures.value ∙ same_at _ _ _ _ agree h ∙ sym c.value-in-loop-i.ensures.value)),
+      absurd (c.if-value.true (c.value.ensures.value ∙ same_at_from (0, 0) _ _ _ _ agree h ∙ sym c.value-in-loop-i.ensures.value)),
 )
 
 pub loop-i-preserved : goal.loop-i-preserved
