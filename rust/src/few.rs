@@ -1,7 +1,7 @@
 // Made by bin/rust_crate from crates/rapidhash_portable/src/few.rt: change that file.
 
-//! Messages with few rows. Their number is a constant, so the compiler leaves no loop, and inlines
-//! the hash of such a message where it is called.
+//! Messages with few rows. Their number is a constant, so the compiler unrolls the loop and inlines
+//! the hash of such a message into its caller.
 
 use crate::lanes::{fold_row, join};
 

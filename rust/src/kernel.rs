@@ -1,6 +1,6 @@
 // Made by bin/rust_crate from crates/rapidhash_portable/src/kernel.rt: change that file.
 
-//! The hashes of a slice, made of what the definition takes: bytes, a seed and secrets as they are.
+//! The hashes of a slice over the arguments of the definition: bytes, a seed and secrets.
 //! Each form is one function `hash`. It is public because the C library calls it, and the language
 //! has no visibility for just one other crate; `rapidhash` does not re-export it.
 //!

@@ -62,7 +62,7 @@ pub(crate) fn fold_two_rows_by_lane<
 
 /// Folds all rows of `WIDTH` pairs into the first `WIDTH` lanes, and returns the bytes after them,
 /// of which there are at least `LEAST`. The lanes may have folded a prefix of the message before.
-/// Without `COMPACT` the loop takes two rows at a time, and then at most one more.
+/// Without `COMPACT` the loop folds two rows per iteration, and then at most one more.
 #[inline(always)]
 pub(crate) fn fold_rows<
     'x,

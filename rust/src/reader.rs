@@ -1,7 +1,7 @@
 // Made by bin/rust_crate from crates/rapidhash_portable/src/reader.rt: change that file.
 
-//! A reader with an error mark, which tells the reader's own errors from the other errors of a
-//! hash.
+//! A reader with an error mark, which distinguishes the reader's own errors from the other errors
+//! of a hash.
 //!
 //! The mark is on only if a read failed. Privacy ensures this: only `read_once` makes a
 //! `FailedRead`, and only [`Source`] turns its mark on, in `read` or for a `FailedRead`.
@@ -11,8 +11,8 @@ use std::io::{ErrorKind, Read};
 
 /// A reader, and a mark that is on if a read failed.
 ///
-/// Each hash over a source begins by clearing the mark, so after it the mark says whether a read of
-/// that call failed.
+/// Each hash over a source begins by clearing the mark. So after it the mark shows whether a read
+/// of that call failed.
 ///
 /// ```
 /// use rapidhash::reader::Source;

@@ -134,7 +134,7 @@ pub(crate) const fn reseed_of(seed: u64, place: usize) -> u64 {
     premix(seed, place)
 }
 
-/// The global seed that a random word gives.
+/// The global seed of a random word.
 pub(crate) fn global_seed_of(random: u64) -> u64 {
     rapid_mix::<false>(random ^ DEFAULT_SECRETS[0], GLOBAL_MASK)
 }

@@ -5,8 +5,8 @@
 
 use crate::util::{rapid_mix, rapid_mum, read_u64};
 
-/// The seed after the pairs of a tail: pair j takes secret j of the table, and the last 1 to 16
-/// bytes form no pair.
+/// The seed after the pairs of a tail: pair j is mixed with secret j of the table, and the last 1
+/// to 16 bytes form no pair.
 #[inline(always)]
 pub(crate) fn fold_tail<const COUNT: usize, const PROTECTED: bool>(
     tail: &[u8],

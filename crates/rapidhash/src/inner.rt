@@ -7,13 +7,13 @@
 //! Its four options are const parameters, the same for the hasher and for the states:
 //!
 //! - `AVALANCHE` mixes each write of bytes and the hash once more.
-//! - `SPONGE` collects integers and mixes 128 bits at once, in place of one multiply for each.
-//! - `COMPACT` takes rows one by one in place of two at a time: less code, the same values.
+//! - `SPONGE` collects integers and mixes 128 bits at once, instead of one multiply for each.
+//! - `COMPACT` folds one row per iteration instead of two: less code, the same values.
 //! - `PROTECTED` mixes each product with its factors.
 //!
-//! The values are those of the definition in `specs/Hasher.antt`. The Rust crate says that its own
-//! in-memory values may change between its versions: for hashes that programs of both share over
-//! time, use the portable ones.
+//! The values are those of the definition in `specs/Hasher.antt`. The Rust crate may change its own
+//! in-memory values between versions: for hashes that programs of both share over time, use the
+//! portable ones.
 
 mod hasher;
 mod sponge;

@@ -9,10 +9,10 @@ ghost use Rattle.rapidhash.specs.Keys.{one_write, one_write-Alike};
 use std::convert::AsSlice;
 use std::hash::{Hash, Hasher};
 
-/// A key of bytes, which it passes to the hasher by one write.
+/// A key of bytes, which it passes to the hasher in one write.
 ///
-/// By std's contract a `&[u8]` or a `Vec<u8>` writes its length and then each byte by a separate
-/// call, each of which takes a hash step. This key writes all its bytes at once. It holds anything
+/// By std's contract a `&[u8]` or a `Vec<u8>` writes its length and then each byte in a call of its
+/// own, which costs a hash step. This key writes all its bytes at once. It holds anything
 /// that lends bytes: `&[u8]`, `Vec<u8>`, `bytes::Bytes`, `[u8; N]` or `&str`. Two keys are equal if
 /// their bytes are.
 ///

@@ -3,7 +3,7 @@
 //! - [`v1`], [`v2`], [`v3`]: the portable hashes, whose values never change.
 //! - [`reader`]: the reader with a mark that the hashes of a reader take.
 //! - [`RapidHashMap`] and [`RapidHashSet`]: maps and sets over the fast hasher.
-//! - [`ByteKey`]: a key of bytes, which they hash by one write.
+//! - [`ByteKey`]: a key of bytes, which they hash in one write.
 //! - [`fast`], [`quality`]: the hasher and the states of maps, without and with an avalanche.
 //! - [`inner`]: the hasher of maps, with every option.
 //! - [`rng`]: a small generator.

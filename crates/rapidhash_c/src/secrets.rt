@@ -1,5 +1,5 @@
-//! Secrets made of a number, and the default secrets with a seed made of one seed word, as the C++
-//! library takes it.
+//! Secrets derived from a number, and the default secrets with a seed derived from one seed word,
+//! as in the C++ library.
 
 ghost use Rattle.std.specs.Prelude.{◌≡◌, ◌∷◌, All};
 ghost use Rattle.rapidhash.specs.Secrets.{IsGood, cpp_seeded, default_secrets, default_secrets_v1, seeded, seeded_secrets};

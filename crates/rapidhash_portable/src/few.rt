@@ -1,5 +1,5 @@
-//! Messages with few rows. Their number is a constant, so the compiler leaves no loop, and inlines
-//! the hash of such a message where it is called.
+//! Messages with few rows. Their number is a constant, so the compiler unrolls the loop and inlines
+//! the hash of such a message into its caller.
 
 ghost use Rattle.std.specs.Prelude.{◌≡◌, ◌+◌, ◌*◌, ◌≤◌, ◌<◌, drop, length};
 ghost use Rattle.rapidhash_portable.specs.Folded.{AfterRows, HaveFolded};

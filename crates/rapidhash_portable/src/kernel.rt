@@ -1,4 +1,4 @@
-//! The hashes of a slice, made of what the definition takes: bytes, a seed and secrets as they are.
+//! The hashes of a slice over the arguments of the definition: bytes, a seed and secrets.
 //! Each form is one function `hash`. It is public because the C library calls it, and the language
 //! has no visibility for just one other crate; `rapidhash` does not re-export it.
 //!

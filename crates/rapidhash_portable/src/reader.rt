@@ -1,5 +1,5 @@
-//! A reader with an error mark, which tells the reader's own errors from the other errors of a
-//! hash.
+//! A reader with an error mark, which distinguishes the reader's own errors from the other errors
+//! of a hash.
 //!
 //! The mark is on only if a read failed. Privacy ensures this: only `read_once` makes a
 //! `FailedRead`, and only [`Source`] turns its mark on, in `read` or for a `FailedRead`.
@@ -14,8 +14,8 @@ use std::io::{ErrorKind, Read};
 
 /// A reader, and a mark that is on if a read failed.
 ///
-/// Each hash over a source begins by clearing the mark, so after it the mark says whether a read of
-/// that call failed.
+/// Each hash over a source begins by clearing the mark. So after it the mark shows whether a read
+/// of that call failed.
 ///
 /// ```
 /// use rapidhash::reader::Source;

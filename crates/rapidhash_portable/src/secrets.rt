@@ -201,7 +201,7 @@ pub(crate) const fn reseed_of(seed: u64, place: usize) -> u64
     premix(seed, place)
 }
 
-/// The global seed that a random word gives.
+/// The global seed of a random word.
 #[tactic(auto, unfolding(crate::specs::Secrets::global_seed))]
 pub(crate) fn global_seed_of(random: u64) -> u64
     ensures { result ≡ global_seed random }

@@ -21,7 +21,7 @@ use std::alloc::{AllocError, Allocator};
 use std::io;
 use std::io::Read;
 
-// How many bytes a read asks for: the capacity of a Linux pipe.
+// The bytes that a read requests: the capacity of a Linux pipe.
 const PIECE: usize = 65536;
 
 impl RapidhashVersion {

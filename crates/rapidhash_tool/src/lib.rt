@@ -1,8 +1,8 @@
-//! The command line of rapidhash, without the calls to the operating system: what the arguments ask
-//! for, how the bytes are read and hashed, how the number is written, and what can go wrong.
+//! The command line of rapidhash, without the calls to the operating system: the plan that the
+//! arguments select, how bytes are read and hashed, how the number is written, and the errors.
 //!
-//! [`plan`] says what the arguments ask for, and [`run_help`], [`run_stdin`] and [`run_file`] do
-//! it: the last two print the decimal hash of what a reader has, and a newline. Every run ends with
+//! [`plan`] returns the plan, and [`run_help`], [`run_stdin`] and [`run_file`] carry it out: the
+//! last two print the decimal hash of all bytes of a reader, and a newline. Every run ends with
 //! that line or with one [`CliFault`].
 #![tactic(auto)]
 

@@ -139,7 +139,7 @@ pub fn longest_rowless<const MINOR: u8>() -> usize {
     if MINOR == 0 { 56 } else { 64 }
 }
 
-/// The place of the secret that the third pair of such a message takes.
+/// The index of the secret for the third pair of such a message.
 #[inline(always)]
 fn last_place<const MINOR: u8>() -> usize {
     if MINOR < 2 { 0 } else { 1 }

@@ -1,5 +1,5 @@
-//! What makes hashers for a map. A state keeps a seed and secrets, and nothing else. Its kind says
-//! where the seed comes from, and which calls make the state.
+//! The states, which make hashers for a map. A state keeps a seed and secrets, and nothing else.
+//! Its kind determines where the seed comes from, and which calls make the state.
 
 ghost use Rattle.std.specs.Prelude.{◌≡◌, ◌↔◌, [], IsTrue};
 ghost use Rattle.std.specs.Cmp.Rules.{comparing};

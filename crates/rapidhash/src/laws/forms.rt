@@ -5,8 +5,8 @@ ghost use Rattle.rapidhash_portable.specs.declared.form.Form.TheVariants.{V1};
 ghost use Rattle.rapidhash_portable.specs.Form.{micro, nano, v2, v3};
 ghost use Rattle.rapidhash.specs.Laws.{SameHash};
 
-/// Whether a message is so short, at most 80 bytes, that V3 micro and V3 have one hash of it,
-/// whatever the options, the seed and the secrets.
+/// Whether a message is so short, at most 80 bytes, that V3 micro and V3 have the same hash of it
+/// with any options, seed and secrets.
 ///
 /// ```
 /// assert!(micro_is_v3(b"user:4711"));

@@ -18,9 +18,9 @@ fn same_words(x: &[u8], y: &[u8]) -> bool
     x == y
 }
 
-/// Whether two messages have one length and the words that V1 reads agree, which they do exactly if
-/// the messages are equal. V1 of either is a formula over its length and these words, whatever the
-/// options, the seed and the secrets.
+/// Whether two messages have the same length and the same words, as V1 reads them: they do exactly
+/// if they are equal. With any options, seed and secrets, V1 of either is a formula over its length
+/// and these words.
 ///
 /// ```
 /// assert!(!same_words_v1::<false>(b"left", b"lift"));

@@ -194,7 +194,7 @@ pub fn longest_rowless<const MINOR: u8>() -> usize
     if MINOR == 0 { 56 } else { 64 }
 }
 
-/// The place of the secret that the third pair of such a message takes.
+/// The index of the secret for the third pair of such a message.
 #[inline(always)]
 #[tactic(auto, using(crate::proofs::Cases::tests))]
 fn last_place<const MINOR: u8>() -> usize

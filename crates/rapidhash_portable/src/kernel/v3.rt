@@ -15,7 +15,7 @@ use crate::words::{last_16, words_to_3_v3, words_to_7, words_to_16};
 
 /// Returns the hash of `bytes` with an odd number of lanes. `AVALANCHE` mixes the last product once
 /// more, `PROTECTED` mixes each product with its factors, and `COMPACT` changes the code but no
-/// value. Messages of up to `FEW` rows make no call, where it is 0, 1 or 2. A row of seven pairs is
+/// value. Messages of up to `FEW` rows make no call, if it is 0, 1 or 2. A row of seven pairs is
 /// inlined only with the default secrets: with others it makes shorter messages slower.
 #[inline(always)]
 #[tactic(auto, using(crate::proofs::Cases::no_bytes))]

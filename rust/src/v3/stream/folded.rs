@@ -71,7 +71,7 @@ impl Folded {
     }
 
     /// Folds every whole chunk of `bytes` that a further byte follows, and returns the bytes after
-    /// them. A turn of the loop takes two chunks, as in the hash of a slice.
+    /// them. An iteration folds two chunks, as in the hash of a slice.
     #[inline(always)]
     pub(crate) fn fold_chunks<'x, const LANES: usize, const PROTECTED: bool>(
         &mut self,
