@@ -34,7 +34,7 @@ defines_the_header() {
   # A header that is laid out otherwise than this test reads it has fewer.
   [ "$(wc -l <"$room/declared")" -gt 20 ] &&
     nm "${@:2}" --defined-only --extern-only --format=posix >"$room/nm" &&
-    awk 'NF > 1 { print $1 }' "$room/nm" | sort | diff "$room/declared" -
+    awk 'NF > 1 { sub(/@@RAPIDHASH_1[.][0-9]+$/, "@@RAPIDHASH_1", $1); print $1 }' "$room/nm" | sort | diff "$room/declared" -
 }
 
 # Programs find each name by the release that had it first, and no name of the shared library lacks a library.
@@ -178,7 +178,7 @@ for standard in c89 c99 c11 c17 c2x c++98 c++11 c++17 c++20 c++23; do
   try "header_$standard" compiles_alone "$standard"
 done
 try names_of_the_archive defines_the_header '' "$archive"
-try names_of_the_shared_library defines_the_header @@RAPIDHASH_1.0 -D "$shared"
+try names_of_the_shared_library defines_the_header @@RAPIDHASH_1 -D "$shared"
 try needed_library needs_the_c_library_alone
 try build_id has_a_build_id
 try code_and_data keeps_code_and_data_apart

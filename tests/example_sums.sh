@@ -128,7 +128,7 @@ prints a_list_of_all_versions "$program" -c list_of_all
 "$program" --seed 1 bytes >list
 answers check_with_a_seed 'bytes: OK\n' '' "$program" --seed 1 -c list
 says check_without_the_seed 'did NOT match' "$program" -c list
-printf 'RAPIDHASH-V4 (first) = a1266b469390773a\n' >list
+printf 'RAPIDHASH-V9 (first) = a1266b469390773a\n' >list
 says unknown_version_in_a_list 'no properly formatted' "$program" -c list
 
 # An argument that is not UTF-8 is refused; a name in a list that is not is a file that cannot be read.
@@ -138,7 +138,7 @@ says name_in_a_list_that_is_not_utf_8 UTF-8 "$program" -c list
 grep -q 'FAILED open or read' out
 tell the_name_cannot_be_read $?
 says closed_pipe 'write error' to_a_closed_pipe "$program" first first
-for words in '--tag -c' '--tag --text' '--zero -c' '--binary -c' '--text -c' '-a v4' '--seed=-1' '--seed 1 --seed 2'; do
+for words in '--tag -c' '--tag --text' '--zero -c' '--binary -c' '--text -c' '-a v9' '--seed=-1' '--seed 1 --seed 2'; do
   # shellcheck disable=SC2086
   says "refuses ${words// /_}" "for more information, try '--help'" "$program" $words first
 done
