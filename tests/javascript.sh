@@ -63,13 +63,13 @@ lay_out_for_browsers() {
 
 # The tests of the package in a browser: PROGRAM
 runs_in_a_browser() {
-  cd "$room/first" && BROWSER=$1 SERVER=$server/first node --test suite.test.mjs
+  cd "$room/first" && BROWSER=$1 SERVER=$server/first timeout 300 node --test suite.test.mjs
 }
 
 # The page in a browser, which asks its server for the page's own files and for nothing else: PROGRAM
 shows_the_page() {
   : >"$room/server.log"
-  cd "$room/first" && BROWSER=$1 PAGE=$server/browser FILES=$room/files node --test page.test.mjs &&
+  cd "$room/first" && BROWSER=$1 PAGE=$server/browser FILES=$room/files timeout 300 node --test page.test.mjs &&
     grep -q '"GET /browser/page.mjs HTTP' "$room/server.log" &&
     ! grep '" [0-9]* -$' "$room/server.log" | grep -vE '"GET /browser/[a-z]+\.(html|mjs|css) HTTP/1\.1" (200|304) -$'
 }
