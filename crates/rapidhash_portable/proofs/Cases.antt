@@ -1,4 +1,4 @@
--- What attributes name: tests of numbers, and the lemmas that bodies are proved by.
+-- The rulesets that attributes name: tests of numbers, and the lemmas that prove function bodies.
 use Rattle.std.proofs.lemmas.Bool.Decides.{nat_tests}
 use Rattle.rapidhash_portable.proofs.FoldedLemmas.{AfterRows-none}
 use Rattle.rapidhash_portable.proofs.FormLemmas.{shape_of-v3-none}

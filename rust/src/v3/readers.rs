@@ -78,22 +78,22 @@ pub fn rapidhash_v3_source_lanes<
     secrets: &RapidSecrets,
 ) -> io::Result<u64> {
     prove!(SIZE > 0, "SIZE must be at least 1");
+    let hasher = RapidStreamHasherLanes::new(secrets);
     // No array is larger than `isize::MAX`: the `else` is dead, and spares callers a precondition.
     if SIZE <= isize::MAX as usize {
-        read_all::<R, LANES, SIZE, PROTECTED>(source, secrets)
+        read_all::<R, LANES, SIZE, PROTECTED>(source, hasher)
     } else {
-        read_all::<R, LANES, BUFFER, PROTECTED>(source, secrets)
+        read_all::<R, LANES, BUFFER, PROTECTED>(source, hasher)
     }
 }
 
-/// The loop of every hash here. It is out of line because of its buffer.
+/// The loop of every hash here, from a hasher of no bytes. It is out of line because of its buffer.
 #[inline(never)]
 fn read_all<R: Read, const LANES: usize, const SIZE: usize, const PROTECTED: bool>(
     source: &mut Source<R>,
-    secrets: &RapidSecrets,
+    mut hasher: RapidStreamHasherLanes<'_, LANES, true, PROTECTED>,
 ) -> io::Result<u64> {
     source.clear();
-    let mut hasher = RapidStreamHasherLanes::<LANES, true, PROTECTED>::new(secrets);
     let mut buffer = [0u8; SIZE];
     for _turn in 0..u64::MAX {
         let n = source.read(&mut buffer)?;

@@ -3,13 +3,14 @@
 //!
 //! One loop makes all the reads, in `read_all`.
 
-ghost use Rattle.std.specs.Prelude.{◌<◌, ◌^◌, false, true};
+ghost use Rattle.std.specs.Prelude.{◌<◌, ◌^◌, [], false, true};
 ghost use Rattle.rapidhash_portable.specs.declared.form.Form.TheVariants.{V3};
 ghost use Rattle.rapidhash_portable.specs.Form.{options, standard, v3};
 ghost use Rattle.rapidhash_portable.specs.Lanes.{IsLaneCount};
 ghost use Rattle.rapidhash_portable.specs.Reading.{HashesAll, HashesKnown, MarksFailures};
 ghost use Rattle.rapidhash_portable.specs.Hash.{default_hash, seeded_hash};
 ghost use Rattle.rapidhash_portable.specs.Source.{is_marked, reader_of};
+ghost use Rattle.rapidhash_portable.specs.Stream.{StreamStandsFor, secrets_of};
 
 use super::stream::RapidStreamHasherLanes;
 use crate::reader::Source;
@@ -99,30 +100,31 @@ pub fn rapidhash_v3_source_lanes<
     ensures mark { MarksFailures result (is_marked source.new) ErrorKind.Other }
 {
     prove!(SIZE > 0, "SIZE must be at least 1");
+    let hasher = RapidStreamHasherLanes::new(secrets);
     // No array is larger than `isize::MAX`: the `else` is dead, and spares callers a precondition.
     if SIZE <= isize::MAX as usize {
-        read_all::<R, LANES, SIZE, PROTECTED>(source, secrets)
+        read_all::<R, LANES, SIZE, PROTECTED>(source, hasher)
     } else {
-        read_all::<R, LANES, BUFFER, PROTECTED>(source, secrets)
+        read_all::<R, LANES, BUFFER, PROTECTED>(source, hasher)
     }
 }
 
-/// The loop of every hash here. It is out of line because of its buffer.
+/// The loop of every hash here, from a hasher of no bytes. It is out of line because of its buffer.
 #[inline(never)]
 fn read_all<R: Read, const LANES: usize, const SIZE: usize, const PROTECTED: bool>(
     source: &mut Source<R>,
-    secrets: &RapidSecrets,
+    mut hasher: RapidStreamHasherLanes<'_, LANES, true, PROTECTED>,
 ) -> io::Result<u64>
-    requires lanes { IsLaneCount LANES }
+    requires empty { StreamStandsFor PROTECTED hasher [] }
     requires room { 0 < SIZE }
     requires few { SIZE < 2 ^ 63 }
     ensures all { HashesAll
         (R.remaining (reader_of source.old)) (R.remaining (reader_of source.new)) result
-        (λ _. is_marked source.new) (seeded_hash (V3 LANES) (options true PROTECTED) secrets.now) }
+        (λ _. is_marked source.new)
+        (seeded_hash (V3 LANES) (options true PROTECTED) (secrets_of hasher.entry)) }
     ensures mark { MarksFailures result (is_marked source.new) ErrorKind.Other }
 {
     source.clear();
-    let mut hasher = RapidStreamHasherLanes::<LANES, true, PROTECTED>::new(secrets);
     let mut buffer = [0u8; SIZE];
     for _turn in 0..u64::MAX {
         let n = source.read(&mut buffer)?;

@@ -2,6 +2,7 @@
 
 //! A stream hasher that C can hold: the number of lanes is a field, not a parameter of the type.
 
+use super::folded::Folded;
 use super::parts::Parts;
 use crate::secrets::RapidSecrets;
 
@@ -36,10 +37,12 @@ impl<'a> RapidStream<'a> {
             "the lanes must be 7, 5 or 3"
         );
         RapidStream {
-            parts: match lanes {
-                7 => Parts::new::<7, false>(secrets),
-                5 => Parts::new::<5, false>(secrets),
-                _ => Parts::new::<3, false>(secrets),
+            parts: Parts {
+                secrets,
+                folded: Folded::new(secrets.seed),
+                any: false,
+                kept: [0; 128],
+                len: 0,
             },
             lanes,
         }

@@ -55,20 +55,6 @@ fn copy_piece(room: &mut [u8], piece: &[u8]) {
 }
 
 impl<'a> Parts<'a> {
-    /// The data of no bytes.
-    #[inline(always)]
-    pub(crate) fn new<const LANES: usize, const PROTECTED: bool>(
-        secrets: &'a RapidSecrets,
-    ) -> Self {
-        Parts {
-            secrets,
-            folded: Folded::new(secrets.seed),
-            any: false,
-            kept: [0; 128],
-            len: 0,
-        }
-    }
-
     /// Adds a piece.
     #[inline(always)]
     pub(crate) fn write<const LANES: usize, const PROTECTED: bool>(&mut self, piece: &[u8]) {

@@ -4,22 +4,14 @@
 //! that lends an array, so each method here is one line, and all code is in `parts`.
 
 use super::parts::Parts;
-use crate::secrets::RapidSecrets;
 
 /// The data of a stream hasher, of which at most one chunk is buffered.
 #[derive(Clone, Debug)]
 pub(crate) struct State<'a, const LANES: usize> {
-    parts: Parts<'a>,
+    pub(super) parts: Parts<'a>,
 }
 
 impl<'a, const LANES: usize> State<'a, LANES> {
-    #[inline(always)]
-    pub(crate) fn new<const PROTECTED: bool>(secrets: &'a RapidSecrets) -> Self {
-        State {
-            parts: Parts::new::<LANES, PROTECTED>(secrets),
-        }
-    }
-
     #[inline(always)]
     pub(crate) fn write<const PROTECTED: bool>(&mut self, piece: &[u8]) {
         self.parts.write::<LANES, PROTECTED>(piece);

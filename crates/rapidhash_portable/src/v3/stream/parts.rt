@@ -72,23 +72,6 @@ fn copy_piece(room: &mut [u8], piece: &[u8])
 impl<'a> Parts<'a> {
     ghost use Rattle.rapidhash_portable.specs.Stream.{PartsStandFor};
 
-    /// The data of no bytes.
-    #[inline(always)]
-    pub(crate) fn new<const LANES: usize, const PROTECTED: bool>(secrets: &'a RapidSecrets) -> Self
-        ensures empty { PartsStandFor PROTECTED LANES result [] }
-        ensures count { result.folded.count.steps ≡ 0 }
-        ensures secrets { result.secrets.now ≡ secrets.now }
-        ensures len { result.len ≡ 0 }
-    {
-        Parts {
-            secrets,
-            folded: Folded::new(secrets.seed),
-            any: false,
-            kept: [0; 128],
-            len: 0,
-        }
-    }
-
     /// Adds a piece.
     #[inline(always)]
     pub(crate) fn write<const LANES: usize, const PROTECTED: bool>(&mut self, piece: &[u8])

@@ -8,30 +8,17 @@ ghost use Rattle.rapidhash_portable.specs.Form.{options};
 ghost use Rattle.rapidhash_portable.specs.Hash.{seeded_hash};
 
 use super::parts::Parts;
-use crate::secrets::RapidSecrets;
 
 /// The data of a stream hasher, of which at most one chunk is buffered.
 #[derive(Drop)]
 pub(crate) struct State<'a, const LANES: usize> {
-    parts: Parts<'a>,
+    pub(super) parts: Parts<'a>,
     ghost lanes: { IsLaneCount LANES },
     ghost fits: { parts.len ≤ 16 * LANES },
 }
 
 impl<'a, const LANES: usize> State<'a, LANES> {
     ghost use Rattle.rapidhash_portable.specs.Stream.{PartsStandFor};
-
-    #[inline(always)]
-    pub(crate) fn new<const PROTECTED: bool>(secrets: &'a RapidSecrets) -> Self
-        requires lanes { IsLaneCount LANES }
-        ensures empty { PartsStandFor PROTECTED LANES result.parts [] }
-        ensures count { result.parts.folded.count.steps ≡ 0 }
-        ensures secrets { result.parts.secrets.now ≡ secrets.now }
-    {
-        State {
-            parts: Parts::new::<LANES, PROTECTED>(secrets),
-        }
-    }
 
     #[inline(always)]
     pub(crate) fn write<const PROTECTED: bool>(&mut self, piece: &[u8])

@@ -7,7 +7,7 @@ use Rattle.rapidhash_portable.proofs.v3.readers.read_all.Given as goal
 abbrev pub invariant-loop-turn : goal.invariant-loop-turn
 invariant-loop-turn g l = record {
   clean : is_marked l.source ≡ false;
-  secrets : secrets_of l.hasher ≡ l.secrets;
+  secrets : secrets_of l.hasher ≡ secrets_of l.fn.hasher;
   size : length l.buffer ≡ g.row.SIZE;
   read : HaveRead (g.R.Read.remaining (reader_of l.fn.source)) (g.R.Read.remaining (reader_of l.source)) (λ x. StreamStandsFor (not (nat_eq g.row.PROTECTED 0)) l.hasher x) l._turn;
 }
