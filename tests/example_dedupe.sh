@@ -72,10 +72,10 @@ touch odd/$'bad\xff'
   [ "$(cat "$room/log")" = 'example_dedupe: odd: contains a file name that is not valid UTF-8' ]
 tell a_name_below_that_is_not_utf_8 $?
 rm odd/$'bad\xff'
-mkdir odd/locked && chmod 000 odd/other odd/locked
+mkdir odd/locked && cp odd/zeros odd/equal && chmod 000 odd/equal odd/other odd/locked
 "${as_user[@]}" "$program" odd >out 2>"$room/log"
 [ $? -eq 1 ] && cmp -s out wanted && cmp -s "$room/log" <(
-  printf 'example_dedupe: odd/%s: Permission denied (os error 13)\n' locked other
+  printf 'example_dedupe: odd/%s: Permission denied (os error 13)\n' locked equal other
 )
 tell a_folder_and_a_file_that_cannot_be_read $?
 

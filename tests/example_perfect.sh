@@ -30,6 +30,7 @@ seq 1 2000 >asked
 (numbered few; seq 1001 2000 | sed 's/^/absent /') >wanted
 prints a_list_that_takes_many_seeds "$program" few <asked
 answers last_lines_without_a_newline '3 plum\n2 \nabsent fig\n' 'plum\n\nfig' "$program" fruit
+answers a_return_is_a_part_of_its_line 'absent pear\r\n1 pear\n' 'pear\r\npear' "$program" fruit
 printf '\377\n' >bytes
 answers lines_that_are_not_utf_8 '1 \377\nabsent \376\n' '\377\n\376\n' "$program" bytes
 answers an_empty_list_has_no_line 'absent fig\nabsent \n' 'fig\n\n' "$program" /dev/null
@@ -38,6 +39,8 @@ answers no_line_is_asked '' '' "$program" fruit
 exec </dev/null
 printf 'one\ntwo\nthree\ntwo\nfour\n' >twice
 fault a_line_given_twice 1 'lines 2 and 4 of twice are the same' "$program" twice
+printf '\n\n' >empty
+fault an_empty_line_given_twice 1 'lines 1 and 2 of empty are the same' "$program" empty
 fault no_list_is_named 2 'expected exactly one LIST' "$program"
 fault two_lists_are_named 2 'expected exactly one LIST' "$program" odd even
 fault list_with_the_name_of_an_option 1 'could not read --size: No such file or directory (os error 2)' \

@@ -21,6 +21,14 @@ tell lines_move_only_to_the_added_node $?
 cp two wanted
 prints a_removed_node_leaves_no_trace "$program" red blue <lines
 
+prints nodes_in_another_order "$program" blue red <lines
+
+# The nodes of ten lines by the Rust crate.
+ten='1\n2\n3\n4\n5\n6\n7\n8\n9\n10'
+answers lines_of_three_nodes 'red\t1\nred\t2\nblue\t3\nred\t4\nblue\t5\nred\t6\nblue\t7\ngreen\t8\nred\t9\nblue\t10\n' \
+  "$ten" "$program" red green blue
+answers counts_of_three_nodes 'red\t5\ngreen\t1\nblue\t4\n' "$ten" "$program" --counts red green blue
+
 answers bytes_that_are_no_text_and_a_last_line_without_its_end 'red\ta\xff\nred\t\nred\tlast\n' 'a\xff\n\nlast' \
   "$program" red
 answers no_lines '' '' "$program" red

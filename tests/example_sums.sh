@@ -103,8 +103,30 @@ says() {
 
 # The line of a known hash, which rapidhash prints in decimal.
 answers known_line 'a1266b469390773a  first\n' '' "$program" first
-echo 'A1266B469390773A  first' >upper
-answers upper_case 'first: OK\n' '' "$program" -c upper
+# Lines of other programs: capital digits, a star, blanks in front, and a return at the end.
+printf '%b\n' 'A1266B469390773A  first' 'a1266b469390773a *first' ' \ta1266b469390773a  first' \
+  'a1266b469390773a  first\r' 'RAPIDHASH-V1 (first) = DD91317EEFDB7BF5\r' >others
+answers lines_of_other_programs 'first: OK\nfirst: OK\nfirst: OK\nfirst: OK\nfirst: OK\n' '' "$program" -c others
+cp first '\x stands for itself'
+cat >malformed <<'LINES'
+# a comment
+
+a1266b469390773  one digit short
+a1266b469390773g  no digit
+a1266b469390773a name
+a1266b469390773a	name
+a1266b469390773a
+\a1266b469390773a  a backslash at the end\
+\a1266b469390773a  \x is no escape
+RAPIDHASH-V4 (name) = a1266b469390773a
+RAPIDHASH-V3:7 (name) = a1266b469390773a
+RAPIDHASH-V3 (name = a1266b469390773a
+RAPIDHASH-V3
+a1266b469390773a  \x stands for itself
+LINES
+"$program" -c -w malformed >out 2>"$room/log"
+sed -n 's/.*malformed: \([0-9]*\): .*/\1/p' "$room/log" | cmp - <(seq 3 13) && grep -qxF '\\\x stands for itself: OK' out
+tell each_malformed_line_is_named $?
 
 # The values of the Rust crate for the bytes 0 to 119, or 0 to 59, with the default seed and with seed word 1.
 printf '%b' "$(printf '\\x%02x' {0..119})" >bytes && head -c 60 bytes >half

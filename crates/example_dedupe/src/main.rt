@@ -11,8 +11,6 @@ mod groups;
 mod names;
 mod print;
 mod store;
-#[cfg(test)]
-mod tests;
 
 ghost use Rattle.std.specs.Prelude.{true, false};
 ghost use Rattle.rapidhash_portable.specs.Form.{standard, v3};

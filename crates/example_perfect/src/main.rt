@@ -8,8 +8,6 @@
 mod displace;
 pub mod lookup;
 pub mod table;
-#[cfg(test)]
-mod tests;
 
 use anyhow::{Context, Error, Result, anyhow};
 use std::io::{BufReader, BufWriter};

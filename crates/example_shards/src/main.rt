@@ -11,8 +11,6 @@ mod error;
 mod nodes;
 mod shards;
 mod spread;
-#[cfg(test)]
-mod tests;
 
 use args::gather;
 use error::Error;

@@ -3,14 +3,10 @@
 
 mod algorithm;
 mod check;
-#[cfg(test)]
-mod check_tests;
 mod console;
 mod disk;
 mod entry;
 mod line;
-#[cfg(test)]
-mod line_tests;
 mod list;
 mod names;
 mod parts;
