@@ -1,11 +1,8 @@
-//! The options of the short names: what `fast` and `quality` name, and the maps and sets.
+//! The options of the short names: what `fast` and `quality` name.
 
 use rapidhash::inner::{GlobalSecrets, SeedSource};
-use rapidhash::{HashMapExt, HashSetExt, RapidHashMap, RapidHashSet, fast, inner, quality};
-use std::alloc::Global;
-use std::collections::{HashMap, HashSet};
+use rapidhash::{fast, inner, quality};
 use std::hash::{BuildHasher, Hasher};
-use std::test::Fail;
 
 /// The hasher with a sponge, and with no other option but an avalanche.
 type Sponge<'s, const AVALANCHE: bool> = inner::RapidHasher<'s, AVALANCHE, true, false, false>;
@@ -53,18 +50,6 @@ fn quality_seedable(
     state: quality::SeedableState<'_>,
 ) -> inner::SeedableState<'_, true, true, false, false> {
     state
-}
-
-fn map<'s>(
-    map: RapidHashMap<'s, u32, u64>,
-) -> HashMap<u32, u64, inner::RandomState<'s, false, true, false, false>, Global> {
-    map
-}
-
-fn set<'s>(
-    set: RapidHashSet<'s, u32>,
-) -> HashSet<u32, inner::RandomState<'s, false, true, false, false>, Global> {
-    set
 }
 
 /// The hash of an integer, which waits in the sponge, and four bytes.
@@ -116,19 +101,4 @@ fn quality_states_of_known_seeds(rt: HostRuntime) {
         answer::<true>(seedable.build_hasher()),
         4813190096566161236
     );
-}
-
-/// A map and a set under their full names still hold what they held.
-#[test]
-fn maps_and_sets_are_those_of_the_fast_state(rt: HostRuntime) -> Result<(), Fail> {
-    let secrets = GlobalSecrets::new(1);
-    let mut source = SeedSource::new(&secrets, 2);
-    let state = fast::RandomState::new(&secrets, &mut source);
-    let mut counts: RapidHashMap<u32, u64> = HashMapExt::new(rt.alloc(), state);
-    let _ = counts.insert(4711, 3)?;
-    assert_eq!(rt; map(counts).get(&4711).copied(), Some(3));
-    let mut keys: RapidHashSet<u32> = HashSetExt::new(rt.alloc(), state);
-    let _ = keys.insert(4711)?;
-    assert!(rt; set(keys).contains(&4711));
-    Ok(())
 }

@@ -107,25 +107,6 @@ fn new_asks_for_no_memory(rt: HostRuntime) -> Result<(), Fail> {
     Ok(())
 }
 
-/// Empty maps and sets hold no byte of a heap that has room for them, and the first insert
-/// allocates some.
-#[test]
-fn new_leaves_free_memory_alone(rt: HostRuntime) -> Result<(), Fail> {
-    let secrets = GlobalSecrets::new(1);
-    let mut source = SeedSource::new(&secrets, 2);
-    let state = fast::RandomState::new(&secrets, &mut source);
-    let heap = LocalHeap::new(rt.alloc(), 4096)?;
-    let mut map: RapidHashMap<u32, u32, _> = HashMapExt::new(&heap, state);
-    let mut set: RapidHashSet<u32, _> = HashSetExt::new(&heap, state);
-    assert_eq!(rt; heap.used(), 0);
-    let _ = map.insert(4711, 1)?;
-    let held = heap.used();
-    assert!(rt; 0 < held);
-    let _ = set.insert(4711)?;
-    assert!(rt; held < heap.used());
-    Ok(())
-}
-
 /// Room for ten keys is enough for ten keys: the heap has no byte left once the map and the set are
 /// made, so an insert that allocated would fail.
 #[test]

@@ -10,11 +10,7 @@ mod blocks;
 #[cfg(test)]
 mod collections;
 #[cfg(test)]
-mod examples;
-#[cfg(test)]
 mod generator;
-#[cfg(test)]
-mod integers;
 #[cfg(test)]
 mod items;
 #[cfg(test)]

@@ -1,5 +1,3 @@
-// Made by bin/rust_crate from crates/test_hasher/src/integers.rt: change that file.
-
 //! Each call that takes an integer, by itself.
 
 use rapidhash::inner::{RapidHasher, SeedableState};

@@ -43,6 +43,25 @@ fn states_of_known_seeds() {
     assert_eq!(hash_of(&random), 16952220623277801737);
 }
 
+/// Hashers without a state. The hashes are the crate's.
+#[test]
+fn hashers_of_known_seeds() {
+    let (mut fast, mut quality) = (
+        fast::RapidHasher::default(),
+        quality::RapidHasher::default(),
+    );
+    fast.write(b"user:4711");
+    quality.write(b"user:4711");
+    assert_eq!(fast.finish(), 8987465637866267961);
+    assert_eq!(quality.finish(), 10149454754179209030);
+    let mut seeded = fast::RapidHasher::new(0x1234_5678);
+    seeded.write_u32(7);
+    assert_eq!(seeded.finish(), 10860222744612077996);
+    let mut byte = fast::RapidHasher::default();
+    byte.write_u8(2);
+    assert_eq!(byte.finish(), 10048983286878558978);
+}
+
 /// Each type builds hashers of its own options.
 #[test]
 fn aliases_name_their_options() {
