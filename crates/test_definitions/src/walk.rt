@@ -1,5 +1,5 @@
-//! The hash of what has pairs: a message, or the words that a form reads of one. Every lane goes by
-//! itself over its own column of all pairs, as in the definition.
+//! The hash of a message, or of the words that a form reads of one. Every lane folds its own column
+//! of all pairs alone, as in the definition.
 
 ghost use Rattle.std.specs.Prelude.{◌≡◌, ◌≤◌, ◌<◌, ◌+◌, ◌*◌, ◌-◌, ◌/◌, ℕ, length};
 ghost use Rattle.rapidhash_portable.specs.Form.{IsForm};
