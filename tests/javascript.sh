@@ -31,18 +31,6 @@ compiles() {
   cd "$room/first" && tsc --noEmit --strict --target es2020 --module node16 --moduleResolution node16 "$@"
 }
 
-test_package() {
-  local name
-  try install works_as_its_page_says "$top/bindings/javascript/README.md"
-  try files has_its_files
-  try lay_out lay_out
-  for name in known refused vectors node; do
-    try "node_$name" runs_in_node "$name"
-  done
-  try_with types tsc compiles --lib es2020,dom types.mts
-  try_with types_alone tsc compiles --lib es2020 node_modules/yervound-rapidhash/index.d.ts
-}
-
 # A server of the room, whose address comes into the variable `server`.
 serve() {
   python3 -u -m http.server 0 --bind 127.0.0.1 --directory "$room" >>"$room/server.log" 2>&1 &
@@ -68,17 +56,20 @@ works_in_a_browser() {
     grep -vE '"GET /(browser/[a-z]+\.(html|mjs|css)|first/.*) HTTP/1\.1" (200|304) -$'
 }
 
-# Each browser where the program is that drives it.
-test_browsers() {
-  try lay_out_for_browsers lay_out_for_browsers
-  try_with chromium chromedriver works_in_a_browser chromium
-  try_with firefox-esr firefox-esr works_in_a_browser firefox-esr
-  jobs -p | xargs kill
-}
-
 for program in node npm; do
   command -v "$program" >/dev/null || { echo "skipped javascript: no $program" && finish; }
 done
-test_package
-test_browsers
+try install works_as_its_page_says "$top/bindings/javascript/README.md"
+try files has_its_files
+try lay_out lay_out
+for name in known refused vectors node; do
+  try "node_$name" runs_in_node "$name"
+done
+try_with types tsc compiles --lib es2020,dom types.mts
+try_with types_alone tsc compiles --lib es2020 node_modules/yervound-rapidhash/index.d.ts
+# Each browser where the program is that drives it.
+try lay_out_for_browsers lay_out_for_browsers
+try_with chromium chromedriver works_in_a_browser chromium
+try_with firefox-esr firefox-esr works_in_a_browser firefox-esr
+jobs -p | xargs kill
 finish
