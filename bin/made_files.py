@@ -8,13 +8,6 @@ from pathlib import Path
 TOP = Path(__file__).resolve().parent.parent
 
 
-def stale_lines(name, text):
-    """The differences between a file and what it should be."""
-    file = TOP / name
-    old = file.read_text().splitlines() if file.exists() else []
-    return [*difflib.unified_diff(old, text.splitlines(), name, "what it should be", n=0, lineterm="")]
-
-
 def run(script, usage, files):
     """Runs a script by its words: none, --write or --check. FILES are texts by their files."""
     words = sys.argv[1:]
@@ -23,11 +16,13 @@ def run(script, usage, files):
         return 2
     stale = []
     for name, text in files.items():
+        file = TOP / name
         if words == ["--write"]:
-            (TOP / name).parent.mkdir(parents=True, exist_ok=True)
-            (TOP / name).write_text(text)
+            file.parent.mkdir(parents=True, exist_ok=True)
+            file.write_text(text)
         elif words == ["--check"]:
-            stale += stale_lines(name, text)
+            old = file.read_text().splitlines() if file.exists() else []
+            stale += difflib.unified_diff(old, text.splitlines(), name, "what it should be", n=0, lineterm="")
         else:
             print(text, end="")
     if stale:

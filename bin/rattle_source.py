@@ -144,10 +144,9 @@ class Module:
 
     def walk(self, path, crates):
         """The module that a path names from here."""
-        if path[0] in crates:
-            return crates[path[0]].walk(["crate", *path[1:]], crates)
-        module = self.top if path[0] == "crate" else self
-        for name in path[1:] if path[0] == "crate" else path:
+        roots = crates | {"crate": self.top}
+        module = roots.get(path[0], self)
+        for name in path[1:] if path[0] in roots else path:
             module = module.modules[name]
         return module
 

@@ -43,10 +43,6 @@ needs_the_c_library_alone() {
     [ "$(nm -D --undefined-only "$shared" | awk '{ print $2 }')" = memmove@GLIBC_2.2.5 ]
 }
 
-has_a_build_id() {
-  readelf -n "$shared" | grep -E '^ *Build ID: [0-9a-f]{40}$'
-}
-
 # No relocation changes the code, no page can be both written and run, and the tables of the dynamic linker can be
 # written at no time after it has filled them.
 keeps_code_and_data_apart() {
@@ -64,9 +60,9 @@ keeps_unwind_tables() {
     readelf -lW "$room/probe.so" | grep GNU_EH_FRAME
 }
 
-# Every call of the library, linked by the words of a compiler: COMPILER WORD..
+# Every call of the library, linked with an archive by the words of a compiler: COMPILER WORD..
 calls_from_c() {
-  "$@" -O2 -Wall -Wextra -Werror -o "$room/c_library" && LD_LIBRARY_PATH=$room/lib "$room/c_library"
+  "$@" -O2 -Wall -Wextra -Werror -o "$room/c_library" && "$room/c_library"
 }
 
 # All of the header for C++, over the vectors, also where a program has no exceptions: COMPILER STANDARD
@@ -150,10 +146,6 @@ test_go() {
   try go_page in_go works_as_its_page_says README.md
 }
 
-calls_from_python() {
-  cp "$top/share/check_vectors.py" "$room" && PYTHONPATH=$top/bindings/python python3 -B "$room/check_vectors.py"
-}
-
 # The library of the Rust crate, in a room of its own.
 test_library_of_rust() {
   local room=$room/rust
@@ -167,7 +159,8 @@ test_library_of_rust() {
   try rust_c_archive calls_from_c cc -std=c99 -I"$top/include" "$top/tests/c_library.c" "$archive"
   try rust_c_shared builds_by_pkg_config "$room/lib"
   try_with rust_cpp_header g++ calls_from_cpp g++ c++11
-  try rust_python calls_from_python
+  cp "$top/share/check_vectors.py" "$room"
+  try rust_python env PYTHONPATH="$top/bindings/python" python3 -B "$room/check_vectors.py"
   try_with rust_go go in_go go test -count 1 -tags rapidhash_cgo .
 }
 
@@ -180,12 +173,10 @@ done
 try names_of_the_archive defines_the_header '' "$archive"
 try names_of_the_shared_library defines_the_header @@RAPIDHASH_1 -D "$shared"
 try needed_library needs_the_c_library_alone
-try build_id has_a_build_id
+try build_id bash -c 'readelf -n "$1" | grep -E "^ *Build ID: [0-9a-f]{40}\$"' - "$shared"
 try code_and_data keeps_code_and_data_apart
 try unwind_tables keeps_unwind_tables
 try c_archive calls_from_c cc -std=c99 -I"$top/include" "$top/tests/c_library.c" "$archive"
-try c_shared calls_from_c cc -std=c99 -I"$top/include" "$top/tests/c_library.c" "$shared"
-try c_by_pkg_config builds_by_pkg_config "$room/lib"
 try cpp_archive calls_from_c c++ -I"$top/include" -x c++ "$top/tests/c_library.c" -x none "$archive"
 for standard in c++11 c++17 c++20; do
   try_with "cpp_header_$standard" g++ calls_from_cpp g++ "$standard"

@@ -1,7 +1,10 @@
-"""What a Python script of tests reads first: `ROOM`, a folder of its own that goes when the script ends, and the
-counts of its cases. `TOP` is the repository."""
+"""What a Python script of tests reads first: `ROOM`, a folder of its own that goes when the script ends, the
+counts of its cases, and what runs commands and finds code blocks. `TOP` is the repository."""
 
 import atexit
+import os
+import re
+import subprocess
 import sys
 import tempfile
 from pathlib import Path
@@ -23,6 +26,19 @@ def tell(name, *findings):
 def compare(name, found, wanted):
     """Counts a case, which passes where both are equal."""
     tell(name, *[f"{found!r} is not {wanted!r}"] * (found != wanted))
+
+
+def shell(command, folder=TOP, **words):
+    """The status of a command, and what it prints."""
+    words = dict(os.environ, YERVOUND=str(TOP), ROOM=str(ROOM), **words)
+    done = subprocess.run(["bash", "-ec", command], cwd=folder, env=words, stdin=subprocess.DEVNULL,
+                          stdout=subprocess.PIPE, stderr=subprocess.STDOUT, text=True)
+    return done.returncode, done.stdout
+
+
+def blocks(page, language):
+    """The code blocks of a page that are of one language, or of one of several with bars between."""
+    return re.findall(rf"^```(?:{language})\n(.*?)^```$", (TOP / page).read_text(), re.M | re.S)
 
 
 def finish():

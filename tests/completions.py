@@ -4,10 +4,9 @@ what the line becomes, or what is offered. A shell that is not installed has no 
 
 import os
 import shutil
-import subprocess
 
 import pexpect
-from cases import ROOM, TOP, compare, finish
+from cases import ROOM, TOP, compare, finish, shell
 
 SHARE = TOP / "share"
 
@@ -31,20 +30,12 @@ LINES = [
     ("a file after the version", "rapidsum --version o", "rapidsum|--version|o"),
 ]
 
-# What fish offers for a line.
+# What fish offers where that is not the one word which LINES has, or nothing where the line stays.
 OFFERS = [
-    ("files", "rapidhash o", ["only"]),
     ("versions", "rapidhash --v3-", ["--v3-micro", "--v3-nano"]),
     ("a second version", "rapidhash --v1 --v", []),
-    ("a file whose name begins with a hyphen", "rapidhash -d", []),
-    ("such a file by a path", "rapidhash ./-d", ["./-dash"]),
-    ("files after the help", "rapidhash --help o", []),
-    ("a second file for sums", "rapidsum only o", ["only"]),
     ("options for sums", "rapidsum --st", ["--status", "--strict"]),
     ("versions for sums", "rapidsum --algorithm v2", ["v2.0", "v2.1", "v2.2"]),
-    ("a hyphen before two hyphens", "rapidsum -d", []),
-    ("a hyphen after two hyphens", "rapidsum -- -d", ["-dash"]),
-    ("files after the version", "rapidsum -V o", []),
 ]
 
 # How each shell starts, what it reads first, and how the words of its line are shown.
@@ -74,13 +65,13 @@ def press_tabs(shell, words, lines):
 
 
 def ask_fish():
-    if shutil.which("fish") is None:
-        return
+    """All lines but that with a variable, for which fish offers a description too. It offers options after the help."""
     sources = "".join(f"source '{SHARE}/{name}.fish'; " for name in ("rapidhash", "rapidsum"))
-    for name, line, wanted in OFFERS:
-        done = subprocess.run(["fish", "--no-config", "-c", f"{sources} complete -C '{line}'"], cwd=ROOM,
-                              stdout=subprocess.PIPE, stderr=subprocess.STDOUT, text=True)
-        compare(f"fish: {name}", [row.partition("\t")[0] for row in done.stdout.splitlines()], wanted)
+    single = [(name, line, [] if line.replace(" ", "|") == words else [words.rpartition("|")[2]])
+              for name, line, words in LINES if "$" not in line and "--help --" not in line]
+    for name, line, wanted in single + OFFERS:
+        _, printed = shell('fish --no-config -c "$COMMANDS"', ROOM, COMMANDS=f"{sources} complete -C '{line}'")
+        compare(f"fish: {name}", [row.partition("\t")[0] for row in printed.splitlines()], wanted)
 
 
 for made in ("only", "-dash"):
@@ -91,5 +82,6 @@ for program in ("rapidhash", "rapidsum"):
 for program, how in SHELLS.items():
     if shutil.which(program):
         press_tabs(program, *how)
-ask_fish()
+if shutil.which("fish"):
+    ask_fish()
 finish()

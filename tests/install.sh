@@ -26,11 +26,6 @@ prints_and_checks_a_sum() {
     "$prefix/bin/rapidsum" "$room/file" | "$prefix/bin/rapidsum" --check | grep -qx "$room/file: OK"
 }
 
-links_the_archive() {
-  cc -O2 -Wall -Werror -I"$prefix/include" "$top/tests/c_library.c" "$prefix/lib/librapidhash_c.a" \
-    -o "$room/c_library" && "$room/c_library"
-}
-
 # Every option that the help of a program names stands in a file: PROGRAM, how many there are, FILE.
 names_every_option() {
   local option pattern
@@ -184,7 +179,6 @@ try install installs PREFIX="$prefix"
 try program prints_the_known_hash "$prefix"
 try program_of_sums prints_and_checks_a_sum
 try shared_library builds_by_pkg_config "$prefix/lib"
-try static_library links_the_archive
 try first_program runs_as_the_pages_say
 try_with first_program_by_cmake cmake by_cmake_as_the_page_says
 try moved_folder serves_a_moved_folder

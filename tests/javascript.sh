@@ -31,18 +31,6 @@ compiles() {
   cd "$room/first" && tsc --noEmit --strict --target es2020 --module node16 --moduleResolution node16 "$@"
 }
 
-test_package() {
-  local name
-  try install works_as_its_page_says "$top/bindings/javascript/README.md"
-  try files has_its_files
-  try lay_out lay_out
-  for name in known refused vectors node; do
-    try "node_$name" runs_in_node "$name"
-  done
-  try_with types tsc compiles --lib es2020,dom types.mts
-  try_with types_alone tsc compiles --lib es2020 node_modules/yervound-rapidhash/index.d.ts
-}
-
 # A server of the room, whose address comes into the variable `server`.
 serve() {
   python3 -u -m http.server 0 --bind 127.0.0.1 --directory "$room" >>"$room/server.log" 2>&1 &
@@ -51,42 +39,37 @@ serve() {
   done
 }
 
-# Lays out what both browsers are served: the tests beside the package, and the page. The hashes of the two
-# files that no vector has are those of the C library for x86-64.
+# Lays out what both browsers are served: the tests beside the package, and the page.
 lay_out_for_browsers() {
-  make -s -C "$top" library page && cp "$top"/tests/browsers/* "$room/first" && cp -r "$top/build/browser" "$room" &&
+  make -s -C "$top" tool page && cp "$top"/tests/browsers/* "$room/first" && cp -r "$top/build/browser" "$room" &&
     serve && mkdir "$room/files" && cd "$room/files" && mv ../first/large . && cat large large >double &&
-    truncate -s 1073741825 long && : >empty &&
-    RAPIDHASH_LIBRARY=$top/build/librapidhash_c.so.1 PYTHONPATH=$top/bindings/python \
-      python3 -B "$room/first/hashes.py" double long >hashes
+    truncate -s 1073741825 long && : >empty
 }
 
-# The tests of the package in a browser: PROGRAM
-runs_in_a_browser() {
-  cd "$room/first" && BROWSER=$1 SERVER=$server/first timeout 300 node --test suite.test.mjs
-}
-
-# The page in a browser, which asks its server for the page's own files and for nothing else: PROGRAM
-shows_the_page() {
+# The tests of the package and the page in a browser. The page asks its server for its own files and for nothing else:
+# PROGRAM
+works_in_a_browser() {
   : >"$room/server.log"
-  cd "$room/first" && BROWSER=$1 PAGE=$server/browser FILES=$room/files timeout 300 node --test page.test.mjs &&
-    grep -q '"GET /browser/page.mjs HTTP' "$room/server.log" &&
-    ! grep '" [0-9]* -$' "$room/server.log" | grep -vE '"GET /browser/[a-z]+\.(html|mjs|css) HTTP/1\.1" (200|304) -$'
-}
-
-# Each browser where the program is that drives it.
-test_browsers() {
-  try lay_out_for_browsers lay_out_for_browsers
-  try_with package_in_chromium chromedriver runs_in_a_browser chromium
-  try_with page_in_chromium chromedriver shows_the_page chromium
-  try_with package_in_firefox-esr firefox-esr runs_in_a_browser firefox-esr
-  try_with page_in_firefox-esr firefox-esr shows_the_page firefox-esr
-  jobs -p | xargs kill
+  cd "$room/first" && BROWSER=$1 SERVER=$server FILES=$room/files TOOL=$top/crates/rapidhash_cli/out/rapidhash_cli \
+    timeout 300 node --test page.test.mjs && grep -q '"GET /browser/page.mjs HTTP' "$room/server.log" &&
+    ! grep '" [0-9]* -$' "$room/server.log" |
+    grep -vE '"GET /(browser/[a-z]+\.(html|mjs|css)|first/.*) HTTP/1\.1" (200|304) -$'
 }
 
 for program in node npm; do
   command -v "$program" >/dev/null || { echo "skipped javascript: no $program" && finish; }
 done
-test_package
-test_browsers
+try install works_as_its_page_says "$top/bindings/javascript/README.md"
+try files has_its_files
+try lay_out lay_out
+for name in known refused vectors node; do
+  try "node_$name" runs_in_node "$name"
+done
+try_with types tsc compiles --lib es2020,dom types.mts
+try_with types_alone tsc compiles --lib es2020 node_modules/yervound-rapidhash/index.d.ts
+# Each browser where the program is that drives it.
+try lay_out_for_browsers lay_out_for_browsers
+try_with chromium chromedriver works_in_a_browser chromium
+try_with firefox-esr firefox-esr works_in_a_browser firefox-esr
+jobs -p | xargs kill
 finish

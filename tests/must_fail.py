@@ -10,12 +10,11 @@ import json
 import os
 import re
 import shutil
-import subprocess
 import sys
 from collections import defaultdict
 from concurrent.futures import ThreadPoolExecutor
 
-from cases import ROOM, TOP, finish, tell
+from cases import ROOM, TOP, finish, shell, tell
 
 
 class Edit:
@@ -107,11 +106,9 @@ def check(number, edits):
     for name in ("crates.txt", "HANDLES"):
         shutil.copy(TOP / name, copy)
     apply(edits, folder)
-    words = [word for edit in edits for word in ("--only", edit.function)]
-    done = subprocess.run(["rt", "check", "--jobs", "1", *words], cwd=folder, stdin=subprocess.DEVNULL,
-                          stdout=subprocess.PIPE, stderr=subprocess.STDOUT, text=True)
+    _, printed = shell("rt check --jobs 1" + "".join(f" --only '{edit.function}'" for edit in edits), folder)
     shutil.rmtree(copy)
-    return said_by(done.stdout)
+    return said_by(printed)
 
 
 def said_by(output):

@@ -7,11 +7,10 @@ import contextlib
 import io
 import re
 import runpy
-import subprocess
 import sys
 from xml.etree import ElementTree
 
-from cases import TOP, finish, tell
+from cases import TOP, blocks, finish, shell, tell
 
 MADE = TOP / "docs" / "api"
 PAGES = sorted([*TOP.glob("*.md"), *TOP.glob("docs/*.md"), *MADE.glob("*.md"), *TOP.glob("*/NOTES.md"),
@@ -59,18 +58,12 @@ def limits():
             yield f"{place} has {len(line)} columns"
 
 
-def words_of_the_code():
-    files = subprocess.run(["git", "ls-files", "-z"], cwd=TOP, stdout=subprocess.PIPE, check=True)
+def names():
     words = set()
-    for name in files.stdout.decode().split("\0"):
-        if name and not name.endswith((".md", ".tsv")):
+    for name in shell("git ls-files")[1].splitlines():
+        if not name.endswith((".md", ".tsv")):
             words.update(re.findall(r"\w+", (TOP / name).read_text(errors="replace")))
             words.update(re.findall(r"\w+", name))
-    return words
-
-
-def names():
-    words = words_of_the_code()
     for _, place, line in prose(TOP / "docs" / name for name in ("PROVED.md", "ARCHITECTURE.md", "C.md", "CPP.md")):
         for name in NAME.findall(line):
             yield from (f"{place}: no {part} of {name} in the code" for part in name.split("::") if part not in words)
@@ -93,19 +86,18 @@ def statements():
         if re.search("[≡→↔λ«]|\\[]|Absorbs|Appends|Answers|Marks", clause) and clause not in " ".join(sources.split()):
             yield f"docs/PROVED.md quotes a clause that no source has: {clause}"
     for page, languages, count in (("docs/PROVED.md", "antt|rust", 2), ("docs/RATTLE.md", "antt", 1)):
-        text = (TOP / page).read_text()
-        blocks = re.findall(rf"^```(?:{languages})\n(.*?)^```$", text, re.MULTILINE | re.DOTALL)
-        for part in (part for block in blocks for part in block.split("\n\n")):
+        shown = blocks(page, languages)
+        for part in (part for block in shown for part in block.split("\n\n")):
             if part.rstrip() not in sources:
                 yield f"{page} shows what no source has: {part.splitlines()[0]}"
-        if len(blocks) != count:
-            yield f"{page} shows {len(blocks)} blocks"
+        if len(shown) != count:
+            yield f"{page} shows {len(shown)} blocks"
 
 
 def made_by(script):
     """What a script that makes a page of the sources tells where the page is not current."""
-    done = subprocess.run([script, "--check"], cwd=TOP, stdout=subprocess.PIPE, stderr=subprocess.STDOUT, text=True)
-    return done.stdout.splitlines() or [f"{script} ended with status {done.returncode}"] if done.returncode else []
+    status, said = shell(f"{script} --check")
+    return said.splitlines() or [f"{script} ended with status {status}"] if status else []
 
 
 def pictures():

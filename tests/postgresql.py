@@ -9,10 +9,11 @@ import shutil
 import subprocess
 from pathlib import Path
 
-from cases import ROOM, TOP, compare, finish, tell
-from sql import HELLO, NOTHING, SEEDED, TEXT, TEXT_HASH
-from sql import blocks, every_vector, is_shown, lines_with_results, shell, signed, unpack
+from cases import ROOM, TOP, blocks, compare, finish, shell, tell
+from sql import BINDINGS, HELLO, NOTHING, SEEDED, TEXT, TEXT_HASH
+from sql import every_vector, lines_with_results, signed, unpack
 
+PAGE = "bindings/postgresql/README.md"
 # The folder of its databases, which has its socket too.
 DATA = ROOM / "data"
 NOBODY = "setpriv --reuid=65534 --regid=65534 --clear-groups " if os.geteuid() == 0 else ""
@@ -47,18 +48,16 @@ def literal(message):
 def install():
     """Runs the commands of the page, of which the second installs into the copy."""
     words = {"PGHOST": str(DATA), "PGUSER": "test", "PGDATABASE": "postgres", "DESTDIR": str(ROOM)}
-    [commands] = blocks("PostgreSQL", "sh")
+    [commands] = blocks(PAGE, "sh")
     status, printed = shell(commands.replace("sudo ", ""), ROOM, **words)
-    compare("three_commands", (is_shown(commands), commands.count("\n"), status, printed.splitlines()[-2:]),
+    compare("three_commands", (commands in BINDINGS, commands.count("\n"), status, printed.splitlines()[-2:]),
             (True, 3, 0, ["CREATE EXTENSION", str(HELLO)]))
 
 
 def unpacked_archive():
     """The command of the archive's page builds and installs the same functions."""
     place = ROOM / "unpacked"
-    unpack(place, "postgresql")
-    command = re.search(r"^\| `bindings/postgresql` .*`(make .*)`", (TOP / "share/dist.md").read_text(), re.M)[1]
-    status, printed = shell(command.replace("sudo ", ""), place, DESTDIR=str(place))
+    status, printed = shell(unpack(place, "postgresql").replace("sudo ", ""), place, DESTDIR=str(place))
     names = [shell(f"nm -D --defined-only {folder}/rapidhash.so | cut -d ' ' -f 2-") for folder in (
         TOP / "build/postgresql", next(place.glob("usr/**/rapidhash.so"), place).parent)]
     tell("unpacked_archive", *[printed[-600:]] * (status != 0 or names[0] != names[1]))
@@ -101,9 +100,9 @@ def types():
 def rest():
     compare("functions", ask(FUNCTIONS), ["72|t"])
     compare("index", ask("CREATE TABLE words (word text); CREATE INDEX ON words (rapidhash_v3(word, 1))"), [])
-    for query, wanted in lines_with_results("PostgreSQL"):
+    for query, wanted in lines_with_results(PAGE):
         compare(query, ask(query), [wanted])
-    [query] = re.findall(r"^SELECT .*string_agg.*;$", blocks("PostgreSQL", "sql")[0], re.M)
+    [query] = re.findall(r"^SELECT .*string_agg.*;$", blocks(PAGE, "sql")[0], re.M)
     compare("rows_in_order", ask(query), [str(HELLO)])
     compare("dropped", ask(f"DROP TABLE words; DROP EXTENSION rapidhash; {FUNCTIONS}"), ["0|"])
 

@@ -7,11 +7,10 @@ crate. With the words --repository FOLDER it only writes that repository, for te
 import os
 import re
 import shutil
-import subprocess
 import sys
 from pathlib import Path
 
-from cases import ROOM, TOP, compare, finish, tell
+from cases import ROOM, TOP, blocks, compare, finish, shell, tell
 
 # Commands that other tests run: the gate itself, and tests/install.sh.
 ELSEWHERE = ('make && make install PREFIX="$HOME/.local"', "make check",
@@ -65,41 +64,24 @@ CALLS = """    println!(rt; "{} {}", in_pieces(), of_reader(b"hello".as_slice())
 TUTORIAL = "3327445792987248966\n3327445792987248966 3327445792987248966\n14860858794976638546 2\n"
 
 
-def blocks(page="README.md"):
-    """The code blocks of a page, each with its language."""
-    return re.findall(r"^```(\w+)\n(.*?)^```$", (TOP / page).read_text(), re.MULTILINE | re.DOTALL)
-
-
-def shell(command, folder, path=""):
-    words = dict(os.environ, PATH=f"{path}:{os.environ['PATH']}" if path else os.environ["PATH"])
-    return subprocess.run(["bash", "-c", command], cwd=folder, env=words, stdin=subprocess.DEVNULL,
-                          stdout=subprocess.PIPE, stderr=subprocess.STDOUT, text=True)
-
-
-def run_command(command, comment, programs):
-    """Runs one command where its words say, and compares what it prints with what README.md says."""
-    if command in ELSEWHERE:
-        return
-    is_program = command.startswith(("rapidhash ", "rapidsum "))
-    done = shell(command, ROOM / "files" if is_program else TOP, programs if is_program else "")
-    said = re.search(r"prints (\d+)", comment)
-    is_right = done.returncode == 0 and (said is None or done.stdout.strip() == said[1])
-    tell(command, *[done.stdout[-600:]] * (not is_right))
-
-
 def run_shell_blocks():
+    """Runs each command where its words say, and compares what it prints with what README.md says."""
     (ROOM / "files").mkdir()
     for name in ("Makefile", "README.md"):
         shutil.copy(TOP / name, ROOM / "files")
     programs = ROOM / "bin"
     programs.mkdir()
-    shell("bin/rapidhash --v1; make -s sums", TOP)
+    shell("make -s tool sums")
     for crate, name in (("rapidhash_cli", "rapidhash"), ("example_sums", "rapidsum")):
         os.symlink(TOP / "crates" / crate / "out" / crate, programs / name)
-    for language, text in blocks():
-        for line in text.splitlines() if language == "sh" else []:
-            command, _, comment = line.partition(" #")
-            run_command(command.strip(), comment, str(programs))
+    for line in "".join(blocks("README.md", "sh")).splitlines():
+        command, _, comment = line.partition(" #")
+        command, said = command.strip(), re.search(r"prints (\d+)", comment)
+        if command not in ELSEWHERE:
+            is_program = command.startswith(("rapidhash ", "rapidsum "))
+            status, printed = shell(command, ROOM / "files" if is_program else TOP,
+                                    PATH=f"{programs}:" * is_program + os.environ["PATH"])
+            tell(command, *[printed[-600:]] * (status != 0 or said is not None and printed.strip() != said[1]))
 
 
 def parted(text):
@@ -111,18 +93,17 @@ def parted(text):
 
 def write_repository(place):
     """A repository of a user's own, with both programs in one crate and the library by make vendor."""
-    programs = [text for language, text in blocks() if language == "rust"]
+    programs = blocks("README.md", "rust")
     compare("two programs", len(programs), 2)
     crate = place / "crates" / "readme"
     (crate / "src").mkdir(parents=True)
     (crate / "data").mkdir()
     (crate / "data" / "something").write_text("something\n")
     (crate / "stdout").write_text(PRINTED)
-    done = shell(f"make -s vendor INTO='{place}'", TOP)
-    tell("make vendor", *[done.stdout[-600:]] * (done.returncode != 0))
-    lines = [line for line in done.stdout.splitlines() if re.match(r"^\w+:", line)]
-    wanted = [line.replace("YOUR_CRATE", "readme") + (" anyhow" if "YOUR" in line else "") for line in lines]
-    (place / "crates.txt").write_text("\n".join(wanted) + "\n")
+    status, printed = shell(f"make -s vendor INTO='{place}'")
+    tell("make vendor", *[printed[-600:]] * (status != 0))
+    rows = re.findall(r"^\w+:.*\n", printed.replace("YOUR_CRATE: rapidhash", "readme: rapidhash anyhow"), re.M)
+    (place / "crates.txt").write_text("".join(rows))
     (place / "HANDLES").write_text("Handles allowed: none.\n")
     (uses, first), (other_uses, second) = map(parted, programs)
     main = MAIN.format(uses="\n".join(uses + other_uses), first=first, second=second)
@@ -136,9 +117,7 @@ def run_programs():
     """Both programs, as a user proves and runs them."""
     crate = write_repository(ROOM / "repository")
     shell("rt run -- 2>/dev/null", crate)
-    shutil.copy(crate / "data" / "something", ROOM)
-    done = shell(f"{crate}/out/readme", ROOM)
-    compare("the programs of README.md", done.stdout, PRINTED)
+    compare("the programs of README.md", shell("../out/readme", crate / "data")[1], PRINTED)
 
 
 def run_tutorial():
@@ -146,12 +125,12 @@ def run_tutorial():
     repository = ROOM / "repository"
     crate = repository / "crates" / "first"
     (crate / "src").mkdir(parents=True)
-    first, *others = (text for language, text in blocks("docs/RATTLE.md") if language == "rust")
+    first, *others = blocks("docs/RATTLE.md", "rust")
     program = "\n".join([first.replace("    Ok(())\n", f"{CALLS}    Ok(())\n"), *others])
     (crate / "src" / "main.rt").write_text(program)
     with open(repository / "crates.txt", "a") as rows:
         rows.write("first: rapidhash anyhow\n")
-    compare("the program of docs/RATTLE.md", shell("rt try 2>/dev/null", crate).stdout, TUTORIAL)
+    compare("the program of docs/RATTLE.md", shell("rt try 2>/dev/null", crate)[1], TUTORIAL)
 
 
 if sys.argv[1:2] == ["--repository"]:

@@ -24,14 +24,6 @@ marks_generated() {
     sed -n 's/: linguist-generated: set$//p' | sort | diff "$room/made" -
 }
 
-has_no_dependency() {
-  [ "$(cargo tree | wc -l)" -eq 1 ]
-}
-
-documents_itself() {
-  RUSTDOCFLAGS='-D warnings' cargo doc --no-deps "$@"
-}
-
 # The package, with its licences, and nothing of the tests.
 packages() {
   cargo package --allow-dirty && tar -tf "$CARGO_TARGET_DIR"/package/*.crate >"$room/list" &&
@@ -56,13 +48,13 @@ try licences has_the_licences .
 try layout cargo fmt --check
 for features in --all-features --no-default-features; do
   try "lints_${features#--}" cargo clippy --all-targets "$features" -- -D warnings
-  try "documentation_${features#--}" documents_itself "$features"
+  try "documentation_${features#--}" env RUSTDOCFLAGS='-D warnings' cargo doc --no-deps "$features"
   try "tests_${features#--}" tests_pass cargo test "$features" --tests
 done
 try layout_of_capi cargo fmt --check --manifest-path capi/Cargo.toml
 try lints_of_capi cargo clippy --manifest-path capi/Cargo.toml -- -D warnings
 try examples tests_pass cargo test --doc
-try no_dependency has_no_dependency
+try no_dependency bash -c '[ "$(cargo tree | wc -l)" -eq 1 ]'
 try no_unsafe grep -x '#!\[forbid(unsafe_code)\]' src/lib.rs
 try package packages
 try readme readme_runs cargo

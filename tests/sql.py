@@ -1,10 +1,8 @@
 """What the tests of both SQL databases share: known values, the vectors, and what their pages show."""
 
-import os
 import re
-import subprocess
 
-from cases import ROOM, TOP
+from cases import TOP, blocks, shell
 
 HELLO = 3327445792987248966
 NOTHING = 232177599295442350
@@ -19,29 +17,16 @@ SEEDED = (
 )
 
 
-def shell(command, folder=TOP, **words):
-    """The status of a command, and what it prints."""
-    words = dict(os.environ, YERVOUND=str(TOP), ROOM=str(ROOM), **words)
-    done = subprocess.run(["bash", "-ec", command], cwd=folder, env=words, stdin=subprocess.DEVNULL,
-                          stdout=subprocess.PIPE, stderr=subprocess.STDOUT, text=True)
-    return done.returncode, done.stdout
+# The page of all bindings, which shows the commands of each package's page too.
+BINDINGS = (TOP / "docs/BINDINGS.md").read_text()
 
 
 def unpack(folder, binding):
-    """Lays the library out in a folder with the source of a binding, as they lie in the archive."""
-    return shell(f"make -s install PREFIX='{folder}' && mkdir '{folder}/bindings' && "
-                 f"cp -r bindings/{binding} '{folder}/bindings'")
-
-
-def blocks(name, language):
-    """The code blocks of a package's page that are of one language."""
-    page = (TOP / "bindings" / name.lower() / "README.md").read_text()
-    return re.findall(rf"^```{language}\n(.*?)^```$", page, re.M | re.S)
-
-
-def is_shown(commands):
-    """Whether the page of all bindings has these commands too."""
-    return commands in (TOP / "docs/BINDINGS.md").read_text()
+    """Lays the library out in a folder with the source of a binding, as they lie in the archive. Returns the command
+    that the archive's page has for it."""
+    shell(f"make -s install PREFIX='{folder}' && mkdir '{folder}/bindings' && "
+          f"cp -r bindings/{binding} '{folder}/bindings'")
+    return re.search(rf"^\| `bindings/{binding}` .*`((?:cc|make) .*)`", (TOP / "share/dist.md").read_text(), re.M)[1]
 
 
 def signed(number):
@@ -59,6 +44,6 @@ def every_vector():
             yield name, words, bytes.fromhex(digits.strip("-")), signed(int(number))
 
 
-def lines_with_results(name):
-    """The queries of the page that say what they give."""
-    return re.findall(r"^(SELECT .*?); *-- (-?\w+)$", "".join(blocks(name, "sql")), re.M)
+def lines_with_results(page):
+    """The queries of a page that say what they give."""
+    return re.findall(r"^(SELECT .*?); *-- (-?\w+)$", "".join(blocks(page, "sql")), re.M)

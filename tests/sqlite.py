@@ -3,14 +3,14 @@
 errors, aggregates, what the page shows, and each allocation that fails. The values are those of the Rust crate. The
 last line counts the cases."""
 
-import re
 import shutil
 import sqlite3
 
-from cases import ROOM, TOP, compare, finish, tell
-from sql import HELLO, NOTHING, SEEDED, TEXT, TEXT_HASH, VERSIONS
-from sql import blocks, every_vector, is_shown, lines_with_results, shell, signed, unpack
+from cases import ROOM, TOP, blocks, compare, finish, shell, tell
+from sql import BINDINGS, HELLO, NOTHING, SEEDED, TEXT, TEXT_HASH, VERSIONS
+from sql import every_vector, lines_with_results, signed, unpack
 
+PAGE = "bindings/sqlite/README.md"
 STREAMS = VERSIONS[4:7]
 REAL = "a REAL cannot be hashed: cast it to TEXT, BLOB or INTEGER"
 ERRORS = {
@@ -35,17 +35,16 @@ MEMORY = """cc -std=c99 -g -Wall -Wextra -Werror -fsanitize=address,undefined -f
 
 def commands():
     """The three commands in an empty folder, the one over an installed library, and that of the archive's page."""
-    first, second = blocks("SQLite", "sh")
+    first, second = blocks(PAGE, "sh")
     installed = {"PKG_CONFIG_PATH": f"{ROOM}/lib/pkgconfig", "LD_LIBRARY_PATH": f"{ROOM}/lib"}
     for name in ("first", "second"):
         (ROOM / name).mkdir()
     *build, load = first.splitlines()
     status, printed = shell(first, ROOM / "first")
-    found = (is_shown(first), len(build), status, printed.splitlines()[-1:])
+    found = (first in BINDINGS, len(build), status, printed.splitlines()[-1:])
     compare("three_commands", found, (True, 2, 0, [str(HELLO)]))
-    unpack(ROOM, "sqlite")
+    command = unpack(ROOM, "sqlite")
     compare("installed_library", shell(second + load, ROOM / "second", **installed), (0, f"{HELLO}\n"))
-    command = re.search(r"^\| `bindings/sqlite` .*`(cc .*)`", (TOP / "share/dist.md").read_text(), re.M)[1]
     compare("unpacked_archive", shell(f"{command}\n{load}", ROOM), (0, f"{HELLO}\n"))
 
 
@@ -150,14 +149,14 @@ def schema(database):
 
 def page(database):
     """Each line with a result gives it. The query over nodes gives each line the node that the program gives it."""
-    for query, wanted in lines_with_results("SQLite"):
+    for query, wanted in lines_with_results(PAGE):
         compare(query, [tuple(map(str, row)) for row in ask(database, query)], [(wanted,)])
     crate = TOP / "crates/example_shards"
     database.execute("CREATE TABLE nodes (name)")
     database.executemany("INSERT INTO nodes VALUES (?)", (("red",), ("blue",)))
     database.execute("CREATE TABLE lines (line)")
     database.executemany("INSERT INTO lines VALUES (?)", zip((crate / "stdin").read_text().splitlines()))
-    found = {f"{name}\t{line}" for name, line, _ in ask(database, blocks("SQLite", "sql")[1])}
+    found = {f"{name}\t{line}" for name, line, _ in ask(database, blocks(PAGE, "sql")[1])}
     compare("nodes", found, set((crate / "stdout").read_text().splitlines()))
 
 

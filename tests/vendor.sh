@@ -53,8 +53,6 @@ vendored() {
   [ "$(cat "$room/a folder/crates/rapidhash/VENDORED")" = "Yervound $(git -C "$library" rev-parse HEAD)$1" ]
 }
 
-says_which_commit() { vendored ''; }
-
 says_that_it_has_changes() {
   echo '// changed' >>"$library/crates/rapidhash/src/lib.rt"
   "$vendor" "$room/a folder" && vendored ', with changes' && is_copy "$room/a folder"
@@ -77,11 +75,6 @@ refuses_a_crate_of_another() {
     [ "$(cd "$room/another" && find . -type f)" = ./crates/rapidhash/mine ]
 }
 
-# Nobody, not even root, can make a folder in /proc.
-tells_a_folder_that_is_not_writable() {
-  refused 'cannot write to /proc' "$vendor" /proc
-}
-
 # No file may have more than 4 KiB, so the copy fails half way, as it does on a full disk. Then the copy from before is
 # whole, and nothing else is left.
 keeps_what_was_there() {
@@ -100,12 +93,13 @@ passes_the_gate() {
 clone || exit 1
 try copy makes_a_copy
 try lines prints_the_lines
-try commit says_which_commit
+try commit vendored ''
 try changes says_that_it_has_changes
 try again replaces_a_copy
 try no_folder refuses_no_folder
 try another_crate refuses_a_crate_of_another
-try not_writable tells_a_folder_that_is_not_writable
+# Nobody, not even root, can make a folder in /proc.
+try not_writable refused 'cannot write to /proc' "$vendor" /proc
 try full_disk keeps_what_was_there
 if [ "${1:-}" = ci ]; then
   echo 'the merge gate of a repository with the library: some minutes'

@@ -1,20 +1,25 @@
-// Uses the page examples/browser in the browser that BROWSER names, off a server of build/browser at PAGE.
-// The files lie in FILES: `large` with the hashes of the Rust crate, and `double` and `long` with those
-// that the C library for x86-64 gave, in the file `hashes`.
+// Runs known.mjs, refused.mjs and vectors.mjs in the browser that BROWSER names, and uses the page examples/browser
+// there. SERVER has both, as `first/suite.html` and `browser`. The files lie in FILES. The hashes are those of TOOL,
+// the program rapidhash, whose hashes of `large` tests/end_to_end.sh compares with the Rust crate's.
 import assert from "node:assert/strict";
-import { readFileSync, writeFileSync } from "node:fs";
+import { execFileSync } from "node:child_process";
+import { writeFileSync } from "node:fs";
 import { join } from "node:path";
 import { after, before, test } from "node:test";
 
 import { browse, waitFor } from "./driver.mjs";
 
-const { BROWSER, PAGE, FILES, SCREENSHOT } = process.env;
-const hashes = JSON.parse(readFileSync(join(FILES, "hashes"), "utf8"));
-hashes.large = {
-  v1: "15984905982109241549", v2_0: "4230584181448816188", v2_1: "4230584181448816188",
-  v2_2: "4230584181448816188", v3: "17274253787457370873", v3Micro: "463558115858540857",
-  v3Nano: "4447162916058394582", v3Protected: "7403770911747945897",
+const { BROWSER, SERVER, FILES, TOOL, SCREENSHOT } = process.env;
+const options = {
+  v1: ["--v1"], v2_0: ["--v2.0"], v2_1: ["--v2.1"], v2_2: ["--v2.2"], v3: ["--v3"], v3Micro: ["--v3-micro"],
+  v3Nano: ["--v3-nano"], v3Protected: ["--v3", "--protected"],
 };
+
+/** The hashes of a file by their versions. */
+function hashesOf(name) {
+  const hash = (words) => execFileSync(TOOL, [...words, join(FILES, name)], { encoding: "utf8" }).trim();
+  return Object.fromEntries(Object.entries(options).map(([version, words]) => [version, hash(words)]));
+}
 
 // What the page shows of each file: how it ended, how far it is, and each version's two columns.
 const look = `return Object.fromEntries([...document.querySelectorAll("article")].map((article) => [
@@ -27,7 +32,7 @@ const look = `return Object.fromEntries([...document.querySelectorAll("article")
 let browser;
 before(async () => {
   browser = await browse(BROWSER);
-  await browser.open(`${PAGE}/index.html`);
+  await browser.open(`${SERVER}/browser/index.html`);
 });
 after(() => browser?.end());
 
@@ -51,6 +56,7 @@ function compare(rows, wanted) {
 }
 
 test("two chosen files, one of 200 MB, as it goes", async () => {
+  const hashes = { large: hashesOf("large"), double: hashesOf("double") };
   await choose("large", "double");
   const halfway = await waitFor("a part of double", 120, async () => {
     const { double } = await browser.run(look);
@@ -61,11 +67,11 @@ test("two chosen files, one of 200 MB, as it goes", async () => {
   assert.match(halfway.rows.v3[0], /^[0-9a-f]{16}$/);
   assert.notEqual(halfway.rows.v3[1], hashes.double.v3);
   assert.deepEqual(halfway.rows.v1, ["", ""]);
-  for (const name of ["large", "double"]) {
+  for (const [name, wanted] of Object.entries(hashes)) {
     const file = await ended(name, 120);
     assert.equal(file.end, "done");
     assert.equal(file.part, 1);
-    compare(file.rows, hashes[name]);
+    compare(file.rows, wanted);
   }
   if (SCREENSHOT) writeFileSync(SCREENSHOT, Buffer.from(await browser.picture(), "base64"));
 });
@@ -97,7 +103,8 @@ test("a file of more than 1 GiB", async () => {
   await choose("long");
   const { end, rows } = await ended("long", 120);
   assert.equal(end, "done");
-  for (const version of ["v3", "v3Micro", "v3Nano"]) assert.equal(rows[version][1], hashes.long[version]);
+  const wanted = hashesOf("long");
+  for (const version of ["v3", "v3Micro", "v3Nano"]) assert.equal(rows[version][1], wanted[version]);
   for (const version of ["v1", "v2_0", "v2_1", "v2_2", "v3Protected"])
     assert.deepEqual(rows[version], ["needs the whole file in memory: only up to 1 GiB here", ""]);
 });
@@ -119,7 +126,7 @@ test("stopped files", async () => {
 });
 
 test("keys and names", async () => {
-  await browser.open(`${PAGE}/index.html`);
+  await browser.open(`${SERVER}/browser/index.html`);
   await browser.type(await browser.find("body"), "\ue004");
   assert.equal(await browser.run("return document.activeElement.id"), "files");
   assert.match(await browser.label(await browser.find("#files")), /^Drop files .* or choose them:/);
@@ -128,4 +135,12 @@ test("keys and names", async () => {
   assert.equal(await browser.label(await browser.find("progress")), "Progress of empty");
   assert.equal(await browser.label(await browser.find("table")), "Hashes of empty");
   assert.equal(await browser.run(`return document.querySelector("[role=status]").textContent`), "empty: done");
+});
+
+test("the package in a browser", async () => {
+  console.log(browser.version);
+  await browser.open(`${SERVER}/first/suite.html`);
+  const results = await waitFor("the suite", 120, () => browser.run("return window.results"));
+  assert.deepEqual(results.filter(({ fault }) => fault), []);
+  assert.ok(results.length >= 20);
 });
