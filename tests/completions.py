@@ -30,7 +30,7 @@ LINES = [
     ("a file after the version", "rapidsum --version o", "rapidsum|--version|o"),
 ]
 
-# What fish offers where that is not the one word which LINES has, or nothing where the line stays.
+# What fish offers for lines that are not in LINES.
 OFFERS = [
     ("versions", "rapidhash --v3-", ["--v3-micro", "--v3-nano"]),
     ("a second version", "rapidhash --v1 --v", []),
@@ -65,7 +65,7 @@ def press_tabs(shell, words, lines):
 
 
 def ask_fish():
-    """All lines but that with a variable, for which fish offers a description too. It offers options after the help."""
+    """Leaves out a variable, which fish describes, and an option after --help, which it offers."""
     sources = "".join(f"source '{SHARE}/{name}.fish'; " for name in ("rapidhash", "rapidsum"))
     single = [(name, line, [] if line.replace(" ", "|") == words else [words.rpartition("|")[2]])
               for name, line, words in LINES if "$" not in line and "--help --" not in line]

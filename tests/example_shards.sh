@@ -20,7 +20,6 @@ diff two three | grep '^>' | grep -q '^> green' && ! diff two three | grep '^>' 
 tell lines_move_only_to_the_added_node $?
 cp two wanted
 prints a_removed_node_leaves_no_trace "$program" red blue <lines
-
 prints nodes_in_another_order "$program" blue red <lines
 
 # The nodes of ten lines by the Rust crate.
