@@ -2,9 +2,8 @@
 """Applies the edits of tests/must_fail/CRATE/, many per check, and tests that the checker refuses each edited
 function at the goal that its edit names. Words are names of crates; without any it tries all.
 
-An edit has the form of those in crates/CRATE/must-fail/, which `rt ci` tries one by one, and one more line:
-`refused: FUNCTION, GOAL`. Edits share a check only if none of their functions calls another, because the checker does
-not judge a function that calls a refused one."""
+An edit has the form of the kit's must-fail edits, and one more line: `refused: FUNCTION, GOAL`. Edits share a check only
+if none of their functions calls another, because the checker does not judge a function that calls a refused one."""
 
 import json
 import os
@@ -100,7 +99,7 @@ def check(number, edits):
     """Applies edits of one crate to a copy, and returns what the checker says of each function."""
     crate, copy = edits[0].crate, ROOM / str(number)
     folder = copy / "crates" / crate
-    shutil.copytree(TOP / "crates", copy / "crates", ignore=shutil.ignore_patterns("out", "must-fail", "data"))
+    shutil.copytree(TOP / "crates", copy / "crates", ignore=shutil.ignore_patterns("out", "data"))
     for out in TOP.glob("crates/*/out"):
         shutil.copytree(out, copy / out.relative_to(TOP), copy_function=link)
     for name in ("crates.txt", "HANDLES"):

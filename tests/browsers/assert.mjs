@@ -10,11 +10,12 @@ function check(holds, text) {
   if (!holds) throw new Error(text);
 }
 
-/** What was thrown, or nothing, has to have these members. */
+/** What was thrown must have these members. */
 function checkFault(fault, wanted) {
+  check(fault !== undefined, "nothing is thrown");
   for (const [key, value] of Object.entries(wanted)) {
-    const holds = value instanceof RegExp ? value.test(fault?.[key]) : fault?.[key] === value;
-    check(holds, `${key} is ${show(fault?.[key])}, and not ${value}`);
+    const holds = value instanceof RegExp ? value.test(fault[key]) : fault[key] === value;
+    check(holds, `${key} is ${show(fault[key])}, and not ${value}`);
   }
 }
 

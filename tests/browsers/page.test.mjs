@@ -1,6 +1,6 @@
 // Runs known.mjs, refused.mjs and vectors.mjs in the browser that BROWSER names, and uses the page examples/browser
-// there. SERVER has both, as `first/suite.html` and `browser`. The files lie in FILES. The hashes are those of TOOL,
-// the program rapidhash, whose hashes of `large` tests/end_to_end.sh compares with the Rust crate's.
+// there. SERVER has both, as `first/suite.html` and `browser`. The files lie in FILES: `large` with the hashes of the
+// Rust crate, and others with those of TOOL, the program rapidhash.
 import assert from "node:assert/strict";
 import { execFileSync } from "node:child_process";
 import { writeFileSync } from "node:fs";
@@ -10,6 +10,11 @@ import { after, before, test } from "node:test";
 import { browse, waitFor } from "./driver.mjs";
 
 const { BROWSER, SERVER, FILES, TOOL, SCREENSHOT } = process.env;
+const hashesOfLarge = {
+  v1: "15984905982109241549", v2_0: "4230584181448816188", v2_1: "4230584181448816188",
+  v2_2: "4230584181448816188", v3: "17274253787457370873", v3Micro: "463558115858540857",
+  v3Nano: "4447162916058394582", v3Protected: "7403770911747945897",
+};
 const options = {
   v1: ["--v1"], v2_0: ["--v2.0"], v2_1: ["--v2.1"], v2_2: ["--v2.2"], v3: ["--v3"], v3Micro: ["--v3-micro"],
   v3Nano: ["--v3-nano"], v3Protected: ["--v3", "--protected"],
@@ -56,7 +61,7 @@ function compare(rows, wanted) {
 }
 
 test("two chosen files, one of 200 MB, as it goes", async () => {
-  const hashes = { large: hashesOf("large"), double: hashesOf("double") };
+  const hashes = { large: hashesOfLarge, double: hashesOf("double") };
   await choose("large", "double");
   const halfway = await waitFor("a part of double", 120, async () => {
     const { double } = await browser.run(look);
