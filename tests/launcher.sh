@@ -4,11 +4,12 @@
 . "$(dirname "$0")/cases.sh"
 cd "$room" || exit 1
 
-# The stand-in for rt: it waits for the lock as rt does, takes the text of the sources, runs the file
-# `during`, and builds.
+# The stand-in for rt: for the program it waits for the lock as rt does, takes the text of the sources, runs the file
+# `during`, and builds. A library is nothing.
 mkdir kit
 cat >kit/rt <<'RT'
 #!/bin/sh
+[ "$1" = run ] || exit 0
 exec 9>>../../../lock && flock 9
 echo run >>../../../starts
 text=$(cat ../*/src/*.rt)
@@ -23,7 +24,7 @@ chmod +x kit/rt
 # COMMANDS
 new_repository() {
   chmod -R u+w . && rm -rf repo starts && echo "$1" >during
-  mkdir -p repo/bin repo/crates/rapidhash/src repo/crates/rapidhash_cli/src
+  mkdir -p repo/bin repo/crates/rapidhash{,_cli}/src repo/crates/rapidhash_{portable,tool}
   cp "$top/bin/rapidhash" repo/bin && cp "$top/Makefile" "$top/crates.txt" repo
   echo first >repo/crates/rapidhash/src/lib.rt
   find repo -exec touch -d 2020-01-01 {} +
