@@ -50,7 +50,7 @@ sources := $(shell find crates.txt crates/*/src crates/*/specs crates/*/proofs 2
 # has its own call, because rt reads the sources once more, for some 10 seconds, if it has several to build.
 define product
 $(1): $(2)
-$(2): $$(filter crates.txt crates/rapidhash% crates/test_fakes/% crates/$(1)/%,$$(sources))
+$(2): $$(filter crates.txt crates/rapidhash% crates/$(1)/%,$$(sources))
 	@command -v rt >/dev/null || { echo 'make: rt, the command of the Rattle kit, is not on PATH' >&2; exit 2; }
 	@echo 'make: proving and building $(1), some minutes the first time' >&2
 	@mkdir -p build && touch build/$(1).begun
@@ -64,7 +64,7 @@ $(eval $(call product,rapidhash_c,$(archive),lib))
 # Each program with a word at which it ends at once, since rt runs what it has built.
 $(eval $(call program,rapidhash_cli,--help,rapidhash_tool))
 $(eval $(call program,example_sums,--version))
-$(eval $(call program,example_bloom,--help,test_fakes))
+$(eval $(call program,example_bloom,--help))
 $(eval $(call program,example_perfect,--help))
 $(eval $(call program,example_shards,red))
 $(eval $(call program,example_dedupe,args))

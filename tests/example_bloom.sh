@@ -31,10 +31,26 @@ printf '\377\n' >bytes
 answers lines_that_are_not_utf_8 'maybe \377\nno \376\n' '\377\n\376\n' "$program" --one-in 1000000 bytes
 answers an_empty_list_has_no_line 'no fig\nno \n' 'fig\n\n' "$program" /dev/null
 answers no_line_is_asked '' '' "$program" fruit
+answers a_return_is_a_part_of_its_line 'maybe \nno pear\r\n' '\npear\r\n' "$program" --one-in 4294967295 fruit
 
 exec </dev/null
 fault no_list_is_named 2 'missing LIST argument' "$program"
-fault a_rate_of_1 2 '--one-in requires a number from 2 to 4294967295' "$program" --one-in 1 fruit
+fault no_list_after_a_rate 2 'missing LIST argument' "$program" --one-in 10
+for rate in 1 4294967296 many ''; do
+  # shellcheck disable=SC2086
+  fault "a_rate_of_${rate:-nothing}" 2 '--one-in requires a number from 2 to 4294967295' "$program" --one-in $rate
+done
+# Standard input is the master of a terminal: it has a line, and then fails, since the other end is closed.
+printf 'maybe pear\n' >wanted
+python3 -c '
+import os, pty, subprocess, sys, tty
+master, slave = pty.openpty()
+tty.setraw(slave)
+os.write(slave, b"pear\n")
+os.close(slave)
+sys.exit(subprocess.run(sys.argv[1:], stdin=master).returncode)' "$program" fruit >out 2>"$room/log"
+[ $? -eq 1 ] && cmp out wanted && grep -q 'could not read standard input: Input/output error (os error 5)$' "$room/log"
+tell a_read_fails_later $?
 fault unknown_option 2 "unknown option '--rate'" "$program" --rate 5 fruit
 refuses_lists
 

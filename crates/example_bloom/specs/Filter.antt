@@ -1,9 +1,10 @@
 -- What a filter finds.
-use Rattle.std.specs.Prelude.{◌≡◌, ℕ, ◌<◌, ◌+◌, ◌*◌, ◌%◌, ◌/◌, List, true, false, length, slice_index, ◌⊎◌}
+use Rattle.std.specs.Prelude.{◌≡◌, ℕ, ◌<◌, ◌+◌, ◌*◌, ◌%◌, ◌/◌, List, length, slice_index, ◌⊎◌}
 use Rattle.std.specs.Int.{bit_at}
 use Rattle.rapidhash.specs.Form.{standard, v3}
 use Rattle.rapidhash.specs.Hash.{default_hash}
 use Rattle.example_bloom.specs.declared.filter.Filter.{Filter}
+use Rattle.example_bloom.specs.declared.shape.Shape.{Shape}
 
 -- the hash of a key
 abbrev pub hash_of : List ℕ → ℕ
@@ -55,6 +56,11 @@ Finds filter key = HasMarks filter.words.items filter.marks (hash_of key)
 pub record IsEmpty (filter : Filter) : Type 0 where
   pub words : HasWords filter
   pub none : (step : ℕ) → HasBit filter.words.items step → ⊥
+
+-- the filter has the words and the marks of a shape
+pub record HasShape (shape : Shape) (filter : Filter) : Type 0 where
+  pub words : length filter.words.items ≡ shape.last_word + 1
+  pub marks : filter.marks ≡ shape.marks
 
 -- two filters have as many words, and give a key as many marks
 pub record HasSameShape (filter other : Filter) : Type 0 where

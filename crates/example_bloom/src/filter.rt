@@ -1,7 +1,7 @@
 //! The filter: bits in words, and the marks of a key among them.
 
 ghost use Rattle.std.specs.Prelude.{◌≡◌, ◌↔◌, ◌<◌, ℕ, true, length, IfOk};
-ghost use Rattle.example_bloom.specs.Filter.{Adds, Finds, HasSameShape, HasWords, IsEmpty, Unites};
+ghost use Rattle.example_bloom.specs.Filter.{Adds, Finds, HasSameShape, HasShape, HasWords, IsEmpty, Unites};
 ghost use Rattle.example_bloom.specs.Filter.{HasBit, Marks, Sets, step_of};
 
 use crate::shape::Shape;
@@ -59,7 +59,8 @@ impl Filter {
     /// A filter with no mark set. It allocates once.
     #[tactic(auto, using(crate::proofs::Bits::zeros_have_none))]
     pub fn new(alloc: Global, shape: Shape) -> Result<Filter, AllocError>
-        ensures { IfOk result IsEmpty }
+        ensures empty { IfOk result IsEmpty }
+        ensures shape { IfOk result (HasShape shape) }
     {
         let words = vec![in alloc; 0u64; shape.words()]?;
         Ok(Filter {

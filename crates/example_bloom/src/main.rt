@@ -9,8 +9,6 @@ pub mod filter;
 pub mod lookup;
 pub mod options;
 pub mod shape;
-#[cfg(test)]
-mod tests;
 
 use anyhow::{Context, Result};
 use options::{Request, USAGE, parse_words};

@@ -1,6 +1,7 @@
 //! How large a filter is, by how many keys it is for and how rarely it may find another.
 
-ghost use Rattle.std.specs.Prelude.{◌≡◌, ◌<◌, ◌≤◌, ◌^◌, IfOk};
+ghost use Rattle.std.specs.Prelude.{◌≡◌, ◌+◌, IfErr, IfOk};
+ghost use Rattle.example_bloom.specs.Shape.{Refuses, Serves};
 
 /// The most bits of a filter, 512 MiB: places come from the 32-bit halves of a hash.
 pub const MOST_BITS: u64 = 4294967296;
@@ -23,33 +24,22 @@ pub struct Shape {
     marks: u32,
 }
 
-// The smallest count of marks at which, with half of the bits set, at most one in `one_in` other
-// keys is found: each mark halves the rate.
-fn marks_for(one_in: u32) -> u32
-    requires { 1 ≤ one_in }
-    ensures few { result ≤ 32 }
-    ensures enough { one_in ≤ 2 ^ result }
-{
-    let mut marks = 1u32;
-    while marks < 32 && (one_in - 1) >> marks > 0 {
-        marks += 1;
-    }
-    marks
-}
-
 impl Shape {
     /// The shape for `keys` keys, if at most one in `one_in` other keys should be found.
     ///
     /// A key has k marks, with the smallest k such that 2^k is at least `one_in`. The number of
     /// bits is 1.4427 times that of all marks, at which about half of them are set in the end.
-    /// Fractions of a bit a key, and of a word, are rounded up.
-    pub fn new(keys: u64, one_in: u32) -> Result<Shape, ShapeError> {
+    /// Fractions of a bit per key, and of a word, are rounded up.
+    pub fn new(keys: u64, one_in: u32) -> Result<Shape, ShapeError>
+        ensures shape { IfOk result (Serves keys one_in) }
+        ensures error { IfErr result (Refuses keys one_in) }
+    {
         if one_in < 2 {
             return Err(ShapeError::Rate);
         }
-        let marks = marks_for(one_in);
-        let bits_a_key = (marks as u64 * 14427).div_ceil(10000);
-        let bits = match keys.checked_mul(bits_a_key) {
+        let marks = (one_in - 1).ilog2() + 1;
+        let bits_per_key = (marks as u64 * 14427).div_ceil(10000);
+        let bits = match keys.checked_mul(bits_per_key) {
             Some(bits) if bits <= MOST_BITS => bits.max(1),
             _ => return Err(ShapeError::TooManyKeys),
         };
@@ -61,13 +51,15 @@ impl Shape {
 
     /// The number of words, at least one.
     pub fn words(&self) -> usize
-        ensures { 0 < result }
+        ensures { result ≡ self.now.last_word + 1 }
     {
         self.last_word as usize + 1
     }
 
     /// The number of marks of a key.
-    pub fn marks(&self) -> u32 {
+    pub fn marks(&self) -> u32
+        ensures { result ≡ self.now.marks }
+    {
         self.marks
     }
 }
