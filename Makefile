@@ -46,28 +46,29 @@ library: $(shared)
 # an edit during a build counts. Two builds of a crate cannot meet, since rt makes the second wait.
 sources := $(shell find crates.txt crates/*/src crates/*/specs crates/*/proofs 2>/dev/null)
 
-# The rule of a crate's product: CRATE, PRODUCT, the words for rt, the libraries besides both of the product. Each library
-# has its own call, because rt reads the sources once more, for some 10 seconds, if it has several to build.
+# The rule of a crate's product: CRATE, PRODUCT, the words for rt, the libraries that it uses. Each library has its own
+# call, because rt reads the sources once more, for some 10 seconds, if it has several to build.
 define product
 $(1): $(2)
-$(2): $$(filter crates.txt crates/rapidhash% crates/$(1)/%,$$(sources))
+$(2): $$(filter crates.txt $(patsubst %,crates/%/%,$(1) $(4)),$$(sources))
 	@command -v rt >/dev/null || { echo 'make: rt, the command of the Rattle kit, is not on PATH' >&2; exit 2; }
 	@echo 'make: proving and building $(1), some minutes the first time' >&2
 	@mkdir -p build && touch build/$(1).begun
-	@(for library in rapidhash_portable rapidhash $(4); do (cd crates/$$$$library && rt lib) || exit; done && \
+	@(for library in $(4); do (cd crates/$$$$library && rt lib) || exit; done && \
 	  cd crates/$(1) && rt $(3)) </dev/null >build/$(1).log 2>&1 || { grep -m 20 -E 'error|not proved' build/$(1).log || \
 	  tail -n 5 build/$(1).log; echo 'make: the build failed; full output: build/$(1).log'; exit 2; } >&2
 	@touch -r build/$(1).begun $(2)
 endef
+both = rapidhash_portable rapidhash
 program = $(call product,$(1),crates/$(1)/out/$(1),run -- $(2),$(3))
-$(eval $(call product,rapidhash_c,$(archive),lib))
+$(eval $(call product,rapidhash_c,$(archive),lib,rapidhash_portable))
 # Each program with a word at which it ends at once, since rt runs what it has built.
-$(eval $(call program,rapidhash_cli,--help,rapidhash_tool))
-$(eval $(call program,example_sums,--version))
-$(eval $(call program,example_bloom,--help))
-$(eval $(call program,example_perfect,--help))
-$(eval $(call program,example_shards,red))
-$(eval $(call program,example_dedupe,args))
+$(eval $(call program,rapidhash_cli,--help,rapidhash_portable rapidhash_tool))
+$(eval $(call program,example_sums,--version,rapidhash_portable))
+$(eval $(call program,example_bloom,--help,$(both)))
+$(eval $(call program,example_perfect,--help,$(both)))
+$(eval $(call program,example_shards,red,$(both)))
+$(eval $(call program,example_dedupe,args,$(both)))
 
 $(shared): $(archive) share/librapidhash_c.map
 	@command -v rt >/dev/null || { echo 'make: rt, whose kit has the linker, is not on PATH' >&2; exit 2; }

@@ -24,9 +24,9 @@ chmod +x kit/rt
 # COMMANDS
 new_repository() {
   chmod -R u+w . && rm -rf repo starts && echo "$1" >during
-  mkdir -p repo/bin repo/crates/rapidhash{,_cli}/src repo/crates/rapidhash_{portable,tool}
+  mkdir -p repo/bin repo/crates/rapidhash_{portable,cli}/src repo/crates/rapidhash_tool
   cp "$top/bin/rapidhash" repo/bin && cp "$top/Makefile" "$top/crates.txt" repo
-  echo first >repo/crates/rapidhash/src/lib.rt
+  echo first >repo/crates/rapidhash_portable/src/lib.rt
   find repo -exec touch -d 2020-01-01 {} +
 }
 
@@ -53,11 +53,11 @@ chmod -R a-w repo
 calls read_only_checkout 7 $'first\ninput' 1 ''
 chmod -R u+w repo
 
-echo second >repo/crates/rapidhash/src/lib.rt
+echo second >repo/crates/rapidhash_portable/src/lib.rt
 calls edited_source 7 $'second\ninput' 2 "$told"
-mkdir repo/crates/rapidhash/specs && echo >repo/crates/rapidhash/specs/New.antt
+mkdir repo/crates/rapidhash_portable/specs && echo >repo/crates/rapidhash_portable/specs/New.antt
 calls new_file 7 $'second\ninput' 3 "$told"
-rm repo/crates/rapidhash/specs/New.antt
+rm repo/crates/rapidhash_portable/specs/New.antt
 calls removed_file 7 $'second\ninput' 4 "$told"
 touch repo/crates.txt
 calls list_of_crates 7 $'second\ninput' 5 "$told"
@@ -67,7 +67,7 @@ for crate in rapidhash_portable rapidhash_tool rapidhash_cli; do
   calls "new_folder_of_$crate" 7 $'second\ninput' $((builds += 1)) "$told"
 done
 
-new_repository 'echo third >../rapidhash/src/lib.rt'
+new_repository 'echo third >../rapidhash_portable/src/lib.rt'
 calls edit_during_a_build 7 $'first\ninput' 1 "$told"
 echo >during
 calls call_after_such_an_edit 7 $'third\ninput' 2 "$told"

@@ -2,15 +2,15 @@
 
 ghost use Rattle.std.specs.Prelude.{◌≡◌, ◌≤◌, IfOk, IfSome};
 ghost use Rattle.rapidhash_portable.specs.declared.form.Form.TheVariants.{V2, V3};
-ghost use Rattle.rapidhash.specs.Lanes.{IsLaneCount};
+ghost use Rattle.rapidhash_portable.specs.Lanes.{IsLaneCount};
 ghost use Rattle.rapidhash_portable.specs.Secrets.{default_secrets};
 ghost use Rattle.example_sums.specs.Algorithm.{hash_by, hash_of, seed_by};
 
-use rapidhash::v1::rapidhash_v1_seeded;
-use rapidhash::v2::rapidhash_v2_inline;
-use rapidhash::v3::rapidhash_v3_file_lanes;
-use rapidhash::{v1, v3};
 use rapidhash_portable::kernel::{MIXED, PLAIN, UNROLLED};
+use rapidhash_portable::v1::rapidhash_v1_seeded;
+use rapidhash_portable::v2::rapidhash_v2_inline;
+use rapidhash_portable::v3::rapidhash_v3_file_lanes;
+use rapidhash_portable::{v1, v3};
 use std::alloc::Allocator;
 use std::io;
 use std::io::Read;

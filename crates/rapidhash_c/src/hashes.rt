@@ -3,15 +3,15 @@
 //! slower.
 
 ghost use Rattle.std.specs.Prelude.{◌≡◌, ◌<◌, ◌≤◌, ◌%◌, false, true};
-ghost use Rattle.rapidhash.specs.Form.{guarded, micro, nano, standard, v1, v2, v3};
-ghost use Rattle.rapidhash.specs.Hash.{default_hash, portable_hash, seeded_hash, seeded_hash_v1};
-ghost use Rattle.rapidhash.specs.Secrets.{cpp_seeded, default_secrets, default_secrets_v1};
+ghost use Rattle.rapidhash_portable.specs.Form.{guarded, micro, nano, standard, v1, v2, v3};
+ghost use Rattle.rapidhash_portable.specs.Hash.{default_hash, portable_hash, seeded_hash, seeded_hash_v1};
+ghost use Rattle.rapidhash_portable.specs.Secrets.{cpp_seeded, default_secrets, default_secrets_v1};
 ghost use Rattle.rapidhash_portable.specs.declared.form.Form.TheVariants.{V3};
 
 use crate::long::{long_v1, long_v2, long_v3};
-use rapidhash::v1::RapidSecrets as RapidSecretsV1;
-use rapidhash::v3::{RapidSecrets, rapidhash_v3_inline};
 use rapidhash_portable::kernel::{GUARDED, MIXED, PLAIN, UNROLLED, v1, v2, v3};
+use rapidhash_portable::v1::RapidSecrets as RapidSecretsV1;
+use rapidhash_portable::v3::{RapidSecrets, rapidhash_v3_inline};
 
 /// The hash of `bytes` by V1, with the default seed and secrets.
 #[unsafe(no_mangle)]

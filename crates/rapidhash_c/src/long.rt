@@ -3,8 +3,8 @@
 //! those of 17 bytes up to a row save no register either.
 
 ghost use Rattle.std.specs.Prelude.{◌≡◌, ◌<◌, ◌≤◌, ◌%◌, true, false};
-ghost use Rattle.rapidhash.specs.Form.{standard, v1, v2};
-ghost use Rattle.rapidhash.specs.Hash.{portable_hash};
+ghost use Rattle.rapidhash_portable.specs.Form.{standard, v1, v2};
+ghost use Rattle.rapidhash_portable.specs.Hash.{portable_hash};
 ghost use Rattle.rapidhash_portable.specs.declared.form.Form.TheVariants.{V3};
 
 use rapidhash_portable::kernel::{MIXED, PLAIN, UNROLLED, v1, v2, v3};

@@ -2,9 +2,9 @@
 //! as in the C++ library.
 
 ghost use Rattle.std.specs.Prelude.{◌≡◌, ◌∷◌, All};
-ghost use Rattle.rapidhash.specs.Secrets.{IsGood, cpp_seeded, default_secrets, default_secrets_v1, seeded, seeded_secrets};
+ghost use Rattle.rapidhash_portable.specs.Secrets.{IsGood, cpp_seeded, default_secrets, default_secrets_v1, seeded, seeded_secrets};
 
-use rapidhash::{v1, v3};
+use rapidhash_portable::{v1, v3};
 
 /// A seed and secrets made of a number, for V1.
 #[unsafe(no_mangle)]

@@ -1,12 +1,12 @@
 //! A message in pieces, for V3, micro or nano. The header's inline functions start a stream.
 
 ghost use Rattle.std.specs.Prelude.{◌≡◌, ◌++◌, ℕ, List, true, false};
-ghost use Rattle.rapidhash.specs.Form.{standard};
-ghost use Rattle.rapidhash.specs.Hash.{seeded_hash};
-ghost use Rattle.rapidhash.specs.Stream.{StandsByLanes, StartsByLanes, lanes_of, secrets_by_lanes};
+ghost use Rattle.rapidhash_portable.specs.Form.{standard};
+ghost use Rattle.rapidhash_portable.specs.Hash.{seeded_hash};
+ghost use Rattle.rapidhash_portable.specs.Stream.{StandsByLanes, StartsByLanes, lanes_of, secrets_by_lanes};
 ghost use Rattle.rapidhash_portable.specs.declared.form.Form.TheVariants.{V3};
 
-use rapidhash::v3::RapidStream;
+use rapidhash_portable::v3::RapidStream;
 
 /// Forgets the message, and keeps the secrets and the number of lanes.
 #[unsafe(no_mangle)]

@@ -1,7 +1,7 @@
 -- The hash that a version prints.
 use Rattle.std.specs.Prelude.{ℕ, ◌≤◌, true, List, length, take}
-use Rattle.rapidhash.specs.Form.{micro, nano, options, v1, v2, v3}
-use Rattle.rapidhash.specs.Hash.{default_hash}
+use Rattle.rapidhash_portable.specs.Form.{micro, nano, options, v1, v2, v3}
+use Rattle.rapidhash_portable.specs.Hash.{default_hash}
 use Rattle.rapidhash_tool.specs.Faults.{NeedsLength}
 use Rattle.rapidhash_tool.specs.declared.version.Minor.{Minor}
 use Rattle.rapidhash_tool.specs.declared.version.Minor.TheVariants.{M0, M1, M2}

@@ -3,20 +3,20 @@
 ghost use Rattle.std.specs.Prelude.{◌≡◌, ◌⊎◌, ◌++◌, true, if◌then◌else◌, is_ok, IfErr, IfOk, IfSome, OnOk};
 ghost use Rattle.std.specs.Io.KnownBytes.{Consumes, IsAtEnd};
 ghost use Rattle.rapidhash_portable.specs.declared.form.Form.TheVariants.{V3};
-ghost use Rattle.rapidhash.specs.Lanes.{IsLaneCount};
-ghost use Rattle.rapidhash.specs.Form.{options};
-ghost use Rattle.rapidhash.specs.Reading.{HashesKnown, HashesNext};
-ghost use Rattle.rapidhash.specs.Hash.{default_hash};
+ghost use Rattle.rapidhash_portable.specs.Lanes.{IsLaneCount};
+ghost use Rattle.rapidhash_portable.specs.Form.{options};
+ghost use Rattle.rapidhash_portable.specs.Reading.{HashesKnown, HashesNext};
+ghost use Rattle.rapidhash_portable.specs.Hash.{default_hash};
 ghost use Rattle.rapidhash_tool.specs.Faults.{MayStopFile, MayStopStdin};
 ghost use Rattle.rapidhash_tool.specs.Hashes.{hash_of, read_of, HasLength};
 
 use crate::faults::CliFault;
 use crate::version::{Minor, RapidhashVersion};
-use rapidhash::v1::{rapidhash_v1_file_inline, rapidhash_v1_inline};
-use rapidhash::v2::{rapidhash_v2_file_inline, rapidhash_v2_inline};
-use rapidhash::v3::rapidhash_v3_file_lanes;
-use rapidhash::{v1, v2, v3};
 use rapidhash_portable::kernel::{GUARDED, MIXED, PLAIN, UNROLLED};
+use rapidhash_portable::v1::{rapidhash_v1_file_inline, rapidhash_v1_inline};
+use rapidhash_portable::v2::{rapidhash_v2_file_inline, rapidhash_v2_inline};
+use rapidhash_portable::v3::rapidhash_v3_file_lanes;
+use rapidhash_portable::{v1, v2, v3};
 use std::alloc::{AllocError, Allocator};
 use std::io;
 use std::io::Read;
