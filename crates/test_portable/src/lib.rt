@@ -6,8 +6,6 @@
 
 pub mod counts;
 #[cfg(test)]
-mod forms;
-#[cfg(test)]
 mod readers;
 #[cfg(test)]
 mod secrets;

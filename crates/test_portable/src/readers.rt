@@ -1,8 +1,7 @@
 //! The hashes over a reader: known values, ends and errors, and that a reader's hash is that of its
 //! bytes.
 
-mod asked;
-mod bulk;
+pub(crate) mod asked;
 mod ends;
 mod faults;
 mod known_length;

@@ -1,5 +1,3 @@
-// Made by bin/rust_crate from crates/test_portable/src/forms.rt: change that file.
-
 //! The lengths at which two forms agree. They are those of the Rust crate, for random bytes.
 
 use rapidhash::rng::RapidRng;

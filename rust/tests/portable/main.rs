@@ -7,6 +7,8 @@
 )]
 
 #[cfg(feature = "std")]
+mod bulk;
+#[cfg(feature = "std")]
 mod fakes;
 mod forms;
 #[cfg(feature = "std")]
