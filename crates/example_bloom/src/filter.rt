@@ -1,8 +1,8 @@
 //! The filter: bits in words, and the marks of a key among them.
 
 ghost use Rattle.std.specs.Prelude.{◌≡◌, ◌↔◌, ◌<◌, ℕ, true, length, IfOk};
-ghost use Rattle.example_bloom.specs.Filter.{Adds, Finds, HasSameShape, HasShape, HasWords, IsEmpty, Unites};
-ghost use Rattle.example_bloom.specs.Filter.{HasBit, Marks, Sets, step_of};
+ghost use Rattle.example_bloom.specs.Filter.{Adds, Finds, HasSameShape, HasWords, IsEmpty, Unites};
+ghost use Rattle.example_bloom.specs.Filter.{HasBit, HasShape, Marks, Sets, step_of};
 
 use crate::shape::Shape;
 use rapidhash::v3::rapidhash_v3;
