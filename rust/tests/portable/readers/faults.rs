@@ -1,14 +1,14 @@
-// Made by bin/rust_crate from crates/test_portable/src/readers/faults.rt: change that file.
+// Made by bin/rust_crate from crates/test_calls/src/readers/faults.rt: change that file.
 
 //! A read that fails, each in turn, and the call after it.
 
+use crate::fakes::CountingReader;
 use crate::readers::asked::{drip, failed, gave, v1_of, v2_of};
 use rapidhash::reader::Source;
 use rapidhash::v1::{DEFAULT_RAPID_SECRETS, rapidhash_v1, rapidhash_v1_source};
 use rapidhash::{v2, v3};
 use std::io::ErrorKind;
 type Fail = Box<dyn std::error::Error>;
-use crate::fakes::CountingReader;
 
 const SOMETHING: &[u8] = b"something\n";
 

@@ -1,7 +1,8 @@
-// Made by bin/rust_crate from crates/test_portable/src/readers/sizes.rt: change that file.
+// Made by bin/rust_crate from crates/test_calls/src/readers/sizes.rt: change that file.
 
 //! V3's readers with buffers of several sizes.
 
+use crate::fakes::CountingReader;
 use rapidhash::reader::Source;
 use rapidhash::rng::RapidRng;
 use rapidhash::v3::{
@@ -10,7 +11,6 @@ use rapidhash::v3::{
 use std::io;
 use std::io::ErrorKind;
 type Fail = Box<dyn std::error::Error>;
-use crate::fakes::CountingReader;
 
 /// At how many lengths below that of the bytes both sized forms return the hash of the bytes and
 /// ask for `SIZE` bytes a read.

@@ -1,10 +1,11 @@
-// Made by bin/rust_crate from crates/test_portable/src/readers/to_the_end.rt: change that file.
+// Made by bin/rust_crate from crates/test_calls/src/readers/to_the_end.rt: change that file.
 
 //! The hashes of all that a reader has, V3, micro and nano: what each asks its reader for, and what
 //! is returned if a read fails.
 
 mod form;
 
+use crate::fakes::CountingReader;
 use crate::readers::outcome::Outcome;
 use form::{FORMS, Form};
 use rapidhash::reader::Source;
@@ -12,7 +13,6 @@ use rapidhash::rng::RapidRng;
 use rapidhash::v3;
 use std::io::ErrorKind;
 type Fail = Box<dyn std::error::Error>;
-use crate::fakes::CountingReader;
 
 /// Hashes ten bytes that come one a read; an eleventh read finds the end. Each read in turn fails:
 /// its own error is returned, the bytes before it are gone, and no read follows.

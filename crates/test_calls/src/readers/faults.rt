@@ -1,0 +1,87 @@
+//! A read that fails, each in turn, and the call after it.
+
+use crate::fakes::CountingReader;
+use crate::readers::asked::{drip, failed, gave, v1_of, v2_of};
+use rapidhash_portable::reader::Source;
+use rapidhash_portable::v1::{DEFAULT_RAPID_SECRETS, rapidhash_v1, rapidhash_v1_source};
+use rapidhash_portable::{v2, v3};
+use std::io::ErrorKind;
+use std::test::Fail;
+
+const SOMETHING: &[u8] = b"something\n";
+
+// Ten reads return a byte each, and there is no eleventh. An interrupted read keeps its own kind.
+#[test]
+fn each_read_may_fail(rt: HostRuntime) {
+    for kind in [ErrorKind::BrokenPipe, ErrorKind::Interrupted] {
+        let mut left = SOMETHING.len();
+        for fails_at in 1..11u64 {
+            let want = failed(kind, left);
+            assert_eq!(rt; v1_of(drip(SOMETHING, fails_at, kind), 10), want);
+            assert_eq!(rt; v2_of::<2>(drip(SOMETHING, fails_at, kind), 10), want);
+            left = left.saturating_sub(1);
+        }
+        let want = gave(15965596575264898037, 0);
+        assert_eq!(rt; v1_of(drip(SOMETHING, 11, kind), 10), want);
+        let want = gave(v2::rapidhash_v2_2(SOMETHING), 0);
+        assert_eq!(rt; v2_of::<2>(drip(SOMETHING, 11, kind), 10), want);
+    }
+}
+
+// The third read fails and consumes no byte: two are gone, and the next call clears the mark.
+#[test]
+fn the_next_call_goes_on_behind_a_fault(rt: HostRuntime) -> Result<(), Fail> {
+    let secrets = &DEFAULT_RAPID_SECRETS;
+    let mut source = Source::new(drip(SOMETHING, 3, ErrorKind::BrokenPipe));
+    let first = rapidhash_v1_source::<CountingReader, false>(&mut source, 10, secrets);
+    assert!(rt; first.is_err());
+    assert!(rt; source.failed());
+    let second = rapidhash_v1_source::<CountingReader, false>(&mut source, 8, secrets)?;
+    assert_eq!(rt; second, rapidhash_v1(b"mething\n"));
+    assert!(rt; !source.failed());
+    Ok(())
+}
+
+/// A source returns what its reader returns. A failed read turns its mark on, and the mark stays
+/// until it is cleared.
+#[test]
+fn a_source_marks_a_failed_read(rt: HostRuntime) {
+    let mut source = Source::new(drip(SOMETHING, 2, ErrorKind::TimedOut));
+    let mut buffer = [0; 4];
+    assert_eq!(rt; source.read(&mut buffer).ok(), Some(1));
+    assert_eq!(rt; source.failed(), false);
+    let failed = source.read(&mut buffer).map_err(|error| error.kind());
+    assert_eq!(rt; failed, Err(ErrorKind::TimedOut));
+    assert_eq!(rt; source.failed(), true);
+    assert_eq!(rt; source.read(&mut buffer[1..]).ok(), Some(1));
+    assert_eq!(rt; buffer, [b's', b'o', 0, 0]);
+    assert_eq!(rt; source.failed(), true);
+    source.clear();
+    assert_eq!(rt; source.failed(), false);
+    let reader = source.into_inner();
+    assert_eq!(rt;
+        (reader.reads, reader.longest, reader.left.len()),
+        (3, 4, 8)
+    );
+}
+
+/// V3 of ten bytes that come one a read, over a source: if one of the eleven reads fails, its error
+/// is returned and the source is marked. No twelfth read is made. The number is the Rust crate's.
+#[test]
+fn a_source_is_marked_by_each_read(rt: HostRuntime) {
+    for fails_at in 1..13u64 {
+        let reader = drip(SOMETHING, fails_at, ErrorKind::BrokenPipe);
+        let mut source = Source::new(reader);
+        let answer = v3::rapidhash_v3_source::<CountingReader, false>(
+            &mut source,
+            &v3::DEFAULT_RAPID_SECRETS,
+        );
+        let want = if fails_at < 12 {
+            Err(ErrorKind::BrokenPipe)
+        } else {
+            Ok(11612086640089003834)
+        };
+        assert_eq!(rt; answer.map_err(|error| error.kind()), want, "{fails_at}");
+        assert_eq!(rt; source.failed(), fails_at < 12, "{fails_at}");
+    }
+}

@@ -1,0 +1,121 @@
+//! The hashes of a number of bytes of a reader, V1 and V2: what each asks its reader for, and what
+//! is returned if a read fails.
+
+mod form;
+
+use crate::fakes::CountingReader;
+use crate::readers::outcome::Outcome;
+use form::{FORMS, Form};
+use std::io::ErrorKind;
+use std::process::Abort;
+
+/// Hashes ten bytes that come one a read. Each read in turn fails: its own error is returned, the
+/// bytes before it are gone, and no read follows.
+fn each_of_ten_reads_fails(rt: &impl Abort, form: Form, kind: ErrorKind) {
+    for fails_at in 1..11u64 {
+        let reader = CountingReader::failing(b"something\nmore", 1, fails_at, kind);
+        let want = Outcome {
+            returned: Err(kind),
+            reads: fails_at,
+            longest: 10,
+            left: 15usize.saturating_sub(fails_at as usize),
+        };
+        assert_eq!(rt; form.outcome(reader, 10), want, "{form:?}");
+    }
+}
+
+/// A failed read is not retried, even if it was only interrupted.
+#[test]
+fn a_failed_read_is_returned_at_once(rt: HostRuntime) {
+    for form in FORMS {
+        each_of_ten_reads_fails(&rt, form, ErrorKind::BrokenPipe);
+        each_of_ten_reads_fails(&rt, form, ErrorKind::Interrupted);
+    }
+}
+
+/// Hashes 140000 bytes, which take three reads of a reader that returns all it is asked for. Each
+/// of them in turn fails, and no read follows.
+fn each_of_three_reads_fails(rt: &impl Abort, form: Form, bytes: &[u8]) {
+    for fails_at in 1..4u64 {
+        let kind = ErrorKind::Interrupted;
+        let outcome = form.outcome(
+            CountingReader::failing(bytes, usize::MAX, fails_at, kind),
+            140000,
+        );
+        assert_eq!(rt; outcome.returned, Err(kind), "{form:?}");
+        assert_eq!(rt; outcome.reads, fails_at, "{form:?}");
+    }
+}
+
+#[test]
+fn a_failed_read_of_a_long_message(rt: HostRuntime) {
+    let bytes = [3; 140000];
+    for form in FORMS {
+        each_of_three_reads_fails(&rt, form, &bytes);
+    }
+}
+
+/// A reader that returns all it is asked for, with two bytes after the length. At most 8192 bytes
+/// are read at once, and more in pieces of 65520 bytes and a last one of at most 65535.
+fn reads_of_lengths(rt: &impl Abort, form: Form, bytes: &[u8]) {
+    for (n, reads, longest) in [
+        (0usize, 0u64, 0usize),
+        (1, 1, 1),
+        (8192, 1, 8192),
+        (8193, 1, 8193),
+        (65535, 1, 65535),
+        (65536, 2, 65520),
+        (140000, 3, 65520),
+    ] {
+        let (message, behind) = bytes.split_at(n.min(bytes.len()));
+        let want = Outcome {
+            returned: Ok(form.of_bytes(message)),
+            reads,
+            longest,
+            left: behind.len(),
+        };
+        let reader = CountingReader::new(bytes, usize::MAX);
+        assert_eq!(rt; form.outcome(reader, n as u64), want, "{form:?} {n}");
+    }
+}
+
+/// There is no read after all bytes were read, and none at all for no byte.
+#[test]
+fn few_reads(rt: HostRuntime) {
+    let bytes = [3; 140002];
+    for form in FORMS {
+        reads_of_lengths(&rt, form, &bytes);
+    }
+}
+
+/// A reader of one byte a read takes one read for each byte. If it ends one byte early, the read
+/// that returns 0 is the last one.
+fn reads_of_single_bytes(rt: &impl Abort, form: Form, bytes: &[u8]) {
+    for n in [0usize, 1, 16, 17, 300, 9000] {
+        let (message, behind) = bytes.split_at(n.min(bytes.len()));
+        let want = Outcome {
+            returned: Ok(form.of_bytes(message)),
+            reads: n as u64,
+            longest: n,
+            left: behind.len(),
+        };
+        let reader = CountingReader::new(bytes, 1);
+        assert_eq!(rt; form.outcome(reader, n as u64), want, "{form:?} {n}");
+        let want = Outcome {
+            returned: Err(ErrorKind::UnexpectedEof),
+            reads: n as u64 + 1,
+            longest: n + 1,
+            left: 0,
+        };
+        let reader = CountingReader::new(message, 1);
+        assert_eq!(rt; form.outcome(reader, n as u64 + 1), want, "{form:?} {n}");
+    }
+}
+
+#[test]
+fn no_read_after_the_last_byte(rt: HostRuntime) {
+    let bytes = [3; 9001];
+    for form in FORMS {
+        reads_of_single_bytes(&rt, form, &bytes);
+    }
+}

@@ -1,0 +1,69 @@
+//! The Rust crate's own tests of its command line, by their names: the arguments, and what is
+//! printed for a text. The numbers are those of the Rust crate.
+
+use crate::tool::ends::{of_file, of_stdin, whole, writer};
+use crate::tool::plans::gathered;
+use rapidhash_tool::{Plan, plan};
+use std::process::Abort;
+use std::test::Fail;
+
+const TEXT: &[u8] = b"test input\n";
+
+// The line that V3 prints for it.
+const LINE: &[u8] = b"10591916791569766038\n";
+
+// Arguments that name no file print this line for the text on standard input.
+fn prints(rt: &(impl Abort + AllocGlobal), words: &[&str], line: &[u8]) -> Result<(), Fail> {
+    let words = gathered(rt, words)?;
+    let Plan::Run {
+        version,
+        file: None,
+    } = plan(words.as_slice())
+    else {
+        panic!(rt; "{words:?} does not hash standard input");
+    };
+    let out = writer(Vec::new(rt.alloc()), 0);
+    let ended = of_stdin(rt.alloc(), version, whole(TEXT), out);
+    assert_eq!(rt; ended.result, Ok(()));
+    assert_eq!(rt; ended.written.as_slice(), line, "at {words:?}");
+    Ok(())
+}
+
+#[test]
+fn cli_stdin(rt: HostRuntime) -> Result<(), Fail> {
+    prints(&rt, &["rapidhash", "--v3"], LINE)
+}
+
+#[test]
+fn cli_versions(rt: HostRuntime) -> Result<(), Fail> {
+    let lines: [(&str, &[u8]); 7] = [
+        ("--v1", b"5992571829774481638\n"),
+        ("--v2.0", b"13749574946495435624\n"),
+        ("--v2.1", b"13749574946495435624\n"),
+        ("--v2.2", b"13749574946495435624\n"),
+        ("--v3", b"10591916791569766038\n"),
+        ("--v3-micro", b"10591916791569766038\n"),
+        ("--v3-nano", b"10591916791569766038\n"),
+    ];
+    for (word, line) in lines {
+        prints(&rt, &["rapidhash", word], line)?;
+    }
+    Ok(())
+}
+
+#[test]
+fn cli_file(rt: HostRuntime) -> Result<(), Fail> {
+    let words = gathered(&rt, &["rapidhash", "--v3", "test.txt"])?;
+    let Plan::Run {
+        version,
+        file: Some(2),
+    } = plan(words.as_slice())
+    else {
+        panic!(rt; "{words:?} does not hash the file test.txt");
+    };
+    let out = writer(Vec::new(rt.alloc()), 0);
+    let ended = of_file(version, whole(TEXT), TEXT.len() as u64, out);
+    assert_eq!(rt; ended.result, Ok(()));
+    assert_eq!(rt; ended.written.as_slice(), LINE);
+    Ok(())
+}

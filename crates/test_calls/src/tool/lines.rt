@@ -1,0 +1,192 @@
+//! The lines that are printed.
+
+use crate::fakes::FullWriter;
+use crate::tool::ends::{
+    SOMETHING, SOMETHING_LINE, V1, V3, V3_LINE, counted, of_file, of_stdin, versions, whole, writer,
+};
+use rapidhash_tool::{CliFault, help, run_file, run_help, run_stdin};
+use std::process::Abort;
+use std::test::Fail;
+
+// What the Rust crate's hashes are, for V1, V2.0, V2.1, V2.2, V3, micro and nano.
+const OF_SOMETHING: [u64; 7] = [
+    15965596575264898037,
+    9564150447897697404,
+    9564150447897697404,
+    9564150447897697404,
+    11612086640089003834,
+    11612086640089003834,
+    11612086640089003834,
+];
+
+const OF_SOMETHING_PROTECTED: [u64; 7] = [
+    14951285551641890068,
+    17893560372563139203,
+    17893560372563139203,
+    17893560372563139203,
+    9190969184432848932,
+    9190969184432848932,
+    9190969184432848932,
+];
+
+// Of the bytes 0 to 59.
+const OF_60: [u64; 7] = [
+    13504714392771582078,
+    13186137053657766175,
+    13012060828128651499,
+    6181707366222537282,
+    4019770469993714914,
+    4019770469993714914,
+    2215003878582675931,
+];
+
+const OF_60_PROTECTED: [u64; 7] = [
+    6468868215947200268,
+    16843117783405955737,
+    7511735898977599527,
+    4976199966969934088,
+    11252768679679600228,
+    11252768679679600228,
+    1713723861806489385,
+];
+
+// Of the bytes 0 to 199.
+const OF_200: [u64; 7] = [
+    9257997393371529010,
+    14313477656795349801,
+    14313477656795349801,
+    14313477656795349801,
+    11319255389218479170,
+    3555686792459783170,
+    1733455076046618124,
+];
+
+const OF_200_PROTECTED: [u64; 7] = [
+    1717351545928846253,
+    11164339708799121817,
+    11164339708799121817,
+    11164339708799121817,
+    14349953989156417912,
+    4897950914338820965,
+    16770306864220385383,
+];
+
+// Every version prints these hashes, from standard input and from a file.
+fn all_print(
+    rt: &(impl Abort + AllocGlobal),
+    bytes: &[u8],
+    protected: bool,
+    hashes: [u64; 7],
+) -> Result<(), Fail> {
+    let all = versions(protected);
+    for i in 0..7usize {
+        let version = all[i];
+        let hash = hashes[i];
+        let line = format!(in rt.alloc(); "{hash}\n")?;
+        let out = writer(Vec::new(rt.alloc()), 0);
+        let ended = of_stdin(rt.alloc(), version, whole(bytes), out);
+        assert_eq!(rt; ended.result, Ok(()), "at {version:?}");
+        assert_eq!(rt; ended.written.as_slice(), line.as_bytes(), "at {version:?}");
+        let out = writer(Vec::new(rt.alloc()), 0);
+        let ended = of_file(version, whole(bytes), bytes.len() as u64, out);
+        assert_eq!(rt; ended.result, Ok(()), "at {version:?}");
+        assert_eq!(rt; ended.written.as_slice(), line.as_bytes(), "at {version:?}");
+    }
+    Ok(())
+}
+
+#[test]
+fn all_versions(rt: HostRuntime) -> Result<(), Fail> {
+    let bytes = counted();
+    let tables: [(&[u8], bool, [u64; 7]); 6] = [
+        (SOMETHING, false, OF_SOMETHING),
+        (SOMETHING, true, OF_SOMETHING_PROTECTED),
+        (&bytes[..60], false, OF_60),
+        (&bytes[..60], true, OF_60_PROTECTED),
+        (&bytes, false, OF_200),
+        (&bytes, true, OF_200_PROTECTED),
+    ];
+    for (bytes, protected, hashes) in tables {
+        all_print(&rt, bytes, protected, hashes)?;
+    }
+    Ok(())
+}
+
+// The hashes themselves, which the lines are made of.
+#[test]
+fn hashes_by_themselves(rt: HostRuntime) {
+    let all = versions(false);
+    for i in 0..7usize {
+        let of_stdin = all[i].hash_stdin(rt.alloc(), whole(SOMETHING));
+        assert_eq!(rt; of_stdin, Ok(OF_SOMETHING[i]));
+        assert_eq!(rt; all[i].hash_file(whole(SOMETHING), 10), Ok(OF_SOMETHING[i]));
+    }
+}
+
+#[test]
+fn short_inputs(rt: HostRuntime) {
+    let lines: [(&[u8], &[u8]); 3] = [
+        (b"", b"6516417773221693515\n"),
+        (b"\n", b"5006746792674864303\n"),
+        (SOMETHING, SOMETHING_LINE),
+    ];
+    for (bytes, line) in lines {
+        let out = writer(Vec::new(rt.alloc()), 0);
+        let ended = of_stdin(rt.alloc(), V1, whole(bytes), out);
+        assert_eq!(rt; ended.result, Ok(()));
+        assert_eq!(rt; ended.written.as_slice(), line);
+    }
+}
+
+// V1 and V2 hash as many bytes as the length says, and the others all.
+#[test]
+fn lengths_of_files(rt: HostRuntime) {
+    for version in versions(false) {
+        let out = writer(Vec::new(rt.alloc()), 0);
+        let longer = of_file(version, whole(SOMETHING), 11, out);
+        if version.needs_length() {
+            assert_eq!(rt; longer.result, Err(CliFault::File), "at {version:?}");
+            assert!(rt; longer.written.is_empty());
+            continue;
+        }
+        let out = writer(Vec::new(rt.alloc()), 0);
+        let of_none = of_file(version, whole(SOMETHING), 0, out);
+        assert_eq!(rt; longer.result, Ok(()), "at {version:?}");
+        assert_eq!(rt; longer.written.as_slice(), V3_LINE);
+        assert_eq!(rt; of_none.result, Ok(()), "at {version:?}");
+        assert_eq!(rt; of_none.written.as_slice(), V3_LINE);
+    }
+    let out = writer(Vec::new(rt.alloc()), 0);
+    let first = of_file(V1, whole(b"something\nmore"), 10, out);
+    assert_eq!(rt; first.written.as_slice(), SOMETHING_LINE);
+}
+
+// V3, micro and nano hash and print all bytes, whatever the length is.
+#[test]
+fn lengths_that_are_not_looked_at(rt: HostRuntime) -> Result<(), Fail> {
+    let bytes = counted();
+    let all = versions(false);
+    for i in 4..7usize {
+        let hash = OF_200[i];
+        let line = format!(in rt.alloc(); "{hash}\n")?;
+        for len in [0, 99, 200, 201, u64::MAX] {
+            assert_eq!(rt; all[i].hash_file(whole(&bytes), len), Ok(hash), "at {len}");
+            let ended = of_file(all[i], whole(&bytes), len, writer(Vec::new(rt.alloc()), 0));
+            assert_eq!(rt; ended.result, Ok(()), "at {len}");
+            assert_eq!(rt; ended.written.as_slice(), line.as_bytes(), "at {len}");
+        }
+    }
+    let ended = of_file(V3, whole(SOMETHING), 99, writer(Vec::new(rt.alloc()), 0));
+    assert_eq!(rt; ended.written.as_slice(), V3_LINE);
+    Ok(())
+}
+
+#[test]
+fn a_writer_that_takes_nothing(rt: HostRuntime) {
+    let of_stdin = run_stdin(rt.alloc(), &V1, whole(SOMETHING), &mut FullWriter);
+    let of_file = run_file(&V3, whole(SOMETHING), 10, &mut FullWriter);
+    assert_eq!(rt; of_stdin, Err(CliFault::Write));
+    assert_eq!(rt; of_file, Err(CliFault::Write));
+    assert_eq!(rt; run_help(&mut FullWriter), Err(CliFault::Write));
+    assert!(rt; help().ends_with("#cli\n"));
+}
