@@ -55,20 +55,14 @@ def reached_by(crate):
 
 
 def rounds(crate, edits):
-    """Distributes edits to few lists, so that no function of a list reaches another."""
-    reach, lists = reached_by(crate), []
-
-    def fits(edit, chosen):
-        functions = {other.function for other in chosen}
-        return not functions & (reach(edit.function) | {edit.function}) and \
-            not any(edit.function in reach(function) for function in functions)
-
+    """Distributes edits to few lists, so that no function of a list reaches another: an edit comes in the list after
+    those of the functions that its own reaches."""
+    reach, ends, lists = reached_by(crate), defaultdict(int), defaultdict(list)
     for edit in sorted(edits, key=lambda edit: len(reach(edit.function))):
-        chosen = next((chosen for chosen in lists if fits(edit, chosen)), None)
-        if chosen is None:
-            lists.append(chosen := [])
-        chosen.append(edit)
-    return lists
+        place = max(ends[function] for function in reach(edit.function) | {edit.function})
+        ends[edit.function] = place + 1
+        lists[place].append(edit)
+    return list(lists.values())
 
 
 def apply(edits, folder):
