@@ -1,31 +1,30 @@
 #!/usr/bin/env bash
-# Runs the Rust crate on other machines: under qemu's emulation, and in Node as WebAssembly. It is built by
-# Debian's rustc 1.63, the oldest compiler that the crate promises, and on this machine also by its own.
-# Each run replays all vector files, and hashes a million random messages, whose checksum has to be that
-# of x86_64. Where there is a C compiler, a program in C makes every call of the library that rust/capi is.
-# What a machine lacks is skipped and counted. The last line counts the cases.
+# Runs the tests of the Rust crate on other machines: under qemu's emulation, and in Node as WebAssembly, where no test
+# starts a thread. Debian's cargo builds them by its rustc 1.63, the oldest compiler that the crate promises. A million
+# random messages must have the checksum of x86_64. On machines with a C compiler, a program in C makes every call of
+# the library that rust/capi is. What a machine lacks is skipped and counted. The last line counts the cases.
 #
-# Debian's packages are unpacked in build/machines, or the folder that RAPIDHASH_MACHINES names, which
-# stays for later runs. Nothing is installed.
+# The other packages of Debian are unpacked in build/machines, or the folder that RAPIDHASH_MACHINES names, which
+# stays for later runs. They are not installed.
 . "$(dirname "$0")/cases.sh"
 folder=$(realpath -m "${RAPIDHASH_MACHINES:-$top/build/machines}")
 root=$folder/root
 export APT_CONFIG=$folder/apt/apt.conf
 
-# The machines: Debian's name, rustc's, GNU's and qemu's. What has no qemu runs without it.
+# The machines: Debian's name, rustc's, GNU's and qemu's. Those without qemu's run without it, and so does i386 on
+# x86_64, since qemu's stops at threads.
 machines=(
-  'own - - - -'
   'x86_64 - x86_64-unknown-linux-gnu - -'
   'aarch64 arm64 aarch64-unknown-linux-gnu aarch64-linux-gnu aarch64'
   's390x s390x s390x-unknown-linux-gnu s390x-linux-gnu s390x'
   'ppc64el ppc64el powerpc64le-unknown-linux-gnu powerpc64le-linux-gnu ppc64le'
-  'i386 i386 i686-unknown-linux-gnu i686-linux-gnu i386'
+  'i386 i386 i686-unknown-linux-gnu i686-linux-gnu -'
   'armhf armhf armv7-unknown-linux-gnueabihf arm-linux-gnueabihf arm'
   'wasm32 - wasm32-wasi - -'
 )
 # How many of them are built and run at a time.
 jobs=2
-# The old compiler with the libraries that it and the linkers need, and the emulators.
+# The compiler with the libraries that it and the linkers need, and the emulators.
 compiler=(rustc libstd-rust-1.63 libstd-rust-dev libllvm14 lib{z3-4,edit2,bsd0,md0,xml2,icu72,ffi8,jansson4,binutils}
   qemu-user-static)
 
@@ -59,7 +58,7 @@ fetch() {
   ) && echo "$*" >"$stamp" && rm -rf "$debs"
 }
 
-# The compiler's packages. Only where they are not there is the index read, so others see an old one.
+# The compiler's packages. Only if they are missing is the index read, so the others are found by an old one.
 fetch_compiler() {
   if ! command -v apt-get >/dev/null || ! command -v dpkg >/dev/null; then
     echo "no apt-get and dpkg, which bring Debian's compiler"
@@ -69,15 +68,16 @@ fetch_compiler() {
     fetch compiler "${compiler[@]}" && with_old rustc --version
 }
 
-# A command with Debian's rustc.
+# A command with the unpacked compiler.
 with_old() {
   env PATH="$root/usr/bin:$PATH" LD_LIBRARY_PATH="$root/usr/lib/x86_64-linux-gnu" "$@"
 }
 
 # Whether all is there that a machine needs; if not, the last line says what is missing: NAME PACKAGE..
 has_all() {
-  if [ "$1" = own ]; then
-    command -v rustc || { echo 'no rustc' && return 1; }
+  if [ ! -x /usr/bin/cargo ]; then
+    echo "no /usr/bin/cargo, which Debian's package cargo brings"
+    return 1
   elif [ "$1" = wasm32 ] && ! node -e 'require("node:wasi")'; then
     echo 'no node that has WASI without a flag, as Node 20 has'
     return 1
@@ -87,27 +87,6 @@ has_all() {
   elif [ $# -gt 1 ]; then
     fetch "$@"
   fi
-}
-
-# Builds the crate, and the program over it: FOLDER COMPILER..
-build() {
-  local out=$1 flags=(--edition 2021 -D warnings -C opt-level=3 -C codegen-units=1)
-  shift
-  "$@" "${flags[@]}" --crate-type rlib --crate-name rapidhash --cfg 'feature="std"' --out-dir "$out" \
-    "$top/rust/src/lib.rs" &&
-    "$@" "${flags[@]}" --extern "rapidhash=$out/librapidhash.rlib" -o "$out/program" \
-      "$top/tests/machines/main.rs"
-}
-
-# Builds the library for C, and the program over it: FOLDER COMPILER-OF-C.. -- COMPILER..
-build_c() {
-  local out=$1 cc=()
-  shift
-  while [ "$1" != -- ]; do cc+=("$1") && shift; done
-  shift
-  "$@" --edition 2021 -D warnings -C opt-level=3 -C panic=abort --crate-type staticlib --crate-name rapidhash_c \
-    --extern "rapidhash=$out/librapidhash.rlib" -o "$out/librapidhash_c.a" "$top/rust/capi/src/lib.rs" &&
-    "${cc[@]}" -O2 -I"$top/include" "$top/tests/c_library.c" "$out/librapidhash_c.a" -o "$out/c_library"
 }
 
 # Prints the line of a case, whose log stays, since other machines run beside this one: NAME COMMAND..
@@ -122,58 +101,71 @@ try() {
   fi
 }
 
-# Builds the program for a machine and runs it there: NAME DEBIAN RUSTC GNU QEMU
+# Runs the tests of the crate on a machine, and the calls of its library for C: NAME DEBIAN RUSTC GNU QEMU
 machine() {
-  local name=$1 debian=$2 target=$3 gnu=$4 qemu=$5 packages=() run=()
-  local compile=(with_old rustc --target "$target") out=$room/$name.out cc=(cc)
+  local name=$1 debian=$2 target=$3 gnu=$4 qemu=$5 packages=() tests=(--tests) cc=(cc) run=() of_target
+  of_target=CARGO_TARGET_$(tr a-z- A-Z_ <<<"$target")
+  export CARGO_BUILD_TARGET=$target CARGO_TARGET_DIR=$room/$name.out CARGO_NET_OFFLINE=true
   case $name in
-    own) compile=(rustc) ;;
     x86_64) ;;
     wasm32)
       packages=(libstd-rust-dev-wasm32 lld-14 wasi-libc)
+      tests=(--test vectors --test portable)
       cc=()
-      compile+=(-C linker="$root/usr/bin/wasm-ld-14" -L "$root/usr/lib/wasm32-wasi")
       run=(node --no-warnings "$top/tests/machines/wasi.mjs")
+      export "${of_target}_LINKER=$root/usr/bin/wasm-ld-14" "${of_target}_RUSTFLAGS=-L $root/usr/lib/wasm32-wasi"
       ;;
     *)
       packages=(libstd-rust-dev:"$debian" {gcc-12,cpp-12,binutils}-"$gnu"
         {libc6,libc6-dev,linux-libc-dev,libgcc-12-dev,libgcc-s1}-"$debian-cross")
       cc=(with_old "$root/usr/bin/$gnu-gcc-12" --sysroot="$root")
-      compile+=(-C linker="$root/usr/bin/$gnu-gcc-12" -C link-arg=--sysroot="$root")
       run=("$root/usr/bin/qemu-$qemu-static" -L "$root/usr/$gnu")
+      [ "$qemu" != - ] || run=("$root/usr/$gnu/lib/ld-linux.so.2" --library-path "$root/usr/$gnu/lib")
+      export "${of_target}_LINKER=$root/usr/bin/$gnu-gcc-12" "${of_target}_RUSTFLAGS=-C link-arg=--sysroot=$root"
       ;;
   esac
+  [ "${#run[@]}" -eq 0 ] || export "${of_target}_RUNNER=${run[*]}"
   if ! has_all "$name" "${packages[@]}" >"$room/$name.log" 2>&1; then
     printf 'skipped %s: %s\n' "$name" "$(tail -n 1 "$room/$name.log")"
-  elif mkdir "$out" && try "${name}_build" build "$out" "${compile[@]}"; then
-    try "${name}_vectors" "${run[@]}" "$out/program" vectors "$top/crates/test_replay/data"
-    try "${name}_messages" "${run[@]}" "$out/program" messages 1000000
-    [ "${#cc[@]}" -eq 0 ] || ! try "${name}_c_build" build_c "$out" "${cc[@]}" -- "${compile[@]}" ||
-      try "${name}_c" "${run[@]}" "$out/c_library"
+    return
   fi
+  cd "$top/rust" || return
+  try "${name}_tests" with_old /usr/bin/cargo test --release "${tests[@]}"
+  MESSAGES=1000000 try "${name}_messages" with_old /usr/bin/cargo test --release --test vectors -- --nocapture random
+  [ "${#cc[@]}" -eq 0 ] || try "${name}_c" calls_from_c "$CARGO_TARGET_DIR/$target/release/librapidhash_c.a"
+}
+
+# Every call of the library for C on a machine, whose words are in `cc` and `run`: ARCHIVE
+calls_from_c() {
+  with_old /usr/bin/cargo build --release --manifest-path capi/Cargo.toml &&
+    "${cc[@]}" -O2 -I"$top/include" "$top/tests/c_library.c" "$1" -o "$CARGO_TARGET_DIR/c_library" &&
+    "${run[@]}" "$CARGO_TARGET_DIR/c_library"
+}
+
+# What the random messages printed on a machine: NAME
+checksum() {
+  grep -o '[0-9]* messages of .*' "$room/$1_messages.log"
 }
 
 # Another machine has the checksum of x86_64: NAME
 same_checksum() {
-  diff <(tail -n 1 "$room/x86_64_messages.log") <(tail -n 1 "$room/$1_messages.log") &&
-    grep -q ' checksum ' "$room/$1_messages.log"
+  checksum "$1" && diff <(checksum x86_64) <(checksum "$1")
 }
 
 fetch_compiler >"$room/compiler.log" 2>&1 && touch "$room/compiler"
 for row in "${machines[@]}"; do
   while [ "$(jobs -rp | wc -l)" -ge "$jobs" ]; do wait -n; done
   read -ra words <<<"$row"
-  machine "${words[@]}" >"$room/${words[0]}.lines" &
+  (machine "${words[@]}") >"$room/${words[0]}.lines" &
 done
 wait
 
 for row in "${machines[@]}"; do
   name=${row%% *}
-  lines=$room/$name.lines
-  cat "$lines"
-  if grep -q "^ok ${name}_messages" "$lines"; then
-    tail -n 2 "$room/${name}_messages.log" | paste -sd ';' | sed 's/;/: /'
-    [ "$name" = x86_64 ] || [ ! -e "$room/compiler" ] || try "${name}_checksum" same_checksum "$name"
+  cat "$room/$name.lines"
+  if grep -q "^ok ${name}_messages" "$room/$name.lines"; then
+    printf '%s: %s\n' "$name" "$(checksum "$name")"
+    [ "$name" = x86_64 ] || try "${name}_checksum" same_checksum "$name"
   fi
 done | tee "$room/lines"
 skipped=$(sed -n 's/^skipped \([^:]*\):.*/\1/p' "$room/lines" | xargs)

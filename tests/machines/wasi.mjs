@@ -3,6 +3,8 @@ import { readFile } from 'node:fs/promises';
 import { WASI } from 'node:wasi';
 
 const words = process.argv.slice(2);
-const wasi = new WASI({ version: 'preview1', args: words, preopens: { '/': '/' }, returnOnExit: true });
+const wasi = new WASI({
+  version: 'preview1', args: words, env: process.env, preopens: { '/': '/' }, returnOnExit: true,
+});
 const program = await WebAssembly.compile(await readFile(words[0]));
 process.exitCode = wasi.start(await WebAssembly.instantiate(program, wasi.getImportObject()));

@@ -5,6 +5,7 @@
 
 pub mod forms;
 pub mod items;
+pub mod messages;
 mod reads;
 pub mod rules;
 mod seeds;

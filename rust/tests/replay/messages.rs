@@ -1,10 +1,10 @@
 //! Hashes of random messages by all forms, with all options, and a checksum of them.
 
-use crate::replay::forms::Form::{self, Micro, Nano, V1, V1Bug, V2Minor0, V2Minor1, V2Minor2, V3};
-use crate::replay::forms::{Options, Start, hash};
-use crate::replay::items::{self, Item};
-use crate::replay::rules::start_of;
-use crate::replay::streams::{self, Step};
+use super::forms::Form::{self, Micro, Nano, V1, V1Bug, V2Minor0, V2Minor1, V2Minor2, V3};
+use super::forms::{Options, Start, hash};
+use super::items::{self, Item};
+use super::rules::start_of;
+use super::streams::{self, Step};
 use rapidhash::{v1, v3};
 
 const FORMS: [Form; 8] = [V1, V1Bug, V2Minor0, V2Minor1, V2Minor2, V3, Micro, Nano];
