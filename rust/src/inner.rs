@@ -10,7 +10,9 @@
 //!
 //! The values are those of version 4.5.1 of the crate `rapidhash`, which may change its own: for hashes
 //! that are stored or sent, use the portable ones. On 32-bit machines a `usize` is absorbed as 64 bits,
-//! so the values are the same on every machine.
+//! so the values are the same on every machine. The exceptions are slices, arrays, and vectors of integers,
+//! which std passes as they are in memory: those of `usize` differ on 32-bit machines, and those of
+//! integers wider than a byte on big-endian machines.
 
 mod hasher;
 mod sponge;

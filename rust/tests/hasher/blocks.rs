@@ -48,6 +48,6 @@ fn first_unstable(length: u32) -> Option<u8> {
 #[test]
 fn sponge_buffer_stability() {
     for length in 1..65u32 {
-        assert_eq!(first_unstable(length), None, "{length}");
+        assert!(first_unstable(length).is_none(), "{length}");
     }
 }

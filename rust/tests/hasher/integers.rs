@@ -31,6 +31,7 @@ fn of_32<const SPONGE: bool>(signed: i32, bits: u32) -> (u64, u64) {
 }
 
 /// An integer of 64 bits: by its bits, signed, as an index and as an offset.
+#[cfg(target_pointer_width = "64")]
 fn of_64<const SPONGE: bool>(signed: i64, bits: u64) -> [u64; 4] {
     let mut plain = begun::<SPONGE>();
     let mut by_sign = begun::<SPONGE>();
@@ -90,6 +91,7 @@ fn signed_integers_of_128_bits() {
     }
 }
 
+#[cfg(target_pointer_width = "64")]
 #[test]
 fn integers_of_64_bits() {
     let all = [

@@ -3,6 +3,9 @@
 use rapidhash::{fast, quality};
 use std::hash::{BuildHasher, Hash, Hasher};
 
+/// Whether slices of wider integers have the expected hashes: std passes them as they are in memory.
+const LITTLE_ENDIAN: bool = cfg!(target_endian = "little");
+
 #[derive(Hash)]
 enum Kind {
     Plain,
@@ -58,7 +61,8 @@ fn derived_keys() {
         wide: -2,
     };
     let named = key(2, named, Some(-2));
-    assert_eq!(hashes(&named), (7533125613894166309, 9222927566033123518));
+    let known = (7533125613894166309, 9222927566033123518);
+    assert_eq!(hashes(&named) == known, LITTLE_ENDIAN);
 }
 
 #[test]
@@ -73,7 +77,8 @@ fn plain_keys() {
         (11339569883731722945, 3348275917668072623)
     );
     let tuple = (7u8, -1i16, "key", [1u64, 2, 3]);
-    assert_eq!(hashes(&tuple), (15687909503537828233, 15552875111850562695));
+    let known = (15687909503537828233, 15552875111850562695);
+    assert_eq!(hashes(&tuple) == known, LITTLE_ENDIAN);
 }
 
 /// The trait's integer writes reach the sponge: two of a block are the same as the joined one.
