@@ -1,13 +1,13 @@
 #!/usr/bin/env python3
-"""Implements the hashes from docs/ALGORITHM.md alone, and compares them with the values of the upstream crate in
-the files of vectors and on the page."""
+"""Implements the hashes from docs/ALGORITHM.md alone and compares them with the values of the upstream crate in the
+vector files and on the page."""
 
 import re
 
 from cases import TOP, compare, finish, tell
 
 PAGE = (TOP / "docs" / "ALGORITHM.md").read_text()
-# The files of vectors by their versions: each has 584 lines, and that of the secrets 480.
+# The vector files with their versions. Each has 584 lines, but that of the secrets has 480.
 FILES = {"v1_bug_off": "V1", "v1_bug_on": "V1", "v2_0": "V2.0", "v2_1": "V2.1", "v2_2": "V2.2", "v3": "V3",
          "micro": "micro", "nano": "nano", "memory_core": "core", "secrets": ""}
 LANES = {"V3": 7, "micro": 5, "nano": 3}
@@ -26,7 +26,7 @@ def mix(a, b, protected=False):
 
 
 def shape(version, n, bug):
-    """The numbers of lanes, rows and rows of three, and the secrets of the tail's pairs."""
+    """Returns the numbers of lanes, rows, and rows of three, and the secrets for the tail's pairs."""
     if version in LANES:
         return LANES[version], max(0, n - 1) // (16 * LANES[version]), 0, (2, 2, 1, 1, 2, 1)
     if version == "V1":
@@ -91,7 +91,7 @@ def premix(x, i):
 
 
 def secrets_of(rule, number, is_v1):
-    """A seed and its secrets."""
+    """Returns a seed and its secrets."""
     if rule in ("cpp", "seed_cpp", "default"):
         x = int(number or 0xBDD89AA982704029 * is_v1)
         return [x ^ (mix(x ^ S[0], S[1]) if is_v1 else mix(x ^ S[2], S[1])), *S[: 3 if is_v1 else 7]]
@@ -112,7 +112,7 @@ def message(rule, n):
 
 
 def computed(version, case):
-    """What a line of a file expects."""
+    """Computes the value that a line of a file expects."""
     if not version:
         return " ".join(map(str, secrets_of(case["call"], case["number"], case["form"] == "v1")))
     rule, _, number = case["secrets"].partition(":")

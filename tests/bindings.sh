@@ -1,57 +1,57 @@
 #!/usr/bin/env bash
-# Builds the library for C, static and shared, and tests it and what stands over it: the header alone by
-# each standard of C and C++, the names that the two files define, every call from C and C++, the manual, the
-# hashes beside those of the Rust crate, the package for Go in both its forms, and the library that cargo makes of the
-# Rust crate for other machines. A language that is not on this machine is skipped and not counted. The last line
-# counts the cases.
+# Builds the C library, static and shared, and tests it and the bindings built on it:
+# - the header alone with each C and C++ standard, the names that the two files define, and every call from C and C++
+# - the manual, the hashes compared with those of the Rust crate, and both forms of the Go package
+# - the library for other machines that cargo builds from the Rust crate
+# Languages that are missing on this machine are skipped and not counted. The last line counts the cases.
 . "$(dirname "$0")/cases.sh"
 header=$top/include/rapidhash_c.h
 archive=$top/crates/rapidhash_c/out/librapidhash_c.a
 shared=$top/build/librapidhash_c.so.1
 export GOCACHE=$room/go GOPROXY=off
 
-# Lays the two files of a library out in the room as installed ones, with the vectors.
+# Lays out the two files of a library in the temporary directory as if installed, with the vectors.
 lay_out() {
   make -s -C "$top" install PREFIX="$room" && cp "$archive" "$room/lib" &&
     cp "$shared" "$room/lib/librapidhash_c.so.1" &&
     python3 "$top/share/vectors.py" "$top/crates/test_replay/data" >"$room/rapidhash_vectors.tsv"
 }
 
-# The header alone in an empty program: STANDARD
+# Checks that the header compiles alone, in an empty program: STANDARD
 compiles_alone() {
   cc -x "${1//[0-9]*/}" "-std=$1" -pedantic -Wall -Wextra -Werror -fsyntax-only -I"$top/include" - \
     <<<'#include <rapidhash_c.h>'
 }
 
-# The names that the header declares and does not define itself.
+# Prints the names that the header declares but does not define.
 declared() {
   grep -E '^[a-z].*\(.*;$' "$header" | grep -oE 'rapidhash_[a-z0-9_]+\(' | tr -d '(' | sort
 }
 
-# A file defines the names of the header, and no others: what stands behind each name, and the words of nm
+# Checks that a file defines the names of the header and no others: SUFFIX-OF-EACH-NAME NM-ARGUMENT..
 defines_the_header() {
   declared | sed "s/\$/$1/" >"$room/declared"
-  # A header that is laid out otherwise than this test reads it has fewer.
+  # Fewer names mean that this test cannot read the layout of the header.
   [ "$(wc -l <"$room/declared")" -gt 20 ] &&
     nm "${@:2}" --defined-only --extern-only --format=posix >"$room/nm" &&
     awk 'NF > 1 { sub(/@@RAPIDHASH_1[.][0-9]+$/, "@@RAPIDHASH_1", $1); print $1 }' "$room/nm" | sort | diff "$room/declared" -
 }
 
-# Programs find each name by the release that had it first, and no name of the shared library lacks a library.
+# Programs find each name under its first release. The C library provides every undefined name of the shared library.
 needs_the_c_library_alone() {
   [ "$(readelf -dW "$shared" | grep NEEDED | grep -o '\[.*')" = '[libc.so.6]' ] &&
     [ "$(nm -D --undefined-only "$shared" | awk '{ print $2 }')" = memmove@GLIBC_2.2.5 ]
 }
 
-# No relocation changes the code, no page can be both written and run, and the tables of the dynamic linker can be
-# written at no time after it has filled them.
+# Checks that no relocation changes the code, and that no page is both writable and executable. The tables of the
+# dynamic linker must be read-only after it has filled them.
 keeps_code_and_data_apart() {
   readelf -dW "$shared" >"$room/dynamic" && readelf -lW "$shared" >"$room/segments" &&
     ! grep TEXTREL "$room/dynamic" && grep -q BIND_NOW "$room/dynamic" && grep -q GNU_RELRO "$room/segments" &&
     grep -E '^ *GNU_STACK .* RW +0' "$room/segments" && ! grep -E ' RWE ' "$room/segments"
 }
 
-# The kit writes no unwind tables. The link keeps those of an archive that has some.
+# Checks that the link keeps the unwind tables of an archive that has some. The kit writes none.
 keeps_unwind_tables() {
   echo 'int rapidhash_probe(int number) { return number; }' >"$room/probe.c" &&
     cc -O2 -fPIC -fasynchronous-unwind-tables -c "$room/probe.c" -o "$room/probe.o" &&
@@ -60,30 +60,30 @@ keeps_unwind_tables() {
     readelf -lW "$room/probe.so" | grep GNU_EH_FRAME
 }
 
-# Every call of the library, linked with an archive by the words of a compiler: COMPILER WORD..
+# Builds and runs a program of every call of the library, linked with an archive: COMPILER ARGUMENT..
 calls_from_c() {
   "$@" -O2 -Wall -Wextra -Werror -o "$room/c_library" && "$room/c_library"
 }
 
-# All of the header for C++, over the vectors, also where a program has no exceptions: COMPILER STANDARD
+# Tests the whole C++ header with the vectors, in a program without exceptions: COMPILER STANDARD
 calls_from_cpp() {
   "$1" "-std=$2" -O2 -Wall -Wextra -Wpedantic -Werror -fno-exceptions -I"$top/include" "$top/tests/cpp_header.cpp" \
     "$archive" -o "$room/cpp_header" && "$room/cpp_header" "$room/rapidhash_vectors.tsv"
 }
 
-# The functions of a text that has no comments: what each returns, its name and its parameters.
+# Prints the functions in a text without comments: the return type, name, and parameters of each.
 signatures() {
   tr -s ' \n' ' ' | grep -oE '(void|uint64_t|uint32_t) rapidhash_[a-z0-9_]+\([^()]*\)' | sed 's/( /(/' | sort
 }
 
-# The manual page has each function of the header as it stands there, and no other.
+# Checks that the manual page has each function of the header with the same signature, and no other.
 manual_has_the_header() {
   cc -E -P "$header" | signatures >"$room/signatures" &&
     [ "$(wc -l <"$room/signatures")" -gt "$(declared | wc -l)" ] &&
     mandoc -Tascii "$top/share/rapidhash_c.3" | sed 's|.\x08||g' | signatures | diff "$room/signatures" -
 }
 
-# The example of the manual page, built as the page says.
+# Runs the example on the manual page, built with the command on the page.
 manual_example_runs() {
   local command
   command=$(sed -n 's/^\.BR "\(cc .*\)" \.$/\1/p' "$top/share/rapidhash_c.3" | sed 's/\\-/-/g') &&
@@ -92,8 +92,8 @@ manual_example_runs() {
       [ "$(LD_LIBRARY_PATH=$room/lib ./a.out | sort | uniq -c | xargs)" = '2 3327445792987248966' ])
 }
 
-# The hashes of the Rust crate for a program in C. The crate is the .rlib that the variable names, or what cargo
-# builds of the folder rust.
+# Builds the hashes of the Rust crate for a C program. The crate is the .rlib that RAPIDHASH_RLIB names, or else cargo
+# builds it from the directory rust.
 build_rust() {
   local rlib=${RAPIDHASH_RLIB:-$room/cargo/release/librapidhash.rlib}
   [ -f "$rlib" ] || cargo build --release --offline --quiet --manifest-path "$top/rust/Cargo.toml" \
@@ -101,18 +101,18 @@ build_rust() {
   rustc -O --edition 2021 --crate-type staticlib "$top/tests/fuzz.rs" --extern "rapidhash=$rlib" -o "$room/librust.a"
 }
 
-# tests/fuzz.c over the C library and the Rust crate: COMPILER WORD..
+# Builds tests/fuzz.c with the C library and the Rust crate: COMPILER ARGUMENT..
 beside_rust() {
   "$@" -Wall -Wextra -Werror "-I$top/include" "$top/tests/fuzz.c" "$archive" "$room/librust.a" \
     -lpthread -ldl -lm -o "$room/beside_rust"
 }
 
-# Ten million random messages.
+# Compares the hashes of ten million random messages.
 random_messages() {
   build_rust && beside_rust cc -O2 -DMESSAGES=10000000 && "$room/beside_rust"
 }
 
-# A million inputs that libFuzzer makes up, or as many as fit into RAPIDHASH_FUZZ_SECONDS.
+# Compares the hashes of a million inputs from libFuzzer, or of as many as fit into RAPIDHASH_FUZZ_SECONDS.
 fuzz() {
   local runs=-runs=1000000
   [ -z "${RAPIDHASH_FUZZ_SECONDS:-}" ] || runs=-max_total_time=$RAPIDHASH_FUZZ_SECONDS
@@ -120,13 +120,13 @@ fuzz() {
     (cd "$room" && ./beside_rust -max_len=1200 -len_control=0 "$runs")
 }
 
-# A command in the folder of the package for Go.
+# Runs a command in the directory of the Go package: COMMAND..
 in_go() (
   export PKG_CONFIG_PATH=$room/lib/pkgconfig LD_LIBRARY_PATH=$room/lib RAPIDHASH_VECTORS=$room/rapidhash_vectors.tsv
   cd "$top/bindings/go" && "$@"
 )
 
-# Processors for which the package has no code need cgo, and the compiler says so.
+# Checks that the compiler reports the need for cgo on a processor for which the package has no code.
 names_what_is_missing() {
   CGO_ENABLED=0 GOARCH=arm64 go build . 2>&1 | grep this_processor_takes_CGO_ENABLED_1_and_the_C_library_rapidhash_c
 }
@@ -146,7 +146,7 @@ test_go() {
   try go_page in_go works_as_its_page_says README.md
 }
 
-# The library of the Rust crate, in a room of its own.
+# Tests the library of the Rust crate in its own temporary directory.
 test_library_of_rust() {
   local room=$room/rust
   local archive=$room/target/release/librapidhash_c.a shared=$room/target/release/librapidhash_c.so

@@ -1,17 +1,17 @@
-/* Calls every function of the C library, and compares the results with those of the Rust crate
- * rapidhash 4.5.1. Prints each value that differs. The last line counts the values, and the status
- * is 1 if one differs. */
+/* Calls every function of the C library and compares the results with those of the Rust crate
+ * rapidhash 4.5.1. Prints each value that differs. The last line counts the values, and the exit
+ * status is 1 if one differs. */
 #include <inttypes.h>
 #include <stdio.h>
 #include <string.h>
 
 #include "rapidhash_c.h"
 
-/* The bytes 0 to 119: at 60 bytes the three V2 differ, at 120 bytes V3, micro and nano do. */
+/* The bytes 0 to 119. The three V2 versions differ at 60 bytes, and V3, micro, and nano differ at 120 bytes. */
 static uint8_t bytes[120];
 static uint8_t large[1000000];
 
-/* A seed and secrets that all differ, so that each has to arrive in its own place. */
+/* A seed and secrets that all differ, so that each must arrive in its own place. */
 static const struct rapidhash_v1_secrets own_of_v1 = {1, {2, 3, 5}};
 static const struct rapidhash_secrets own = {1, {2, 3, 5, 7, 11, 13, 17}};
 
@@ -33,7 +33,7 @@ struct form {
     uint64_t (*hash)(const void *, size_t);
     uint64_t (*with_seed)(const void *, size_t, uint64_t);
     uint64_t (*seeded)(const void *, size_t, const struct rapidhash_secrets *);
-    /* With the default secrets, with the seed word 1, and with the secrets `own`. */
+    /* The hashes with the default secrets, with the seed word 1, and with the secrets `own`. */
     uint64_t of_default, of_word, of_own;
 };
 
@@ -66,7 +66,7 @@ static void check_form(const struct form *form)
     compare(form->name, "with the secrets of word 1", form->seeded(bytes, form->len, &secrets), form->of_word);
 }
 
-/* V1 has secrets of another type. */
+/* The secrets of V1 have a different type. */
 static void check_v1(void)
 {
     const uint64_t of_default = 13504714392771582078u, of_word = 16595489079910452471u;
@@ -103,7 +103,7 @@ struct stream_form {
     const char *name;
     void (*start)(struct rapidhash_stream *, const struct rapidhash_secrets *);
     uint64_t (*hash)(const void *, size_t);
-    /* Of `bytes` with the secrets `own`, and of `large` with the default secrets. */
+    /* The hashes of `bytes` with the secrets `own`, and of `large` with the default secrets. */
     uint64_t of_own, of_large;
 };
 
@@ -113,8 +113,8 @@ static const struct stream_form stream_forms[] = {
     {"nano", rapidhash_v3_nano_start, rapidhash_v3_nano, 4961128163384780230u, 13390060429168413506u},
 };
 
-/* Pieces of 1, 2, 3 bytes and so on, after a reset of a stream that had other bytes. The stream is
- * asked for its hash after each piece, which changes nothing. */
+/* Writes pieces of 1, 2, 3 bytes, and so on, after a reset of a stream that had other bytes. Requests the hash after
+ * each piece, which changes nothing. */
 static void check_uneven_pieces(const struct stream_form *form)
 {
     struct rapidhash_stream stream;
@@ -133,7 +133,7 @@ static void check_uneven_pieces(const struct stream_form *form)
     compare(form->name, "finished again", rapidhash_stream_finish(&stream), form->of_own);
 }
 
-/* The writes to the two take turns, so that each would disturb the other if they shared anything. */
+/* Alternates the writes to both streams, so that each would disturb the other if they shared anything. */
 static void check_copy(const struct stream_form *form)
 {
     struct rapidhash_stream first, second;
@@ -168,10 +168,10 @@ static void check_large(const struct stream_form *form)
     }
 }
 
-/* A large piece is hashed where it lies. Only what fills the buffer of a stream is copied to it: here
- * the first chunk of 112 bytes, and in the end the last 2 bytes, with the 16 before them. Behind these
- * 18 the buffer still has the bytes of the first chunk. It would have those of the third if the stream
- * copied each chunk. No contract says so. */
+/* Checks that a stream hashes a large piece in place. It copies only the bytes that fill its buffer. Here these are the
+ * first chunk of 112 bytes, and at the end the last 2 bytes with the 16 before them. After these 18 bytes, the buffer
+ * still has the bytes of the first chunk. It would have those of the third if the stream copied each chunk. No contract
+ * states this. */
 static void check_copied_bytes(void)
 {
     const size_t len = 3 * 112 + 2;
@@ -185,7 +185,7 @@ static void check_copied_bytes(void)
     compare("v3", "bytes that differ in the buffer", differing, 0);
 }
 
-/* The highest byte stands first, also where it is above 127. */
+/* Checks that the most significant byte comes first, even if it is above 127. */
 static void check_canonical(void)
 {
     static const unsigned char known[8] = {0xf0, 0x1e, 0xd2, 0x3c, 0xb4, 0x5a, 0x96, 0x78};

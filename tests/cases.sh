@@ -1,4 +1,4 @@
-# What a script of tests reads first: `room`, a folder of its own that goes when the script ends, and the
+# The common start of the test scripts: `room`, a temporary directory that is removed when the script ends, and the
 # counts of its cases. `top` is the repository.
 # shellcheck shell=bash
 set -u
@@ -19,12 +19,12 @@ fail() {
   printf 'FAILED %s: %s\n' "$1" "$2"
 }
 
-# Counts a case by a status, where what was compared may be in the file log: NAME STATUS.
+# Counts a case according to a status. The file log may contain the compared values: NAME STATUS
 tell() {
   if [ "$2" -eq 0 ]; then ok "$1"; else fail "$1" "$(tail -c 800 "$room/log" 2>/dev/null)"; fi
 }
 
-# Counts a case by the status of a command: NAME COMMAND..
+# Counts a case according to the exit status of a command: NAME COMMAND..
 try() {
   local name=$1
   shift
@@ -32,7 +32,7 @@ try() {
   tell "$name" $?
 }
 
-# The same, if a program is on this machine: NAME PROGRAM COMMAND..
+# Does the same if a program is installed on this machine: NAME PROGRAM COMMAND..
 try_with() {
   local name=$1 program=$2
   shift 2
@@ -43,7 +43,7 @@ try_with() {
   fi
 }
 
-# Runs a command, which has to end so and write this: NAME STATUS OUT ERR COMMAND..
+# Runs a command, which must exit with this status and write this output: NAME STATUS OUT ERR COMMAND..
 runs() {
   local name=$1 wanted=$2 out=$3 err=$4 status
   shift 4
@@ -60,7 +60,7 @@ runs() {
   fi
 }
 
-# A folder has the licences and the notice of the repository: FOLDER.
+# Checks that a directory has the licences and the notice of the repository: DIRECTORY
 has_the_licences() {
   local file
   for file in LICENSE-MIT LICENSE-APACHE NOTICE; do
@@ -68,13 +68,13 @@ has_the_licences() {
   done
 }
 
-# The tool of an installed or unpacked library prints the hash of a line: PREFIX
+# Checks that the tool of an installed or unpacked library prints the hash of a line: PREFIX
 prints_the_known_hash() {
   [ "$(echo something | "$1/bin/rapidhash" --v1)" = 15965596575264898037 ]
 }
 
-# A program in C of every call, built by the words that pkg-config tells and run with the shared library: the
-# library's folder. A blank in those words has a backslash, as the shell reads it.
+# Builds a C program of every call with the flags from pkg-config and runs it with the shared library. In the flags, a
+# backslash escapes a space for the shell: LIBRARY-DIRECTORY
 builds_by_pkg_config() {
   local words
   words=$(PKG_CONFIG_LIBDIR=$1/pkgconfig pkg-config --cflags --libs rapidhash_c) &&
@@ -83,7 +83,7 @@ builds_by_pkg_config() {
     readelf -d "$room/c_library" | grep -q 'NEEDED.*librapidhash_c\.so\.1'
 }
 
-# Programs in C and C++ find an installed library by CMake, and use it as shared library and as archive: PREFIX
+# Checks that C and C++ programs find an installed library with CMake and use it as shared library and archive: PREFIX
 builds_by_cmake() {
   python3 "$top/share/vectors.py" "$top/crates/test_replay/data" >"$room/vectors" &&
     cmake -S "$top/tests/cmake" -B "$room/cmake" -D CMAKE_PREFIX_PATH="$1" -D VECTORS="$room/vectors" &&
@@ -91,15 +91,15 @@ builds_by_cmake() {
     cmake --build "$room/cmake" && (cd "$room/cmake" && ctest | tee /dev/stderr | grep '100%.* out of 4$')
 }
 
-# The code blocks of a page that have a word: PAGE LANGUAGE WORD
+# Prints the code blocks of a page that contain a word: PAGE LANGUAGE WORD
 blocks() {
   awk -v language="$2" -v word="$3" '
     /^```/ { if (inside && index(block, word)) printf "%s", block; inside = $0 == "```" language; block = ""; next }
     inside { block = block $0 "\n" }' "$1"
 }
 
-# The commands of a page, at most three, which docs/BINDINGS.md shows too, print the hash of hello in the empty folder
-# `$room/first`: PAGE
+# Checks that the commands of a page, at most three, print the hash of hello in the empty directory `$room/first`.
+# docs/BINDINGS.md must have the same commands: PAGE
 works_as_its_page_says() {
   blocks "$1" sh YERVOUND >"$room/commands" && [ "$(wc -l <"$room/commands")" -le 3 ] &&
     [[ $(<"$top/docs/BINDINGS.md") == *"$(<"$room/commands")"* ]] &&
@@ -107,20 +107,20 @@ works_as_its_page_says() {
     [ "$(tail -n 1 ../printed)" = 3327445792987248966 ]
 }
 
-# Commands that fail to write, or have only so much memory.
+# Run a command that cannot write, or that has limited memory: COMMAND.., or KIBIBYTES COMMAND..
 to_a_full_disk() { "$@" >/dev/full; }
 to_no_output() { "$@" >&-; }
 to_a_closed_pipe() { perl -e 'pipe R, W; close R; open STDOUT, ">&", W; exec @ARGV' "$@"; }
 in_kibibytes() (ulimit -v "$1" && exec "${@:2}")
 
-# Prints the counts, and ends with their status.
+# Prints the counts and exits with status 1 if a case failed.
 finish() {
   printf '%s passed, %s failed\n' "$passed" "$failed"
   [ "$failed" -eq 0 ]
   exit
 }
 
-# Runs a command that prepares the cases, and ends here if it fails: COMMAND..
+# Runs a command that prepares the cases, and ends the script if it fails: COMMAND..
 prepare_by() {
   if "$@" >"$room/log" 2>&1; then
     rm "$room/log"

@@ -1,6 +1,6 @@
 #!/usr/bin/python3
-"""Presses the tab key in bash, zsh and fish after lines that begin with rapidhash and rapidsum, and compares
-what the line becomes, or what is offered. A shell that is not installed has no cases."""
+"""Presses the tab key in bash, zsh, and fish after lines that begin with rapidhash and rapidsum, and compares the
+completed line or the offers. A shell that is not installed has no cases."""
 
 import os
 import shutil
@@ -10,8 +10,8 @@ from cases import ROOM, TOP, compare, finish, shell
 
 SHARE = TOP / "share"
 
-# A line before the tab key and after it, in a folder with the files `only` and `-dash`. Words of a
-# line are printed with a bar between them.
+# A line before and after the tab key, in a directory with the files `only` and `-dash`. Bars separate the printed words
+# of a line.
 LINES = [
     ("a file", "rapidhash o", "rapidhash|only"),
     ("a file after an option", "rapidhash --v1 o", "rapidhash|--v1|only"),
@@ -30,7 +30,7 @@ LINES = [
     ("a file after the version", "rapidsum --version o", "rapidsum|--version|o"),
 ]
 
-# What fish offers for lines that are not in LINES.
+# The offers of fish for lines that are not in LINES.
 OFFERS = [
     ("versions", "rapidhash --v3-", ["--v3-micro", "--v3-nano"]),
     ("a second version", "rapidhash --v1 --v", []),
@@ -38,7 +38,7 @@ OFFERS = [
     ("versions for sums", "rapidsum --algorithm v2", ["v2.0", "v2.1", "v2.2"]),
 ]
 
-# How each shell starts, what it reads first, and how the words of its line are shown.
+# The arguments of each shell, the commands that it runs first, and the function that shows the words of its line.
 SHELLS = {
     "bash": (["--norc", "--noprofile", "-i"],
              [f". '{SHARE}/rapidhash.bash'", f". '{SHARE}/rapidsum.bash'", "bind 'set bell-style none'"]),
@@ -50,7 +50,7 @@ SHOW = "show() { printf '<<'; printf '%s|' \"$@\"; printf '>>\\n'; }"
 
 
 def press_tabs(shell, words, lines):
-    """Shows the words of each line after the tab key, by a word before it that Ctrl-A has put there."""
+    """Shows the words of each line after the tab key, with a command that Ctrl-A inserts before the line."""
     environment = dict(os.environ, FOLDER=str(ROOM), TERM="dumb", PS1="$ ", HOME=str(ROOM))
     environment.pop("FOLD", None)
     terminal = pexpect.spawn(shell, words, cwd=ROOM, env=environment, dimensions=(24, 200), encoding="utf-8", timeout=20)
@@ -65,7 +65,7 @@ def press_tabs(shell, words, lines):
 
 
 def ask_fish():
-    """Leaves out a variable, which fish describes, and an option after --help, which it offers."""
+    """Compares fish's offers. Omits a variable, which fish describes, and an option after --help, which it offers."""
     sources = "".join(f"source '{SHARE}/{name}.fish'; " for name in ("rapidhash", "rapidsum"))
     single = [(name, line, [] if line.replace(" ", "|") == words else [words.rpartition("|")[2]])
               for name, line, words in LINES if "$" not in line and "--help --" not in line]

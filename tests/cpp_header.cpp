@@ -1,6 +1,6 @@
-/* Calls everything in rapidhash.hpp, and compares the results with those of the Rust crate rapidhash 4.5.1: those of a
- * file that share/vectors.py wrote, whose name is the argument, and values of tests/c_library.c. Prints each value that
- * differs. The last line counts the values, and the status is 1 if one differs. */
+/* Calls everything in rapidhash.hpp and compares the results with those of the Rust crate rapidhash 4.5.1. They are in
+ * a file that share/vectors.py wrote, whose name is the argument, and in tests/c_library.c. Prints each value that
+ * differs. The last line counts the values, and the exit status is 1 if one differs. */
 #include <rapidhash.hpp>
 
 #include <cstdio>
@@ -37,7 +37,7 @@ static void compare(const std::string &name, std::uint64_t value, std::uint64_t 
 static const std::uint64_t hash_of_hello = 3327445792987248966U;
 static const rapidhash::secrets own = {1, {2, 3, 5, 7, 11, 13, 17}};
 
-/* The bytes 0 to 119, whose hashes tests/c_library.c has too. */
+/* Returns the bytes 0 to 119, whose hashes tests/c_library.c also has. */
 static std::vector<unsigned char> counted()
 {
     std::vector<unsigned char> message(120);
@@ -46,7 +46,7 @@ static std::vector<unsigned char> counted()
     return message;
 }
 
-/* What is no range of bytes is not taken for one, and a length is no seed. */
+/* Only a range of bytes converts to bytes, and a length does not convert to a seed. */
 using rapidhash::bytes;
 static_assert(!std::is_convertible<std::wstring, bytes>::value, "a wide string is no bytes");
 static_assert(!std::is_convertible<std::vector<std::uint16_t>, bytes>::value, "numbers of 16 bits are no bytes");
@@ -96,7 +96,7 @@ static void check_seeds()
     compare("a stream", rapidhash::stream().update("hel").update("lo!", 2).finish(), hash_of_hello);
 }
 
-/* A copy has its own secrets: the first stream gets other ones, and then goes away. */
+/* Checks that a copy has its own secrets: the first stream gets other secrets and is then destroyed. */
 static void check_copies()
 {
     const std::vector<unsigned char> message = counted();
@@ -153,7 +153,7 @@ static void check_stored()
             0xabcdef0123456789U);
 }
 
-/* A case of the file by each way: whole, by a hasher, and in pieces of 1, 2, 3 bytes and so on. */
+/* Checks a case of the file in each way: whole, with a hasher, and in pieces of 1, 2, 3 bytes, and so on. */
 static void check_case(const rapidhash::secrets &made, bool is_default, const std::string &message, std::uint64_t known)
 {
     const std::string name = "a vector of " + std::to_string(message.size()) + " bytes";

@@ -1,20 +1,20 @@
 #!/usr/bin/env bash
-# Packs the packages of Debian, and installs, uses and removes them in a root that has the C library and nothing
-# else. It is skipped where not run as root, or without what builds and checks packages. The last line counts the cases.
+# Builds the Debian packages. Installs, uses, and removes them in a root that contains only the C library. It is skipped
+# if not run as root, or without the programs that build and check packages. The last line counts the cases.
 . "$(dirname "$0")/cases.sh"
 packages=$top/build/debian
 root=$room/root
 library=$root/usr/lib/x86_64-linux-gnu
 names='librapidhash-c-dev librapidhash-c1 rapidhash-tools sqlite3-rapidhash'
 
-# The same bytes each time, whatever the hour, and no file beside these.
+# Checks that each build packs the same bytes at any time, and no other files.
 packs_the_same_bytes() {
   make -s -C "$top" deb && cd "$packages" && sha256sum ./*.deb >"$room/sums" && make -s -C "$top" deb &&
     cd "$packages" && sha256sum --check "$room/sums" &&
     diff <(printf '%s_1.0.0_amd64.deb\n' $names) <(printf '%s\n' *.deb)
 }
 
-# Files as they are packed, whatever the machine leaves out of its own packages.
+# Runs dpkg in the root with all packed files, even those that the machine omits from its own packages: ARGUMENT..
 in_the_root() {
   dpkg --root="$root" --log="$room/dpkg.log" --path-include='/usr/*' "$@"
 }
@@ -23,7 +23,7 @@ listed() {
   (cd "$root" && find . -path ./var -prune -o -print | sort)
 }
 
-# Each package names the one that it cannot do without.
+# Checks that each package names the package that it requires.
 needs_others() {
   mkdir -p "$library" "$root/usr/lib64" "$root"/var/lib/dpkg/{info,updates} && ln -s usr/lib usr/lib64 "$root" &&
     touch "$root/var/lib/dpkg/status" && listed >"$room/bare" || return 1
@@ -43,7 +43,7 @@ prints_the_known_hashes() {
     [ "$(chroot "$root" rapidsum /file)" = 'a1266b469390773a  /file' ]
 }
 
-# The machine code and the constants are those that make has built, whatever was stripped.
+# Checks that the machine code and the constants are those that make built, whatever was stripped.
 keeps_the_code() {
   local built packed
   code() { readelf -x .text -x .rodata "$1" | grep '^  0x'; }
@@ -57,7 +57,7 @@ build/rapidhash.so lib/sqlite3/rapidhash.so
 FILES
 }
 
-# A program of every call, and the dependency that its own package would have.
+# Links a program of every call and checks the dependency that its own package would have.
 links_by_pkg_config() {
   builds_by_pkg_config "$library" && cp "$room/c_library" "$root" && chroot "$root" /c_library &&
     cd "$packages/source" && dpkg-shlibdeps -O -Sdebian/librapidhash-c1 "$root/c_library" |
@@ -69,7 +69,7 @@ loads_into_sqlite() {
     grep -x 3327445792987248966
 }
 
-# Programs and exports have a manual page, and completions lie where Debian's shells look.
+# Checks that programs and exports have a manual page, and that completions are where Debian's shells search.
 has_manuals_and_completions() {
   cd "$root/usr/share" && ls man/man1/rapid{hash,sum}.1.gz bash-completion/completions/rapid{hash,sum} \
     zsh/vendor-completions/_rapid{hash,sum} fish/vendor_completions.d/rapid{hash,sum}.fish &&
@@ -79,7 +79,7 @@ has_manuals_and_completions() {
   done <"$room/exports"
 }
 
-# Each package has the notice, and the text of the licence that Debian has no copy of.
+# Checks that each package has the notice and the text of the licence of which Debian has no copy.
 has_the_licences_of_debian() {
   local name
   for name in $names; do

@@ -1,5 +1,5 @@
 #!/usr/bin/env bash
-# Makes the archive for users without the kit, unpacks it in a room of its own, and uses what is in it.
+# Builds the archive for users without the kit, unpacks it in a temporary directory, and uses its contents.
 # The last line counts the cases.
 . "$(dirname "$0")/cases.sh"
 
@@ -8,8 +8,8 @@ makes_the_archive() {
     mv "$room"/yervound-* "$room/unpacked" && has_the_licences "$room/unpacked"
 }
 
-# Every case of the vector file agrees. Each of the eight calls has 72 with the default secrets and 72 with
-# made ones, up to 8193 bytes.
+# Checks that every case of the vector file agrees. Each of the eight calls has 72 cases with the default secrets and 72
+# with derived secrets, up to 8193 bytes.
 agrees_with_the_vectors() {
   (cd / && python3 -B "$room/unpacked/check_vectors.py") &&
     awk -F '\t' '
@@ -20,14 +20,14 @@ agrees_with_the_vectors() {
     ' "$room/unpacked/rapidhash_vectors.tsv"
 }
 
-# Where a hash of the file is another one, the check says so.
+# Checks that check_vectors.py reports a wrong hash in the file.
 tells_a_wrong_vector() {
   cp -r "$room/unpacked" "$room/turned" &&
     sed -i '$ s/$/0/' "$room/turned/rapidhash_vectors.tsv" &&
     ! python3 -B "$room/turned/check_vectors.py"
 }
 
-# A program finds the Rust crate where the archive was unpacked.
+# Checks that a program finds the Rust crate in the unpacked archive.
 builds_the_rust_crate() {
   mkdir -p "$room/first/src" && cd "$room/first" &&
     printf '[package]\nname = "first"\nedition = "2021"\n[dependencies]\n%s\n' \
@@ -36,19 +36,19 @@ builds_the_rust_crate() {
     [ "$(cargo run --quiet --offline)" = 3327445792987248966 ]
 }
 
-# The library for other machines is built and linked as its page says.
+# Builds and links the library for other machines with the commands on its page.
 builds_for_other_machines() {
   cd "$room/unpacked" && blocks C.md c hello >hello.c && blocks rust/capi/README.md sh rust/capi >commands &&
     [ "$(bash -e commands)" = 3327445792987248966 ]
 }
 
-# The binding for JavaScript has its module inside.
+# Checks that the JavaScript binding contains its module.
 loads_the_module() {
   node -e "import('$room/unpacked/bindings/javascript/rapidhash.mjs').then(({ loadSync }) =>
     process.exit(loadSync().v3('hello') === 3327445792987248966n ? 0 : 1))"
 }
 
-# pip finds the wheel that this Python takes.
+# Checks that pip finds the wheel for this Python.
 installs_a_wheel() {
   /usr/bin/python3 -m venv "$room/environment" && cd "$room" &&
     environment/bin/pip install --quiet --no-index --find-links unpacked/wheels yervound-rapidhash &&
@@ -59,7 +59,7 @@ try archive makes_the_archive
 try program prints_the_known_hash "$room/unpacked"
 try vectors agrees_with_the_vectors
 try wrong_vector tells_a_wrong_vector
-# The files for pkg-config and CMake find the library where the archive was unpacked.
+# The files for pkg-config and CMake find the library in the unpacked archive.
 try library builds_by_pkg_config "$room/unpacked/lib"
 try_with cmake cmake builds_by_cmake "$room/unpacked"
 try rust_crate builds_the_rust_crate

@@ -1,9 +1,9 @@
 #!/usr/bin/env bash
-# Runs the built tool as its users do, and compares what it prints and how it ends: the hashes of each
-# version, however the bytes come, the words, and the help. The last line counts the cases.
+# Runs the built tool as its users do and compares its output and exit status. The cases cover the hashes of each
+# version for each kind of input, the arguments, and the help. The last line counts the cases.
 . "$(dirname "$0")/tool_room.sh"
 
-# The bytes of a file in pieces, with a pause before each.
+# Prints the bytes of a file in pieces, with a pause before each: FILE
 slowly() {
   local place
   for place in 0 1 2 3 4 5 6 7 8 9; do
@@ -12,14 +12,14 @@ slowly() {
   done
 }
 
-# three_ways NAME HASH WORDS..: the hash of the file `part`, however it is given.
+# Checks the hash of the file `part` as standard input, a pipe, and a file: NAME HASH ARGUMENT..
 three_ways() {
   hashes "$1_of_stdin" "$2" "${@:3}" <part
   hashes "$1_of_a_pipe" "$2" "${@:3}" < <(cat part)
   hashes "$1_of_a_file" "$2" "${@:3}" part
 }
 
-# Every version over so many bytes of the file `large`, and protected, from standard input, a pipe and a file.
+# Tests every version, plain and protected, with this number of bytes of `large`, as standard input, a pipe, and a file.
 while read -r bytes plain protected versions; do
   head -c "$bytes" large >part
   for version in $versions; do
@@ -52,7 +52,7 @@ exec </dev/null
 hashes stored_run "$known" --v1 <something
 hashes words_that_count_for_nothing 5006746792674864303 --v1 --v1 --strange - < <(echo)
 
-# What the manual says of words that are ignored: standard input is hashed by V3, with status 0.
+# According to the manual, the tool ignores these arguments, hashes standard input with V3, and exits with status 0.
 for word in --V1 --version -hx --protected=true - --; do
   hashes "ignored_$word" "$known_by_v3" "$word" <something
 done
@@ -75,7 +75,7 @@ cat large >fifo &
 hashes file_that_is_a_pipe 17274253787457370873 --v3 fifo
 wait
 
-# What the manual says of files whose metadata says 0 bytes: V1 and V2 hash no byte of them.
+# According to the manual, V1 and V2 hash no bytes of a file whose metadata has a size of 0 bytes.
 for version in --v1 --v2.0 --v2.1 --v2.2; do
   of_no_bytes=$("$tool" "$version")
   for file in /dev/zero /proc/version; do
@@ -87,15 +87,15 @@ hashes file_of_proc_on_standard_input "$("$tool" --v1 </proc/version)" --v1 < <(
 of_proc=$("$tool" --v3 /proc/version)
 hashes file_of_proc_by_v3 "$of_proc" --v3 </proc/version
 
-# By a link, from another folder, by the name that the link has.
+# Runs the tool through a link, from another directory and under the link's name.
 ln -s "$tool" linked
 runs by_a_link 0 "$known"$'\n' '' ./linked --v1 <something
 
-# Five thousand words, of which the last one chooses.
+# Five thousand arguments, of which the last selects the version.
 mapfile -t words < <(seq -f '--word%g' 4999)
 hashes many_words "$known" "${words[@]}" --v1 <something
 
-# The help, wherever its word stands.
+# The help, with its option at any position.
 cat >help <<'HELP'
 Usage: rapidhash <version> [opts] [filename]
 <version>
@@ -121,8 +121,8 @@ runs help 0 "$(cat help)"$'\n' '' "$tool" --help
 runs help_last 0 "$(cat help)"$'\n' '' "$tool" missing --v1 --v3 -h
 runs help_to_a_full_output 1 '' "$write_fault" to_a_full_disk "$tool" --help
 
-# The replay that rt ci has built: it holds each body with each of its options, so it compares the compact
-# code too. The names have the options as numbers; V2.1 and V2.2 share their code for rows.
+# The replay that rt ci built contains each body with each of its options, so it also compares the compact code. The
+# names have the options as numbers. V2.1 and V2.2 share their code for rows.
 replay=$top/crates/test_replay/out/test_replay
 if [ -e "$replay" ]; then
   bodies=$(nm "$replay" | grep -oE '(memory|v[0-9])::with_(wide_)?rows::<[^>]*>' | sort -u | sed 's/::<.*//' | uniq -c)

@@ -1,23 +1,23 @@
 #!/usr/bin/env bash
-# Runs the built tool where it has to fail: words that are refused, reads, writes and memory. The last line counts
-# the cases.
+# Runs the built tool in cases that must fail: refused arguments, and failures of reads, writes, and memory. The last
+# line counts the cases.
 . "$(dirname "$0")/tool_room.sh"
-# The program by itself, since a limit on memory would stop the launcher's shell too.
+# The program itself, because a limit on memory would also stop the launcher's shell.
 program=$top/crates/rapidhash_cli/out/rapidhash_cli
 exec </dev/null
 
-# Words that are refused.
+# Refused arguments.
 fault two_versions "$versions_fault" --v1 --v3
 fault two_versions_and_a_file "$versions_fault" missing --v3-micro --v3-nano
 fault missing_file "$open_fault" missing
 fault empty_name "$open_fault" ''
 fault name_of_other_bytes "$open_fault" $'\xff'
 
-# Reads and memory that fail: a folder cannot be read, and the limit is below the input's length.
+# Failures of reads and memory: a directory cannot be read, and the limit is below the input's length.
 fault unreadable_input "$stdin_fault" --v1 <"$top"
 fault unreadable_input_by_v3 "$stdin_fault" <"$top"
 fault folder "$file_fault" "$top"
-# A file of /sys has fewer bytes than its metadata says.
+# A file in /sys has fewer bytes than its metadata states.
 if [ "$(stat -c %s /sys/kernel/uevent_seqnum 2>/dev/null)" = 4096 ]; then
   fault file_of_sys "$file_fault" --v1 /sys/kernel/uevent_seqnum
 fi
@@ -26,18 +26,18 @@ runs v1_in_little_memory 1 '' "$memory_fault" in_kibibytes 8000 "$program" --v1 
 runs v2_in_little_memory 1 '' "$memory_fault" in_kibibytes 8000 "$program" --v2.2 <ten_million
 runs file_by_v1_in_little_memory 0 "$("$tool" --v1 ten_million)"$'\n' '' in_kibibytes 8000 "$program" --v1 ten_million
 runs v3_in_little_memory 0 $'17274253787457370873\n' '' in_kibibytes 8000 "$program" <large
-# Words that there is no room for.
+# Arguments that do not fit into memory.
 word=-$(head -c 120000 /dev/zero | tr '\0' x)
 words=("$word" "$word" "$word" "$word" "$word" "$word")
 runs no_room_for_the_words 1 '' "$memory_fault" prlimit --as=4500000 "$program" "${words[@]}" "${words[@]}"
 
-# Writes that fail. The runtime ignores SIGPIPE, so the tool tells of a reader that is gone, whatever the shell does
+# Failures of writes. The runtime ignores SIGPIPE, so the tool reports that the reader is gone, whatever the shell does
 # with that signal.
 runs full_output 1 '' "$write_fault" to_a_full_disk "$tool" --v1 <something
 runs full_output_of_a_file 1 '' "$write_fault" to_a_full_disk "$tool" large
 runs closed_output 1 '' "$write_fault" to_no_output "$tool" --v1 <something
 runs reader_gone 1 '' "$write_fault" to_a_closed_pipe "$tool" --v1 <something
-# Where standard error takes no text either, the status still tells.
+# If standard error also refuses the text, the exit status still reports the failure.
 # shellcheck disable=SC2317
 to_a_full_error() { "$@" 2>/dev/full; }
 runs full_error 1 '' '' to_a_full_error "$tool" --v1 --v3

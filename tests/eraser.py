@@ -1,7 +1,7 @@
 #!/usr/bin/env python3
-"""Tests bin/eraser.py: each ghost form, what it must keep, and what it must refuse. Then checks each source of
-the Rust crate against the Rattle source that it was made from, by patterns of its own: without the known ghost
-forms and the rows of bin/rust_crate both have the same tokens."""
+"""Tests bin/eraser.py with each ghost form, text that it must keep, and text that it must refuse. Then compares each
+source of the Rust crate with its Rattle source, using separate patterns. Without the known ghost forms and the rows of
+bin/rust_crate, both must have the same tokens."""
 
 import re
 import runpy
@@ -55,7 +55,7 @@ REFUSED = {
     "a raw string": 'f(r"requires {");',
 }
 
-# The forms once more, each as its words with a space behind each. GROUP is a group in braces.
+# The forms again, each as its tokens with a space after each. GROUP is a group in braces.
 GROUP = r"{ [^{}]*} "
 for _ in range(9):
     GROUP = rf"{{ (?:[^{{}}]|{GROUP})*}} "
@@ -72,7 +72,7 @@ WORDS = re.compile(r'//[^\n]*|b?"(?:[^"\\]|\\.)*"|\'\\?.\'|\w+|\S', re.DOTALL)
 
 
 def words_of(text):
-    """The tokens of a text and its comments, each on a line. Brackets in strings and comments are no brackets."""
+    """Returns the tokens and comments of a text, one per line. Brackets in strings and comments do not count."""
     words = (word.rstrip() for word in WORDS.findall(text))
     return "".join(f"{re.sub('[][{}();]', '', word) if len(word) > 1 else word}\n" for word in words)
 
@@ -82,19 +82,19 @@ def without(pattern, text):
 
 
 def difference(rattle, rust, left_out):
-    """Where Rattle's text without its ghost forms and the items left out is not Rust's."""
+    """Returns the lines in which Rattle's text, without its ghost forms and the omitted items, differs from Rust's."""
     theirs = without(FORMS, words_of(rattle))
     for begin in left_out:
         words = re.escape(words_of(begin).removesuffix("\n"))
         rest = "[^;]*; " if begin.startswith("use") else rf"[^{{]*{GROUP}"
         theirs = without(rf"(?:///.* )*{words}\w* {rest}", theirs)
-    # A comma before a closing bracket is rustfmt's to set.
+    # rustfmt decides whether a comma precedes a closing bracket.
     texts = [without(r", (?=[]})>] )", text).splitlines() for text in (theirs, words_of(rust))]
     return unified_diff(*texts, "Rattle", "Rust", lineterm="")
 
 
 def sources():
-    """Each source of the crate: its name, Rattle's text with the table's rows, Rust's, and what is left out."""
+    """Yields each source of the crate: its name, Rattle's text with the table's rows, Rust's, and the omitted items."""
     for crate, (folder, names) in rust_crate.SOURCES.items():
         for name in names.split():
             rattle = (TOP / "crates" / crate / "src" / f"{name}.rt").read_text()

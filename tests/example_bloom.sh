@@ -1,9 +1,9 @@
 #!/usr/bin/env bash
 # shellcheck disable=SC2094 # A list that a program reads twice.
-# Runs crates/example_bloom as its users do, on good and on bad input. The last line counts the cases.
+# Runs crates/example_bloom as its users do, on valid and invalid input. The last line counts the cases.
 . "$(dirname "$0")/example_room.sh"
 
-# The same where up to a hundred of ten thousand lines may be found: NAME COMMAND..
+# Does the same as prints, but up to a hundred of the ten thousand lines may be found: NAME COMMAND..
 mostly_absent() {
   local case=$1
   shift
@@ -40,7 +40,7 @@ for rate in 1 4294967296 many ''; do
   # shellcheck disable=SC2086
   fault "a_rate_of_${rate:-nothing}" 2 '--one-in requires a number from 2 to 4294967295' "$program" --one-in $rate
 done
-# Standard input is the master of a terminal: it has a line, and then fails, since the other end is closed.
+# Standard input is the master of a terminal. It has a line and then fails, because the other end is closed.
 printf 'maybe pear\n' >wanted
 python3 -c '
 import os, pty, subprocess, sys, tty

@@ -1,9 +1,9 @@
 #!/usr/bin/env bash
-# Runs crates/example_dedupe as its users do: on folders, against fdupes where that is installed, on words that it
-# refuses, and where reading, writing or memory fails. The last line counts the cases.
+# Runs crates/example_dedupe as its users do: on directories, compared with fdupes if it is installed, with refused
+# arguments, and with failing reads, writes, and memory. The last line counts the cases.
 . "$(dirname "$0")/example_room.sh"
 
-# Groups of names, sorted.
+# Prints the groups of names from a command, sorted: COMMAND..
 groups_of() {
   "$@" 2>/dev/null | python3 -c '
 import sys
@@ -21,20 +21,20 @@ answers groups_of_equal_files 'tree/a\ntree/below/b\n\ntree/below/void\ntree/emp
 answers files_by_their_names 'tree/a\ntree/below/b\n\n' '' "$program" tree/a tree/below/b tree/d
 answers a_file_that_is_named_twice_is_no_group '' '' "$program" tree/a tree/a tree/d
 
-# Symbolic links are left out, and a loop of them does no harm. A file has a group of its own names.
+# Symbolic links are ignored, and a loop of them does no harm. Several names of the same file are no group.
 cp tree/a links/a
 ln links/a links/hard
 ln -s a links/soft
 ln -s . links/loop
 prints links_of_a_file_are_no_group "$program" links
 
-# Files that differ in their last byte, past a buffer, and one that goes on where the other ends.
+# Files that differ in their last byte, beyond a buffer, and a file that continues after the end of the other.
 head -c 40000 /dev/zero | tee odd/zeros >odd/copy
 (head -c 39999 /dev/zero && printf x) >odd/other
 head -c 39999 /dev/zero >odd/shorter
 answers long_files 'odd/copy\nodd/zeros\n\n' '' "$program" odd
 
-# Two file systems number their files alike.
+# Files in two file systems have the same inode number.
 if unshare -rm true 2>/dev/null; then
   mkdir one two
   # shellcheck disable=SC2016
@@ -46,7 +46,7 @@ else
   printf 'skipped files_of_two_file_systems: unshare is refused\n'
 fi
 
-# A tree of the system and of the repository, copied, against fdupes.
+# Copies of a system tree and a repository tree, compared with fdupes.
 if command -v fdupes >/dev/null; then
   mkdir wide && cp -r /usr/share/doc wide/one 2>/dev/null
   cp -r "$top/crates/rapidhash" wide/two && cp -r wide/two wide/three
@@ -65,7 +65,7 @@ fault a_name_that_is_not_there 1 'nothing: No such file or directory (os error 2
 fails_to_write "$program" tree
 fault memory_refused 1 'out of memory' in_kibibytes 5000 "$program" /usr
 
-# What cannot be read is told, and the run goes on.
+# The program reports unreadable files and continues.
 touch odd/$'bad\xff'
 "$program" odd >out 2>"$room/log"
 [ $? -eq 1 ] && cmp -s out wanted &&

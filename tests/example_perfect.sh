@@ -1,9 +1,9 @@
 #!/usr/bin/env bash
 # shellcheck disable=SC2094 # A list that a program reads twice.
-# Runs crates/example_perfect as its users do, on good and on bad input. The last line counts the cases.
+# Runs crates/example_perfect as its users do, on valid and invalid input. The last line counts the cases.
 . "$(dirname "$0")/example_room.sh"
 
-# The lines of a list with their numbers.
+# Prints the lines of a list with their numbers: LIST
 numbered() {
   awk '{ print NR " " $0 }' "$1"
 }
@@ -24,7 +24,7 @@ for count in 1 2 3 4 5 7 11 100; do
   (numbered few; tail -n +"$((count + 1))" odd | sed 's/^/absent /') >wanted
   prints "a_list_of_$count" "$program" few <odd
 done
-# A list that takes more seeds than most: 15,887 for one group.
+# A list that needs more seeds than most: 15,887 for a single group.
 seq 1 1000 >few
 seq 1 2000 >asked
 (numbered few; seq 1001 2000 | sed 's/^/absent /') >wanted

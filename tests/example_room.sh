@@ -1,5 +1,5 @@
-# What the tests of the example programs read first: a copy of the built program in a folder of its own, ways to run it,
-# and the cases that programs share. `name` is the program, whose name the script has.
+# The common start of the example programs' tests: a copy of the built program in a temporary directory, functions that
+# run it, and shared cases. `name` is the program, which has the script's name.
 # shellcheck shell=bash
 . "$(dirname "$0")/cases.sh"
 name=$(basename "$0" .sh)
@@ -7,7 +7,7 @@ prepare_by make -s -C "$top" "$name"
 program=$room/$name
 cp "$top/crates/$name/out/$name" "$program" && mkdir "$room/at" && cd "$room/at" || exit 1
 
-# A run that ends well and prints the file wanted: NAME COMMAND..
+# Checks that a command succeeds and prints the contents of the file wanted: NAME COMMAND..
 prints() {
   local case=$1
   shift
@@ -15,14 +15,14 @@ prints() {
   tell "$case" $?
 }
 
-# The same where the file wanted and standard input are given as printf takes them: NAME WANTED INPUT COMMAND..
+# Does the same with the file wanted and standard input as printf formats: NAME WANTED INPUT COMMAND..
 answers() {
   # shellcheck disable=SC2059
   printf "$2" >wanted && printf "$3" >input
   prints "$1" "${@:4}" <input
 }
 
-# A run that prints nothing but a message, and perhaps the usage after it: NAME STATUS MESSAGE COMMAND..
+# Checks that a command prints only a message, and perhaps the usage after it: NAME STATUS MESSAGE COMMAND..
 fault() {
   local case=$1 status=$2 message=$3
   shift 3
@@ -31,7 +31,7 @@ fault() {
   tell "$case" $?
 }
 
-# The failures of reading standard input and of writing standard output: COMMAND..
+# Test failed reads of standard input and failed writes of standard output: COMMAND..
 fails_to_read() {
   fault folder_as_input 1 'could not read standard input: Is a directory (os error 21)' "$@" </
   fault no_input 1 'could not read standard input: Bad file descriptor (os error 9)' "$@" <&-
@@ -42,8 +42,8 @@ fails_to_write() {
   fault no_output 1 'could not write standard output: Bad file descriptor (os error 9)' to_no_output "$@"
 }
 
-# What a program does that reads its keys from lists, of which one is fruit: the lists it cannot read. `$room/large` is
-# one that does not fit into memory.
+# Tests a program that reads its keys from lists, such as fruit, with lists that it cannot read. The list large does not
+# fit into memory.
 refuses_lists() {
   fault name_that_is_not_utf_8 1 'could not read the arguments as UTF-8: invalid data' "$program" $'\377'
   fault missing_list 1 'could not read missing: No such file or directory (os error 2)' "$program" missing
@@ -55,7 +55,7 @@ refuses_lists() {
   fault memory_refused_to_a_line 1 'out of memory' in_kibibytes 60000 "$program" fruit <large
 }
 
-# Another user, if this one may read all: then what is unreadable shows only to that one.
+# Switches to another user if this one may read everything. Only the other user notices unreadable files.
 # shellcheck disable=SC2034
 as_user=()
 if [ "$(id -u)" -eq 0 ]; then

@@ -1,9 +1,9 @@
 #!/usr/bin/env bash
-# Runs crates/example_shards as its users do: on lines, on words that it refuses, and where reading, writing or memory
-# fails. The last line counts the cases.
+# Runs crates/example_shards as its users do: on lines, with refused arguments, and with failures of reads, writes, and
+# memory. The last line counts the cases.
 . "$(dirname "$0")/example_room.sh"
 
-# The node of a line comes first, and the line is kept as it is.
+# The node of a line comes first, and the line itself is unchanged.
 seq 1 10000 >lines
 "$program" red green blue <lines >three
 cut -f2 three | cmp -s - lines
@@ -12,7 +12,7 @@ cut -f1 three | sort | uniq -c | awk '{ count[$2] = $1 }
   END { print "red\t" count["red"]; print "green\t" count["green"]; print "blue\t" count["blue"] }' >wanted
 prints counts_are_those_of_the_lines "$program" --counts red green blue <lines
 
-# When green is removed, the lines of the others stay; when it is added, lines move only to it.
+# If green is removed, the lines of the other nodes stay. If green is added, lines move only to it.
 "$program" red green blue --without green <lines >two
 ! diff three two | grep '^<' | grep -vq '^< green'
 tell only_the_lines_of_the_removed_node_move $?
@@ -22,7 +22,7 @@ cp two wanted
 prints a_removed_node_leaves_no_trace "$program" red blue <lines
 prints nodes_in_another_order "$program" blue red <lines
 
-# The nodes of ten lines by the Rust crate.
+# The nodes of ten lines, computed with the Rust crate.
 ten='1\n2\n3\n4\n5\n6\n7\n8\n9\n10'
 answers lines_of_three_nodes 'red\t1\nred\t2\nblue\t3\nred\t4\nblue\t5\nred\t6\nblue\t7\ngreen\t8\nred\t9\nblue\t10\n' \
   "$ten" "$program" red green blue

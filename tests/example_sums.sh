@@ -1,24 +1,24 @@
 #!/usr/bin/env bash
 # shellcheck disable=SC2317 # The cases are called by their names.
-# Runs crates/example_sums beside sha256sum: in each case both print the same lines but for the
-# hashes, the same messages but for the program's name, and end with the same status. Then come the
-# cases that sha256sum has no word for. The last line counts the cases.
+# Runs crates/example_sums and sha256sum. In each case, both print the same lines except the hashes, print the same
+# messages except the program's name, and exit with the same status. Further cases test features that sha256sum does not
+# have. The last line counts the cases.
 . "$(dirname "$0")/example_room.sh"
 export LC_ALL=C
 
-# Makes the files of a case: three names, one of them with a newline, a backslash and a return.
+# Creates the files of a case. One of the three names contains a newline, a backslash, and a carriage return.
 files() {
   printf 'something\n' >first
   printf 'else\n' >'second name'
   printf 'something\n' >$'line\nback\\return\r'
 }
 
-# Makes a list of those files with the program.
+# Writes a list of those files with the program.
 list() {
   "$sum" first 'second name' $'line\nback\\return\r' >list
 }
 
-# Runs a case with one program: its own folder, what it printed and its status.
+# Runs a case with a program in its own directory and stores its output and exit status: NAME PROGRAM CASE
 run_case() {
   mkdir "$room/$1" && cd "$room/$1" || exit 1
   files
@@ -33,7 +33,7 @@ run_case() {
     s/ SHA256 / /; s/(write error): .*/\1/; s/^(sum: )'"'(.*)': "'/\1\2: /' "$room/err.$1"
 }
 
-# Runs a case with both programs, and compares.
+# Runs a case with both programs and compares the results: CASE
 beside() {
   run_case theirs sha256sum "$1"
   run_case ours "$program" "$1"
@@ -92,7 +92,7 @@ done
 cd "$room" || exit 1
 files
 
-# A run that fails and tells why: NAME PATTERN COMMAND..
+# Checks that a command fails with a message that matches a pattern: NAME PATTERN COMMAND..
 says() {
   local case=$1 pattern=$2
   shift 2
@@ -103,7 +103,7 @@ says() {
 
 # The line of a known hash, which rapidhash prints in decimal.
 answers known_line 'a1266b469390773a  first\n' '' "$program" first
-# Lines of other programs: capital digits, a star, blanks in front, and a return at the end.
+# Lines from other programs: uppercase digits, a star, leading whitespace, and a carriage return at the end.
 printf '%b\n' 'A1266B469390773A  first' 'a1266b469390773a *first' ' \ta1266b469390773a  first' \
   'a1266b469390773a  first\r' 'RAPIDHASH-V1 (first) = DD91317EEFDB7BF5\r' >others
 answers lines_of_other_programs 'first: OK\nfirst: OK\nfirst: OK\nfirst: OK\nfirst: OK\n' '' "$program" -c others
@@ -153,7 +153,7 @@ says check_without_the_seed 'did NOT match' "$program" -c list
 printf 'RAPIDHASH-V9 (first) = a1266b469390773a\n' >list
 says unknown_version_in_a_list 'no properly formatted' "$program" -c list
 
-# An argument that is not UTF-8 is refused; a name in a list that is not is a file that cannot be read.
+# An argument that is not UTF-8 is refused. Such a name in a list counts as a file that cannot be read.
 says name_that_is_not_utf_8 UTF-8 "$program" $'x\xff'
 printf 'a1266b469390773a  x\xff\n' >list
 says name_in_a_list_that_is_not_utf_8 UTF-8 "$program" -c list
@@ -167,12 +167,12 @@ done
 says option_without_check --check "$program" --quiet first
 says unknown_option unknown "$program" --unknown
 
-# A list larger than the memory that there is, and a file, which is read by pieces.
+# A list larger than the available memory, and the same file as input, which is read in pieces.
 head -c 67108864 /dev/zero | tr '\0' 'x' >large
 says memory_refused memory in_kibibytes 32768 "$program" -c large
 try large_file in_kibibytes 32768 "$program" large
 
-# A terminal shows how far a large file is, and nothing else does.
+# Only a terminal shows the progress of a large file.
 truncate -s 300000000 sparse
 script -qec "$program sparse" log </dev/null >/dev/null 2>&1
 grep -q '128 MiB.*256 MiB' log && grep -qP '\r\x1b\[Kc266dafd0143ba3a  sparse' log

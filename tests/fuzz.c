@@ -1,7 +1,7 @@
-/* Compares the C library with the Rust crate: every form, with the default secrets, a seed word and
- * made secrets, and streams in pieces that the input cuts. The message ends where a page ends that
- * nothing may touch, so a read past it is an error too. tests/bindings.sh builds it in two ways: for
- * what libFuzzer makes up, and with MESSAGES for so many random messages. */
+/* Compares every form of the C library with the Rust crate, with the default secrets, a seed word, and derived secrets.
+ * Also compares streams in pieces that the input determines. The message ends before an inaccessible page, so a read
+ * past its end is also an error. tests/bindings.sh builds the program in two ways: for the inputs of libFuzzer, and
+ * with MESSAGES for this number of random messages. */
 #include <stdbool.h>
 #include <stdio.h>
 #include <stdlib.h>
@@ -9,7 +9,7 @@
 
 #include "rapidhash_c.h"
 
-/* An input has a head and the message: whether the secrets are made, their number, and lengths. */
+/* An input is a head and the message. The head has the kind of secrets, their number, and the lengths of pieces. */
 enum { HEAD = 16, ROOM = 1 << 20, PAGE = 1 << 12 };
 
 /* The seed word of V1's default seed. */
@@ -47,7 +47,7 @@ static void check(bool holds, const char *what, uint32_t form, size_t len)
     }
 }
 
-/* The message, so that it ends before a page that nothing may touch. */
+/* Copies the message, so that it ends before an inaccessible page. */
 static const uint8_t *place(const uint8_t *bytes, size_t len)
 {
     static uint8_t *end;
@@ -60,7 +60,7 @@ static const uint8_t *place(const uint8_t *bytes, size_t len)
     return memcpy(end - len, bytes, len);
 }
 
-/* A message in pieces, whose lengths the head has. */
+/* Hashes a message in pieces, with the lengths in the head. */
 static uint64_t in_pieces(
     uint32_t lanes, const uint8_t *head, const uint8_t *bytes, size_t len, const struct rapidhash_secrets *secrets)
 {
@@ -127,8 +127,8 @@ static uint64_t random_word(void)
     return word ^ word >> 31;
 }
 
-/* Messages of up to 300 bytes, and one of 1,024 longer, half of random bytes, half of words of zeros
- * or ones. One of four has the default secrets. */
+/* Messages have up to 300 bytes, but one in 1,024 is longer. Half have random bytes, and half have words of zeros or
+ * ones. One in four has the default secrets. */
 int main(void)
 {
     static uint64_t pool[1 << 17];

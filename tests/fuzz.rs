@@ -1,12 +1,12 @@
-//! The hashes of the Rust crate, for tests/fuzz.c. A pointer leads to as many bytes as are said.
+//! The hashes of the Rust crate, for tests/fuzz.c. A pointer leads to the stated number of bytes.
 
 extern crate rapidhash;
 
 use rapidhash::{v1, v2, v3};
 use std::slice::from_raw_parts;
 
-/// The hash of a form: 20, 21 and 22 are the minors of V2, 7, 5 and 3 the lanes of V3, micro and nano, and 70
-/// is V3 protected.
+/// Returns the hash of a form: 20, 21, and 22 are the minors of V2, and 70 is V3 protected. 7, 5, and 3 are the lanes
+/// of V3, micro, and nano.
 fn hash<const COMPACT: bool>(form: u32, bytes: &[u8], secrets: &v3::RapidSecrets) -> u64 {
     match form {
         20 => v2::rapidhash_v2_inline::<0, true, COMPACT, false>(bytes, secrets),
@@ -20,7 +20,7 @@ fn hash<const COMPACT: bool>(form: u32, bytes: &[u8], secrets: &v3::RapidSecrets
     }
 }
 
-/// The hash of a form with secrets, by the compact code if the seed is odd.
+/// Returns the hash of a form with secrets, from the compact code if the seed is odd.
 #[no_mangle]
 pub unsafe extern "C" fn rust_hash(
     form: u32,
@@ -35,7 +35,7 @@ pub unsafe extern "C" fn rust_hash(
     }
 }
 
-/// The same of V1.
+/// Returns the same for V1.
 #[no_mangle]
 pub unsafe extern "C" fn rust_hash_v1(
     bytes: *const u8,
@@ -49,7 +49,7 @@ pub unsafe extern "C" fn rust_hash_v1(
     }
 }
 
-/// The secrets of a number, or the default ones with a seed word.
+/// Writes the secrets derived from a number, or the default secrets with a seed word.
 #[no_mangle]
 pub extern "C" fn rust_secrets(
     made: bool,

@@ -1,11 +1,11 @@
 #!/usr/bin/env bash
-# Installs the programs and the library for C into a room of its own, uses each installed file, and
-# removes them again. Then come folders with names of other kinds. The last line counts the cases.
+# Installs the programs and the C library into a temporary directory, uses each installed file, and removes the files
+# again. Further cases use directories with other kinds of names. The last line counts the cases.
 . "$(dirname "$0")/cases.sh"
 prefix=$room/usr
 cd "$top" || exit 1
 
-# PATH without rt: an installation, which root may do, needs none.
+# PATH without rt: an installation, perhaps as root, does not need it.
 path=
 while IFS= read -r -d : folder; do
   [ -x "$folder/rt" ] || path=$path${path:+:}$folder
@@ -19,21 +19,21 @@ installs() {
   PATH=$path make -s -C "$top" install "$@"
 }
 
-# A line of a known hash is printed, and reads back.
+# Checks that rapidsum prints the line of a known hash and reads it back.
 prints_and_checks_a_sum() {
   echo something >"$room/file" &&
     [ "$("$prefix/bin/rapidsum" "$room/file")" = "a1266b469390773a  $room/file" ] &&
     "$prefix/bin/rapidsum" "$room/file" | "$prefix/bin/rapidsum" --check | grep -qx "$room/file: OK"
 }
 
-# Every option that the help of a program names stands in a file: PROGRAM, how many there are, FILE.
+# Checks that a file contains every option that the help of a program names: PROGRAM COUNT FILE
 names_every_option() {
   local option pattern
   "$prefix/bin/$1" --help | grep -oE '^ .{0,5} --[a-z0-9.-]+' | grep -oE -- '--.*' >"$room/options"
   while read -r option; do
     pattern=${option//./[.]}
     case $3 in
-    */_*) pattern="${pattern}[}'=]*\\[" ;; # zsh offers what has a description, and excludes other options.
+    */_*) pattern="${pattern}[}'=]*\\[" ;; # In zsh, offered options have a description, but excluded options do not.
     *) pattern="(^|[^a-z0-9.-]|--)${pattern#--}([^a-z0-9.-]|[.] |\$)" ;;
     esac
     sed 's/\\//g' "$3" | grep -qE -e "$pattern" || { echo "no $option in $3" && return 1; }
@@ -41,12 +41,12 @@ names_every_option() {
   [ "$(wc -l <"$room/options")" -eq "$2" ] || { cat "$room/options" && return 1; }
 }
 
-# The manual page has no fault of form, and lines of at most 80 bytes.
+# Checks that a manual page has no formatting faults, and lines of at most 80 bytes: PAGE
 is_a_clean_manual() {
   [ -z "$(mandoc -Tlint "$prefix/share/man/man${1##*.}/$1" | tee /dev/stderr)" ]
 }
 
-# The manual's example that compares the files a and b is right, also where neither can be hashed.
+# Checks that the manual's example compares the files a and b correctly, even if neither can be hashed.
 compares_by_the_manual() {
   local example
   example=$(sed -n 's/^\.B \(a=\$(.*\)/\1/p' "$prefix/share/man/man1/rapidhash.1" | sed 's/\\(dq/"/g')
@@ -60,13 +60,13 @@ is_empty() {
   [ -z "$(find "$1" ! -type d)" ]
 }
 
-# What make install copies: names below the folder.
+# Prints the names of the files below a directory, such as those that make install copied: DIRECTORY
 listed() {
   (cd "$1" && find . ! -type d | sort)
 }
 
-# A folder whose name has blanks and other characters gets the same files, which can be used, and
-# loses them again, and nothing else.
+# Checks that a directory with spaces and other characters in its name gets the same files, and that they work.
+# Uninstall must remove them and nothing else.
 serves_a_folder_of_any_name() {
   local place="$room/a folder & |more"
   installs PREFIX="$place" && diff <(listed "$prefix") <(listed "$place") &&
@@ -75,7 +75,7 @@ serves_a_folder_of_any_name() {
     make -s -C "$top" uninstall PREFIX="$place" && [ -e "$room/a" ] && [ "$(listed "$place")" = ./bin/mine ]
 }
 
-# A folder that the file for pkg-config cannot name is refused in one line, before a file is copied.
+# Checks that a directory that the pkg-config file cannot name is refused in a single line, before a file is copied.
 refuses() {
   local said
   ! said=$(installs DESTDIR="$room/refused" "$@" 2>&1) && [ ! -e "$room/refused" ] &&
@@ -83,8 +83,8 @@ refuses() {
     ! make -s -C "$top" uninstall DESTDIR="$room/refused" "$@"
 }
 
-# The programs of docs/C.md and docs/CPP.md, built and run as the pages print them, with the library below $HOME.
-# README.md has the lines for the first one too.
+# Builds and runs the programs of docs/C.md and docs/CPP.md with the commands on the pages and the library below $HOME.
+# README.md also has the commands for the first program.
 runs_as_the_pages_say() (
   export HOME=$room/home
   mkdir "$HOME" && installs PREFIX="$HOME/.local" && cd "$HOME" &&
@@ -94,7 +94,7 @@ runs_as_the_pages_say() (
     diff <(head -n 2 commands) <(blocks "$top/README.md" sh pkg-config) && prints_the_hash_of_hello 3
 )
 
-# The commands print the hash so many times, and each says that it does: TIMES
+# Checks that the commands print the hash this many times, and that each has a comment that states this: TIMES
 prints_the_hash_of_hello() {
   local hash=3327445792987248966
   bash -e commands | tee /dev/stderr | grep -xc "$hash" | grep -x "$1" &&
@@ -107,7 +107,7 @@ by_cmake_as_the_page_says() (
     blocks "$top/docs/CPP.md" sh cmake >commands && prints_the_hash_of_hello 1
 )
 
-# The whole folder can be moved: no file names the place it was installed in.
+# Checks that the whole directory can be moved: no file names the place of its installation.
 serves_a_moved_folder() {
   local place="$room/second place"
   mv "$room/home/.local" "$place" && ! grep -rlF "$room/home" "$place" && builds_by_pkg_config "$place/lib"
@@ -119,7 +119,7 @@ links_both_by_cmake() {
     ! readelf -d "$room/cmake/cpp_rapidhash_c_static" | grep -F librapidhash_c
 }
 
-# Below DESTDIR, and with folders of its own for programs and libraries.
+# Installs below DESTDIR, with separate directories for programs and libraries.
 serves_a_packager() {
   local stage=$room/stage pc=$room/stage/usr/lib/here/pkgconfig/rapidhash_c.pc
   local folders=(DESTDIR="$stage" PREFIX=/usr BINDIR=/opt/bin LIBDIR=/usr/lib/here DATADIR=/opt/share)
@@ -131,7 +131,7 @@ serves_a_packager() {
     make -s -C "$top" uninstall "${folders[@]}" && is_empty "$stage"
 }
 
-# Headers outside PREFIX keep their whole name.
+# Checks that headers outside PREFIX keep their full path.
 serves_headers_elsewhere() {
   local stage=$room/elsewhere
   installs DESTDIR="$stage" PREFIX=/usr INCLUDEDIR='/opt/the headers' &&
@@ -139,7 +139,7 @@ serves_headers_elsewhere() {
     grep -F '"/opt/the\ headers"' "$stage/usr/lib/cmake/rapidhash_c/rapidhash_c-config.cmake"
 }
 
-# If a single product is missing, nothing is copied, and a line says what to run first.
+# Checks that nothing is copied if a single product is missing, and that a line names the command to run first.
 wants_a_build_first() {
   local missing product said
   mkdir "$room/new" && git ls-files -z | xargs -0 cp --parents -t "$room/new" || return 1
@@ -152,11 +152,11 @@ wants_a_build_first() {
     [ ! -e "$room/$missing" ] && grep '^make install: .*: run make first$' <<<"$said" || return 1
   done
 }
-# What make install copies, each after what it is made of.
+# The products that make install copies, each after the products from which it is built.
 products=(crates/rapidhash_cli/out/rapidhash_cli crates/example_sums/out/example_sums
   crates/rapidhash_c/out/librapidhash_c.a build/librapidhash_c.so.1)
 
-# A folder whose name the file for pkg-config cannot hold: the script's own check, since make expands some.
+# Checks that the script itself refuses the characters that the pkg-config file cannot contain. make would expand some.
 refuses_characters() {
   local character said
   for character in '#' '$' '\' "'" '"' '`' $'\n' $'\t'; do
@@ -166,7 +166,7 @@ refuses_characters() {
   done
 }
 
-# Programs and the shared library may be run by all, and every other file may be read by all.
+# Checks that every user can run the programs and the shared library and read every other file.
 has_the_modes() {
   [ -z "$(find "$prefix" -type f ! -perm 644 ! -perm 755)" ] &&
     diff <(find "$prefix" -type f -perm 755 -printf '%f\n' | sort) \

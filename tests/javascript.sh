@@ -1,12 +1,12 @@
 #!/usr/bin/env bash
-# Packs the package for JavaScript, installs it from an empty folder as its page says, and tests what is
-# installed: in Node, its types, and in browsers, with the page examples/browser. A program that is not on
-# this machine is named, and its cases are not counted. The last line counts the cases.
+# Builds the JavaScript package, installs it from an empty directory with the commands on its page, and tests the
+# installed copy. The cases cover Node, the types, and browsers, with the page examples/browser. Missing programs are
+# named, and their cases are not counted. The last line counts the cases.
 . "$(dirname "$0")/cases.sh"
-# No registry is asked, whatever npm would ask by itself.
+# Prevents all requests to a registry, including those that npm makes by itself.
 export npm_config_offline=true npm_config_audit=false npm_config_update_notifier=false
 
-# The package has all of its files and no other, with the licences of the repository.
+# Checks that the package has all of its files and no others, with the licences of the repository.
 has_its_files() {
   local folder=$room/first/node_modules/yervound-rapidhash
   has_the_licences "$folder" && (cd "$folder" && LC_ALL=C ls) | diff - <(
@@ -15,7 +15,7 @@ has_its_files() {
   )
 }
 
-# Lays the tests out beside the installed package, with the files that they read.
+# Lays out the tests beside the installed package, with the files that they read.
 lay_out() {
   cp "$top"/bindings/javascript/test/* "$top/build/rapidhash_c.wasm" "$room/first" &&
     python3 "$top/share/vectors.py" "$top/crates/test_replay/data" >"$room/first/rapidhash_vectors.tsv" &&
@@ -26,12 +26,12 @@ runs_in_node() {
   cd "$room/first" && node --test "$1.mjs"
 }
 
-# The words of tsc, with all checks: FILE WORD..
+# Compiles with all checks of tsc: ARGUMENT..
 compiles() {
   cd "$room/first" && tsc --noEmit --strict --target es2020 --module node16 --moduleResolution node16 "$@"
 }
 
-# A server of the room, whose address comes into the variable `server`.
+# Starts a server for the temporary directory and stores its address in the variable `server`.
 serve() {
   python3 -u -m http.server 0 --bind 127.0.0.1 --directory "$room" >>"$room/server.log" 2>&1 &
   until server=$(grep -oE 'http://127[.0-9]+:[0-9]+' "$room/server.log"); do
@@ -39,15 +39,14 @@ serve() {
   done
 }
 
-# Lays out what both browsers are served: the tests beside the package, and the page.
+# Lays out the files that are served to both browsers: the tests beside the package, and the page.
 lay_out_for_browsers() {
   make -s -C "$top" tool page && cp "$top"/tests/browsers/* "$room/first" && cp -r "$top/build/browser" "$room" &&
     serve && mkdir "$room/files" && cd "$room/files" && mv ../first/large . && cat large large >double &&
     truncate -s 1073741825 long && : >empty
 }
 
-# The tests of the package and the page in a browser. The page asks its server for its own files and for nothing else:
-# PROGRAM
+# Tests the package and the page in a browser. The page requests only its own files from its server: PROGRAM
 works_in_a_browser() {
   : >"$room/server.log"
   cd "$room/first" && BROWSER=$1 SERVER=$server FILES=$room/files TOOL=$top/crates/rapidhash_cli/out/rapidhash_cli \
@@ -67,7 +66,7 @@ for name in known refused vectors node; do
 done
 try_with types tsc compiles --lib es2020,dom types.mts
 try_with types_alone tsc compiles --lib es2020 node_modules/yervound-rapidhash/index.d.ts
-# Each browser where the program is that drives it.
+# Each browser, if the program that drives it is installed.
 try lay_out_for_browsers lay_out_for_browsers
 try_with chromium chromedriver works_in_a_browser chromium
 try_with firefox-esr firefox-esr works_in_a_browser firefox-esr

@@ -1,11 +1,11 @@
 #!/usr/bin/env bash
-# Runs bin/rapidhash in a small copy of the repository, where a script in the place of rt builds a program
-# that prints the sources and its arguments. So no case has to prove anything. The last line counts.
+# Runs bin/rapidhash in a small copy of the repository. A script instead of rt builds a program that prints the sources
+# and its arguments, so no case needs a proof. The last line counts the cases.
 . "$(dirname "$0")/cases.sh"
 cd "$room" || exit 1
 
-# The stand-in for rt: for the program it waits for the lock as rt does, takes the text of the sources, runs the file
-# `during`, and builds. A library is nothing.
+# The substitute for rt. For the program, it waits for the lock as rt does, reads the text of the sources, runs the file
+# `during`, and builds. For a library, it does nothing.
 mkdir kit
 cat >kit/rt <<'RT'
 #!/bin/sh
@@ -20,8 +20,8 @@ chmod +x out/rapidhash_cli
 RT
 chmod +x kit/rt
 
-# A repository with nothing built, whose sources are older than what is built next, and what a build does besides:
-# COMMANDS
+# Creates a repository without build results, whose sources are older than the next build. A build also runs these
+# commands: COMMANDS
 new_repository() {
   chmod -R u+w . && rm -rf repo starts && echo "$1" >during
   mkdir -p repo/bin repo/crates/rapidhash_{portable,cli}/src repo/crates/rapidhash_tool
@@ -30,8 +30,8 @@ new_repository() {
   find repo -exec touch -d 2020-01-01 {} +
 }
 
-# Runs the launcher, and compares what it leaves, how many builds there were so far, and a pattern of what it says:
-# NAME STATUS OUT BUILDS ERR WORDS..
+# Runs the launcher and compares its exit status, its output, the number of builds so far, and a pattern for its
+# messages: NAME STATUS OUT BUILDS ERR ARGUMENT..
 tool=repo/bin/rapidhash
 calls() {
   local status

@@ -1,7 +1,6 @@
 #!/usr/bin/env python3
-"""Checks what the pages say against the repository: links and paths lead somewhere, names stand in the
-code, counts are those of the files, pages and lines keep their limits, and what a script makes of the
-sources is current."""
+"""Compares the pages with the repository. Links and paths must exist, names must occur in the code, and counts must be
+those of the files. Pages and lines must keep their limits, and texts generated from the sources must be current."""
 
 import contextlib
 import io
@@ -16,14 +15,14 @@ MADE = TOP / "docs" / "api"
 PAGES = sorted([*TOP.glob("*.md"), *TOP.glob("docs/*.md"), *MADE.glob("*.md"), *TOP.glob("*/NOTES.md"),
                 *TOP.glob("bindings/*/README.md"), TOP / "share" / "dist.md", TOP / "rust" / "README.md",
                 TOP / "rust" / "capi" / "README.md"])
-# Folders that builds make, and what lies in an archive or in an installed copy alone.
+# Directories that builds create, and paths that exist only in an archive or in an installed copy.
 BUILT = ("build/", "crates/example_NAME", "tests/example_NAME", "crates/first")
 PATH = re.compile(r"`((?:crates|docs|tests|bench|bin|include|bindings|share|\.ci)/[^` ]*)`")
 NAME = re.compile(r"`([A-Za-z]\w*(?:::\w+)*)`")
 
 
 def prose(pages):
-    """The lines of pages outside code blocks: the page, the place and the text of each."""
+    """Yields the lines of pages outside code blocks: the page, the place, and the text of each."""
     for page in pages:
         is_code = False
         for number, line in enumerate(page.read_text().splitlines(), 1):
@@ -70,7 +69,7 @@ def names():
 
 
 def vectors():
-    """Each vector file stands in a table of the page beside it, and nothing else does."""
+    """Checks that a table on the page beside the vector files has each of them and nothing else."""
     data = TOP / "crates" / "test_replay" / "data"
     rows = re.findall(r"^\| (`[^|]*)", (data / "README.md").read_text(), re.MULTILINE)
     for name in {file.name for file in data.glob("*.tsv")} ^ set(re.findall(r"`(\w+\.tsv)`", "".join(rows))):
@@ -78,7 +77,7 @@ def vectors():
 
 
 def statements():
-    """The definitions, the contracts and the clauses that these pages quote are those of the sources."""
+    """Checks that the definitions, contracts, and clauses that these pages quote are those of the sources."""
     files = [*TOP.glob("crates/*/specs/*.antt"), *TOP.glob("crates/*/src/**/*.rt")]
     sources = "".join(file.read_text() for file in files)
     text = (TOP / "docs" / "PROVED.md").read_text()
@@ -95,13 +94,13 @@ def statements():
 
 
 def made_by(script):
-    """What a script that makes a page of the sources tells where the page is not current."""
+    """Returns the output of a script that generates a page from the sources, if the page is not current."""
     status, said = shell(f"{script} --check")
     return said.splitlines() or [f"{script} ended with status {status}"] if status else []
 
 
 def pictures():
-    """Each picture is well-formed, has a title, and has colours for dark pages."""
+    """Checks that each picture is well-formed, has a title, and has colours for dark pages."""
     for file in TOP.glob("docs/images/*.svg"):
         try:
             style = ElementTree.parse(file).findtext("{*}style") or ""
@@ -112,7 +111,7 @@ def pictures():
 
 
 def ratios():
-    """Where the crate takes 3 and ours 2, the benches and the tables of figures have 1.50."""
+    """Checks that the benches and the tables of figures have 1.50 if the crate takes 3 and ours takes 2."""
     sys.path.insert(0, str(TOP / "bench"))
     harness, made = (runpy.run_path(TOP / "bench" / name) for name in ("harness.py", "figures"))
     times = {"ours": 2, "rust": 4, "crate": 3}

@@ -1,7 +1,7 @@
 #!/usr/bin/env python3
-"""Builds the extension for PostgreSQL as its page says, installs it beside a copy of the server, starts that
-as a user without rights, and tests each function. It leaves the machine's own server alone. The values are those of the
-Rust crate. The last line counts the cases."""
+"""Builds the PostgreSQL extension with the commands on its page and installs it into a copy of the server. Starts the
+copy as a user without rights and tests each function. The machine's own server is not affected. The values are those of
+the Rust crate. The last line counts the cases."""
 
 import os
 import re
@@ -14,7 +14,7 @@ from sql import BINDINGS, HELLO, NOTHING, SEEDED, TEXT, TEXT_HASH
 from sql import every_vector, lines_with_results, signed, unpack
 
 PAGE = "bindings/postgresql/README.md"
-# The folder of its databases, which has its socket too.
+# The directory of its databases, which also contains its socket.
 DATA = ROOM / "data"
 NOBODY = "setpriv --reuid=65534 --regid=65534 --clear-groups " if os.geteuid() == 0 else ""
 FUNCTIONS = """SELECT count(*), bool_and(provolatile = 'i' AND proisstrict AND proparallel = 's')
@@ -22,12 +22,12 @@ FUNCTIONS = """SELECT count(*), bool_and(provolatile = 'i' AND proisstrict AND p
 STORED = """CREATE TABLE stored (word text); ALTER TABLE stored ALTER word SET STORAGE {0};
     INSERT INTO stored SELECT repeat('hello', {1}); SELECT rapidhash_v3(word) = rapidhash_v3(repeat('hello', {1})),
     pg_column_size(word) < octet_length(word) FROM stored; DROP TABLE stored"""
-# The server keeps a value compressed, in pieces, or with a shorter header.
+# The server stores a value compressed, in pieces, or with a shorter header.
 STORAGES = (("EXTENDED", 100000, "t"), ("EXTERNAL", 100000, "f"), ("PLAIN", 1, "f"))
 
 
 def folders_of_the_server():
-    """Where the machine's server lies, or nothing if it has none or no headers."""
+    """Returns the directories of the machine's server, or nothing if the server or its headers are missing."""
     if not all(map(shutil.which, ("pg_config", "cc", "psql", "setpriv"))):
         return []
     found = [Path(shell(f"pg_config --{name}")[1].strip()) for name in ("pgxs", "bindir", "sharedir")]
@@ -35,7 +35,7 @@ def folders_of_the_server():
 
 
 def ask(query):
-    """The lines that a query gives, or its error."""
+    """Returns the resulting lines of a query, or its error."""
     words = ["psql", "-XAtq", "-h", DATA, "-U", "test", "-d", "postgres", "-v", "ON_ERROR_STOP=1", "-f", "-"]
     done = subprocess.run(words, input=query, stdout=subprocess.PIPE, stderr=subprocess.STDOUT, text=True)
     return done.stdout.splitlines()
@@ -46,7 +46,7 @@ def literal(message):
 
 
 def install():
-    """Runs the commands of the page, of which the second installs into the copy."""
+    """Runs the commands of the page. The second installs into the copy."""
     words = {"PGHOST": str(DATA), "PGUSER": "test", "PGDATABASE": "postgres", "DESTDIR": str(ROOM)}
     [commands] = blocks(PAGE, "sh")
     status, printed = shell(commands.replace("sudo ", ""), ROOM, **words)
@@ -55,7 +55,7 @@ def install():
 
 
 def unpacked_archive():
-    """The command of the archive's page builds and installs the same functions."""
+    """Checks that the command on the archive's page builds and installs the same functions."""
     place = ROOM / "unpacked"
     status, printed = shell(unpack(place, "postgresql").replace("sudo ", ""), place, DESTDIR=str(place))
     names = [shell(f"nm -D --defined-only {folder}/rapidhash.so | cut -d ' ' -f 2-") for folder in (
@@ -64,7 +64,7 @@ def unpacked_archive():
 
 
 def vectors():
-    """A message as a bytea, and 8 bytes as a bigint too."""
+    """Tests each message as a bytea, and a message of 8 bytes also as a bigint."""
     queries = []
     for name, words, message, wanted in every_vector():
         rest = "".join(f", {word}" for word in words)
@@ -108,7 +108,7 @@ def rest():
 
 
 def start(binaries, shared):
-    """Starts a copy of the server, and returns the command that ends it."""
+    """Starts a copy of the server and returns the command that stops it."""
     ROOM.chmod(0o755)
     for folder in (binaries.parent, shared):
         shutil.copytree(folder, ROOM / folder.relative_to("/"))

@@ -1,25 +1,25 @@
 #!/usr/bin/env bash
-# Packs the wheels for Python, installs each in a fresh environment without a network, and tests what is
-# installed: one wheel over ctypes, and one with an extension where a C compiler and the headers of Python are.
-# What is not on this machine is named, and its cases are not counted. The last line counts the cases.
+# Builds the Python wheels, installs each in a fresh environment without a network, and tests the installed copies. One
+# wheel uses ctypes, and the other has an extension, if a C compiler and the Python headers are installed. Missing
+# programs are named, and their cases are not counted. The last line counts the cases.
 . "$(dirname "$0")/cases.sh"
-# The Python for which Debian has what builds wheels.
+# The Python for which Debian has the packages that build wheels.
 python=/usr/bin/python3
 unset RAPIDHASH_LIBRARY PYTHONPATH
 
-# The commands of the package's page in a fresh environment.
+# Runs the commands on the package's page in a fresh environment.
 installs_as_the_page_says() {
   "$python" -m venv "$room/extension" &&
     PATH=$room/extension/bin:$PATH works_as_its_page_says "$top/bindings/python/README.md"
 }
 
-# The wheel for each Python, which pip passes by where the other one will do.
+# Installs the wheel for every Python, which pip ignores if the other wheel is suitable.
 installs_over_ctypes() {
   "$python" -m venv "$room/ctypes" &&
     "$room/ctypes/bin/pip" install --quiet --no-index "$top"/build/wheels/*-py3-none-linux_x86_64.whl
 }
 
-# A wheel has these files and the licences of the repository, and no others: TAG LIBRARY
+# Checks that a wheel has these files, the licences of the repository, and no other files: TAG LIBRARY
 has_its_files() {
   "$python" -m zipfile -e "$top"/build/wheels/*-"$1"-linux_x86_64.whl "$room/files_$1" && cd "$room/files_$1" &&
     has_the_licences yervound_rapidhash-*.dist-info &&
@@ -28,18 +28,18 @@ has_its_files() {
       "$2" | LC_ALL=C sort)
 }
 
-# Lays out the tests away from the sources, so that they find the installed copy alone.
+# Lays out the tests away from the sources, so that they find only the installed copy.
 lay_out() {
   mkdir "$room/tests" && cp "$top"/bindings/python/test_*.py "$top/share/check_vectors.py" "$room/tests" &&
     python3 "$top/share/vectors.py" "$top/crates/test_replay/data" >"$room/tests/rapidhash_vectors.tsv"
 }
 
-# A file of the tests over an installed wheel: ENVIRONMENT FILE
+# Runs a test file with an installed wheel: ENVIRONMENT FILE
 runs_over() {
   cd "$room/tests" && RAPIDHASH_WHEEL=$1 "$room/$1/bin/python" -B "$2.py"
 }
 
-# With a library that the variable names the extension's wheel is one over ctypes.
+# Checks that the extension's wheel uses ctypes if RAPIDHASH_LIBRARY names a library.
 takes_a_named_library() {
   cd "$room/tests" && RAPIDHASH_LIBRARY=$top/build/librapidhash_c.so.1 RAPIDHASH_WHEEL=ctypes \
     "$room/extension/bin/python" -B test_package.py
@@ -50,7 +50,7 @@ accepts_the_types() {
     --python-executable "$room/ctypes/bin/python" test_types.py
 }
 
-# The types say what the package has, but for the module of ctypes, which has none: ENVIRONMENT
+# Checks that the types match the package, except for the ctypes module, which has none: ENVIRONMENT
 types_are_those_of() {
   local folder=$room/types_$1
   mkdir "$folder" && cp -r "$room/$1"/lib/python3*/site-packages/rapidhash "$folder" && cd "$folder" &&
@@ -58,7 +58,7 @@ types_are_those_of() {
       --allowlist <(echo 'rapidhash\._over_ctypes.*')
 }
 
-# The cases of an installed wheel: ENVIRONMENT
+# Runs the cases of an installed wheel: ENVIRONMENT
 test_wheel() {
   local name
   for name in test_rapidhash test_package test_buffers check_vectors; do

@@ -1,8 +1,8 @@
 #!/usr/bin/env python3
-"""Runs what README.md shows: each command of its shell blocks, and its two programs in a new repository
-that the library was copied into. A command or a block that this test does not know is a failure, so
-nothing in README.md goes untried. The program of docs/RATTLE.md runs there too. The values are those of the Rust
-crate. With the words --repository FOLDER it only writes that repository, for tests/vendor.sh."""
+"""Runs the examples in README.md: each command of its shell blocks, and its two programs in a new repository with a
+copy of the library. An unknown command or block is a failure, so everything in README.md is tested. The program of
+docs/RATTLE.md also runs there. The values are those of the Rust crate. With the arguments --repository FOLDER, it only
+writes that repository, for tests/vendor.sh."""
 
 import os
 import re
@@ -17,8 +17,7 @@ ELSEWHERE = ('make && make install PREFIX="$HOME/.local"', "make check",
              'lib="$HOME/.local/lib" && export PKG_CONFIG_PATH="$lib/pkgconfig"',
              'cc hello.c $(pkg-config --cflags --libs rapidhash_c) -Wl,-rpath,"$lib" && ./a.out')
 
-# What a program of a user's own has around the blocks of README.md. It prints values that follow from
-# each line of theirs.
+# The code of a user's program around the blocks of README.md. It prints values that depend on each line of the blocks.
 MAIN = """//! The programs of README.md.
 #![tactic(auto)]
 
@@ -57,7 +56,7 @@ fn main(rt: HostRuntime) -> Result<()> {{
 }}
 """
 PRINTED = "43 14860858794976638546 43 11612086640089003834 2\n"
-# Calls of the functions of docs/RATTLE.md, for the end of its first one, and what it prints with them.
+# Calls of the functions in docs/RATTLE.md, for the end of its first function, and the output of the program with them.
 CALLS = """    println!(rt; "{} {}", in_pieces(), of_reader(b"hello".as_slice())?)?;
     println!(rt; "{} {}", with_secrets(0x1234_5678), count(&rt, [1, 2], "a b a")?)?;
 """
@@ -65,7 +64,7 @@ TUTORIAL = "3327445792987248966\n3327445792987248966 3327445792987248966\n148608
 
 
 def run_shell_blocks():
-    """Runs each command where its words say, and compares what it prints with what README.md says."""
+    """Runs each command in its directory and compares its output with the values in README.md."""
     (ROOM / "files").mkdir()
     for name in ("Makefile", "README.md"):
         shutil.copy(TOP / name, ROOM / "files")
@@ -85,14 +84,14 @@ def run_shell_blocks():
 
 
 def parted(text):
-    """The lines that import, and the others as they stand in a function."""
+    """Returns the import lines, and the other lines with the indentation of a function."""
     lines = text.splitlines()
     uses = [line for line in lines if line.startswith("use ")]
     return uses, "\n".join(f"    {line}".rstrip() for line in lines if not line.startswith("use "))
 
 
 def write_repository(place):
-    """A repository of a user's own, with both programs in one crate and the library by make vendor."""
+    """Writes a user's repository, with both programs in a single crate and the library from make vendor."""
     programs = blocks("README.md", "rust")
     compare("two programs", len(programs), 2)
     crate = place / "crates" / "readme"
@@ -114,14 +113,14 @@ def write_repository(place):
 
 
 def run_programs():
-    """Both programs, as a user proves and runs them."""
+    """Proves and runs both programs as a user does."""
     crate = write_repository(ROOM / "repository")
     shell("rt run -- 2>/dev/null", crate)
     compare("the programs of README.md", shell("../out/readme", crate / "data")[1], PRINTED)
 
 
 def run_tutorial():
-    """The blocks of docs/RATTLE.md as one program in that repository, which runs without a proof."""
+    """Runs the blocks of docs/RATTLE.md as a single program in that repository, without a proof."""
     repository = ROOM / "repository"
     crate = repository / "crates" / "first"
     (crate / "src").mkdir(parents=True)

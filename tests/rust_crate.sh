@@ -1,37 +1,37 @@
 #!/usr/bin/env bash
-# Tests the Rust crate in rust/: that its sources are current, its layout and lints, its tests and examples with
-# the machine's compiler and with Debian's, the package that cargo makes, the README's program in a folder
-# of its own, and the commands of docs/BINDINGS.md. Debian's compiler is skipped if it is not installed. The last line
+# Checks that the sources of the Rust crate in rust/ are current. Tests its layout and lints, the package that cargo
+# builds, the README's program in its own directory, and the commands of docs/BINDINGS.md. Runs its tests and examples
+# with the machine's compiler and with Debian's. Debian's compiler is skipped if it is not installed. The last line
 # counts the cases.
 . "$(dirname "$0")/cases.sh"
 export CARGO_TARGET_DIR=$room/target CARGO_NET_OFFLINE=true
 
-# Debian's cargo, with its compiler.
+# Runs Debian's cargo with Debian's compiler: ARGUMENT..
 debian() {
   env RUSTC=/usr/bin/rustc RUSTDOC=/usr/bin/rustdoc CARGO_TARGET_DIR="$room/debian" /usr/bin/cargo "$@"
 }
 
-# Tests that ran, and none of them failed: the words of cargo. A run without a test fails.
+# Checks that tests ran and that none failed. A run without tests fails: COMMAND..
 tests_pass() {
   "$@" >"$room/tests" 2>&1 || { cat "$room/tests"; return 1; }
   grep -q '^test result: ok\. [1-9]' "$room/tests"
 }
 
-# The files that bin/rust_crate makes are those that git takes as generated.
+# Checks that the files that bin/rust_crate writes are those that git marks as generated.
 marks_generated() {
   grep -rl '^// Made by bin/rust_crate' src tests | sort >"$room/made" && [ -s "$room/made" ] &&
     find src tests -name '*.rs' | git check-attr --stdin linguist-generated |
     sed -n 's/: linguist-generated: set$//p' | sort | diff "$room/made" -
 }
 
-# The package, with its licences, and nothing of the tests.
+# Builds the package, which must contain its licences and no tests.
 packages() {
   cargo package --allow-dirty && tar -tf "$CARGO_TARGET_DIR"/package/*.crate >"$room/list" &&
     grep -q '/LICENSE-MIT$' "$room/list" && grep -q '/LICENSE-APACHE$' "$room/list" &&
     grep -q '/NOTICE$' "$room/list" && ! grep -q '/tests/' "$room/list"
 }
 
-# The first program of the README, in a new project beside nothing: COMMAND..
+# Runs the first program of the README in a new project that contains nothing else: COMMAND..
 readme_runs() {
   local project=$room/project
   rm -rf "$project" && mkdir -p "$project/src" &&

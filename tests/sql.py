@@ -1,4 +1,4 @@
-"""What the tests of both SQL databases share: known values, the vectors, and what their pages show."""
+"""The common part of the tests of both SQL databases: known values, the vectors, and the examples on their pages."""
 
 import re
 
@@ -8,7 +8,7 @@ HELLO = 3327445792987248966
 NOTHING = 232177599295442350
 TEXT, TEXT_HASH = "héllo €😀", 7424989580978448810
 VERSIONS = ("v1", "v2_0", "v2_1", "v2_2", "v3", "v3_micro", "v3_nano", "v3_protected")
-# A seed word as SQL has it, a message of so many bytes from 0 on, and the hashes of these versions.
+# A seed word as an SQL integer, a message of this number of bytes from 0 on, and the hashes of these versions.
 SEEDED = (
     (1, 60, VERSIONS[:4], (16595489079910452471, 10726147324944781525, 10166538060445963011, 10905583924937672291)),
     (-1, 60, VERSIONS[:4], (4523117913705637297, 10138467703456622832, 9837700961849980522, 7542770224395652484)),
@@ -17,25 +17,25 @@ SEEDED = (
 )
 
 
-# The page of all bindings, which shows the commands of each package's page too.
+# The page of all bindings, which also shows the commands on each package's page.
 BINDINGS = (TOP / "docs/BINDINGS.md").read_text()
 
 
 def unpack(folder, binding):
-    """Lays the library out in a folder with the source of a binding, as they lie in the archive. Returns the command
-    that the archive's page has for it."""
+    """Lays out the library in a directory with the source of a binding, as in the archive. Returns the command that the
+    archive's page has for it."""
     shell(f"make -s install PREFIX='{folder}' && mkdir '{folder}/bindings' && "
           f"cp -r bindings/{binding} '{folder}/bindings'")
     return re.search(rf"^\| `bindings/{binding}` .*`((?:cc|make) .*)`", (TOP / "share/dist.md").read_text(), re.M)[1]
 
 
 def signed(number):
-    """The integer of SQL with the 64 bits of a hash."""
+    """Returns the SQL integer with the 64 bits of a hash."""
     return number - (number >> 63 << 64)
 
 
 def every_vector():
-    """Each vector as a call's name, its words, the message and the hash."""
+    """Yields each vector: the name of a call, its further arguments, the message, and the hash."""
     for line in shell("python3 share/vectors.py crates/test_replay/data")[1].splitlines():
         if not line.startswith(("#", "version\t")):
             version, rule, digits, number = line.split("\t")
@@ -45,5 +45,5 @@ def every_vector():
 
 
 def lines_with_results(page):
-    """The queries of a page that say what they give."""
+    """Returns the queries of a page that state their results, with these results."""
     return re.findall(r"^(SELECT .*?); *-- (-?\w+)$", "".join(blocks(page, "sql")), re.M)

@@ -1,7 +1,7 @@
 #!/usr/bin/python3
-"""Builds the extension for SQLite as its page says, loads it, and tests each function: the vectors, types,
-errors, aggregates, what the page shows, and each allocation that fails. The values are those of the Rust crate. The
-last line counts the cases."""
+"""Builds the SQLite extension with the commands on its page, loads it, and tests each function. The cases cover the
+vectors, types, errors, aggregates, the examples on the page, and each failing allocation. The values are those of the
+Rust crate. The last line counts the cases."""
 
 import shutil
 import sqlite3
@@ -34,7 +34,7 @@ MEMORY = """cc -std=c99 -g -Wall -Wextra -Werror -fsanitize=address,undefined -f
 
 
 def commands():
-    """The three commands in an empty folder, the one over an installed library, and that of the archive's page."""
+    """Runs the three commands in an empty directory, that for an installed library, and that on the archive's page."""
     first, second = blocks(PAGE, "sh")
     installed = {"PKG_CONFIG_PATH": f"{ROOM}/lib/pkgconfig", "LD_LIBRARY_PATH": f"{ROOM}/lib"}
     for name in ("first", "second"):
@@ -61,7 +61,7 @@ def ask(database, query, *values):
 
 
 def pieces(message):
-    """A message in pieces of 1, 2, 3 bytes and so on."""
+    """Yields a message in pieces of 1, 2, 3 bytes, and so on."""
     at, size = 0, 1
     while at < len(message):
         yield (message[at:at + size],)
@@ -69,7 +69,7 @@ def pieces(message):
 
 
 def vectors(database):
-    """A message as a BLOB, 8 bytes as an INTEGER too, and a message in pieces if the version has an aggregate."""
+    """Tests each message as a BLOB, 8 bytes also as an INTEGER, and in pieces if the version has an aggregate."""
     wrong, counts = [], {"blob": 0, "integer": 0, "pieces": 0}
 
     def check(kind, query, values, wanted):
@@ -99,7 +99,7 @@ def seed_words(database):
 
 
 def types(database, name):
-    """What is hashed of each type."""
+    """Checks which bytes of each type are hashed."""
     found = ask(database, f"""SELECT rapidhash_v3('hello'), rapidhash_v3('{TEXT}'), rapidhash_v3_agg('{TEXT}'),
         rapidhash_v3(''), rapidhash_v3(x''), rapidhash_v3(zeroblob(3)) = rapidhash_v3(x'000000'),
         rapidhash_v3(?) = rapidhash_v3(x'610062'), rapidhash_v3(42), rapidhash_v3(-42),
@@ -118,7 +118,7 @@ def errors(database):
 
 
 def aggregates(database):
-    """Over a hundred thousand rows, in another order than the table's."""
+    """Tests the aggregates on a hundred thousand rows, in an order different from the table's."""
     rows = [(place, place % 3, f"user:{place}") for place in range(100_000)]
     database.executemany("INSERT INTO many VALUES (?, ?, ?)", sorted(rows, key=lambda row: row[2][::-1]))
 
@@ -140,7 +140,7 @@ def aggregates(database):
 
 
 def schema(database):
-    """A call may stand in an index, and in a view of a schema that is not trusted."""
+    """Checks that a call may be in an index, and in a view of an untrusted schema."""
     database.execute("PRAGMA trusted_schema = OFF")
     database.execute("CREATE INDEX by_hash ON many (rapidhash_v3(word, 1))")
     database.execute("CREATE VIEW hashes AS SELECT rapidhash_v3_agg(column1) FROM (VALUES ('hello'))")
@@ -148,7 +148,7 @@ def schema(database):
 
 
 def page(database):
-    """Each line with a result gives it. The query over nodes gives each line the node that the program gives it."""
+    """Checks each line with a result. The query over nodes must assign each line to the same node as the program."""
     for query, wanted in lines_with_results(PAGE):
         compare(query, [tuple(map(str, row)) for row in ask(database, query)], [(wanted,)])
     crate = TOP / "crates/example_shards"

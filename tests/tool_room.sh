@@ -1,16 +1,16 @@
-# What the tests of the tool read first: a room to work in, the tool, its lines, and how to compare what
-# a run leaves. The numbers are those of the Rust crate.
+# The common start of the tool's tests: a temporary directory, the tool, its messages, and functions that compare the
+# results of a run. The numbers are those of the Rust crate.
 # shellcheck shell=bash
 . "$(dirname "$0")/cases.sh"
 tool=$top/bin/rapidhash
 cd "$room" || exit 1
 
-# A run of the tool that prints a hash and nothing else: NAME HASH WORDS..
+# Checks that the tool prints a hash and nothing else: NAME HASH ARGUMENT..
 hashes() {
   runs "$1" 0 "$2"$'\n' '' "$tool" "${@:3}"
 }
 
-# A run that writes nothing but a message, with status 1: NAME MESSAGE WORDS..
+# Checks that the tool writes only a message and exits with status 1: NAME MESSAGE ARGUMENT..
 fault() {
   runs "$1" 1 '' "$2" "$tool" "${@:3}"
 }
@@ -27,7 +27,7 @@ fault() {
   write_fault=$'Could not write to stdout.\n'
 }
 
-# The first call builds the tool where it must, and says so on standard error.
+# The first call builds the tool if necessary and reports this on standard error.
 prepare_by "$tool" --help
 echo something >something
 seq 1 20000000 | head -c 100000000 >large

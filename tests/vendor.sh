@@ -1,21 +1,21 @@
 #!/usr/bin/env bash
-# Copies the library into other repositories by bin/vendor: where that works, where it is refused, and
-# where it fails half way. The last line counts the cases.
+# Copies the library into other repositories with bin/vendor. The cases are copies that succeed, are refused, or fail
+# halfway. The last line counts the cases.
 #
-# With the word ci it also runs the merge gate of such a repository, which proves all from nothing and
-# runs the programs of README.md. That takes some minutes: make test-vendor.
+# With the argument ci, it also runs the merge gate of such a repository, which proves everything from scratch and runs
+# the programs of README.md. This takes some minutes: make test-vendor.
 . "$(dirname "$0")/cases.sh"
 exec </dev/null
 library=$room/library
 vendor=$library/bin/vendor
 
-# A clone of the repository, with what stands for a large folder of proofs.
+# Clones the repository, with a substitute for a large directory of proofs.
 clone() {
   git clone -q -s "$top" "$library" && cp "$top/bin/vendor" "$vendor" &&
     mkdir "$library/crates/rapidhash/out" && echo proved >"$library/crates/rapidhash/out/proved"
 }
 
-# is_copy FOLDER: both crates are there whole, and nothing else is left.
+# Checks that both crates are complete and that nothing else is left: DIRECTORY
 is_copy() {
   local crate
   for crate in rapidhash_portable rapidhash; do
@@ -26,7 +26,7 @@ is_copy() {
   [ "$(ls -A "$1" "$1/crates" | tr '\n' ' ')" = "$1: crates  $1/crates: rapidhash rapidhash_portable " ]
 }
 
-# refused MESSAGE COMMAND..: the command fails, and its last message is this one.
+# Checks that a command fails and that its last line is this message: MESSAGE COMMAND..
 refused() {
   local message=$1
   shift
@@ -47,7 +47,7 @@ YOUR_CRATE: rapidhash
 LINES
 }
 
-# vendored TEXT: the copy is of the clone's commit, and says so.
+# Checks that the copy names the clone's commit, followed by a text: TEXT
 vendored() {
   [ "$(cat "$room/a folder/crates/rapidhash/VENDORED")" = "Yervound $(git -C "$library" rev-parse HEAD)$1" ]
 }
@@ -74,15 +74,15 @@ refuses_a_crate_of_another() {
     [ "$(cd "$room/another" && find . -type f)" = ./crates/rapidhash/mine ]
 }
 
-# No file may have more than 4 KiB, so the copy fails half way, as it does on a full disk. Then the copy from before is
-# whole, and nothing else is left.
+# No file may have more than 4 KiB, so the copy fails halfway, as it does on a full disk. Then the previous copy must be
+# complete, and nothing else may be left.
 keeps_what_was_there() {
   refused "cannot copy rapidhash_portable; $room/a folder/crates is unchanged" \
     prlimit --fsize=4096 "$vendor" "$room/a folder" && is_copy "$room/a folder"
 }
 
-# The merge gate of a repository that has the library and the programs of README.md: all three crates
-# are proved from nothing, the library's tests run, and the program prints what README.md promises.
+# Runs the merge gate of a repository with the library and the programs of README.md. It proves all three crates from
+# scratch, runs the library's tests, and checks that the program prints the values from README.md.
 passes_the_gate() {
   "$top/tests/readme.py" --repository "$room/user" && cd "$room/user" && echo out/ >.gitignore &&
     git add -A && git -c user.name=User -c user.email=user@example.org commit -qm 'Take the library' &&
@@ -97,7 +97,7 @@ try changes says_that_it_has_changes
 try again replaces_a_copy
 try no_folder refuses_no_folder
 try another_crate refuses_a_crate_of_another
-# Nobody, not even root, can make a folder in /proc.
+# Nobody, not even root, can create a directory in /proc.
 try not_writable refused 'cannot write to /proc' "$vendor" /proc
 try full_disk keeps_what_was_there
 if [ "${1:-}" = ci ]; then

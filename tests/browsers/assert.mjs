@@ -1,6 +1,6 @@
-// As much of node:assert as the tests need, for browsers.
+// The part of node:assert that the tests need, for browsers.
 
-/** A value as text, with its kind. */
+/** Returns a value as text, with its type. */
 function show(value) {
   if (ArrayBuffer.isView(value) || Array.isArray(value)) return `[${Array.from(value, show)}]`;
   return typeof value === "bigint" ? `${value}n` : JSON.stringify(value) ?? String(value);
@@ -10,7 +10,7 @@ function check(holds, text) {
   if (!holds) throw new Error(text);
 }
 
-/** What was thrown must have these members. */
+/** Checks that the thrown value has these members. */
 function checkFault(fault, wanted) {
   check(fault !== undefined, "nothing is thrown");
   for (const [key, value] of Object.entries(wanted)) {

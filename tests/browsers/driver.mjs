@@ -1,5 +1,5 @@
-// Drives a browser without a window: Chromium by Debian's chromedriver, and Firefox by the protocol
-// that it speaks itself, since Debian has no geckodriver. Both know WebDriver's commands.
+// Drives a browser without a window: Chromium with Debian's chromedriver, and Firefox with its own protocol, because
+// Debian has no geckodriver. Both support WebDriver's commands.
 import { spawn } from "node:child_process";
 import { once } from "node:events";
 import { mkdtempSync, readFileSync, rmSync, writeFileSync } from "node:fs";
@@ -10,7 +10,7 @@ import { join } from "node:path";
 const pause = (milliseconds) => new Promise((done) => setTimeout(done, milliseconds));
 const reference = "element-6066-11e4-a52e-4f735466cecf";
 
-/** Calls `attempt` until it returns something, for as many seconds. */
+/** Calls `attempt` until it returns something, for at most this number of seconds. */
 export async function waitFor(what, seconds, attempt) {
   let fault;
   for (const end = Date.now() + 1000 * seconds; Date.now() < end; await pause(50)) {
@@ -24,7 +24,7 @@ export async function waitFor(what, seconds, attempt) {
   throw new Error(`waited ${seconds} s for ${what}${fault ? `: ${fault.message}` : ""}`);
 }
 
-/** Starts a program in a folder of its own, and returns the folder, what it has printed and how to end it. */
+/** Starts a program in its own directory. Returns the directory, and functions that return its output and end it. */
 function start(program, words, prepare = () => {}) {
   const folder = mkdtempSync(join(tmpdir(), "browser-"));
   prepare(folder);
@@ -72,7 +72,7 @@ async function chromium() {
   };
 }
 
-/** Firefox's own protocol: `LENGTH:[0, NUMBER, COMMAND, WORDS]`, and `[1, NUMBER, ERROR, RESULT]` back. */
+/** Firefox's own protocol: `LENGTH:[0, NUMBER, COMMAND, ARGUMENTS]`, with the reply `[1, NUMBER, ERROR, RESULT]`. */
 async function marionette(port) {
   const socket = connect(port, "127.0.0.1");
   await once(socket, "connect");
@@ -120,7 +120,7 @@ async function firefox(program) {
   };
 }
 
-/** A browser by its program's name. */
+/** Starts the browser with this program's name. */
 export function browse(program) {
   return program === "chromium" ? chromium() : firefox(program);
 }

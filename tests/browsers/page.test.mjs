@@ -1,6 +1,6 @@
-// Runs known.mjs, refused.mjs and vectors.mjs in the browser that BROWSER names, and uses the page examples/browser
-// there. SERVER has both, as `first/suite.html` and `browser`. The files lie in FILES: `large` with the hashes of the
-// Rust crate, and others with those of TOOL, the program rapidhash.
+// Runs known.mjs, refused.mjs, and vectors.mjs in the browser that BROWSER names, and uses the page examples/browser
+// there. SERVER has both, as `first/suite.html` and `browser`. The files are in FILES. The hashes of `large` are those
+// of the Rust crate, and the hashes of the others come from TOOL, the program rapidhash.
 import assert from "node:assert/strict";
 import { execFileSync } from "node:child_process";
 import { writeFileSync } from "node:fs";
@@ -20,13 +20,13 @@ const options = {
   v3Nano: ["--v3-nano"], v3Protected: ["--v3", "--protected"],
 };
 
-/** The hashes of a file by their versions. */
+/** Returns the hashes of a file, keyed by version. */
 function hashesOf(name) {
   const hash = (words) => execFileSync(TOOL, [...words, join(FILES, name)], { encoding: "utf8" }).trim();
   return Object.fromEntries(Object.entries(options).map(([version, words]) => [version, hash(words)]));
 }
 
-// What the page shows of each file: how it ended, how far it is, and each version's two columns.
+// Returns the page's content for each file: how it ended, its progress, and both columns of each version.
 const look = `return Object.fromEntries([...document.querySelectorAll("article")].map((article) => [
   article.querySelector("h2").textContent, {
     end: article.dataset.end, part: article.querySelector("progress").value,
@@ -45,7 +45,7 @@ async function choose(...names) {
   await browser.type(await browser.find("#files"), names.map((name) => join(FILES, name)).join("\n"));
 }
 
-/** What the page shows of a file when it has ended, after so many seconds at most. */
+/** Returns the page's content for a file that has ended, after at most this number of seconds. */
 function ended(name, seconds = 20) {
   return waitFor(`the end of ${name}`, seconds, async () => {
     const file = (await browser.run(look))[name];
@@ -121,7 +121,7 @@ test("stopped files", async () => {
   await browser.run(`for (const button of document.querySelectorAll("article button")) button.click()`);
   await drop("next");
   await ended("next");
-  // The files of this choice stand above those of the same names before.
+  // The files of this choice are above the earlier files with the same names.
   for (const name of ["long", "double"]) {
     const shown = await browser.run(`const all = [...document.querySelectorAll("article")]
       .filter((article) => article.querySelector("h2").textContent === arguments[0]);

@@ -1,4 +1,4 @@
-// As much of node:test as the tests need, for browsers: each test runs after the one before.
+// The part of node:test that the tests need, for browsers. Each test runs after the previous one.
 
 /** The results of the tests so far. */
 export let results = Promise.resolve([]);
