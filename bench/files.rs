@@ -1,6 +1,6 @@
-//! Hashes a file by a crate's file forms, and prints the hash and how many microseconds it
-//! took. The forms `read-Nk` only read the file, by pieces of N KiB, and the forms `hash-Nk` only hash
-//! as many pieces in memory: both print the number of bytes in the place of a hash.
+//! Hashes a file with a crate's file forms and prints the hash and the time in microseconds. The forms `read-Nk` only
+//! read the file, in pieces of N KiB, and the forms `hash-Nk` only hash the same number of pieces in memory. Both print
+//! the number of bytes instead of a hash.
 
 use rapidhash::v3::{DEFAULT_RAPID_SECRETS, RapidStreamHasherV3};
 use rapidhash::{v1, v2, v3};

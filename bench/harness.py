@@ -1,5 +1,5 @@
-"""Programs that do the same work: builds them, runs them in turns on a quiet processor, and prints the least times
-as bench/*.tsv keeps them."""
+"""Builds programs that do the same work, runs them alternately on a quiet processor, and prints the minimum times in
+the format of bench/*.tsv."""
 
 import argparse
 import datetime
@@ -13,14 +13,14 @@ from pathlib import Path
 
 TOP = Path(__file__).resolve().parent.parent
 ROOM = TOP / "build" / "bench"
-# This library in Rattle or C, its Rust crate, the crate rapidhash where RAPIDHASH_CRATE names its folder, and XXH3.
+# This library in Rattle or C, its Rust crate, the crate rapidhash if RAPIDHASH_CRATE names its directory, and XXH3.
 LIBRARIES = "ours rust crate xxh3".split()
 CRATES = {"rust": TOP / "rust"}
 if "RAPIDHASH_CRATE" in os.environ:
     CRATES["crate"] = Path(os.environ["RAPIDHASH_CRATE"]).resolve()
-# How often a measurement is repeated until a processor was quiet before and after it.
+# The maximum number of attempts at a measurement until a processor was quiet before and after it.
 TRIES = 4
-# A loop that takes up to this much more than the fastest that was seen ran on a quiet processor.
+# A processor is quiet if its loop takes at most this multiple of the minimum time so far.
 ALLOWED = 1.035
 MANIFEST = """[package]
 name = "program"
@@ -51,7 +51,7 @@ codegen-units = 1
 
 
 def run(*words, folder=ROOM, **settings):
-    """Runs a command that builds something, and ends where it fails."""
+    """Runs a build command and exits if it fails."""
     ROOM.mkdir(parents=True, exist_ok=True)
     done = subprocess.run(words, cwd=folder, stdin=subprocess.DEVNULL, capture_output=True, text=True, **settings)
     if done.returncode != 0:
@@ -60,13 +60,13 @@ def run(*words, folder=ROOM, **settings):
 
 
 def build_rattle(crate):
-    """This library's program."""
+    """Builds this library's program."""
     run("rt", "run", folder=TOP / "crates" / crate)
     return TOP / "crates" / crate / "out" / crate
 
 
 def build_rust(name, source, features=(), flags=""):
-    """The program of a source over the crate of this name."""
+    """Builds the program from a source with the crate of this name."""
     room, crate = ROOM / "_".join([Path(source).stem, name, *features]), CRATES[name]
     room.mkdir(parents=True, exist_ok=True)
     package = re.search(r'^name = "(.*)"', (crate / "Cargo.toml").read_text(), re.MULTILINE)[1]
@@ -79,7 +79,7 @@ def build_rust(name, source, features=(), flags=""):
 
 
 def build(crate, source):
-    """The programs of a bench by their libraries."""
+    """Builds the programs of a bench, keyed by library."""
     programs = {"ours": [build_rattle(crate)]}
     return programs | {name: [build_rust(name, source)] for name in CRATES}
 
@@ -92,7 +92,7 @@ def random_file(name, megabytes):
 
 
 def take(programs, words, scale):
-    """Runs each program once. It prints a value, which must be the same for all but XXH3, and its time."""
+    """Runs each program once. Each prints a value, which must be the same for all except XXH3, and its time."""
     values, times = {}, {}
     for name, program in ((name, program) for name in programs for program in programs[name]):
         found, time = subprocess.run([program, *words], stdout=subprocess.PIPE, check=True, text=True).stdout.split()
@@ -103,7 +103,7 @@ def take(programs, words, scale):
 
 
 def asked(usage, known, turns):
-    """What the command line asks for, or all that is known, and how many turns."""
+    """Returns the arguments of the command line, or none if it requests everything, and the number of turns."""
     parser = argparse.ArgumentParser(description=usage, formatter_class=argparse.RawDescriptionHelpFormatter)
     parser.add_argument("words", nargs="*", metavar="WORD", help=f"any of: {' '.join(known)}")
     parser.add_argument("--turns", type=int, default=turns, help="how many turns, of which the least counts")
@@ -115,7 +115,7 @@ def asked(usage, known, turns):
 
 
 def machine_and_date():
-    """The processor, as a reader may compare it with another, and today's date."""
+    """Returns the processor, described for a comparison with others, and today's date."""
     told = Path("/proc/cpuinfo").read_text()
     name = re.search(r"model name\s*: (.*)", told)[1]
     words = (re.search(rf"^{word}\s*: (\d+)", told, re.M)[1] for word in ("cpu family", "model", "stepping"))
@@ -133,14 +133,14 @@ class Processors:
         self.measured = self.disturbed = 0
 
     def nanos(self, number):
-        """What the fixed loop takes on a processor now. This program and those that it starts stay there."""
+        """Returns the time of the fixed loop on a processor now. This program and its children stay there."""
         os.sched_setaffinity(0, {number})
         turns = subprocess.run([self.program], stdout=subprocess.PIPE, check=True).stdout.split()
         return statistics.median_low(map(int, turns))
 
     def measure(self, work, *words):
-        """What work(*words) returns, on a processor that was quiet before and after it. If none was in TRIES
-        attempts, it is the last result, and counts as disturbed."""
+        """Returns the result of work(*words) on a processor that was quiet before and after it. If none was quiet in
+        TRIES attempts, returns the last result and counts it as disturbed."""
         self.measured += 1
         for _ in range(TRIES):
             before, number = min((self.nanos(number), number) for number in self.numbers)
@@ -154,8 +154,8 @@ class Processors:
 
 
 def measure(title, unit, rows, work, turns):
-    """Prints the least times of all turns. For each of the ROWS, in each turn, WORK returns a name and times by
-    their libraries: so a slow moment of the machine meets a row in few of its turns."""
+    """Prints the minimum times of all turns. For each of the ROWS, in each turn, WORK returns a name and the times per
+    library. So a slow moment of the machine affects a row in few of its turns."""
     run("cc", "-O2", TOP / "bench" / "quiet.c", "-o", "quiet")
     processors, best = Processors(ROOM / "quiet"), {}
     for _ in range(turns):
@@ -169,17 +169,17 @@ def measure(title, unit, rows, work, turns):
 
 
 def ratio(times, theirs="crate", ours="ours"):
-    """How many times as long theirs takes as ours."""
+    """Returns the ratio of their time to ours."""
     return times[theirs] / times[ours]
 
 
 def mean_ratio(rows, ours="ours"):
-    """The geometric mean of the crate's ratios."""
+    """Returns the geometric mean of the crate's ratios."""
     return math.exp(sum(math.log(ratio(times, ours=ours)) for times in rows) / len(rows))
 
 
 def print_table(unit, best):
-    """The rows of a file of figures, and a mean for the rows that differ only in their last word."""
+    """Prints the rows of a file of figures, and a mean for the rows that differ only in their last word."""
     names = [name for name in LIBRARIES if any(name in times for times in best.values())]
     print("what", "unit", *names, sep="\t")
     groups = {}
@@ -193,7 +193,7 @@ def print_table(unit, best):
 
 
 def read_figures(name):
-    """What the comments of a file of figures say, and its times by rows and libraries."""
+    """Returns the comments in a file of figures, and its times per row and library."""
     lines = (TOP / "bench" / f"{name}.tsv").read_text().splitlines()
     told = [line.removeprefix("# ") for line in lines if line.startswith("#")]
     head, *rows = (line.split("\t") for line in lines if not line.startswith("#"))

@@ -34,13 +34,13 @@ fn found<K: Eq + Hash, S: BuildHasher>(map: &HashMap<K, u64, S>, keys: &[K]) -> 
     sum
 }
 
-/// What is done, and with how many keys.
+/// Returns the kind of work and the number of keys.
 fn named(name: &str) -> (&str, usize) {
     let (work, count) = name.split_at(name.find(|c: char| c.is_ascii_digit()).unwrap());
     (work, count.parse().unwrap())
 }
 
-/// The sum, and when the time began: a map that keys are looked up in is filled before.
+/// Returns the sum and the start time. A map for lookups is filled before the start.
 fn table<K: Eq + Hash + Copy, S: BuildHasher + Clone>(
     state: S,
     work: &str,
@@ -57,13 +57,13 @@ fn table<K: Eq + Hash + Copy, S: BuildHasher + Clone>(
     (found(&map, asked), start)
 }
 
-/// Maps from integers.
+/// Measures maps from integers.
 fn integers<S: BuildHasher + Clone>(state: S, name: &str) -> (u64, Instant) {
     let (work, count) = named(name);
     table(state, work, &(0..2 * count as u64).collect::<Vec<_>>())
 }
 
-/// A hasher that does nothing: its value is the last integer of 64 bits that it was given.
+/// A hasher that does nothing: its value is the last 64-bit integer that it received.
 #[derive(Clone, Copy)]
 struct Nothing(u64);
 
@@ -90,14 +90,14 @@ impl BuildHasher for Nothing {
     }
 }
 
-/// Maps from random integers.
+/// Measures maps from random integers.
 fn drawn<S: BuildHasher + Clone>(state: S, name: &str) -> (u64, Instant) {
     let (work, count) = named(name);
     let mut rng = RapidRng::new(0);
     table(state, work, &(0..2 * count).map(|_| rng.next()).collect::<Vec<_>>())
 }
 
-/// Maps from keys of bytes.
+/// Measures maps from byte keys.
 fn byte_keys<S: BuildHasher + Clone>(state: S, name: &str) -> (u64, Instant) {
     let (work, count) = named(name);
     let mut rng = RapidRng::new(0);
@@ -105,7 +105,7 @@ fn byte_keys<S: BuildHasher + Clone>(state: S, name: &str) -> (u64, Instant) {
     table(state, work, &bytes.chunks_exact(WIDTH).collect::<Vec<_>>())
 }
 
-/// The sum and the start of a form, if it is one of a map.
+/// Returns the sum and the start time of a form, if it measures a map.
 pub fn measured(form: &str) -> Option<(u64, Instant)> {
     let (kind, name) = form.split_once('_')?;
     Some(match kind {

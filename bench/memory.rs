@@ -1,6 +1,5 @@
-//! Does what `bench_memory` does, by a crate: it prints a number that all its work
-//! goes into, and the nanoseconds it took. As there, what is timed is not inlined, so that what stands
-//! beside it changes nothing.
+//! Does the work of `bench_memory` with a crate. Prints a number that depends on all of the work, and the time in
+//! nanoseconds. As in `bench_memory`, the timed functions are not inlined, so that adjacent code changes nothing.
 
 mod maps;
 
@@ -22,7 +21,7 @@ fn fill_bytes() -> u64 {
     let mut bytes = vec![0u8; 1 << 20];
     let mut rng = RapidRng::new(42);
     (0..1u32 << 11).fold(0, |sum, _| {
-        // The loop of rand_core, on which the crate's call stands.
+        // The loop of rand_core, on which the crate's call is based.
         for chunk in bytes.chunks_exact_mut(8) {
             chunk.copy_from_slice(&rng.next().to_le_bytes());
         }
@@ -124,7 +123,7 @@ fn streamed(message: &[u8], size: usize, secrets: &RapidSecrets) -> u64 {
     hasher.finish()
 }
 
-/// The hashes of a message by pieces, or in one call where `size` is 0.
+/// Hashes a message in pieces, or in a single call if `size` is 0.
 fn streams(size: &str, number: u64) -> (u64, Instant) {
     let size = size.parse::<usize>().unwrap();
     let mut rng = RapidRng::new(0);

@@ -1,5 +1,5 @@
-// Prints how many nanoseconds a fixed loop takes, 150 times. The loop keeps the units that add busy and a product
-// under way, so it takes longer if the processor runs slowly or shares its core.
+// Prints the nanoseconds of a fixed loop, 150 times. The loop keeps the adders busy and a multiplication in progress.
+// So it takes longer if the processor runs slowly or shares its core.
 
 #include <stdint.h>
 #include <stdio.h>

@@ -1,12 +1,12 @@
-//! What the programs of `bench/slices` do, over a crate or the C library: `FORM LENGTH PLACE NUMBER PASSES REPEATS
-//! [call]`. With the feature `seeded` the secrets are the program's own, with `seed` they come of one seed word in
-//! each call, and with `c` the hashes are those of the C library.
+//! Does the work of the programs of `bench/slices` with a crate or the C library: `FORM LENGTH PLACE NUMBER PASSES
+//! REPEATS [call]`. With the feature `seeded`, the secrets are the program's own. With `seed`, each call derives them
+//! from a single seed word. With `c`, the hashes are those of the C library.
 
 use rapidhash::rng::RapidRng;
 use rapidhash::{v1, v2, v3};
 use std::time::Instant;
 
-// 16 bytes in front of all functions, for a program whose functions lie 16 bytes further on.
+// 16 bytes before all functions, for a program whose functions are 16 bytes further on.
 #[cfg(feature = "further")]
 std::arch::global_asm!(".section .text.padding, \"axR\", @progbits", ".p2align 4", ".skip 16, 0xcc", ".text");
 
@@ -18,7 +18,7 @@ const V3: u8 = 4;
 const MICRO: u8 = 5;
 const NANO: u8 = 6;
 
-/// Secrets of all forms that the compiler does not know.
+/// Secrets for all forms, unknown to the compiler.
 struct Secrets {
     three: v1::RapidSecrets,
     seven: v3::RapidSecrets,
@@ -97,7 +97,7 @@ mod library {
         fn rapidhash_stream_finish(stream: *const Stream) -> u64;
     }
 
-    /// A stream as the header lays it out.
+    /// A stream with the layout in the header.
     #[repr(C)]
     struct Stream {
         secrets: *const [u64; 8],
@@ -120,8 +120,8 @@ mod library {
 
     pub fn hash_in_pieces(message: &[u8], size: usize) -> u64 {
         let mut secrets = [0; 8];
-        // SAFETY: secrets and stream are laid out as the header lays them out, and the stream starts as there; each
-        // piece is a slice.
+        // SAFETY: the secrets and the stream have the layout in the header, and the stream starts as in the header.
+        // Each piece is a slice.
         unsafe {
             rapidhash_seed_secrets(0, &mut secrets);
             let (lane, any, kept, len, lanes) = ([0; 7], 0, [0; 128], 0, 7);
@@ -161,7 +161,7 @@ fn hash_all<const FORM: u8, const CALL: bool, const PLACE: u64>(
     sum
 }
 
-/// What is hashed, and how often.
+/// The hashed texts, and the number of passes.
 struct Row<'x> {
     bytes: &'x [u8],
     list: Vec<&'x [u8]>,
@@ -207,7 +207,7 @@ impl Row<'_> {
     }
 }
 
-/// 64 texts of one length, or for `5,3,9` one of each of these lengths.
+/// Returns 64 texts of the same length, or for `5,3,9` a text of each of these lengths.
 fn texts<'x>(bytes: &'x [u8], length: &str, rng: &mut RapidRng) -> Vec<&'x [u8]> {
     let lengths = length.split(',').map(|length| length.parse::<usize>().unwrap());
     match lengths.clone().count() {
@@ -235,7 +235,7 @@ fn main() {
         secrets,
         passes: words[4].parse().unwrap(),
         place: words[2].parse().unwrap(),
-        // A hash of the C library is a call already.
+        // A hash of the C library is already a call.
         is_call: words.len() > 6 && cfg!(not(feature = "c")),
     };
     let mut least = u128::MAX;

@@ -1,6 +1,6 @@
-/* What the programs of bench/slices do, by XXH3's 64 bits: xxh3_slices FORM LENGTH PLACE NUMBER PASSES
- * REPEATS [call]. The form is not looked at. Texts, places, loop and sum are those of slices.rs. SEED is a
- * seed word, if the hash is to have one. */
+/* Does the work of the programs of bench/slices with XXH3's 64 bits: xxh3_slices FORM LENGTH PLACE NUMBER PASSES
+ * REPEATS [call]. The form is ignored. Texts, places, loop, and sum are those of slices.rs. SEED is a seed word, if the
+ * hash must have one. */
 #define _POSIX_C_SOURCE 200809L
 #define XXH_INLINE_ALL
 #include <inttypes.h>
@@ -20,7 +20,7 @@ struct text {
     size_t length;
 };
 
-/* What is hashed, and how often. */
+/* The hashed texts, and the number of passes. */
 struct row {
     const struct text *list;
     size_t count;
@@ -28,7 +28,7 @@ struct row {
     int is_call;
 };
 
-/* The next word of the generator that the other programs draw their bytes from. */
+/* Returns the next word of the generator from which the other programs draw their bytes. */
 static uint64_t next_word(uint64_t *state)
 {
     *state += UINT64_C(0x2d358dccaa6c78a5);
@@ -41,7 +41,7 @@ static uint64_t added(uint64_t sum, uint64_t hash)
     return (sum ^ hash) * 3;
 }
 
-/* The loop over the texts, which is compiled anew for each function that it is given. */
+/* Loops over the texts. The loop is compiled again for each function that it receives. */
 static inline __attribute__((always_inline)) uint64_t fold(
     struct row row, uint64_t sum, uint64_t (*hash)(struct text))
 {
@@ -63,7 +63,7 @@ static inline __attribute__((always_inline)) uint64_t xxh3(struct text text)
 #endif
 }
 
-/* The loop once for each place, behind as many steps. */
+/* The loop, once per place, after as many steps as the number of the place. */
 #define AT_PLACE(place)                                                                       \
     static __attribute__((noinline)) uint64_t call_##place(struct text text) {                \
         return xxh3(text) ^ (place);                                                          \
@@ -82,8 +82,8 @@ static uint64_t (*const PLACES[])(struct row, uint64_t) = {
     hash_all_0, hash_all_1, hash_all_2, hash_all_3, hash_all_4, hash_all_5, hash_all_6, hash_all_7,
 };
 
-/* Writes 64 texts of one length into the list, or for 5,3,9 one of each of these lengths, at most 8,192. Returns how
- * many. */
+/* Writes 64 texts of the same length into the list, or for 5,3,9 a text of each of these lengths, at most 8,192.
+ * Returns their number. */
 static size_t texts(struct text *list, const uint8_t *bytes, const char *lengths, uint64_t *state)
 {
     size_t count = 0;
@@ -115,7 +115,7 @@ int main(int count, char **words)
         return 2;
     }
     uint64_t sum = strtoull(words[4], NULL, 10), state = sum;
-    /* The others draw their secrets here. */
+    /* The other programs draw their secrets here. */
     next_word(&state);
     next_word(&state);
     for (size_t at = 0; at < BYTES; at++) {

@@ -1,9 +1,9 @@
 #!/usr/bin/env python3
-"""Checks the library of this folder on this machine, over the values of the Rust crate:
+"""Compares the library in this directory, on this machine, with the values of the Rust crate:
 
     python3 check_vectors.py
 
-It needs Python 3 and no more. The last line counts the cases, and the status is 1 where one differs.
+It needs only Python 3. The last line counts the cases, and the exit status is 1 if one differs.
 """
 
 import os
@@ -11,7 +11,7 @@ import pathlib
 import sys
 
 FOLDER = pathlib.Path(__file__).resolve().parent
-# Without a library beside it, it checks an installed package.
+# Without a library beside it, the script checks an installed package.
 if (FOLDER / "lib").is_dir():
     os.environ.setdefault("RAPIDHASH_LIBRARY", str(FOLDER / "lib" / "librapidhash_c.so.1"))
     sys.path.insert(0, str(FOLDER / "bindings" / "python"))
@@ -22,7 +22,7 @@ STREAMS = {"v3": rapidhash.V3, "v3_micro": rapidhash.V3Micro, "v3_nano": rapidha
 
 
 def in_pieces(hasher, message):
-    """The hash of a message in pieces of 1, 2, 3 bytes and so on."""
+    """Returns the hash of a message in pieces of 1, 2, 3 bytes, and so on."""
     at, size = 0, 1
     while at < len(message):
         hasher.update(message[at:at + size])
@@ -31,7 +31,7 @@ def in_pieces(hasher, message):
 
 
 def answers(version, rule, message):
-    """What the library says of a case, by each way that it has."""
+    """Yields the library's hash for a case, computed in each available way."""
     made = None
     if rule != "default":
         made = rapidhash.make_secrets(int(rule.partition(":")[2]), 1 if version == "v1" else 3)

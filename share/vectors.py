@@ -1,10 +1,10 @@
 #!/usr/bin/env python3
-"""Writes the values of the Rust crate as one file with each message written out:
+"""Writes the values of the Rust crate as a single file with the complete messages:
 
     python3 share/vectors.py crates/test_replay/data >rapidhash_vectors.tsv
 
-The files of the folder name a message by a rule, so that they stay small; here the rules are followed.
-Of the options only those are taken that the C library has, and no message above 8193 bytes.
+The files in the directory describe a message with a rule, so that they stay small. This script applies the rules.
+It includes only the options that the C library has, and no message above 8193 bytes.
 """
 
 import pathlib
@@ -31,7 +31,7 @@ def square(length):
 
 
 def words(state, length):
-    """The little-endian bytes of the words of the generator that starts at a state."""
+    """Returns the little-endian bytes of the generator's words, starting at a state."""
     out = bytearray()
     while len(out) < length:
         state = state + STEP & MASK
@@ -50,7 +50,7 @@ def message(rule, length):
 
 
 def cases(path, version):
-    """The lines of one file that the C library has a call for."""
+    """Yields the lines of a file for which the C library has a call."""
     rows = [line.split("\t") for line in path.read_text().splitlines() if not line.startswith("#")]
     for _form, avalanche, protected, _bug, _minor, rule, length, secrets, value in rows[1:]:
         if avalanche != "1" or int(length) > 8193:
