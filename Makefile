@@ -1,19 +1,19 @@
-# make             proves and builds the tools and the C library, if they are missing or old
+# make             proves and builds the tools and the C library, if they are missing or out of date
 # make check       proves everything and runs all tests: must pass before a push
-# make quick       formats the sources, writes the Rust crate, checks the pages, and proves what changed
-# make test        proves and runs the tests of all crates, and runs the programs from end to end
+# make quick       formats the sources, writes the Rust crate, checks the pages, and proves the changed code
+# make test        proves and runs the tests of all crates, and runs the programs end to end
 # make fmt         formats the sources
-# make bench       measures again what bench/*.tsv has, beside the Rust crate that RAPIDHASH_CRATE names
+# make bench       repeats the measurements in bench/*.tsv, compared with the Rust crate that RAPIDHASH_CRATE names
 # make library     proves and builds the C library, static and shared
-# make wasm        builds the same library for WebAssembly, with addresses of 32 bits
-# make npm, wheel, sqlite and postgresql build the bindings with the library inside: see docs/BINDINGS.md
-# make page        puts examples/browser with the package for npm into build/browser, for any server of files
-# make install     installs what make has built, with manual pages and completions, under PREFIX; uninstall removes it
-# make dist        packs all that a user without the toolchain needs into one archive in build/
-# make deb         packs what make and make sqlite have built as packages of Debian, into build/debian
+# make wasm        builds the same library for WebAssembly, with 32-bit addresses
+# make npm, wheel, sqlite, and postgresql build the bindings, including the library: see docs/BINDINGS.md
+# make page        copies examples/browser and the npm package to build/browser, for any file server
+# make install     installs the built files, manual pages, and completions under PREFIX; uninstall removes them
+# make dist        packs everything that a user without the toolchain needs into a single archive in build/
+# make deb         packs the results of make and make sqlite as Debian packages in build/debian
 # make vendor      copies the library into another Rattle repository: make vendor INTO=FOLDER
-# make test-vendor runs the merge gate of such a repository, which proves all from nothing
-# make clean       removes what the builds left
+# make test-vendor runs the merge gate of such a repository, which proves everything from scratch
+# make clean       removes all build results
 
 PREFIX = /usr/local
 BINDIR = $(PREFIX)/bin
@@ -27,7 +27,7 @@ archive = crates/rapidhash_c/out/librapidhash_c.a
 shared = build/$(soname)
 name = yervound-1.0-x86_64-linux
 
-# The linker of the kit, beside the page that rt names, and the folders where a machine may keep its C library.
+# The kit's linker, located from the path that rt prints, and the directories that may contain a machine's C library.
 linker = $(dir $(shell rt doc))toolchain/bin/ld.lld
 system = /lib/x86_64-linux-gnu /lib64 /usr/lib
 
@@ -42,12 +42,12 @@ tool: rapidhash_cli
 sums: example_sums
 library: $(shared)
 
-# A product is old if one of its sources, or a folder of them, is newer than the start of its build: so
-# an edit during a build counts. Two builds of a crate cannot meet, since rt makes the second wait.
+# A product is out of date if a source file or source directory is newer than the start of its build. So an edit during
+# a build counts. Two builds of a crate cannot overlap, because rt makes the second wait.
 sources := $(shell find crates.txt crates/*/src crates/*/specs crates/*/proofs 2>/dev/null)
 
-# The rule of a crate's product: CRATE, PRODUCT, the words for rt, the libraries that it uses. Each library has its own
-# call, because rt reads the sources once more, for some 10 seconds, if it has several to build.
+# The rule for a crate's product: CRATE, PRODUCT, the arguments for rt, the libraries that it uses. Each library has its
+# own call, because rt reads the sources again, for about 10 seconds, if it builds several.
 define product
 $(1): $(2)
 $(2): $$(filter crates.txt $(patsubst %,crates/%/%,$(1) $(4)),$$(sources))
@@ -62,7 +62,7 @@ endef
 both = rapidhash_portable rapidhash
 program = $(call product,$(1),crates/$(1)/out/$(1),run -- $(2),$(3))
 $(eval $(call product,rapidhash_c,$(archive),lib,rapidhash_portable))
-# Each program with a word at which it ends at once, since rt runs what it has built.
+# Each program has an argument with which it exits immediately, because rt runs the program after building it.
 $(eval $(call program,rapidhash_cli,--help,rapidhash_portable rapidhash_tool))
 $(eval $(call program,example_sums,--version,rapidhash_portable))
 $(eval $(call program,example_bloom,--help,$(both)))
@@ -86,12 +86,12 @@ npm: $(package)
 build/rapidhash_c_64.wasm: $(archive) bindings/javascript/build.sh
 	@bindings/javascript/build.sh
 
-# Only newer engines have memories of 64-bit addresses, as the kit's module wants.
+# The kit's module needs a memory with 64-bit addresses, which only newer engines have.
 $(module): build/rapidhash_c_64.wasm
 	@command -v wasm-opt >/dev/null || { echo 'make: wasm-opt, of the package binaryen, is not on PATH' >&2; exit 2; }
 	@wasm-opt --enable-memory64 --enable-bulk-memory --memory64-lowering -O3 --strip-debug $< -o $@
 
-# The folder of the package, with the module as text in its last file.
+# Lays out the directory of the package. Its last file contains the module as text.
 $(folder): $(module) $(wildcard bindings/javascript/*.*) LICENSE-MIT LICENSE-APACHE NOTICE
 	@rm -rf build/npm && mkdir build/npm
 	@cd bindings/javascript && cp *.mjs index.d.ts package.json README.md ../../build/npm
@@ -106,17 +106,17 @@ page: $(folder)
 	@rm -rf build/browser && mkdir build/browser
 	@cp examples/browser/*.* build/npm/*.mjs LICENSE-MIT LICENSE-APACHE NOTICE build/browser
 
-# The system's Python has what builds a wheel by its packages python3-setuptools and python3-wheel.
+# The system's Python can build a wheel with its packages python3-setuptools and python3-wheel.
 PYTHON = /usr/bin/python3
 wheels = build/wheels
 wheel = $(wheels)/yervound_rapidhash-1.0.0-py3-none-linux_x86_64.whl
 wheel: $(wheel)
 
-# A compiler and the headers of a Python whose limited API has buffers.
+# Checks for a compiler and for the headers of a Python whose limited API has buffers.
 can_extend = printf '\#include <Python.h>\n\#if PY_VERSION_HEX < 0x030b0000\n\#error\n\#endif\n' | \
   cc -x c -fsyntax-only - -I"$$($(PYTHON) -c 'import sysconfig; print(sysconfig.get_paths()["include"])')" 2>/dev/null
 
-# Lays out the folder of a wheel with one more file, and packs it: FOLDER, the file, its place
+# Lays out the directory of a wheel with an additional file and packs it: DIRECTORY, the file, its place
 define pack_wheel
   rm -rf $(1) && mkdir -p $(1)/rapidhash && \
   cp bindings/python/setup.py bindings/python/*.toml bindings/python/*.md bindings/python/*.[ch] $(1) && \
@@ -164,7 +164,7 @@ test:
 	  echo $$script; $$script || exit 1; \
 	done
 
-# Each bench by its file of figures, with its words. A bench that fails leaves the figures as they are.
+# The bench and the arguments for each file of figures. A bench that fails leaves the figures unchanged.
 bench: bench/slices.tsv bench/speed.tsv bench/c.tsv bench/files.tsv bench/memory.tsv bench/tool.tsv bench/packages.tsv
 	@bench/figures --write
 
@@ -180,7 +180,7 @@ bench/packages.tsv: measured = packages
 bench/%.tsv: always
 	@mkdir -p build && bench/$(measured) >build/$*.tsv && mv build/$*.tsv $@
 
-# The folders go to bin/install as variables, so that no character of theirs is one of the shell's.
+# bin/install reads the directories from variables, so that the shell interprets none of their characters.
 folders = PREFIX BINDIR LIBDIR INCLUDEDIR DATADIR DESTDIR
 $(foreach name,$(folders),$(eval install uninstall: export $(name) := $$($(name))))
 
@@ -217,7 +217,7 @@ vendor:
 clean:
 	rm -rf crates/*/out build
 
-# Not a part of the gate, since it takes some minutes more.
+# Not part of the gate, because it takes some additional minutes.
 .PHONY: test-vendor
 test-vendor:
 	@tests/vendor.sh ci

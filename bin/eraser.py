@@ -1,17 +1,17 @@
-"""Takes the contracts out of Rattle source: what is left is Rust.
+"""Removes the contracts from Rattle source, so that only Rust remains.
 
-It removes ghost forms and nothing else: `requires` and `ensures` clauses, ghost items, fields and imports,
-`tactic` attributes, `impl Model` blocks, and `Drop` where it is derived or a bound. It keeps every other
-token and every comment, and refuses what it does not know."""
+It removes only ghost forms: `requires` and `ensures` clauses, ghost items, fields, and imports, `tactic` attributes,
+`impl Model` blocks, and `Drop` as a derive or a bound. It keeps every other token and every comment, but refuses
+source that it does not know."""
 
 import re
 
-# A group in braces. None of the sources has more of them inside each other.
+# A group in braces. No source nests braces more deeply.
 GROUP = r"\{[^{}]*\}"
 for _ in range(12):
     GROUP = rf"\{{[^{{}}]*(?:{GROUP}[^{{}}]*)*\}}"
 FORMS = re.compile("|".join(rf"\s*{form}" for form in (
-    # A star or no name may stand in the place of the name.
+    # The star and the name of a clause are optional.
     rf"\b(?:requires|ensures)\b\s*\*?\s*(?:\w+\s*)?{GROUP}",
     r"\bghost\s+use\b[^;]*;",
     rf"\bghost\s+\w+\s*[:=]\s*{GROUP}\s*[,;]",
@@ -20,26 +20,26 @@ FORMS = re.compile("|".join(rf"\s*{form}" for form in (
     r"\buse\s+std::marker::Model;",
     r"[+,]\s*Drop\b",
 )))
-# What may not be left.
+# The words that must not remain.
 GHOST = {"ghost", "requires", "ensures", "tactic", "Model", "Drop"}
-# Comments, strings and characters, in which no bracket and no word counts.
+# Comments, strings, and characters, in which brackets and words do not count.
 OPAQUE = re.compile(r"""//[^\n]*|b?"(?:\\.|[^"\\])*"|b?'(?:\\[^']*|[^'\\])'""", re.DOTALL)
 
 
 class Refused(Exception):
-    """A source that the eraser does not know."""
+    """The error for a source that the eraser does not know."""
 
 
 def checked(form):
-    """Nothing in the place of a form, whose brackets have to be pairs."""
+    """Returns an empty string instead of a form, whose brackets must be paired."""
     if any(form[0].count(left) != form[0].count(right) for left, right in ("()", "[]")):
         raise Refused(f"a bracket is not closed in {form[0]}")
     return ""
 
 
 def without(pattern, text):
-    """A text without what a pattern matches, outside of comments, strings and characters. They are numbers while the
-    pattern is looked for, and those that stand in no match come back."""
+    """Removes the matches of a pattern from a text, but does not search comments, strings, or characters. Numbers
+    replace these during the search, and those outside the matches are restored."""
     opaque = OPAQUE.findall(text)
     numbers = iter(range(len(opaque)))
     bare = OPAQUE.sub(lambda _: f"\0{next(numbers)}\0", text)
@@ -50,7 +50,7 @@ def without(pattern, text):
 
 
 def erase(text):
-    """What is left of a source."""
+    """Returns a source without its ghost forms."""
     bare, text = without(FORMS, text)
     for word in re.findall(r"\w+|[^\0-\x7f]", bare):
         if word in GHOST or not word.isascii():
@@ -59,7 +59,7 @@ def erase(text):
 
 
 def leave_out(text, begin):
-    """The text without the items that begin so, and without their comments."""
+    """Returns the text without the items that start with `begin`, and without their comments."""
     rest = "[^;]*;" if begin.startswith("use") else rf"[^{{]*{GROUP}"
     left = without(re.compile(rf"^(?:[ \t]*\0\d+\0\n)*[ \t]*{re.escape(begin)}\b{rest}", re.MULTILINE), text)[1]
     if left == text:

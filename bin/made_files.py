@@ -1,4 +1,4 @@
-"""What the scripts do that make files of others: print the files, write them, or check that they are
+"""The common part of the scripts that generate files: prints the files, writes them, or checks that they are
 current."""
 
 import difflib
@@ -9,7 +9,7 @@ TOP = Path(__file__).resolve().parent.parent
 
 
 def run(script, usage, files):
-    """Runs a script by its words: none, --write or --check. FILES are texts by their files."""
+    """Runs a script according to its argument: none, --write, or --check. FILES maps each file to its text."""
     words = sys.argv[1:]
     if words not in ([], ["--write"], ["--check"]):
         print(usage, file=sys.stderr)

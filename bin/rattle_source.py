@@ -1,5 +1,5 @@
-"""Reads the items of Rattle crates from sources that `rt fmt` has laid out: their declarations, their
-preconditions and their doc comments, and the names under which other modules re-export them."""
+"""Reads the items of Rattle crates from sources that `rt fmt` has formatted: their declarations, preconditions, and
+doc comments, and the names under which other modules re-export them."""
 
 import re
 import textwrap
@@ -10,7 +10,7 @@ ITEM = re.compile(r"(pub(?:\(\w+\))? )?(?:const (?=fn)|unsafe )*(fn|struct|enum|
 
 @dataclass
 class Item:
-    """A function, type, constant, trait or impl block. The signature is its declaration without clauses and body."""
+    """A function, type, constant, trait, or impl block. The signature is its declaration without clauses and body."""
 
     kind: str
     name: str
@@ -34,7 +34,7 @@ def on_one_line(signature):
 
 
 def blocks(lines, indent):
-    """The lines of each item with this indentation: its comments, its declaration and its body."""
+    """Yields the lines of each item with this indentation: its comments, declaration, and body."""
     block, is_open = [], False
     for line in filter(None, lines):
         block.append(line)
@@ -49,7 +49,7 @@ def blocks(lines, indent):
 
 
 def items(lines, indent=""):
-    """The items with this indentation. Since a file is laid out, the indentation tells where each ends."""
+    """Yields the items with this indentation. In a formatted file, the indentation shows the end of each item."""
     for block in blocks(lines, indent):
         texts = [line.strip() for line in block]
         start = next((at for at, text in enumerate(texts) if ITEM.match(text)), None)
@@ -77,7 +77,7 @@ def items(lines, indent=""):
 
 
 def end_of_declaration(texts, start):
-    """The place behind a declaration, before its clauses and its body."""
+    """Returns the position after a declaration, before its clauses and body."""
     for at, text in enumerate(texts[start:], start):
         if text.startswith(("requires", "ensures")) or text == "{":
             return at
@@ -87,7 +87,7 @@ def end_of_declaration(texts, start):
 
 
 def fields(lines, kind, indent):
-    """The lines of the public fields of a struct or of the variants of an enum, with their comments."""
+    """Yields the lines of a struct's public fields or of an enum's variants, with their comments."""
     comment, hidden = [], 0
     for line in lines:
         text = line[len(indent) :]
@@ -120,8 +120,8 @@ class Module:
         self.modules = {item.name: Module(folder / f"{item.name}.rt", item.name, self) for item in inner}
 
     def attach(self):
-        """Hands each impl block to its type, which stands in its module or in one above. A block of a type with
-        certain parameters goes to the alias of that type, if its module has one."""
+        """Attaches each impl block to its type, which is in the same module or in an outer one. A block for a type with
+        specific parameters goes to the alias of that type, if its module has one."""
         for block in self.blocks:
             module, (block.name, whole) = self, parts_of(on_one_line(block.signature))
             alias = [item for item in self.items if item.signature.endswith(f" = {whole}")]
@@ -133,7 +133,7 @@ class Module:
             module.attach()
 
     def exports(self, crates):
-        """The names that the module offers, each with its item or its module: its own first."""
+        """Returns the names that the module exports, its own first, each with its item or module."""
         own = [(item.name, item) for item in self.items if item.is_public]
         found = own + [(name, self.modules[name]) for name in self.public_modules]
         for use in self.uses:
@@ -143,7 +143,7 @@ class Module:
         return found
 
     def walk(self, path, crates):
-        """The module that a path names from here."""
+        """Returns the module that a path names, relative to this module."""
         roots = crates | {"crate": self.top}
         module = roots.get(path[0], self)
         for name in path[1:] if path[0] in roots else path:
@@ -151,14 +151,14 @@ class Module:
         return module
 
     def find(self, name, crates):
-        """The item or the module of a name here."""
+        """Returns the item or module with a name in this module."""
         if name in self.modules:
             return self.modules[name]
         return next((item for item in self.items if item.name == name), None) or dict(self.exports(crates))[name]
 
 
 def parts_of(block):
-    """The trait of an impl block, empty where it has none, and its type."""
+    """Returns the trait of an impl block, which is empty if it has none, and its type."""
     depth, end = 0, len("impl")
     for end, letter in enumerate(block):
         depth += (letter == "<") - (letter == ">" and block[end - 1] != "-")
@@ -169,7 +169,7 @@ def parts_of(block):
 
 
 def read_crate(folder):
-    """The root module of the crate in a folder."""
+    """Returns the root module of the crate in a directory."""
     root = Module(folder / "src" / "lib.rt", folder.name)
     root.attach()
     return root
