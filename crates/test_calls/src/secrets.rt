@@ -21,7 +21,7 @@ fn test_get_secrets(rt: HostRuntime) {
     for word in WORDS {
         let global = GlobalSecrets::new(word);
         let secrets = *global.get();
-        assert_eq!(rt; global.get(), &secrets, "{word}");
+        assert!(rt; global.get() == &secrets, "{word}");
     }
 }
 
@@ -31,7 +31,7 @@ fn test_get_global_seed(rt: HostRuntime) {
     for word in WORDS {
         let global = GlobalSecrets::new(word);
         let seed = global.get_global_seed();
-        assert_eq!(rt; global.get_global_seed(), seed, "{word}");
+        assert!(rt; global.get_global_seed() == seed, "{word}");
     }
 }
 
@@ -47,9 +47,9 @@ fn has_bits_in_each_part(word: u64) -> bool {
 fn test_create_secrets(rt: HostRuntime) {
     for word in WORDS {
         let secrets = *GlobalSecrets::new(word).get();
-        assert_eq!(rt; *GlobalSecrets::new(word).get(), secrets, "{word}");
+        assert!(rt; *GlobalSecrets::new(word).get() == secrets, "{word}");
         let next = GlobalSecrets::new(word.wrapping_add(1));
-        assert_ne!(rt; *next.get(), secrets, "{word}");
+        assert!(rt; *next.get() != secrets, "{word}");
         assert!(rt;
             secrets.iter().all(|secret| has_bits_in_each_part(*secret)),
             "{word}"
@@ -121,9 +121,9 @@ fn made_secrets_are_equal_by_their_word(rt: HostRuntime) {
 fn a_seed_source_goes_on_from_0(rt: HostRuntime) {
     for word in WORDS {
         let mut source = SeedSource::new(&GlobalSecrets::new(word), 0x4d5a_2da5_1de1_aa46);
-        assert_eq!(rt; source.next(), 9454793320884447470);
-        assert_eq!(rt; source.next(), 639202169605739871);
-        assert_eq!(rt; source.next(), 6862678675849103174);
+        assert!(rt; source.next() == 9454793320884447470);
+        assert!(rt; source.next() == 639202169605739871);
+        assert!(rt; source.next() == 6862678675849103174);
     }
 }
 
@@ -135,7 +135,7 @@ fn random_secrets(rt: HostRuntime) {
     let mut twin = SeedSource::new(&global, 12);
     for _ in 0..2u32 {
         let secrets = v3::RapidSecrets::random(&global, &mut source);
-        assert_eq!(rt; secrets.seed, twin.next());
-        assert_eq!(rt; &secrets.secrets, global.get());
+        assert!(rt; secrets.seed == twin.next());
+        assert!(rt; &secrets.secrets == global.get());
     }
 }

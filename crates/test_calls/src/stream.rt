@@ -5,7 +5,6 @@ use rapidhash_portable::v3::{
     RapidStreamHasherInlineNano, RapidStreamHasherInlineV3, RapidStreamHasherLanes,
     RapidStreamHasherV3, rapidhash_v3_inline, rapidhash_v3_micro_inline, rapidhash_v3_nano_inline,
 };
-use std::mem::size_of;
 use std::test::Fail;
 
 /// Eight bytes in one piece, and after a reset in four. The number is the Rust crate's.
@@ -14,13 +13,13 @@ fn test_rapid_stream_hasher(rt: HostRuntime) {
     let bytes = [0, 1, 2, 3, 4, 5, 6, 7];
     let mut hasher = RapidStreamHasherV3::new(&DEFAULT_RAPID_SECRETS);
     hasher.write(&bytes);
-    assert_eq!(rt; hasher.finish(), 15732834091190890302);
+    assert!(rt; hasher.finish() == 15732834091190890302);
     hasher.reset();
     hasher.write(&bytes[..1]);
     hasher.write(&bytes[1..3]);
     hasher.write(&bytes[3..6]);
     hasher.write(&bytes[6..]);
-    assert_eq!(rt; hasher.finish(), 15732834091190890302);
+    assert!(rt; hasher.finish() == 15732834091190890302);
 }
 
 /// A message in pieces of 50 and 70 bytes, after a reset of a stream that had other bytes.
@@ -44,11 +43,11 @@ fn streams_of_any_lanes(rt: HostRuntime) {
         secrets: [2, 3, 5, 7, 11, 13, 17],
     };
     let mut stream = RapidStream::new(7, &secrets);
-    assert_eq!(rt; in_pieces(&mut stream, &bytes), 13105958653737073913);
+    assert!(rt; in_pieces(&mut stream, &bytes) == 13105958653737073913);
     let mut micro = RapidStream::new(5, &secrets);
-    assert_eq!(rt; in_pieces(&mut micro, &bytes), 5648300410578423183);
+    assert!(rt; in_pieces(&mut micro, &bytes) == 5648300410578423183);
     let mut nano = RapidStream::new(3, &secrets);
-    assert_eq!(rt; in_pieces(&mut nano, &bytes), 4961128163384780230);
+    assert!(rt; in_pieces(&mut nano, &bytes) == 4961128163384780230);
 }
 
 const SECRETS: RapidSecrets = RapidSecrets {
@@ -90,7 +89,7 @@ fn cuts_change_nothing(rt: HostRuntime) -> Result<(), Fail> {
         ];
         for at in [0, 1, 16, 48, 80, 111, 112, 113, 224, 225usize] {
             let (first, second) = message.split_at(at.min(message.len()));
-            assert_eq!(rt; of_two_pieces(first, second), want, "{n} {at}");
+            assert!(rt; of_two_pieces(first, second) == want, "{n} {at}");
         }
     }
     Ok(())
@@ -101,16 +100,7 @@ fn cuts_change_nothing(rt: HostRuntime) -> Result<(), Fail> {
 #[test]
 fn sizes_in_memory(rt: HostRuntime) {
     let size = 8 + 56 + 128 + 8 + 8;
-    assert_eq!(rt;
-        size_of::<RapidStreamHasherInlineV3<'static, true, false>>(),
-        size
-    );
-    assert_eq!(rt;
-        size_of::<RapidStreamHasherInlineMicro<'static, true, false>>(),
-        size
-    );
-    assert_eq!(rt;
-        size_of::<RapidStreamHasherInlineNano<'static, true, false>>(),
-        size
-    );
+    assert!(rt; std::mem::size_of::<RapidStreamHasherInlineV3<'static, true, false>>() == size);
+    assert!(rt; std::mem::size_of::<RapidStreamHasherInlineMicro<'static, true, false>>() == size);
+    assert!(rt; std::mem::size_of::<RapidStreamHasherInlineNano<'static, true, false>>() == size);
 }

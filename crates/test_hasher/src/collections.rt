@@ -14,8 +14,8 @@ fn test_hashmap_new(rt: HostRuntime) -> Result<(), Fail> {
     let mut map: RapidHashMap<&str, &str, _> = HashMapExt::new(rt.alloc(), state);
     assert!(rt; map.is_empty());
     let _ = map.insert("key", "value")?;
-    assert_eq!(rt; map.get("key"), Some(&"value"));
-    assert_eq!(rt; map.get("na"), None);
+    assert!(rt; map.get("key") == Some(&"value"));
+    assert!(rt; map.get("na").is_none());
     Ok(())
 }
 
@@ -50,26 +50,26 @@ fn room_that_is_refused(rt: HostRuntime) -> Result<(), Fail> {
         match map {
             Ok(map) => {
                 assert!(rt; map.is_empty() && map.capacity() >= 10);
-                assert_eq!(rt; heap.used() / 16, maps.saturating_add(1));
+                assert!(rt; heap.used() / 16 == maps.saturating_add(1));
             }
             Err(_) => {
-                assert_eq!(rt; maps, blocks);
+                assert!(rt; maps == blocks);
                 maps = blocks + 1;
             }
         }
-        assert_eq!(rt; heap.used(), 16);
+        assert!(rt; heap.used() == 16);
         let set: Result<RapidHashSet<u32, _>, _> = HashSetExt::with_capacity(&heap, 10, state);
         match set {
             Ok(set) => {
                 assert!(rt; set.is_empty() && set.capacity() >= 10);
-                assert_eq!(rt; heap.used() / 16, sets.saturating_add(1));
+                assert!(rt; heap.used() / 16 == sets.saturating_add(1));
             }
             Err(_) => {
-                assert_eq!(rt; sets, blocks);
+                assert!(rt; sets == blocks);
                 sets = blocks + 1;
             }
         }
-        assert_eq!(rt; heap.used(), 16);
+        assert!(rt; heap.used() == 16);
     }
     assert!(rt; 0 < maps && maps < 64);
     assert!(rt; 0 < sets && sets < 64);
@@ -85,9 +85,9 @@ fn new_asks_for_no_memory(rt: HostRuntime) -> Result<(), Fail> {
     let state = fast::RandomState::new(&secrets, &mut source);
     let heap = LocalHeap::new(rt.alloc(), 16)?;
     let _taken = Box::new(&heap, 0u8)?;
-    assert_eq!(rt; heap.free(), 0);
+    assert!(rt; heap.free() == 0);
     let mut map: RapidHashMap<u32, u32, _> = HashMapExt::new(&heap, state);
-    assert_eq!(rt; map.get(&4711), None);
+    assert!(rt; map.get(&4711).is_none());
     assert!(rt; map.insert(4711, 1).is_err());
     assert!(rt; map.is_empty());
     let mut set: RapidHashSet<u32, _> = HashSetExt::new(&heap, state);
@@ -108,14 +108,14 @@ fn room_for_ten(rt: HostRuntime) -> Result<(), Fail> {
     let heap = LocalHeap::new(rt.alloc(), held)?;
     let mut map: RapidHashMap<u32, u32, _> = HashMapExt::with_capacity(&heap, 10, state)?;
     let mut set: RapidHashSet<u32, _> = HashSetExt::with_capacity(&heap, 10, state)?;
-    assert_eq!(rt; heap.free(), 0);
+    assert!(rt; heap.free() == 0);
     for key in 0..10u32 {
         let _ = map.insert(key, key + 1)?;
         let _ = set.insert(key)?;
     }
-    assert_eq!(rt; (map.len(), set.len()), (10, 10));
-    assert_eq!(rt; map.get(&9).copied(), Some(10));
-    assert_eq!(rt; map.get(&0).copied(), Some(1));
+    assert!(rt; (map.len(), set.len()) == (10, 10));
+    assert!(rt; map.get(&9).copied() == Some(10));
+    assert!(rt; map.get(&0).copied() == Some(1));
     assert!(rt; set.contains(&9) && set.contains(&0));
     assert!(rt; map.get(&10).is_none() && !set.contains(&10));
     Ok(())

@@ -17,27 +17,23 @@ const BEFORE_ONE: u64 = 0xd2ca_7233_5593_875c;
 #[test]
 fn words_of_the_state_one(rt: HostRuntime) {
     let mut state = BEFORE_ONE;
-    assert_eq!(rt; rapidrng_fast(&mut state), 0x8bb8_4b93_962e_acc8);
-    assert_eq!(rt; state, 1);
+    assert!(rt; rapidrng_fast(&mut state) == 0x8bb8_4b93_962e_acc8);
+    assert!(rt; state == 1);
     let mut state = BEFORE_ONE;
-    assert_eq!(rt; rapidrng_fast_not_portable(&mut state), S1);
-    assert_eq!(rt; state, 1);
+    assert!(rt; rapidrng_fast_not_portable(&mut state) == S1);
+    assert!(rt; state == 1);
 }
 
 #[test]
 fn first_words_and_state(rt: HostRuntime) {
     let mut rng = RapidRng::new(0);
-    assert_eq!(rt; rng.next(), 11116517241604665558);
-    assert_eq!(rt;
-        rng.state(),
-        [0xa5, 0x78, 0x6c, 0xaa, 0xcc, 0x8d, 0x35, 0x2d]
+    assert!(rt; rng.next() == 11116517241604665558);
+    assert!(rt; rng.state() == [0xa5, 0x78, 0x6c, 0xaa, 0xcc, 0x8d, 0x35, 0x2d]);
+    assert!(rt; rng.next() == 91298403691422709);
+    assert!(rt;
+        RapidRng::from_seed([0, 0, 0, 0, 0, 0, 0, 1]).steps_to(&RapidRng::new(1 << 56)) == 0
     );
-    assert_eq!(rt; rng.next(), 91298403691422709);
-    assert_eq!(rt;
-        RapidRng::from_seed([0, 0, 0, 0, 0, 0, 0, 1]).steps_to(&RapidRng::new(1 << 56)),
-        0
-    );
-    assert_eq!(rt; RapidRng::seed_from_u64(5) == RapidRng::new(5), true);
+    assert!(rt; RapidRng::seed_from_u64(5) == RapidRng::new(5));
 }
 
 #[test]
@@ -49,10 +45,7 @@ fn steps_between_states(rt: HostRuntime) {
         (0, 12378382606336257077, 2854726183061733457),
         (1, 11233534814198372660, 2716141091330149111),
     ] {
-        assert_eq!(rt;
-            RapidRng::new(first).steps_to(&RapidRng::new(second)),
-            steps
-        );
+        assert!(rt; RapidRng::new(first).steps_to(&RapidRng::new(second)) == steps);
     }
 }
 
@@ -64,8 +57,8 @@ fn steps_over_three_words(rt: HostRuntime) {
         let _ = later.next();
         let _ = later.next();
         let _ = later.next();
-        assert_eq!(rt; start.steps_to(&later), 3);
-        assert_eq!(rt; later.steps_to(&start), 18446744073709551613);
+        assert!(rt; start.steps_to(&later) == 3);
+        assert!(rt; later.steps_to(&start) == 18446744073709551613);
     }
 }
 
@@ -74,18 +67,15 @@ fn bytes_of_words(rt: HostRuntime) {
     let mut rng = RapidRng::new(BEFORE_ONE);
     let mut three = [0u8; 3];
     rng.fill_bytes(&mut three);
-    assert_eq!(rt; three, [0xc8, 0xac, 0x2e]);
-    assert_eq!(rt; rng == RapidRng::new(1), true);
+    assert!(rt; three == [0xc8, 0xac, 0x2e]);
+    assert!(rt; rng == RapidRng::new(1));
     let mut rng = RapidRng::new(0);
     rng.fill_bytes(&mut []);
-    assert_eq!(rt; rng == RapidRng::new(0), true);
+    assert!(rt; rng == RapidRng::new(0));
     let mut nine = [0u8; 9];
     rng.fill_bytes(&mut nine);
-    assert_eq!(rt;
-        nine,
-        [0xd6, 0xf0, 0x59, 0x8d, 0x88, 0xcd, 0x45, 0x9a, 0xf5]
-    );
-    assert_eq!(rt; RapidRng::new(0).steps_to(&rng), 2);
+    assert!(rt; nine == [0xd6, 0xf0, 0x59, 0x8d, 0x88, 0xcd, 0x45, 0x9a, 0xf5]);
+    assert!(rt; RapidRng::new(0).steps_to(&rng) == 2);
 }
 
 /// The word for a time, and the seed that it leaves.
@@ -97,19 +87,13 @@ fn at_moment(seed: u64, secs: u64, nanos: u32) -> (u64, u64) {
 
 #[test]
 fn moments(rt: HostRuntime) {
-    assert_eq!(rt;
-        at_moment(0, 1795332324, 474401288),
-        (7933760468208766339, 10894244195399012039)
-    );
+    assert!(rt; at_moment(0, 1795332324, 474401288) == (7933760468208766339, 10894244195399012039));
     // For this seed the time has no effect.
-    assert_eq!(rt; at_moment(S1, 0, 0), at_moment(S1, 1, 999_999_999));
+    assert!(rt; at_moment(S1, 0, 0) == at_moment(S1, 1, 999_999_999));
     for seed in [0u64, 42, S0] {
-        assert_eq!(rt; at_moment(seed, 0, 5), at_moment(seed, 4_294_967_296, 5));
+        assert!(rt; at_moment(seed, 0, 5) == at_moment(seed, 4_294_967_296, 5));
     }
-    assert_eq!(rt;
-        RapidRng::from_moment(0, 0) == RapidRng::new(0x3141_aa84_fb08_82bd),
-        true
-    );
+    assert!(rt; RapidRng::from_moment(0, 0) == RapidRng::new(0x3141_aa84_fb08_82bd));
 }
 
 /// A draw through rand_core's bound alone.
@@ -121,20 +105,20 @@ fn draw<R: Rng>(rng: &mut R) -> (u32, u64) {
 #[test]
 fn generic_users_draw_the_same_words(rt: HostRuntime) {
     let mut rng = RapidRng::new(0);
-    assert_eq!(rt; draw(&mut rng), (0x8d59_f0d6, 91298403691422709));
-    assert_eq!(rt; RapidRng::new(0).steps_to(&rng), 2);
+    assert!(rt; draw(&mut rng) == (0x8d59_f0d6, 91298403691422709));
+    assert!(rt; RapidRng::new(0).steps_to(&rng) == 2);
 }
 
 /// The state 0 comes after one that is the step's negative; its word is 0.
 #[test]
 fn rapidrng_fast_of_known_states(rt: HostRuntime) {
     let mut state = 0xd2ca_7233_5593_875c;
-    assert_eq!(rt; rapidrng_fast(&mut state), 0x8bb8_4b93_962e_acc8);
-    assert_eq!(rt; state, 1);
+    assert!(rt; rapidrng_fast(&mut state) == 0x8bb8_4b93_962e_acc8);
+    assert!(rt; state == 1);
     let mut before_zero = 0xd2ca_7233_5593_875b;
-    assert_eq!(rt; (rapidrng_fast(&mut before_zero), before_zero), (0, 0));
+    assert!(rt; (rapidrng_fast(&mut before_zero), before_zero) == (0, 0));
     let mut rng = RapidRng::new(0xd2ca_7233_5593_875c);
-    assert_eq!(rt; rng.next(), 0x8bb8_4b93_962e_acc8);
+    assert!(rt; rng.next() == 0x8bb8_4b93_962e_acc8);
 }
 
 /// Generators are ordered by their states as numbers.
@@ -144,7 +128,7 @@ fn generators_are_ordered_by_state(rt: HostRuntime) {
     let high = RapidRng::new(256);
     assert!(rt; low == RapidRng::new(2) && low != high);
     assert!(rt; low < high && high > low && low <= low);
-    assert_eq!(rt; low.max(high) == high, true);
+    assert!(rt; low.max(high) == high);
 }
 
 /// As the key of a map a generator is its state, the lowest byte first. The number is the Rust
@@ -152,5 +136,5 @@ fn generators_are_ordered_by_state(rt: HostRuntime) {
 #[test]
 fn a_generator_is_a_key(rt: HostRuntime) {
     let state = fast::SeedableState::fixed();
-    assert_eq!(rt; state.hash_one(RapidRng::new(513)), 1737953164354400270);
+    assert!(rt; state.hash_one(RapidRng::new(513)) == 1737953164354400270);
 }

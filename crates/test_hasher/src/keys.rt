@@ -25,19 +25,14 @@ fn owned_keys_are_found_by_borrowed_bytes(rt: HostRuntime) -> Result<(), Fail> {
     }
     for length in 0..ALIKE.len() {
         let size = sizes.get(&ByteKey(CowSlice::Borrowed(&ALIKE[..length])));
-        assert_eq!(rt;
-            size.copied(),
-            if length < 40 {
-                Some(length as u64)
-            } else {
-                None
-            }
-        );
+        let known = if length < 40 {
+            Some(length as u64)
+        } else {
+            None
+        };
+        assert!(rt; size.copied() == known);
     }
-    assert_eq!(rt;
-        sizes.get(&ByteKey(CowSlice::Borrowed(b"xy"))).copied(),
-        None
-    );
+    assert!(rt; sizes.get(&ByteKey(CowSlice::Borrowed(b"xy"))).is_none());
     Ok(())
 }
 
@@ -69,10 +64,10 @@ fn a_key_is_one_write(rt: HostRuntime) -> Result<(), Fail> {
         let bytes = &text[..length];
         let mut hasher = state.build_hasher();
         hasher.write(bytes);
-        assert_eq!(rt; ByteKey(bytes).as_slice(), bytes);
-        assert_eq!(rt; state.hash_one(ByteKey(bytes)), hasher.finish());
+        assert!(rt; ByteKey(bytes).as_slice() == bytes);
+        assert!(rt; state.hash_one(ByteKey(bytes)) == hasher.finish());
         let owned = Vec::from_clones(rt.alloc(), bytes)?;
-        assert_eq!(rt; state.hash_one(ByteKey(owned)), hasher.finish());
+        assert!(rt; state.hash_one(ByteKey(owned)) == hasher.finish());
     }
     Ok(())
 }

@@ -51,7 +51,7 @@ fn drawn(alloc: Global) -> Result<Vec<u8>, AllocError> {
 #[test]
 fn all_sizes(rt: HostRuntime) -> Result<(), Fail> {
     let bytes = drawn(rt.alloc())?;
-    assert_eq!(rt; bytes.len(), 1024);
+    assert!(rt; bytes.len() == 1024);
     for n in 0..bytes.len() + 1 {
         let message = &bytes[..n];
         assert!(rt; agree::<true, false>(message), "{n}");

@@ -1,10 +1,6 @@
 //! The portable hashes: known values, streams, and readers that end early or fail.
 // These tests are written in Rattle, whose style differs here.
-#![allow(
-    clippy::bool_assert_comparison,
-    clippy::manual_range_contains,
-    clippy::needless_range_loop
-)]
+#![allow(clippy::manual_range_contains, clippy::needless_range_loop)]
 
 #[cfg(feature = "std")]
 mod bulk;

@@ -23,7 +23,7 @@ fn test_get_secrets() {
     for word in WORDS {
         let global = GlobalSecrets::new(word);
         let secrets = *global.get();
-        assert_eq!(global.get(), &secrets, "{word}");
+        assert!(global.get() == &secrets, "{word}");
     }
 }
 
@@ -33,7 +33,7 @@ fn test_get_global_seed() {
     for word in WORDS {
         let global = GlobalSecrets::new(word);
         let seed = global.get_global_seed();
-        assert_eq!(global.get_global_seed(), seed, "{word}");
+        assert!(global.get_global_seed() == seed, "{word}");
     }
 }
 
@@ -49,9 +49,9 @@ fn has_bits_in_each_part(word: u64) -> bool {
 fn test_create_secrets() {
     for word in WORDS {
         let secrets = *GlobalSecrets::new(word).get();
-        assert_eq!(*GlobalSecrets::new(word).get(), secrets, "{word}");
+        assert!(*GlobalSecrets::new(word).get() == secrets, "{word}");
         let next = GlobalSecrets::new(word.wrapping_add(1));
-        assert_ne!(*next.get(), secrets, "{word}");
+        assert!(*next.get() != secrets, "{word}");
         assert!(
             secrets.iter().all(|secret| has_bits_in_each_part(*secret)),
             "{word}"
@@ -123,8 +123,8 @@ fn made_secrets_are_equal_by_their_word() {
 fn a_seed_source_goes_on_from_0() {
     for word in WORDS {
         let mut source = SeedSource::new(&GlobalSecrets::new(word), 0x4d5a_2da5_1de1_aa46);
-        assert_eq!(source.next(), 9454793320884447470);
-        assert_eq!(source.next(), 639202169605739871);
-        assert_eq!(source.next(), 6862678675849103174);
+        assert!(source.next() == 9454793320884447470);
+        assert!(source.next() == 639202169605739871);
+        assert!(source.next() == 6862678675849103174);
     }
 }

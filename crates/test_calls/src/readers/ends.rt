@@ -21,8 +21,8 @@ fn v1_takes_its_length_and_no_more(rt: HostRuntime) {
         (&b"abc"[..], 0, gave(6516417773221693515, 3)),
         (&b"abc"[..], u64::MAX, fell_short()),
     ] {
-        assert_eq!(rt; v1_of(sound(bytes), len), want);
-        assert_eq!(rt; v1_of_slice(bytes, len), want);
+        assert!(rt; v1_of(sound(bytes), len) == want);
+        assert!(rt; v1_of_slice(bytes, len) == want);
     }
 }
 
@@ -60,7 +60,7 @@ fn v1_files_of_a_known_text(rt: HostRuntime) {
             longest,
             left,
         };
-        assert_eq!(rt; v1_of_files(bytes, len, fails_at), [want; 3]);
+        assert!(rt; v1_of_files(bytes, len, fails_at) == [want; 3]);
     }
 }
 
@@ -72,8 +72,8 @@ fn v2_takes_its_length_and_no_more(rt: HostRuntime) {
     }
     let first = &bytes[..bytes.len().min(160)];
     let hash = rapidhash_v2_inline::<2, true, false, false>(first, &DEFAULT_RAPID_SECRETS);
-    assert_eq!(rt; v2_of::<2>(sound(&bytes), 160), gave(hash, 1));
-    assert_eq!(rt; v2_of_slice::<2>(&bytes, 160), gave(hash, 1));
+    assert!(rt; v2_of::<2>(sound(&bytes), 160) == gave(hash, 1));
+    assert!(rt; v2_of_slice::<2>(&bytes, 160) == gave(hash, 1));
 }
 
 // Each version over a reader of one byte less than the length, or of none for none.
@@ -82,18 +82,18 @@ fn one_byte_too_few(rt: HostRuntime) {
     let bytes = [7u8; 300];
     for n in 1..301usize {
         let few = &bytes[..n - 1];
-        assert_eq!(rt; v1_of(sound(few), n as u64), fell_short());
-        assert_eq!(rt; v2_of::<0>(sound(few), n as u64), fell_short());
-        assert_eq!(rt; v2_of::<1>(sound(few), n as u64), fell_short());
-        assert_eq!(rt; v2_of::<2>(sound(few), n as u64), fell_short());
+        assert!(rt; v1_of(sound(few), n as u64) == fell_short());
+        assert!(rt; v2_of::<0>(sound(few), n as u64) == fell_short());
+        assert!(rt; v2_of::<1>(sound(few), n as u64) == fell_short());
+        assert!(rt; v2_of::<2>(sound(few), n as u64) == fell_short());
     }
 }
 
 #[test]
 fn no_byte_of_an_empty_reader(rt: HostRuntime) {
-    assert_eq!(rt; v1_of(sound(b""), 0), gave(rapidhash_v1(b""), 0));
+    assert!(rt; v1_of(sound(b""), 0) == gave(rapidhash_v1(b""), 0));
     let hash = rapidhash_v2_inline::<0, true, false, false>(b"", &DEFAULT_RAPID_SECRETS);
-    assert_eq!(rt; v2_of::<0>(sound(b""), 0), gave(hash, 0));
-    assert_eq!(rt; v2_of::<1>(sound(b""), 0), gave(hash, 0));
-    assert_eq!(rt; v2_of::<2>(sound(b""), 0), gave(hash, 0));
+    assert!(rt; v2_of::<0>(sound(b""), 0) == gave(hash, 0));
+    assert!(rt; v2_of::<1>(sound(b""), 0) == gave(hash, 0));
+    assert!(rt; v2_of::<2>(sound(b""), 0) == gave(hash, 0));
 }

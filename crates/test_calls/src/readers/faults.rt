@@ -17,14 +17,14 @@ fn each_read_may_fail(rt: HostRuntime) {
         let mut left = SOMETHING.len();
         for fails_at in 1..11u64 {
             let want = failed(kind, left);
-            assert_eq!(rt; v1_of(drip(SOMETHING, fails_at, kind), 10), want);
-            assert_eq!(rt; v2_of::<2>(drip(SOMETHING, fails_at, kind), 10), want);
+            assert!(rt; v1_of(drip(SOMETHING, fails_at, kind), 10) == want);
+            assert!(rt; v2_of::<2>(drip(SOMETHING, fails_at, kind), 10) == want);
             left = left.saturating_sub(1);
         }
         let want = gave(15965596575264898037, 0);
-        assert_eq!(rt; v1_of(drip(SOMETHING, 11, kind), 10), want);
+        assert!(rt; v1_of(drip(SOMETHING, 11, kind), 10) == want);
         let want = gave(v2::rapidhash_v2_2(SOMETHING), 0);
-        assert_eq!(rt; v2_of::<2>(drip(SOMETHING, 11, kind), 10), want);
+        assert!(rt; v2_of::<2>(drip(SOMETHING, 11, kind), 10) == want);
     }
 }
 
@@ -37,7 +37,7 @@ fn the_next_call_goes_on_behind_a_fault(rt: HostRuntime) -> Result<(), Fail> {
     assert!(rt; first.is_err());
     assert!(rt; source.failed());
     let second = rapidhash_v1_source::<CountingReader, false>(&mut source, 8, secrets)?;
-    assert_eq!(rt; second, rapidhash_v1(b"mething\n"));
+    assert!(rt; second == rapidhash_v1(b"mething\n"));
     assert!(rt; !source.failed());
     Ok(())
 }
@@ -48,21 +48,18 @@ fn the_next_call_goes_on_behind_a_fault(rt: HostRuntime) -> Result<(), Fail> {
 fn a_source_marks_a_failed_read(rt: HostRuntime) {
     let mut source = Source::new(drip(SOMETHING, 2, ErrorKind::TimedOut));
     let mut buffer = [0; 4];
-    assert_eq!(rt; source.read(&mut buffer).ok(), Some(1));
-    assert_eq!(rt; source.failed(), false);
+    assert!(rt; source.read(&mut buffer).ok() == Some(1));
+    assert!(rt; !source.failed());
     let failed = source.read(&mut buffer).map_err(|error| error.kind());
-    assert_eq!(rt; failed, Err(ErrorKind::TimedOut));
-    assert_eq!(rt; source.failed(), true);
-    assert_eq!(rt; source.read(&mut buffer[1..]).ok(), Some(1));
-    assert_eq!(rt; buffer, [b's', b'o', 0, 0]);
-    assert_eq!(rt; source.failed(), true);
+    assert!(rt; failed == Err(ErrorKind::TimedOut));
+    assert!(rt; source.failed());
+    assert!(rt; source.read(&mut buffer[1..]).ok() == Some(1));
+    assert!(rt; buffer == [b's', b'o', 0, 0]);
+    assert!(rt; source.failed());
     source.clear();
-    assert_eq!(rt; source.failed(), false);
+    assert!(rt; !source.failed());
     let reader = source.into_inner();
-    assert_eq!(rt;
-        (reader.reads, reader.longest, reader.left.len()),
-        (3, 4, 8)
-    );
+    assert!(rt; (reader.reads, reader.longest, reader.left.len()) == (3, 4, 8));
 }
 
 /// V3 of ten bytes that come one a read, over a source: if one of the eleven reads fails, its error
@@ -81,7 +78,7 @@ fn a_source_is_marked_by_each_read(rt: HostRuntime) {
         } else {
             Ok(11612086640089003834)
         };
-        assert_eq!(rt; answer.map_err(|error| error.kind()), want, "{fails_at}");
-        assert_eq!(rt; source.failed(), fails_at < 12, "{fails_at}");
+        assert!(rt; answer.map_err(|error| error.kind()) == want, "{fails_at}");
+        assert!(rt; source.failed() == (fails_at < 12), "{fails_at}");
     }
 }

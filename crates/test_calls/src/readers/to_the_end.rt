@@ -24,7 +24,7 @@ fn each_read_fails(rt: &impl Abort, form: Form, kind: ErrorKind) {
             longest: form.size(),
             left: 11usize.saturating_sub(fails_at as usize),
         };
-        assert_eq!(rt; form.outcome(reader), want, "{form:?}");
+        assert!(rt; form.outcome(reader) == want, "{form:?}");
     }
 }
 
@@ -50,7 +50,7 @@ fn reads_of_buffers(rt: &impl Abort, form: Form, bytes: &[u8]) {
             left: 0,
         };
         let reader = CountingReader::new(message, usize::MAX);
-        assert_eq!(rt; form.outcome(reader), want, "{form:?} {n}");
+        assert!(rt; form.outcome(reader) == want, "{form:?} {n}");
     }
 }
 
@@ -74,7 +74,7 @@ fn reads_of_single_bytes(rt: &impl Abort, form: Form, bytes: &[u8]) {
             left: 0,
         };
         let reader = CountingReader::new(message, 1);
-        assert_eq!(rt; form.outcome(reader), want, "{form:?} {n}");
+        assert!(rt; form.outcome(reader) == want, "{form:?} {n}");
     }
 }
 
@@ -106,7 +106,7 @@ fn compare_rapidhash_file(rt: HostRuntime) -> Result<(), Fail> {
         .map(|_| (rng.next() % 256) as u8)
         .collect(rt.alloc())?;
     for form in FORMS {
-        assert_eq!(rt; first_difference(form, &bytes), None, "{form:?}");
+        assert!(rt; first_difference(form, &bytes).is_none(), "{form:?}");
     }
     Ok(())
 }
@@ -125,14 +125,8 @@ fn lengths_make_the_difference(rt: HostRuntime) -> Result<(), Fail> {
         (&[0; 2][..], 6148914691236517205u64),
     ] {
         let mut source = Source::new(bytes);
-        assert_eq!(rt;
-            v3::rapidhash_v3_source::<&[u8], false>(&mut source, &secrets)?,
-            want
-        );
-        assert_eq!(rt;
-            v3::rapidhash_v3_file_seeded::<&[u8]>(bytes, &secrets)?,
-            want
-        );
+        assert!(rt; v3::rapidhash_v3_source::<&[u8], false>(&mut source, &secrets)? == want);
+        assert!(rt; v3::rapidhash_v3_file_seeded::<&[u8]>(bytes, &secrets)? == want);
     }
     Ok(())
 }

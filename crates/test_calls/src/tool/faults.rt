@@ -17,7 +17,7 @@ fn numbers_and_texts(rt: HostRuntime) {
         (CliFault::Write, 6, "Could not write to stdout."),
     ];
     for (fault, number, text) in faults {
-        assert_eq!(rt; fault.number(), number, "at {fault:?}");
-        assert_eq!(rt; fault.text(), text, "at {fault:?}");
+        assert!(rt; fault.number() == number, "at {fault:?}");
+        assert!(rt; fault.text() == text, "at {fault:?}");
     }
 }

@@ -85,12 +85,18 @@ fn all_print(
         let line = format!(in rt.alloc(); "{hash}\n")?;
         let out = writer(Vec::new(rt.alloc()), 0);
         let ended = of_stdin(rt.alloc(), version, whole(bytes), out);
-        assert_eq!(rt; ended.result, Ok(()), "at {version:?}");
-        assert_eq!(rt; ended.written.as_slice(), line.as_bytes(), "at {version:?}");
+        assert!(rt; ended.result == Ok(()), "at {version:?}");
+        assert!(rt;
+            ended.written.as_slice() == line.as_bytes(),
+            "at {version:?}"
+        );
         let out = writer(Vec::new(rt.alloc()), 0);
         let ended = of_file(version, whole(bytes), bytes.len() as u64, out);
-        assert_eq!(rt; ended.result, Ok(()), "at {version:?}");
-        assert_eq!(rt; ended.written.as_slice(), line.as_bytes(), "at {version:?}");
+        assert!(rt; ended.result == Ok(()), "at {version:?}");
+        assert!(rt;
+            ended.written.as_slice() == line.as_bytes(),
+            "at {version:?}"
+        );
     }
     Ok(())
 }
@@ -118,8 +124,8 @@ fn hashes_by_themselves(rt: HostRuntime) {
     let all = versions(false);
     for i in 0..7usize {
         let of_stdin = all[i].hash_stdin(rt.alloc(), whole(SOMETHING));
-        assert_eq!(rt; of_stdin, Ok(OF_SOMETHING[i]));
-        assert_eq!(rt; all[i].hash_file(whole(SOMETHING), 10), Ok(OF_SOMETHING[i]));
+        assert!(rt; of_stdin == Ok(OF_SOMETHING[i]));
+        assert!(rt; all[i].hash_file(whole(SOMETHING), 10) == Ok(OF_SOMETHING[i]));
     }
 }
 
@@ -133,8 +139,8 @@ fn short_inputs(rt: HostRuntime) {
     for (bytes, line) in lines {
         let out = writer(Vec::new(rt.alloc()), 0);
         let ended = of_stdin(rt.alloc(), V1, whole(bytes), out);
-        assert_eq!(rt; ended.result, Ok(()));
-        assert_eq!(rt; ended.written.as_slice(), line);
+        assert!(rt; ended.result == Ok(()));
+        assert!(rt; ended.written.as_slice() == line);
     }
 }
 
@@ -145,20 +151,20 @@ fn lengths_of_files(rt: HostRuntime) {
         let out = writer(Vec::new(rt.alloc()), 0);
         let longer = of_file(version, whole(SOMETHING), 11, out);
         if version.needs_length() {
-            assert_eq!(rt; longer.result, Err(CliFault::File), "at {version:?}");
+            assert!(rt; longer.result == Err(CliFault::File), "at {version:?}");
             assert!(rt; longer.written.is_empty());
             continue;
         }
         let out = writer(Vec::new(rt.alloc()), 0);
         let of_none = of_file(version, whole(SOMETHING), 0, out);
-        assert_eq!(rt; longer.result, Ok(()), "at {version:?}");
-        assert_eq!(rt; longer.written.as_slice(), V3_LINE);
-        assert_eq!(rt; of_none.result, Ok(()), "at {version:?}");
-        assert_eq!(rt; of_none.written.as_slice(), V3_LINE);
+        assert!(rt; longer.result == Ok(()), "at {version:?}");
+        assert!(rt; longer.written.as_slice() == V3_LINE);
+        assert!(rt; of_none.result == Ok(()), "at {version:?}");
+        assert!(rt; of_none.written.as_slice() == V3_LINE);
     }
     let out = writer(Vec::new(rt.alloc()), 0);
     let first = of_file(V1, whole(b"something\nmore"), 10, out);
-    assert_eq!(rt; first.written.as_slice(), SOMETHING_LINE);
+    assert!(rt; first.written.as_slice() == SOMETHING_LINE);
 }
 
 // V3, micro and nano hash and print all bytes, whatever the length is.
@@ -170,14 +176,17 @@ fn lengths_that_are_not_looked_at(rt: HostRuntime) -> Result<(), Fail> {
         let hash = OF_200[i];
         let line = format!(in rt.alloc(); "{hash}\n")?;
         for len in [0, 99, 200, 201, u64::MAX] {
-            assert_eq!(rt; all[i].hash_file(whole(&bytes), len), Ok(hash), "at {len}");
+            assert!(rt;
+                all[i].hash_file(whole(&bytes), len) == Ok(hash),
+                "at {len}"
+            );
             let ended = of_file(all[i], whole(&bytes), len, writer(Vec::new(rt.alloc()), 0));
-            assert_eq!(rt; ended.result, Ok(()), "at {len}");
-            assert_eq!(rt; ended.written.as_slice(), line.as_bytes(), "at {len}");
+            assert!(rt; ended.result == Ok(()), "at {len}");
+            assert!(rt; ended.written.as_slice() == line.as_bytes(), "at {len}");
         }
     }
     let ended = of_file(V3, whole(SOMETHING), 99, writer(Vec::new(rt.alloc()), 0));
-    assert_eq!(rt; ended.written.as_slice(), V3_LINE);
+    assert!(rt; ended.written.as_slice() == V3_LINE);
     Ok(())
 }
 
@@ -185,8 +194,8 @@ fn lengths_that_are_not_looked_at(rt: HostRuntime) -> Result<(), Fail> {
 fn a_writer_that_takes_nothing(rt: HostRuntime) {
     let of_stdin = run_stdin(rt.alloc(), &V1, whole(SOMETHING), &mut FullWriter);
     let of_file = run_file(&V3, whole(SOMETHING), 10, &mut FullWriter);
-    assert_eq!(rt; of_stdin, Err(CliFault::Write));
-    assert_eq!(rt; of_file, Err(CliFault::Write));
-    assert_eq!(rt; run_help(&mut FullWriter), Err(CliFault::Write));
+    assert!(rt; of_stdin == Err(CliFault::Write));
+    assert!(rt; of_file == Err(CliFault::Write));
+    assert!(rt; run_help(&mut FullWriter) == Err(CliFault::Write));
     assert!(rt; help().ends_with("#cli\n"));
 }

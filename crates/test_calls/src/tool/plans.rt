@@ -84,7 +84,7 @@ fn plans_of_lines(rt: HostRuntime) -> Result<(), Fail> {
     ];
     for (line, wanted) in lines {
         let words = gathered(&rt, line)?;
-        assert_eq!(rt; plan(words.as_slice()), wanted, "at {line:?}");
+        assert!(rt; plan(words.as_slice()) == wanted, "at {line:?}");
     }
     Ok(())
 }
@@ -103,9 +103,8 @@ fn versions_of_words(rt: HostRuntime) -> Result<(), Fail> {
     ];
     for (line, wanted) in lines {
         let words = gathered(&rt, line)?;
-        assert_eq!(rt;
-            RapidhashVersion::new(words.as_slice()),
-            wanted,
+        assert!(rt;
+            RapidhashVersion::new(words.as_slice()) == wanted,
             "at {line:?}"
         );
     }

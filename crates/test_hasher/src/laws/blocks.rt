@@ -5,9 +5,9 @@ use rapidhash::laws::same_blocks;
 
 #[test]
 fn integers_of_one_block(rt: HostRuntime) {
-    assert_eq!(rt; same_blocks(&[], &[]), true);
-    assert_eq!(rt; same_blocks(&[N8(1), N16(2)], &[N8(1), N16(3)]), false);
-    assert_eq!(rt; same_blocks(&[N64(1), N64(2)], &[N64(1), N64(3)]), false);
+    assert!(rt; same_blocks(&[], &[]));
+    assert!(rt; !same_blocks(&[N8(1), N16(2)], &[N8(1), N16(3)]));
+    assert!(rt; !same_blocks(&[N64(1), N64(2)], &[N64(1), N64(3)]));
 }
 
 #[test]
@@ -16,7 +16,7 @@ fn integers_that_open_a_block(rt: HostRuntime) {
     x[15] = N16(9);
     let mut y = [N8(0); 16];
     y[15] = N16(8);
-    assert_eq!(rt; same_blocks(&x, &y), false);
+    assert!(rt; !same_blocks(&x, &y));
     let three = [N64(1), N64(2), N8(0)];
-    assert_eq!(rt; same_blocks(&three, &three), true);
+    assert!(rt; same_blocks(&three, &three));
 }

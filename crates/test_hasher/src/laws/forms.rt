@@ -43,6 +43,6 @@ fn forms_agree_at_the_lengths_of_the_laws(rt: HostRuntime) {
     let bytes = [0x5au8; 130];
     for n in 0..=130usize {
         let x = &bytes[..n];
-        assert_eq!(rt; answers(x), agreements(x), "{n}");
+        assert!(rt; answers(x) == agreements(x), "{n}");
     }
 }

@@ -66,7 +66,7 @@ fn has_room(
     let heap = LocalHeap::new(rt.alloc(), bytes.saturating_add(16))?;
     // A heap has 16 bytes at least, so a byte takes these.
     let _taken = Box::new(&heap, 0u8)?;
-    assert_eq!(rt; heap.free(), bytes);
+    assert!(rt; heap.free() == bytes);
     let has_room = match replayed(&heap, five_lanes, ops) {
         Ok(answers) => {
             assert!(rt; alternate(&answers, ops.len() / 2));
@@ -74,7 +74,7 @@ fn has_room(
         }
         Err(_) => false,
     };
-    assert_eq!(rt; heap.free(), bytes);
+    assert!(rt; heap.free() == bytes);
     Ok(has_room)
 }
 
@@ -128,21 +128,12 @@ fn a_run_of_writes_and_resets(rt: HostRuntime) -> Result<(), Fail> {
         StreamOp::Finish,
     ];
     let answers = replay::<_, false, false>(rt.alloc(), &secrets, &ops)?;
-    assert_eq!(rt;
-        answers.as_slice(),
-        [105553116266502, 105553116266505, 0].as_slice()
-    );
+    assert!(rt; answers.as_slice() == [105553116266502, 105553116266505, 0].as_slice());
     let answers = replay_lanes::<_, 7, false, false>(rt.alloc(), &secrets, &ops)?;
-    assert_eq!(rt;
-        answers.as_slice(),
-        [105553116266502, 105553116266505, 0].as_slice()
-    );
+    assert!(rt; answers.as_slice() == [105553116266502, 105553116266505, 0].as_slice());
     let ops = [StreamOp::Reset, StreamOp::Finish, StreamOp::Finish];
     let answers = replay::<_, false, false>(rt.alloc(), &ZEROS, &ops)?;
-    assert_eq!(rt; answers.as_slice(), [0, 0].as_slice());
-    assert_eq!(rt;
-        replay::<_, false, false>(rt.alloc(), &ZEROS, &[])?.len(),
-        0
-    );
+    assert!(rt; answers.as_slice() == [0, 0].as_slice());
+    assert!(rt; replay::<_, false, false>(rt.alloc(), &ZEROS, &[])?.len() == 0);
     Ok(())
 }

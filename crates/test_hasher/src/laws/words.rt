@@ -17,10 +17,10 @@ fn answers(x: &[u8], y: &[u8]) -> [bool; 5] {
 
 #[test]
 fn short_messages(rt: HostRuntime) {
-    assert_eq!(rt; same_words_v3(&[0], &[0, 0]), false);
-    assert_eq!(rt; same_words_v3(&[], &[]), true);
-    assert_eq!(rt; same_words_v2::<2>(&[1, 2, 3], &[1, 3, 3]), false);
-    assert_eq!(rt; same_words_v3(&[1, 2, 3], &[1, 3, 3]), false);
+    assert!(rt; !same_words_v3(&[0], &[0, 0]));
+    assert!(rt; same_words_v3(&[], &[]));
+    assert!(rt; !same_words_v2::<2>(&[1, 2, 3], &[1, 3, 3]));
+    assert!(rt; !same_words_v3(&[1, 2, 3], &[1, 3, 3]));
 }
 
 #[test]
@@ -29,9 +29,9 @@ fn a_byte_of_seventeen(rt: HostRuntime) {
     for i in [0usize, 8, 16] {
         let mut y = x;
         y[i] = 8;
-        assert_eq!(rt; answers(&x, &y), [false; 5]);
+        assert!(rt; answers(&x, &y) == [false; 5]);
     }
-    assert_eq!(rt; answers(&x, &[7u8; 17]), [true; 5]);
+    assert!(rt; answers(&x, &[7u8; 17]) == [true; 5]);
 }
 
 // With V1's historical fault 48 bytes are a row of three lanes, without it they are a tail.
@@ -40,7 +40,7 @@ fn a_byte_of_forty_eight(rt: HostRuntime) {
     let x = [7u8; 48];
     let mut y = x;
     y[33] = 8;
-    assert_eq!(rt; same_words_v1::<false>(&x, &y), false);
-    assert_eq!(rt; same_words_v1::<true>(&x, &y), false);
-    assert_eq!(rt; same_words_v1::<true>(&x, &x), true);
+    assert!(rt; !same_words_v1::<false>(&x, &y));
+    assert!(rt; !same_words_v1::<true>(&x, &y));
+    assert!(rt; same_words_v1::<true>(&x, &x));
 }

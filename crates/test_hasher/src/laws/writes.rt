@@ -14,7 +14,7 @@ fn two_integers_of_one_block_are_the_joined_one(rt: HostRuntime) {
     written.write_u16(0x0102);
     written.write_u32(0x0003_0004);
     written.write_u64(0x0000_0005_0000_0006);
-    assert_eq!(rt; joined.finish(), written.finish());
+    assert!(rt; joined.finish() == written.finish());
 }
 
 // Four bytes of the block are left: the first integer fills it and the second opens the next one.
@@ -41,5 +41,5 @@ fn an_item_and_an_integer_change_places(rt: HostRuntime) {
     written.write(b"user");
     written.write_u8(1);
     written.write_u128(7);
-    assert_eq!(rt; turned.finish(), written.finish());
+    assert!(rt; turned.finish() == written.finish());
 }

@@ -23,8 +23,8 @@ fn v1_takes_its_length_and_no_more() {
         (&b"abc"[..], 0, gave(6516417773221693515, 3)),
         (&b"abc"[..], u64::MAX, fell_short()),
     ] {
-        assert_eq!(v1_of(sound(bytes), len), want);
-        assert_eq!(v1_of_slice(bytes, len), want);
+        assert!(v1_of(sound(bytes), len) == want);
+        assert!(v1_of_slice(bytes, len) == want);
     }
 }
 
@@ -62,7 +62,7 @@ fn v1_files_of_a_known_text() {
             longest,
             left,
         };
-        assert_eq!(v1_of_files(bytes, len, fails_at), [want; 3]);
+        assert!(v1_of_files(bytes, len, fails_at) == [want; 3]);
     }
 }
 
@@ -74,8 +74,8 @@ fn v2_takes_its_length_and_no_more() {
     }
     let first = &bytes[..bytes.len().min(160)];
     let hash = rapidhash_v2_inline::<2, true, false, false>(first, &DEFAULT_RAPID_SECRETS);
-    assert_eq!(v2_of::<2>(sound(&bytes), 160), gave(hash, 1));
-    assert_eq!(v2_of_slice::<2>(&bytes, 160), gave(hash, 1));
+    assert!(v2_of::<2>(sound(&bytes), 160) == gave(hash, 1));
+    assert!(v2_of_slice::<2>(&bytes, 160) == gave(hash, 1));
 }
 
 // Each version over a reader of one byte less than the length, or of none for none.
@@ -84,18 +84,18 @@ fn one_byte_too_few() {
     let bytes = [7u8; 300];
     for n in 1..301usize {
         let few = &bytes[..n - 1];
-        assert_eq!(v1_of(sound(few), n as u64), fell_short());
-        assert_eq!(v2_of::<0>(sound(few), n as u64), fell_short());
-        assert_eq!(v2_of::<1>(sound(few), n as u64), fell_short());
-        assert_eq!(v2_of::<2>(sound(few), n as u64), fell_short());
+        assert!(v1_of(sound(few), n as u64) == fell_short());
+        assert!(v2_of::<0>(sound(few), n as u64) == fell_short());
+        assert!(v2_of::<1>(sound(few), n as u64) == fell_short());
+        assert!(v2_of::<2>(sound(few), n as u64) == fell_short());
     }
 }
 
 #[test]
 fn no_byte_of_an_empty_reader() {
-    assert_eq!(v1_of(sound(b""), 0), gave(rapidhash_v1(b""), 0));
+    assert!(v1_of(sound(b""), 0) == gave(rapidhash_v1(b""), 0));
     let hash = rapidhash_v2_inline::<0, true, false, false>(b"", &DEFAULT_RAPID_SECRETS);
-    assert_eq!(v2_of::<0>(sound(b""), 0), gave(hash, 0));
-    assert_eq!(v2_of::<1>(sound(b""), 0), gave(hash, 0));
-    assert_eq!(v2_of::<2>(sound(b""), 0), gave(hash, 0));
+    assert!(v2_of::<0>(sound(b""), 0) == gave(hash, 0));
+    assert!(v2_of::<1>(sound(b""), 0) == gave(hash, 0));
+    assert!(v2_of::<2>(sound(b""), 0) == gave(hash, 0));
 }

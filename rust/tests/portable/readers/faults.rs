@@ -19,14 +19,14 @@ fn each_read_may_fail() {
         let mut left = SOMETHING.len();
         for fails_at in 1..11u64 {
             let want = failed(kind, left);
-            assert_eq!(v1_of(drip(SOMETHING, fails_at, kind), 10), want);
-            assert_eq!(v2_of::<2>(drip(SOMETHING, fails_at, kind), 10), want);
+            assert!(v1_of(drip(SOMETHING, fails_at, kind), 10) == want);
+            assert!(v2_of::<2>(drip(SOMETHING, fails_at, kind), 10) == want);
             left = left.saturating_sub(1);
         }
         let want = gave(15965596575264898037, 0);
-        assert_eq!(v1_of(drip(SOMETHING, 11, kind), 10), want);
+        assert!(v1_of(drip(SOMETHING, 11, kind), 10) == want);
         let want = gave(v2::rapidhash_v2_2(SOMETHING), 0);
-        assert_eq!(v2_of::<2>(drip(SOMETHING, 11, kind), 10), want);
+        assert!(v2_of::<2>(drip(SOMETHING, 11, kind), 10) == want);
     }
 }
 
@@ -39,7 +39,7 @@ fn the_next_call_goes_on_behind_a_fault() -> Result<(), Fail> {
     assert!(first.is_err());
     assert!(source.failed());
     let second = rapidhash_v1_source::<CountingReader, false>(&mut source, 8, secrets)?;
-    assert_eq!(second, rapidhash_v1(b"mething\n"));
+    assert!(second == rapidhash_v1(b"mething\n"));
     assert!(!source.failed());
     Ok(())
 }
@@ -50,18 +50,18 @@ fn the_next_call_goes_on_behind_a_fault() -> Result<(), Fail> {
 fn a_source_marks_a_failed_read() {
     let mut source = Source::new(drip(SOMETHING, 2, ErrorKind::TimedOut));
     let mut buffer = [0; 4];
-    assert_eq!(source.read(&mut buffer).ok(), Some(1));
-    assert_eq!(source.failed(), false);
+    assert!(source.read(&mut buffer).ok() == Some(1));
+    assert!(!source.failed());
     let failed = source.read(&mut buffer).map_err(|error| error.kind());
-    assert_eq!(failed, Err(ErrorKind::TimedOut));
-    assert_eq!(source.failed(), true);
-    assert_eq!(source.read(&mut buffer[1..]).ok(), Some(1));
-    assert_eq!(buffer, [b's', b'o', 0, 0]);
-    assert_eq!(source.failed(), true);
+    assert!(failed == Err(ErrorKind::TimedOut));
+    assert!(source.failed());
+    assert!(source.read(&mut buffer[1..]).ok() == Some(1));
+    assert!(buffer == [b's', b'o', 0, 0]);
+    assert!(source.failed());
     source.clear();
-    assert_eq!(source.failed(), false);
+    assert!(!source.failed());
     let reader = source.into_inner();
-    assert_eq!((reader.reads, reader.longest, reader.left.len()), (3, 4, 8));
+    assert!((reader.reads, reader.longest, reader.left.len()) == (3, 4, 8));
 }
 
 /// V3 of ten bytes that come one a read, over a source: if one of the eleven reads fails, its error
@@ -80,7 +80,7 @@ fn a_source_is_marked_by_each_read() {
         } else {
             Ok(11612086640089003834)
         };
-        assert_eq!(answer.map_err(|error| error.kind()), want, "{fails_at}");
-        assert_eq!(source.failed(), fails_at < 12, "{fails_at}");
+        assert!(answer.map_err(|error| error.kind()) == want, "{fails_at}");
+        assert!(source.failed() == (fails_at < 12), "{fails_at}");
     }
 }

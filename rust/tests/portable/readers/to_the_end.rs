@@ -25,7 +25,7 @@ fn each_read_fails(form: Form, kind: ErrorKind) {
             longest: form.size(),
             left: 11usize.saturating_sub(fails_at as usize),
         };
-        assert_eq!(form.outcome(reader), want, "{form:?}");
+        assert!(form.outcome(reader) == want, "{form:?}");
     }
 }
 
@@ -51,7 +51,7 @@ fn reads_of_buffers(form: Form, bytes: &[u8]) {
             left: 0,
         };
         let reader = CountingReader::new(message, usize::MAX);
-        assert_eq!(form.outcome(reader), want, "{form:?} {n}");
+        assert!(form.outcome(reader) == want, "{form:?} {n}");
     }
 }
 
@@ -75,7 +75,7 @@ fn reads_of_single_bytes(form: Form, bytes: &[u8]) {
             left: 0,
         };
         let reader = CountingReader::new(message, 1);
-        assert_eq!(form.outcome(reader), want, "{form:?} {n}");
+        assert!(form.outcome(reader) == want, "{form:?} {n}");
     }
 }
 
@@ -105,7 +105,7 @@ fn compare_rapidhash_file() -> Result<(), Fail> {
     let mut rng = RapidRng::new(0);
     let bytes: Vec<u8> = (0..1024u32).map(|_| (rng.next() % 256) as u8).collect();
     for form in FORMS {
-        assert_eq!(first_difference(form, &bytes), None, "{form:?}");
+        assert!(first_difference(form, &bytes).is_none(), "{form:?}");
     }
     Ok(())
 }
@@ -124,14 +124,8 @@ fn lengths_make_the_difference() -> Result<(), Fail> {
         (&[0; 2][..], 6148914691236517205u64),
     ] {
         let mut source = Source::new(bytes);
-        assert_eq!(
-            v3::rapidhash_v3_source::<&[u8], false>(&mut source, &secrets)?,
-            want
-        );
-        assert_eq!(
-            v3::rapidhash_v3_file_seeded::<&[u8]>(bytes, &secrets)?,
-            want
-        );
+        assert!(v3::rapidhash_v3_source::<&[u8], false>(&mut source, &secrets)? == want);
+        assert!(v3::rapidhash_v3_file_seeded::<&[u8]>(bytes, &secrets)? == want);
     }
     Ok(())
 }
