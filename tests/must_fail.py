@@ -1,9 +1,10 @@
 #!/usr/bin/env python3
 """Applies the edits of tests/must_fail/CRATE/, many per check, and tests that the checker refuses each edited
-function at the goal that its edit names. Words are names of crates; without any it tries all.
+function at the goal that its edit names. The arguments are crates; without any, it tries all.
 
-An edit has the form of the kit's must-fail edits, and one more line: `refused: FUNCTION, GOAL`. Edits share a check only
-if none of their functions calls another, because the checker does not judge a function that calls a refused one."""
+An edit has the format of the kit's must-fail edits and a further line: `refused: FUNCTION, GOAL`. Edits share a
+check only if none of their functions calls another, because the checker does not judge a function that calls a
+refused one."""
 
 import json
 import os
@@ -31,14 +32,14 @@ class Edit:
                     self.changes.append((path, old, text))
 
     def finding(self, said):
-        """What is wrong with what a check said of the function, or nothing."""
+        """Returns how the function's verdict in a check differs from the expected refusal, or an empty string."""
         if not said.startswith(("no proof", "not proved")):
             return f"{self.function} is not refused: {said or 'the check says nothing of it'}"
         return "" if f"`{self.goal}`" in said else f"{self.function} is refused, but not at {self.goal}: {said}"
 
 
 def reached_by(crate):
-    """For each function of a library, those of the same crate that it calls, at any depth."""
+    """Returns a function that lists the functions of the crate that one of them calls, at any depth."""
     file = TOP / "crates" / crate / "out" / "rlib" / f"{crate}.rlib" / "toolchain" / "mir.json"
     functions = json.loads(file.read_text()) if file.exists() else []
     called = {name: set(re.findall(rf'"{crate}::([^"]+)"', json.dumps(body))) for name, *body in functions}
@@ -55,8 +56,8 @@ def reached_by(crate):
 
 
 def rounds(crate, edits):
-    """Distributes edits to few lists, so that no function of a list reaches another: an edit comes in the list after
-    those of the functions that its own reaches."""
+    """Distributes edits to as few lists as possible, so that no function of a list reaches another: each edit is in
+    the list after those of the functions that its own reaches."""
     reach, ends, lists = reached_by(crate), defaultdict(int), defaultdict(list)
     for edit in sorted(edits, key=lambda edit: len(reach(edit.function))):
         place = max(ends[function] for function in reach(edit.function) | {edit.function})
@@ -66,7 +67,7 @@ def rounds(crate, edits):
 
 
 def apply(edits, folder):
-    """Changes the files of a crate. Each old text must be in its file once, before any change."""
+    """Changes the files of a crate. Before any change, each old text must occur exactly once in its file."""
     changes = defaultdict(list)
     for edit in edits:
         for path, old, new in edit.changes:
@@ -82,7 +83,7 @@ def apply(edits, folder):
 
 
 def link(source, target):
-    """Links a file of a build, or copies it to another file system. A check replaces such files, and changes none."""
+    """Links a build file, or copies it to another file system. A check replaces such files but never modifies them."""
     try:
         os.link(source, target)
     except OSError:
@@ -90,7 +91,7 @@ def link(source, target):
 
 
 def check(number, edits):
-    """Applies edits of one crate to a copy, and returns what the checker says of each function."""
+    """Applies edits of a single crate to a copy and returns the checker's messages about each function."""
     crate, copy = edits[0].crate, ROOM / str(number)
     folder = copy / "crates" / crate
     shutil.copytree(TOP / "crates", copy / "crates", ignore=shutil.ignore_patterns("out", "data"))
@@ -105,7 +106,7 @@ def check(number, edits):
 
 
 def said_by(output):
-    """What a check says of each function: its verdict, the errors in its proof files, and the notes before it."""
+    """Returns the messages about each function: its verdict, the errors in its proof files, and the notes before it."""
     said, notes = defaultdict(str), ""
     for line in output.splitlines():
         if error := re.match(r"\./proofs/(\S+)/\w+\.antt:", line):
@@ -118,7 +119,7 @@ def said_by(output):
 
 
 def judge(number, edits):
-    """The edits, each with its finding. Edits hidden by a refused function that theirs calls are tried again."""
+    """Returns the edits with their findings. Tries an edit again if its function calls a refused one."""
     said = check(number, edits)
     found = [(edit, edit.finding(said[edit.function])) for edit in edits]
     hidden = [edit for edit, finding in found if finding and "it calls `" in finding]
