@@ -54,10 +54,10 @@ pub fn replay(alloc: Global, line: &str) -> Result<Agreement> {
         expected,
     ] = fields.as_slice()
     else {
-        bail!("no nine fields: {line}");
+        bail!("no nine fields");
     };
     let Some(version) = version_of(form, bug, minor) else {
-        bail!("no version: {line}");
+        bail!("no version");
     };
     let options = options_of(avalanche, protected);
     let bytes = message(alloc, rule, number(length)?)?;
@@ -83,7 +83,7 @@ pub fn replay(alloc: Global, line: &str) -> Result<Agreement> {
 pub fn replay_memory(alloc: Global, line: &str) -> Result<Agreement> {
     let fields: Vec<&str> = line.split("\t").collect(alloc)?;
     let [avalanche, protected, rule, length, secrets_rule, expected] = fields.as_slice() else {
-        bail!("no six fields: {line}");
+        bail!("no six fields");
     };
     let options = options_of(avalanche, protected);
     let bytes = message(alloc, rule, number(length)?)?;

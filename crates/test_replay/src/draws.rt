@@ -50,7 +50,7 @@ fn drawn(alloc: Global, seed: u64, count: u64) -> Result<Vec<u64>, AllocError> {
 pub fn replay(alloc: Global, line: &str) -> Result<Agreement> {
     let fields: Vec<&str> = line.split("\t").collect(alloc)?;
     let [seed, count, expected] = fields.as_slice() else {
-        bail!("no three fields: {line}");
+        bail!("no three fields");
     };
     let (seed, count) = (number(seed)?, number(count)?);
     let expected = numbers(alloc, expected)?;
@@ -63,7 +63,7 @@ pub fn replay(alloc: Global, line: &str) -> Result<Agreement> {
 pub fn replay_time(alloc: Global, line: &str) -> Result<Agreement> {
     let fields: Vec<&str> = line.split("\t").collect(alloc)?;
     let [seed, secs, nanos, expected] = fields.as_slice() else {
-        bail!("no four fields: {line}");
+        bail!("no four fields");
     };
     let expected = numbers(alloc, expected)?;
     let nanos = u32::try_from(number(nanos)?)?;
@@ -81,7 +81,7 @@ pub fn replay_time(alloc: Global, line: &str) -> Result<Agreement> {
 pub fn replay_steps(alloc: Global, line: &str) -> Result<Agreement> {
     let fields: Vec<&str> = line.split("\t").collect(alloc)?;
     let [first, second, expected] = fields.as_slice() else {
-        bail!("no three fields: {line}");
+        bail!("no three fields");
     };
     let (first, second, expected) = (number(first)?, number(second)?, number(expected)?);
     let steps = RapidRng::new(first).steps_to(&RapidRng::new(second));

@@ -83,7 +83,7 @@ pub fn compare(
 pub fn replay(alloc: Global, line: &str) -> Result<Agreement> {
     let fields: Vec<&str> = line.split("\t").collect(alloc)?;
     let [avalanche, sponge, protected, secrets, list, expected] = fields.as_slice() else {
-        bail!("no six fields: {line}");
+        bail!("no six fields");
     };
     let options = options_of(avalanche, protected);
     let sponge = *sponge == "1";

@@ -20,10 +20,11 @@ mod tally;
 mod words;
 
 use anyhow::{Context, Result, bail};
+use std::alloc::Global;
 use std::process::ExitCode;
 use std::rt::{Env, Files};
 use std::{env, fs};
-use tally::Tally;
+use tally::{Agreement, Tally};
 
 /// How the program is called.
 const USAGE: &str = "usage: test_replay [--compare] [FILE]..
@@ -62,25 +63,30 @@ fn replay(rt: &(impl Files + Print + Eprint + AllocGlobal), name: &str) -> Resul
     };
     let mut tally = Tally::new();
     for line in lines {
-        let case = match columns {
-            bulk::COLUMNS => bulk::replay(rt.alloc(), line)?,
-            bulk::MEMORY_COLUMNS => bulk::replay_memory(rt.alloc(), line)?,
-            hashers::COLUMNS => hashers::replay(rt.alloc(), line)?,
-            readers::COLUMNS => readers::replay(rt.alloc(), line)?,
-            streams::COLUMNS => streams::replay(rt.alloc(), line)?,
-            streams::LANES_COLUMNS => streams::replay_with_lanes(rt.alloc(), line)?,
-            seeds::COLUMNS => seeds::replay(rt.alloc(), line)?,
-            seeds::RESEED_COLUMNS => seeds::replay_reseed(rt.alloc(), line)?,
-            seeds::MADE_COLUMNS => seeds::replay_made(rt.alloc(), line)?,
-            seeds::SOURCE_COLUMNS => seeds::replay_source(rt.alloc(), line)?,
-            draws::COLUMNS => draws::replay(rt.alloc(), line)?,
-            draws::TIME_COLUMNS => draws::replay_time(rt.alloc(), line)?,
-            draws::STEPS_COLUMNS => draws::replay_steps(rt.alloc(), line)?,
-            _ => bail!("no cases with the columns {columns}"),
-        };
+        let case = replay_line(rt.alloc(), columns, line).context(format_args!("{name}: {line}"))?;
         if tally.differs(case) {
             rt.eprintln(format_args!("{name}: {line}"))?;
         }
     }
     Ok(tally)
+}
+
+/// Replays one line of a file, by the file's column names.
+fn replay_line(alloc: Global, columns: &str, line: &str) -> Result<Agreement> {
+    match columns {
+        bulk::COLUMNS => bulk::replay(alloc, line),
+        bulk::MEMORY_COLUMNS => bulk::replay_memory(alloc, line),
+        hashers::COLUMNS => hashers::replay(alloc, line),
+        readers::COLUMNS => readers::replay(alloc, line),
+        streams::COLUMNS => streams::replay(alloc, line),
+        streams::LANES_COLUMNS => streams::replay_with_lanes(alloc, line),
+        seeds::COLUMNS => seeds::replay(alloc, line),
+        seeds::RESEED_COLUMNS => seeds::replay_reseed(alloc, line),
+        seeds::MADE_COLUMNS => seeds::replay_made(alloc, line),
+        seeds::SOURCE_COLUMNS => seeds::replay_source(alloc, line),
+        draws::COLUMNS => draws::replay(alloc, line),
+        draws::TIME_COLUMNS => draws::replay_time(alloc, line),
+        draws::STEPS_COLUMNS => draws::replay_steps(alloc, line),
+        _ => bail!("no cases with the columns {columns}"),
+    }
 }

@@ -54,10 +54,10 @@ fn of_reader<const PROTECTED: bool>(
 pub fn replay(alloc: Global, line: &str) -> Result<Agreement> {
     let fields: Vec<&str> = line.split("\t").collect(alloc)?;
     let [form, minor, protected, rule, length, secrets, expected] = fields.as_slice() else {
-        bail!("no seven fields: {line}");
+        bail!("no seven fields");
     };
     let Some(version) = version_of(form, "0", minor) else {
-        bail!("no version: {line}");
+        bail!("no version");
     };
     let options = Options {
         avalanche: true,

@@ -95,7 +95,7 @@ pub fn agreement(expected: &[u64], defined: &[u64], made: &[u64]) -> Agreement {
 pub fn replay(alloc: Global, line: &str) -> Result<Agreement> {
     let fields: Vec<&str> = line.split("\t").collect(alloc)?;
     let [form, call, of, expected] = fields.as_slice() else {
-        bail!("no four fields: {line}");
+        bail!("no four fields");
     };
     compare(alloc, form, call, of, expected)
 }
@@ -104,7 +104,7 @@ pub fn replay(alloc: Global, line: &str) -> Result<Agreement> {
 pub fn replay_reseed(alloc: Global, line: &str) -> Result<Agreement> {
     let fields: Vec<&str> = line.split("\t").collect(alloc)?;
     let [of, expected] = fields.as_slice() else {
-        bail!("no two fields: {line}");
+        bail!("no two fields");
     };
     compare(alloc, "v1", "seed then reseed", of, expected)
 }
@@ -120,7 +120,7 @@ fn compare(alloc: Global, form: &str, call: &str, of: &str, expected: &str) -> R
 pub fn replay_made(alloc: Global, line: &str) -> Result<Agreement> {
     let fields: Vec<&str> = line.split("\t").collect(alloc)?;
     let [random, expected] = fields.as_slice() else {
-        bail!("no two fields: {line}");
+        bail!("no two fields");
     };
     let random = number(random)?;
     let expected = numbers(alloc, expected)?;
@@ -145,7 +145,7 @@ fn defined_answers(random: u64, second: u64) -> [u64; 5] {
 pub fn replay_source(alloc: Global, line: &str) -> Result<Agreement> {
     let fields: Vec<&str> = line.split("\t").collect(alloc)?;
     let [random, second, expected] = fields.as_slice() else {
-        bail!("no three fields: {line}");
+        bail!("no three fields");
     };
     let (random, second) = (number(random)?, number(second)?);
     let expected = numbers(alloc, expected)?;

@@ -115,7 +115,7 @@ pub fn replay(alloc: Global, line: &str) -> Result<Agreement> {
         expected,
     ] = fields.as_slice()
     else {
-        bail!("no seven fields: {line}");
+        bail!("no seven fields");
     };
     let options = options_of(avalanche, protected);
     let bytes = message(alloc, rule, number(length)?)?;
@@ -139,7 +139,7 @@ pub fn replay_with_lanes(alloc: Global, line: &str) -> Result<Agreement> {
         expected,
     ] = fields.as_slice()
     else {
-        bail!("no nine fields: {line}");
+        bail!("no nine fields");
     };
     let options = options_of(avalanche, protected);
     let bytes = message(alloc, rule, number(length)?)?;
