@@ -8,7 +8,7 @@ or 'no LINE' if it definitely is not. At most about one in N lines that are in
 no LIST is reported as 'maybe' (default: 100).";
 
 /// Why the arguments are refused.
-#[derive(Debug, Clone, Copy, PartialEq, Eq, thiserror::Error, Drop)]
+#[derive(Debug, Clone, Copy, thiserror::Error, Drop)]
 pub enum OptionsError<'a> {
     /// No list is named.
     #[error("missing LIST argument")]
@@ -22,7 +22,7 @@ pub enum OptionsError<'a> {
 }
 
 /// What the arguments ask for.
-#[derive(Debug, Clone, Copy, PartialEq, Eq)]
+#[derive(Clone, Copy)]
 pub enum Request<'a> {
     /// To print how the program is called.
     Help,

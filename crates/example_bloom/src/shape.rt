@@ -7,7 +7,7 @@ ghost use Rattle.example_bloom.specs.Shape.{Refuses, Serves};
 pub const MOST_BITS: u64 = 4294967296;
 
 /// Why there is no filter for this many keys at this rate.
-#[derive(Debug, Clone, Copy, PartialEq, Eq, thiserror::Error, Drop)]
+#[derive(Debug, Clone, Copy, thiserror::Error, Drop)]
 pub enum ShapeError {
     /// A filter that finds one in one other key finds them all.
     #[error("--one-in must be at least 2")]
@@ -18,7 +18,7 @@ pub enum ShapeError {
 }
 
 /// The size of a filter: its words of 64 bits, and the marks of a key.
-#[derive(Debug, Clone, Copy, PartialEq, Eq)]
+#[derive(Clone, Copy)]
 pub struct Shape {
     last_word: u32,
     marks: u32,

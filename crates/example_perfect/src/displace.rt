@@ -19,7 +19,7 @@ pub(crate) struct Displaced {
 const FREE: u32 = u32::MAX;
 
 // A key with its bucket. The order is by bucket, then by key, then by index.
-#[derive(Debug, Clone, Copy, PartialEq, Eq, PartialOrd, Ord)]
+#[derive(Clone, Copy, PartialEq, Eq, PartialOrd, Ord)]
 struct Member<'k> {
     bucket: usize,
     key: &'k [u8],

@@ -19,7 +19,7 @@ use std::io::Read;
 const PIECE: usize = 65536;
 
 /// A version of the hash.
-#[derive(Debug, Clone, Copy, PartialEq, Eq)]
+#[derive(Clone, Copy)]
 pub enum Version {
     V1,
     V2Minor0,
@@ -31,7 +31,7 @@ pub enum Version {
 }
 
 /// A version, and the word that its seed is made of instead of the default one.
-#[derive(Debug, Clone, Copy, PartialEq, Eq)]
+#[derive(Clone, Copy)]
 pub struct Algorithm {
     pub version: Version,
     pub seed: Option<u64>,

@@ -13,7 +13,7 @@ use std::io;
 use std::io::ErrorKind;
 
 /// The result for one line of a list.
-#[derive(Debug, Clone, Copy, PartialEq, Eq)]
+#[derive(Clone, Copy, PartialEq, Eq)]
 pub enum Verdict {
     /// The file has the hash of the line.
     Same,

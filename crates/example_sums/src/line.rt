@@ -18,7 +18,7 @@ use hex::encode_to_slice;
 use std::alloc::{AllocError, Allocator};
 
 /// How a line is laid out.
-#[derive(Debug, Clone, Copy, PartialEq, Eq)]
+#[derive(Clone, Copy, PartialEq, Eq)]
 pub enum Layout {
     /// The digits, two spaces and the name.
     Text,
@@ -29,7 +29,7 @@ pub enum Layout {
 }
 
 /// The layout of each line, and how it ends.
-#[derive(Debug, Clone, Copy, PartialEq, Eq)]
+#[derive(Clone, Copy)]
 pub struct Style {
     pub layout: Layout,
     /// A zero byte ends the line instead of a newline, and nothing is escaped.

@@ -11,7 +11,7 @@ use crate::tag::split_tag;
 use hex::FromHex;
 
 /// What a line has before its name is unescaped.
-#[derive(Debug, Clone, Copy)]
+#[derive(Clone, Copy)]
 pub struct Parts<'a> {
     /// The version and seed, if the line names them.
     pub algorithm: Option<Algorithm>,
