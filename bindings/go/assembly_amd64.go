@@ -2,11 +2,11 @@
 
 package rapidhash
 
-// The code of the C library for x86-64, as rapidhash_amd64.s has it, so that a call needs no cgo. generate.py makes a
-// trampoline for each function below, named after the export that it calls. Code in assembly is not preempted: a
-// garbage collection waits until a call returns. After the call Go restores the registers that it keeps, R14 and X15.
+// The code of the C library for x86-64 is in rapidhash_amd64.s, so that a call needs no cgo. generate.py writes a
+// trampoline for each function below, named after the export that it calls. Assembly code is not preempted: a garbage
+// collection waits until a call returns. After the call, Go restores the registers that it reserves, R14 and X15.
 
-// A stream as C lays it out. It points to its secrets for the time of a call only, in which Go moves no stack.
+// state is a stream in the layout of C. It points to its secrets only during a call, when Go moves no stack.
 type state struct {
 	secrets uintptr
 	lane    [7]uint64
@@ -16,7 +16,7 @@ type state struct {
 	lanes   uintptr
 }
 
-// All of the library, which only the trampolines call.
+// library is the entire code of the C library. Only the trampolines call it.
 func library()
 
 //go:noescape
@@ -109,7 +109,7 @@ func streamFinish(stream *state, own *Secrets) uint64
 //go:noescape
 func streamReset(stream *state, own *Secrets)
 
-// The memmove of the code above, which a test calls.
+// memmove is the memmove of the library's code. A test calls it.
 //
 //go:noescape
 func memmove(to *byte, from *byte, size uint64)

@@ -7,7 +7,7 @@ import (
 	"testing"
 )
 
-// Every size to 70, between places that overlap in each way, beside Go's own copy.
+// TestMemmove compares memmove with Go's own copy, for every size up to 70 and for each kind of overlap.
 func TestMemmove(t *testing.T) {
 	room := long()[:250]
 	for size := 0; size <= 70; size++ {

@@ -2,8 +2,8 @@
 
 package rapidhash
 
-// The C library by cgo, for all processors but amd64, and for this one by the build tag rapidhash_cgo. Bytes are passed
-// as pointers to char: cgo does not look for pointers of Go's behind those, which would take time and memory.
+// Calls the C library through cgo, on every processor except amd64, and on amd64 with the build tag rapidhash_cgo.
+// Bytes are passed as pointers to char: cgo does not search these for Go pointers, which would cost time and memory.
 
 /*
 #cgo pkg-config: rapidhash_c
@@ -30,7 +30,7 @@ HASHES(v3_micro, secrets_of) WITH_SEED(v3_micro)
 HASHES(v3_nano, secrets_of) WITH_SEED(v3_nano)
 HASHES(v3_protected, secrets_of)
 
-// A stream has a pointer for the time of a call only. It comes as a pointer to char for the same reason as bytes.
+// A stream contains a pointer only during a call. It is passed as a pointer to char for the same reason as bytes.
 typedef unsigned char *stream_of;
 #define POINT(stream, own) ((struct rapidhash_stream *)(stream))->secrets = (own)
 
@@ -63,7 +63,7 @@ import "unsafe"
 
 type state = C.struct_rapidhash_stream
 
-// The bytes as C takes them.
+// piece returns the pointer and the length of data, in the types of C.
 func piece(data []byte) (C.bytes_of, C.size_t) {
 	if len(data) == 0 {
 		return nil, 0
@@ -75,7 +75,7 @@ func pointer(stream *state) C.stream_of {
 	return (C.stream_of)(unsafe.Pointer(stream))
 }
 
-// The secrets as C has them.
+// inner returns the pointer to secrets, in the type of C.
 func inner(secrets *Secrets) C.secrets_of {
 	return (C.secrets_of)(unsafe.Pointer(secrets))
 }

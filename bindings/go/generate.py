@@ -1,13 +1,13 @@
 #!/usr/bin/env python3
-"""Writes rapidhash_amd64.s, the code of the C library for x86-64 as Go assembly, from its archive:
+"""Writes rapidhash_amd64.s, the code of the C library for x86-64 as Go assembly, from the library's archive:
 
     generate.py --write ARCHIVE    writes the file
-    generate.py --check ARCHIVE    ends with status 1 if the file is not what --write would write
+    generate.py --check ARCHIVE    exits with status 1 if the file differs from the text that --write would write
 
-ld lays the archive's object out flat: its code, its constants, and then the place of memmove, the one function that it
-calls. Each function that assembly_amd64.go declares gets a trampoline into the code, whose frame has room for the
-deepest path of calls behind it. Code whose stack this program cannot bound, or that does what Go does not allow, is
-refused with its reason, and nothing is written. It needs Debian's binutils."""
+ld lays out the archive's object flat: its code, its constants, and then the address of memmove, the only function that
+it calls. Each function that assembly_amd64.go declares gets a trampoline into the code. The trampoline's frame has room
+for the deepest path of calls. The program refuses code whose stack it cannot bound, or that does something Go does not
+allow. It then prints the reason and writes nothing. It requires Debian's binutils."""
 
 import re
 import struct
@@ -24,14 +24,14 @@ SCRIPT = """SECTIONS {
   memmove = ALIGN(16);
   /DISCARD/ : { *(.comment .note* .llvm_addrsig .eh_frame) }
 }"""
-# What the code may be made of. It has the stack pointer changed by push, pop, sub and add alone, leaves the direction
-# flag and the thread's own memory as they are, and needs nothing that some x86-64 processors lack.
+# The instructions that the code may use. Only push, pop, sub, and add change the stack pointer. None changes the
+# direction flag or the thread's own memory, and every x86-64 processor has them.
 PLAIN = set("""adc add and bswap bt call cmova cmovae cmovb cmovbe cmove cmovg cmovge cmovl cmovle cmovne cmovns cmovs
     cmp dec div imul inc ja jae jb jbe je jg jge jl jle jmp jne jns js lea mov movabs movaps movb movd movdqa movdqu
     movl movq movsbl movslq movups movw movzbl movzwl mul neg not or pop por pshufd punpcklqdq push pxor ret rol ror
     sar sbb seta setae setb setbe sete setg setl setne shl shld shr shrd sub test xchg xor xorps""".split())
 RED_ZONE = 128
-ALIGNMENT = 32  # What Go's linker gives a function on amd64.
+ALIGNMENT = 32  # Go's linker aligns functions on amd64 to this many bytes.
 HEAD = """// Made by bindings/go/generate.py from librapidhash_c.a: change that program.
 
 //go:build !rapidhash_cgo
@@ -61,7 +61,7 @@ done:
 
 
 class Refused(Exception):
-    """The archive cannot be called from Go: why."""
+    """The reason why Go cannot call the archive."""
 
 
 def run(*words):
@@ -72,7 +72,7 @@ def run(*words):
 
 
 def link(archive, room):
-    """The flat object of an archive, as an ELF file in a folder and as bytes."""
+    """Returns the flat object of an archive, as an ELF file in the directory `room` and as bytes."""
     kinds = set(re.findall(r"\bR_X86_64_\w+", run("readelf", "-rW", archive)))
     for kind in kinds - {"R_X86_64_PC32", "R_X86_64_PLT32"}:
         raise Refused(f"{archive} has a relocation {kind}, which may depend on where the code lies")
@@ -89,7 +89,7 @@ def link(archive, room):
 
 
 class Function:
-    """The stack and the calls of one function, from its instructions as objdump prints them."""
+    """The stack use and the calls of a function, from its instructions as objdump prints them."""
 
     def __init__(self, name, start):
         self.name, self.start, self.stop, self.last = name, start, start, ""
@@ -114,7 +114,7 @@ class Function:
             self.last = name
 
     def growth(self, name, operands, line):
-        """How many bytes of stack an instruction takes. Below the stack pointer it may use the red zone alone."""
+        """Returns how much stack an instruction uses. Below the stack pointer, it may use only the red zone."""
         for offset, index in re.findall(r"(-0x[0-9a-f]+)\(%rsp(,?)", operands):
             if int(offset, 16) < -RED_ZONE or index:
                 raise Refused(f"{self.name}: `{line}` is below the red zone")
@@ -126,7 +126,7 @@ class Function:
         return int(size[1], 16) * (name == "sub")
 
     def check(self):
-        """No jump back makes the stack grow again, and the code does not run into what follows."""
+        """Checks that no backward jump makes the stack grow again, and that the code does not run past its end."""
         for place, target in self.jumps:
             if any(self.start <= target <= grow < place for grow in self.grows):
                 raise Refused(f"{self.name}: its stack grows in a loop")
@@ -135,7 +135,7 @@ class Function:
 
 
 def functions_of(flat):
-    """The functions of the flat object by their places."""
+    """Returns the functions of the flat object by their addresses."""
     functions, function = {}, None
     for line in run("objdump", "-d", "-w", "--no-show-raw-insn", "-j", ".text", flat).splitlines():
         if label := re.fullmatch(r"([0-9a-f]+) <(.*)>:", line):
@@ -150,7 +150,7 @@ def functions_of(flat):
 
 
 def depth_of(place, functions, memmove, callers=()):
-    """The most bytes of stack that the function at a place takes, without the place of its return."""
+    """Returns the maximum bytes of stack that the function at an address uses, without its return address."""
     if place == memmove:
         return 0
     if place not in functions:
@@ -167,7 +167,7 @@ def depth_of(place, functions, memmove, callers=()):
 
 
 def declared():
-    """The functions that the Go file declares: the export, Go's name, the parameters with their types, the result."""
+    """Yields the functions that the Go file declares: export, Go's name, parameters with their types, and result."""
     text = (FOLDER / "assembly_amd64.go").read_text()
     for name, parameters, result in re.findall(r"^//go:noescape\nfunc (\w+)\((.*)\)(?: (\w+))?$", text, re.MULTILINE):
         export = "rapidhash_" + re.sub(r"([a-z0-9])([A-Z])", r"\1_\2", name).lower()
@@ -175,14 +175,14 @@ def declared():
 
 
 def trampoline(name, place, depth, parameters, result):
-    """A Go function that calls the code at a place, with the stack pointer at the top of its own frame.
+    """Returns a Go function that calls the code at an address, with the stack pointer at the top of its own frame.
 
-    Go has the stack pointer at a multiple of 8, C at one of 16. Two calls, since Go's tables have to know how far
-    it was moved: a profile follows them."""
+    Go aligns the stack pointer to 8 bytes, and C to 16. There are two calls, because Go's tables must record how far
+    the stack pointer has moved: a profiler follows them."""
     frame, at, before, after = (depth + 8 + 8 + 15) // 16 * 16, 0, [], []
     registers = iter(("DI", "SI", "DX", "CX"))
     for parameter, kind in parameters:
-        if parameter == "own":  # The secrets of a stream, which points to them for the time of the call.
+        if parameter == "own":  # The secrets of a stream, which points to them during the call.
             before += [f"MOVQ own+{at}(FP), AX", "MOVQ AX, (DI)"]
             after = ["MOVQ stream+0(FP), DI", "MOVQ $0, (DI)"]
         else:

@@ -1,46 +1,45 @@
-// Package rapidhash has the rapidhash family of 64-bit hashes:
+// Package rapidhash provides the rapidhash family of 64-bit hashes:
 //
 //	rapidhash.V3([]byte("hello"))   // 3327445792987248966
-//	rapidhash.V3String("hello")     // the same, and copies nothing
+//	rapidhash.V3String("hello")     // the same, without a copy
 //
-// A hash is the same on every run and on every machine. Its values are those of the Rust crate rapidhash 4.5.1, and
-// come from a library of which every function is proved to be its definition. These hashes are not cryptographic:
-// someone who chooses the bytes can make two messages collide.
+// A hash is the same on every run and on every machine, and equals that of the Rust crate rapidhash 4.5.1. The hashes
+// come from a library in which every function is proved to equal its definition. They are not cryptographic: someone
+// who chooses the bytes can make two messages collide.
 //
-// A call may run at the same time as any other; a [Stream] is used by one goroutine at a time. Hashing allocates
-// nothing.
+// Calls can run concurrently, but only one goroutine at a time may use a [Stream]. Hashing allocates nothing.
 //
 // # Installation
 //
-// The package is in the folder bindings/go of the repository, which $YERVOUND names here, and takes no registry:
+// The package is in the directory bindings/go of the repository, which $YERVOUND names here, and needs no registry:
 //
 //	go mod edit -replace yervound.example/rapidhash=$YERVOUND/bindings/go
 //	go get yervound.example/rapidhash
 //
-// On amd64 the proved code is in the package as assembly, which needs no cgo. On other processors, and with the build
-// tag rapidhash_cgo, the package calls the C library, which cgo finds by pkg-config as rapidhash_c.
+// On amd64, the package contains the proved code as assembly, which needs no cgo. On other processors, and with the
+// build tag rapidhash_cgo, the package calls the C library, which cgo finds through pkg-config as rapidhash_c.
 //
 // # Long messages
 //
-// Code in assembly is not preempted, so a garbage collection waits until the hash of a whole message is there. A
-// [Stream] hashes a long piece in parts, and lets the collection run between them.
+// Assembly code is not preempted, so a garbage collection waits until a whole message is hashed. A [Stream] hashes a
+// long piece in parts and lets the collection run between them.
 package rapidhash
 
 import "unsafe"
 
-// Secrets are a seed and secrets of all versions but V1. They are laid out as C has them.
+// Secrets contains a seed and secrets for every version except V1, in the layout of C.
 type Secrets struct {
 	Seed    uint64
 	Secrets [7]uint64
 }
 
-// SecretsV1 are a seed and secrets of V1.
+// SecretsV1 contains a seed and secrets for V1.
 type SecretsV1 struct {
 	Seed    uint64
 	Secrets [3]uint64
 }
 
-// The secrets. Nil ones stop here, before other code reads from them.
+// checked returns the secrets. It panics if they are nil, before other code reads from them.
 func (secrets *Secrets) checked() *Secrets {
 	_ = secrets.Seed
 	return secrets
@@ -155,22 +154,22 @@ func V3Seeded(data []byte, secrets *Secrets) uint64 {
 	return v3Seeded(data, secrets.checked())
 }
 
-// V3String returns the hash that V3 returns of its bytes, without a copy of them.
+// V3String returns the hash that V3 returns for the bytes of text, without a copy.
 func V3String(text string) uint64 {
 	return v3(bytesOf(text))
 }
 
-// V3StringWithSeed returns the hash that V3WithSeed returns of its bytes, without a copy of them.
+// V3StringWithSeed returns the hash that V3WithSeed returns for the bytes of text, without a copy.
 func V3StringWithSeed(text string, seed uint64) uint64 {
 	return v3WithSeed(bytesOf(text), seed)
 }
 
-// V3StringSeeded returns the hash that V3Seeded returns of its bytes, without a copy of them.
+// V3StringSeeded returns the hash that V3Seeded returns for the bytes of text, without a copy.
 func V3StringSeeded(text string, secrets *Secrets) uint64 {
 	return v3Seeded(bytesOf(text), secrets.checked())
 }
 
-// The bytes of a string, which nothing may write.
+// bytesOf returns the bytes of a string, which must not be modified.
 func bytesOf(text string) []byte {
 	return unsafe.Slice(*(**byte)(unsafe.Pointer(&text)), len(text))
 }

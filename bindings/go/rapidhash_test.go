@@ -6,7 +6,7 @@ import (
 	"testing"
 )
 
-// The bytes 0 to 119: at 60 bytes the three V2 differ, at 120 bytes V3, micro and nano do.
+// data returns the bytes 0 to 119. The three V2 versions differ at 60 bytes, and V3, micro, and nano differ at 120.
 func data() []byte {
 	data := make([]byte, 120)
 	for at := range data {
@@ -17,7 +17,7 @@ func data() []byte {
 
 var own = Secrets{1, [7]uint64{2, 3, 5, 7, 11, 13, 17}}
 
-// Compares with known values of the Rust crate rapidhash 4.5.1.
+// compare compares a value with the known value of the Rust crate rapidhash 4.5.1.
 func compare(t *testing.T, name string, value, known uint64) {
 	t.Helper()
 	if value != known {
@@ -106,7 +106,7 @@ func TestCopiesGoOnAlone(t *testing.T) {
 	compare(t, "second", second.Sum64(), V3([]byte("left lift")))
 }
 
-// Streams of one message are equal, so none keeps a pointer to its own secrets.
+// TestEqualStreams checks that streams of the same message are equal, so none keeps a pointer to its own secrets.
 func TestEqualStreams(t *testing.T) {
 	first, second := NewV3(&own), NewV3(&own)
 	for _, step := range []func(*Stream){func(*Stream) {}, func(stream *Stream) { stream.Write(data()) },
@@ -131,7 +131,7 @@ func TestZeroStreams(t *testing.T) {
 	compare(t, "block size", uint64(sized.BlockSize()), 112)
 }
 
-// Bytes, secrets and a stream next to Go pointers; cgo stops if it sees those.
+// TestBesidePointers uses bytes, secrets, and a stream next to Go pointers. cgo panics if it finds such pointers.
 func TestBesidePointers(t *testing.T) {
 	type mixed struct {
 		before  *int

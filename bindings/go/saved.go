@@ -7,8 +7,8 @@ import (
 	"unsafe"
 )
 
-// A saved stream: the magic, the number of lanes, whether a block is folded, and how many bytes are kept since. Then
-// the seed, the secrets, seven lanes, each with its highest byte first, 16 folded bytes, and room for a block.
+// A saved stream has the magic, the number of lanes, whether a block is folded, and the number of bytes kept since. The
+// seed, the secrets, and seven lanes follow, most significant byte first, then 16 folded bytes, and room for a block.
 const (
 	magic      = "rapidhash\x01"
 	headSize   = len(magic) + 3
@@ -17,7 +17,7 @@ const (
 	savedSize  = headSize + 8*8 + 7*8 + keptSize
 )
 
-// MarshalBinary returns the state of the stream, and with it its seed and secrets. The error is nil.
+// MarshalBinary returns the state of the stream, including its seed and secrets. The error is always nil.
 func (stream *Stream) MarshalBinary() ([]byte, error) {
 	stream.ensureStarted()
 	inner := &stream.inner
@@ -36,8 +36,8 @@ func (stream *Stream) MarshalBinary() ([]byte, error) {
 	return saved[:savedSize], nil
 }
 
-// UnmarshalBinary goes on from a state that MarshalBinary returned. If the bytes are none, it returns an error and does
-// not change the stream.
+// UnmarshalBinary restores a state that MarshalBinary returned. If the bytes are not such a state, it returns an error
+// and does not change the stream.
 func (stream *Stream) UnmarshalBinary(saved []byte) error {
 	if err := check(saved); err != nil {
 		return err
@@ -61,7 +61,8 @@ func (stream *Stream) UnmarshalBinary(saved []byte) error {
 	return nil
 }
 
-// What is wrong with a saved stream: after a folded block at least one byte is kept, and never more than a block.
+// check returns an error if the bytes are not a saved stream. After a folded block, a stream keeps at least one byte.
+// It never keeps more than a block.
 func check(saved []byte) error {
 	if len(saved) < len(magic) || string(saved[:len(magic)]) != magic {
 		return errors.New("rapidhash: not a saved Stream, or one of another version")

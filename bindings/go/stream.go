@@ -7,10 +7,10 @@ import (
 	"io"
 )
 
-// A Stream hashes a message in pieces, by V3, micro or nano. NewV3, NewV3Micro or NewV3Nano starts it; the zero Stream
-// is that of NewV3(nil). It keeps a copy of its secrets, and a copy of it by = is independent of it.
+// A Stream hashes a message in pieces, with V3, micro, or nano. NewV3, NewV3Micro, or NewV3Nano starts it; the zero
+// Stream behaves like that of NewV3(nil). It contains a copy of its secrets, and a copy made with = is independent.
 //
-// It is a hash.Hash64, so io.Copy writes to it. Its state can be saved in the midst of a message, by MarshalBinary.
+// It is a hash.Hash64, so io.Copy can write to it. MarshalBinary can save its state in the middle of a message.
 type Stream struct {
 	inner   state
 	secrets Secrets
@@ -46,7 +46,7 @@ func (stream *Stream) start(lanes int, secrets *Secrets) *Stream {
 	} else {
 		stream.secrets = *secrets
 	}
-	switch lanes { // The field has another type where C has laid it out.
+	switch lanes { // The field has another type if C declares the struct.
 	case 7:
 		stream.inner.lanes = 7
 	case 5:
@@ -58,14 +58,14 @@ func (stream *Stream) start(lanes int, secrets *Secrets) *Stream {
 	return stream
 }
 
-// Starts a zero stream.
+// ensureStarted starts a zero stream.
 func (stream *Stream) ensureStarted() {
 	if stream.block == 0 {
 		stream.start(7, nil)
 	}
 }
 
-// As many bytes of a piece are hashed by one call.
+// part is the maximum number of bytes that a single call hashes.
 const part = 1 << 20
 
 // Write appends a piece to the message. It never returns an error.
@@ -80,7 +80,7 @@ func (stream *Stream) Write(data []byte) (int, error) {
 	return len(data), nil
 }
 
-// WriteString is Write of the string's bytes, without a copy of them.
+// WriteString appends the bytes of a string, as Write does, without a copy.
 func (stream *Stream) WriteString(text string) (int, error) {
 	return stream.Write(bytesOf(text))
 }
@@ -96,7 +96,7 @@ func (stream *Stream) Sum(data []byte) []byte {
 	return binary.BigEndian.AppendUint64(data, stream.Sum64())
 }
 
-// Reset empties the message; it keeps the secrets and the version.
+// Reset empties the message but keeps the secrets and the version.
 func (stream *Stream) Reset() {
 	stream.ensureStarted()
 	streamReset(&stream.inner, &stream.secrets)
@@ -107,7 +107,7 @@ func (stream *Stream) Size() int {
 	return 8
 }
 
-// BlockSize returns how many bytes the hash folds at a time.
+// BlockSize returns the number of bytes that the hash folds at a time.
 func (stream *Stream) BlockSize() int {
 	stream.ensureStarted()
 	return stream.block

@@ -10,7 +10,7 @@ import (
 	"testing"
 )
 
-// A message longer than what one call hashes.
+// long returns a message that is longer than a single call hashes.
 func long() []byte {
 	message := make([]byte, 3*part+5)
 	for at := range message {
@@ -61,7 +61,7 @@ func TestStrings(t *testing.T) {
 	compare(t, "written", stream.Sum64(), 13105958653737073913)
 }
 
-// A state of each stream after each length, which another stream goes on from.
+// TestSavedStates saves the state of each stream after each length, and another stream continues from it.
 func TestSavedStates(t *testing.T) {
 	message := long()[:600]
 	for _, start := range []func(*Secrets) *Stream{NewV3, NewV3Micro, NewV3Nano} {
@@ -129,7 +129,7 @@ func TestAllocatesNothing(t *testing.T) {
 	}
 }
 
-// Calls by goroutines whose stacks have little room, at many depths, while others collect garbage.
+// TestSmallStacks hashes in goroutines with little stack space, at many depths, while others collect garbage.
 func TestSmallStacks(t *testing.T) {
 	var all sync.WaitGroup
 	message, known := long()[:5000], map[string]uint64{}

@@ -1,4 +1,4 @@
-"""What generate.py says of small objects: which code it refuses, and how much stack other code takes.
+"""Tests generate.py on small objects: which code it refuses, and how much stack other code uses.
 
     python3 test_generate.py
 """
@@ -12,7 +12,7 @@ from pathlib import Path
 sys.dont_write_bytecode = True
 import generate  # noqa: E402
 
-# The code of a function f, with what more is in its file, and what is said of it.
+# The code of a function f, with the rest of its file, and the reason why it is refused.
 REFUSED = {
     "call *%rax; ret": "not among what is known to be safe",
     "jmp *%rax": "not among what is known to be safe",
@@ -39,7 +39,7 @@ REFUSED = {
     "ret; .data; .quad 1": "has a section .data with the flags WA",
     "ret; .p2align 6": "has a section .text with the flags AX and an alignment of 64",
 }
-# The same of code that passes: the bytes below the place of its return.
+# The same for code that passes, and the bytes of stack below its return address.
 DEPTHS = {
     "ret": 128,
     "push %rbx; pop %rbx; ret": 136,
@@ -59,7 +59,7 @@ class Objects(unittest.TestCase):
         self.room = Path(room.name)
 
     def depth(self, code):
-        """The stack that f takes, whose code is in an object of its own."""
+        """Returns the bytes of stack that f uses, whose code is in its own object."""
         path = str(self.room / "f.o")
         source = f".globl f; .type f,@function; f: {code}\n"
         subprocess.run(["as", "-", "-o", path], input=source, text=True, check=True)

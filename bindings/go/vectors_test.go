@@ -9,7 +9,7 @@ import (
 	"testing"
 )
 
-// A call with the default secrets, and with those that are made from a number.
+// call has the functions of a version, with the default secrets and with secrets made from a number.
 type call struct {
 	plain  func([]byte) uint64
 	seeded func([]byte, *Secrets) uint64
@@ -27,7 +27,7 @@ var calls = map[string]call{
 	"v3_protected": {plain: V3Protected, seeded: V3ProtectedSeeded},
 }
 
-// The hash of a message whose secrets follow a rule: default, or make:NUMBER.
+// hash returns the hash of a message with the secrets of a rule, default or make:NUMBER, and these secrets.
 func (call call) hash(t *testing.T, rule string, message []byte) (uint64, *Secrets) {
 	if rule == "default" {
 		return call.plain(message), nil
@@ -43,7 +43,8 @@ func (call call) hash(t *testing.T, rule string, message []byte) (uint64, *Secre
 	return call.seeded(message, secrets), secrets
 }
 
-// The hash of a message in pieces of 1, 2, 3 bytes and so on, with the stream saved and gone on from after each.
+// inPieces returns the hash of a message in pieces of 1, 2, 3 bytes, and so on. It saves and restores the stream after
+// each piece.
 func inPieces(t *testing.T, stream *Stream, message []byte) uint64 {
 	for size := 1; len(message) > 0; size++ {
 		if size > len(message) {
@@ -60,7 +61,7 @@ func inPieces(t *testing.T, stream *Stream, message []byte) uint64 {
 	return stream.Sum64()
 }
 
-// All values of the Rust crate that share/vectors.py writes, in the file that RAPIDHASH_VECTORS names.
+// TestVectors compares all values of the Rust crate that share/vectors.py writes. RAPIDHASH_VECTORS names their file.
 func TestVectors(t *testing.T) {
 	name, isNamed := os.LookupEnv("RAPIDHASH_VECTORS")
 	if !isNamed {

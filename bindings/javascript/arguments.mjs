@@ -1,8 +1,8 @@
-// What the calls take: messages, integers, and { seed } or { secrets }.
+// The arguments of the calls: messages, integers, and { seed } or { secrets }.
 
 const encoder = new TextEncoder();
 
-/** A string as UTF-8, or the bytes of an ArrayBuffer or of a view of one. */
+/** Returns the UTF-8 of a string, or the bytes of an ArrayBuffer or of a view of one. */
 export function bytesOf(data) {
   if (data instanceof Uint8Array) return data;
   if (typeof data === "string") return encoder.encode(data);
@@ -11,12 +11,12 @@ export function bytesOf(data) {
   throw new TypeError("expected a string, an ArrayBuffer or a view of one");
 }
 
-/** Writes a string as UTF-8 to an array that has room for it, and returns the count of bytes. */
+/** Writes a string as UTF-8 to an array that has room for it. Returns the number of bytes. */
 export function encodeInto(text, array) {
   return encoder.encodeInto(text, array).written;
 }
 
-/** The argument `name` as a BigInt from 0 to 2^64 - 1. A Number from 2^53 on may be a rounded one. */
+/** Returns the argument `name` as a BigInt from 0 to 2^64 - 1. A Number from 2^53 on may be rounded. */
 export function word(name, number) {
   if (typeof number !== "bigint" && typeof number !== "number")
     throw new TypeError(`${name} must be a BigInt or a Number`);
@@ -27,14 +27,14 @@ export function word(name, number) {
   return BigInt(number);
 }
 
-/** Whether a value is an object as { } makes it, here or in another window. */
+/** Returns whether a value is an object as { } creates it, in this window or another. */
 function isPlain(value) {
   if (typeof value !== "object" || value === null) return false;
   const prototype = Object.getPrototypeOf(value);
   return prototype === null || Object.getPrototypeOf(prototype) === null;
 }
 
-/** The seed or the secrets of a call, if it has any. Refuses what would be ignored otherwise. */
+/** Returns the seed or the secrets of a call, if any. Refuses options that would otherwise be ignored. */
 export function choose(options = {}) {
   if (!isPlain(options)) throw new TypeError("options must be an object: { seed } or { secrets }");
   for (const name of Object.keys(options))
@@ -48,7 +48,7 @@ export function choose(options = {}) {
   return { seed: seed === undefined ? undefined : word("seed", seed), secrets };
 }
 
-/** The pieces of a stream of the web or of Node. Some engines have no iterator of web streams. */
+/** Returns the pieces of a web stream or a Node stream. Some engines have no iterator for web streams. */
 export function piecesOf(source) {
   if (typeof source?.[Symbol.asyncIterator] === "function") return source;
   if (typeof source?.getReader === "function") return readAll(source.getReader());

@@ -1,14 +1,14 @@
 #!/usr/bin/env bash
 # Proves and builds the C library for WebAssembly with 64-bit memory, as build/rapidhash_c_64.wasm. It
-# works on a copy of the crates, in which the library's row names the other target. The copy is
-# outside the repository, since the gate refuses a second crates.txt. What was proved of the crates
-# below it is taken from their folders out/, where make library has put it, and what was proved of the
-# library for this target is kept in build/wasm.tar.
+# works on a copy of the crates, in which the library's line of crates.txt names the other target. The
+# copy is outside the repository, because the gate refuses a second crates.txt. The proofs of the crates
+# on which the library depends come from their directories out/, where make library has put them. The
+# proofs of the library for this target are kept in build/wasm.tar.
 set -eu
 
 top=$(cd "$(dirname "${BASH_SOURCE[0]}")/../.." && pwd)
 kept=$top/build/wasm.tar
-# No size of the memory is named, so a host can grow it.
+# No memory size is set, so a host can grow the memory.
 words='wasm64 stack=65536'
 copy=$(mktemp -d)
 trap 'rm -rf "$copy"' EXIT
@@ -30,7 +30,7 @@ grep -q "^rapidhash_c $words:" "$copy/crates.txt" || {
 }
 
 (cd "$copy/crates/rapidhash_c" && rt lib)
-# Each is put in its place at once, so that two builds at a time leave both files whole.
+# Each file is moved into place atomically, so that two builds at the same time leave both files intact.
 (cd "$copy/crates" && tar -cf "$kept.$$" rapidhash_c/out)
 mv "$kept.$$" "$kept"
 cp "$copy/crates/rapidhash_c/out/rapidhash_c.wasm" "$top/build/rapidhash_c_64.wasm.$$"

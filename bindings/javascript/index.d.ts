@@ -1,18 +1,18 @@
-/** A message: a string, hashed as its UTF-8, or bytes. */
+/** A message: a string, hashed as UTF-8, or bytes. */
 export type Message = string | ArrayBuffer | ArrayBufferView;
 
 /**
  * A seed from 0 to 2^64 - 1, as a BigInt from 2^53 on; or secrets, whose first word is the seed: four words for V1,
- * eight for every other version. Never both. A seed word does not protect against chosen input: use makeSecrets there.
+ * eight for every other version. Never both. A seed word does not protect against chosen input: use makeSecrets.
  */
 export type Options =
   | { readonly seed?: bigint | number; readonly secrets?: undefined }
   | { readonly seed?: undefined; readonly secrets?: BigUint64Array };
 
-/** For the version that takes no seed. */
+/** The options of the version that takes no seed. */
 export type SecretsOption = { readonly seed?: undefined; readonly secrets?: BigUint64Array };
 
-/** A stream of the web, where it is no async iterable. */
+/** A web stream, if it is not an async iterable. */
 export interface WebStream {
   getReader(): {
     read(): Promise<{ done: boolean; value?: Message | undefined }>;
@@ -20,7 +20,7 @@ export interface WebStream {
   };
 }
 
-/** A stream of Node or of the web, or any other pieces that come one after another. */
+/** A Node stream, a web stream, or any other async iterable of pieces. */
 export type Pieces = AsyncIterable<Message> | WebStream;
 
 /** Hashes a message in pieces. */
@@ -31,7 +31,7 @@ export interface Hasher {
   updateFrom(source: Pieces): Promise<this>;
   /** Returns the hash of the message so far. More pieces may follow. */
   digest(): bigint;
-  /** Empties the message; keeps the secrets. Returns the hasher. */
+  /** Empties the message but keeps the secrets. Returns the hasher. */
   reset(): this;
   /** Returns an independent hasher with the same message so far. */
   clone(): this;
@@ -56,11 +56,11 @@ export interface Rapidhash {
   readonly V3: new (options?: Options) => Hasher;
   readonly V3Micro: new (options?: Options) => Hasher;
   readonly V3Nano: new (options?: Options) => Hasher;
-  /** The longest message of V1, V2 and protected V3 in bytes, where the engine has the memory. */
+  /** The maximum length in bytes of a message for V1, V2, and protected V3, if the engine has the memory. */
   readonly room: number;
 }
 
-/** Loads the module inside the package, or another from its bytes, its path or its URL. */
+/** Loads the module inside the package, or another from its bytes, its path, or its URL. */
 export function load(
   source?: ArrayBuffer | ArrayBufferView | string | { readonly href: string },
 ): Promise<Rapidhash>;

@@ -1,21 +1,21 @@
-// The module's exports and its memory. After the module's own part the memory has secrets, a stream,
-// and the bytes of one call. It grows to the longest message of V1, V2 or protected V3, and keeps
+// The module's exports and its memory. After the module's own part, the memory has secrets, a stream,
+// and the bytes of a single call. It grows to the longest message of V1, V2, or protected V3 and keeps
 // that size.
 import { bytesOf, encodeInto, word } from "./arguments.mjs";
 
 const page = 65536;
-/** A memory of 32-bit addresses has no more bytes. */
+/** The maximum size in bytes of a memory with 32-bit addresses. */
 const most = 2 ** 32;
-/** V3, micro and nano hash a longer message by pieces of so many bytes. */
+/** V3, micro, and nano hash a longer message in pieces of this many bytes. */
 export const piece = 2 * page;
 export const streamSize = 216;
-/** Up to so many bytes a loop is quicker than set() or encodeInto(). */
+/** Up to this many bytes, a loop is faster than set() or encodeInto(). */
 const few = 32;
 
-// An export takes 64-bit integers, and to make a BigInt takes longer than to look one up.
+// An export takes 64-bit integers, and creating a BigInt is slower than looking one up.
 const small = Array.from({ length: 257 }, (_, at) => BigInt(at));
 
-/** A length or a pointer as an export takes it. */
+/** Returns a length or a pointer as an export takes it. */
 function integer(number) {
   return number < small.length ? small[number] : BigInt(number);
 }
@@ -34,7 +34,7 @@ export class Library {
     this.fit(piece);
   }
 
-  /** Makes the views of the memory, which are gone when it has grown. */
+  /** Creates the views of the memory, which become invalid when it grows. */
   look() {
     const { buffer } = this.exports.memory;
     this.secrets = new BigUint64Array(buffer, this.atSecrets, 8);
@@ -55,7 +55,7 @@ export class Library {
     this.look();
   }
 
-  /** Writes a string as UTF-8 to the memory, and returns the count of bytes. */
+  /** Writes a string as UTF-8 to the memory. Returns the number of bytes. */
   putText(text) {
     const { bytes } = this;
     if (text.length > few) return encodeInto(text, bytes);
@@ -67,8 +67,8 @@ export class Library {
     return text.length;
   }
 
-  /** Copies a message into the memory, and returns its length for an export. A string has to be
-   * short: its UTF-8 has at most three bytes for each of its units. */
+  /** Copies a message into the memory. Returns its length for an export. A string must be short: its
+   * UTF-8 has at most three bytes per code unit. */
   put(message) {
     if (typeof message === "string") return integer(this.putText(message));
     const { length } = message;
@@ -82,7 +82,7 @@ export class Library {
     return integer(length);
   }
 
-  /** Copies secrets into the memory, and returns where they are. */
+  /** Copies secrets into the memory. Returns a pointer to them. */
   give(secrets, count) {
     if (secrets.length !== count)
       throw new TypeError(`secrets must have ${count} words for this version, the seed first`);
@@ -90,14 +90,14 @@ export class Library {
     return this.pointers.secrets;
   }
 
-  /** Secrets that an export makes from a number. */
+  /** Returns the secrets that the export `name` makes from a number. */
   take(name, count, number) {
     this.exports[name](word("number", number), this.pointers.secrets);
     return this.secrets.slice(0, count);
   }
 }
 
-/** A message that `put` takes: a short string as it is, and all else as bytes. */
+/** Returns a message for `put`: a short string unchanged, and anything else as bytes. */
 export function messageOf(data) {
   return typeof data === "string" && 3 * data.length <= piece ? data : bytesOf(data);
 }

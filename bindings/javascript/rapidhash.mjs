@@ -1,20 +1,20 @@
-// The rapidhash family of hashes, over the C library built for WebAssembly by `make wasm`:
+// The rapidhash family of hashes, over the C library that `make wasm` builds for WebAssembly:
 //
 //     import { loadSync } from "yervound-rapidhash";
 //     const hash = loadSync().v3("hello");
 //
-// A hash is a BigInt below 2n ** 64n, the same on every machine. README.md has every call.
+// A hash is a BigInt below 2n ** 64n, the same on every machine. README.md describes every call.
 import { choose, word } from "./arguments.mjs";
 import { Library, messageOf, piece } from "./library.mjs";
 import { Stream } from "./stream.mjs";
 import code from "./module.mjs";
 
-/** The module inside the package. */
+/** Returns the module inside the package. */
 function inside() {
   return Uint8Array.from(atob(code), (letter) => letter.charCodeAt(0));
 }
 
-/** What WebAssembly.instantiate accepts: bytes are passed on, and a path or a URL is read. */
+/** Returns the argument of WebAssembly.instantiate: bytes unchanged, and the contents of a path or a URL. */
 async function read(source) {
   if (source === undefined) return inside();
   if (source instanceof ArrayBuffer || ArrayBuffer.isView(source)) return source;
@@ -22,26 +22,26 @@ async function read(source) {
   return (await import("node:fs/promises")).readFile(source);
 }
 
-/** The calls, over the module inside the package, or over another: its bytes, its path or its URL. */
+/** Resolves to the calls, over the module inside the package or another from its bytes, path, or URL. */
 export async function load(source) {
   const { instance } = await WebAssembly.instantiate(await read(source));
   return calls(new Library(instance.exports));
 }
 
-/** The same at once, over the module inside the package or over the bytes of another. */
+/** Returns the calls synchronously, over the module inside the package or the bytes of another. */
 export function loadSync(bytes = inside()) {
   return calls(new Library(new WebAssembly.Instance(new WebAssembly.Module(bytes)).exports));
 }
 
-/** A hash as 16 lower-case hexadecimal digits. */
+/** Returns a hash as 16 lower-case hexadecimal digits. */
 export function hex(hash) {
   return word("hash", hash).toString(16).padStart(16, "0");
 }
 
 const none = {};
 
-/** The call of a version with `count` words of secrets. A message that is longer than a piece goes
- * through a stream of `lanes` lanes, if the version has one. */
+/** Returns the call of a version with `count` words of secrets. It hashes a message longer than a piece
+ * with a stream of `lanes` lanes, if the version has one. */
 function form(library, name, count, lanes) {
   const { bytes } = library.pointers;
   const plain = library.exports[name];
@@ -58,7 +58,7 @@ function form(library, name, count, lanes) {
     if (seed !== undefined) return BigInt.asUintN(64, withSeed(bytes, length, seed));
     return BigInt.asUintN(64, plain(bytes, length));
   };
-  // Apart and small, so that the engine compiles it into its callers.
+  // Separate and small, so that the engine inlines it into its callers.
   return (data, options) => {
     if (options === undefined && data instanceof Uint8Array && data.length <= piece)
       return BigInt.asUintN(64, plain(bytes, library.put(data)));
@@ -66,8 +66,8 @@ function form(library, name, count, lanes) {
   };
 }
 
-/** What load returns: each call takes data and, optionally, { seed } or { secrets }. `room` is the
- * longest message of V1, V2 and protected V3 in bytes, where the engine has the memory. */
+/** Returns the result of load: each call takes data and, optionally, { seed } or { secrets }. `room` is
+ * the maximum length in bytes of a message for V1, V2, and protected V3, if the engine has the memory. */
 function calls(library) {
   const stream = (lanes) => class extends Stream {
     constructor(options) {

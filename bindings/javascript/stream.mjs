@@ -2,7 +2,7 @@
 import { choose, piecesOf } from "./arguments.mjs";
 import { messageOf, piece, streamSize } from "./library.mjs";
 
-/** A message in pieces. Its state is a separate array, which is copied into the memory for a call. */
+/** Hashes a message in pieces. The state is a separate array, which each call copies into the memory. */
 export class Stream {
   #library;
   #secrets;
@@ -18,7 +18,7 @@ export class Stream {
     this.reset();
   }
 
-  /** Calls an export over the state: its name, and a message where it takes one. */
+  /** Calls the export `name` with the state, and with a message if it takes one. */
   #call(name, message) {
     const library = this.#library;
     library.give(this.#secrets, 8);
@@ -30,7 +30,7 @@ export class Stream {
     return result;
   }
 
-  /** Adds a piece to the message, and returns the hasher. */
+  /** Appends a piece to the message. Returns the hasher. */
   update(data) {
     const message = messageOf(data);
     if (message.length <= piece) {
@@ -42,24 +42,24 @@ export class Stream {
     return this;
   }
 
-  /** Adds all pieces of a stream of the web or of Node, and promises the hasher. */
+  /** Appends all pieces of a web stream or a Node stream. Resolves to the hasher. */
   async updateFrom(source) {
     for await (const data of piecesOf(source)) this.update(data);
     return this;
   }
 
-  /** The hash of the message so far. More pieces may follow. */
+  /** Returns the hash of the message so far. More pieces may follow. */
   digest() {
     return BigInt.asUintN(64, this.#call("rapidhash_stream_finish"));
   }
 
-  /** Forgets the message, keeps the secrets, and returns the hasher. */
+  /** Empties the message but keeps the secrets. Returns the hasher. */
   reset() {
     this.#call("rapidhash_stream_reset");
     return this;
   }
 
-  /** A hasher with the same message so far, which goes on alone. */
+  /** Returns an independent hasher with the same message so far. */
   clone() {
     const copy = new this.constructor({ secrets: this.#secrets });
     copy.#state.set(this.#state);

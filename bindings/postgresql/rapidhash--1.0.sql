@@ -1,6 +1,6 @@
 \echo Use "CREATE EXTENSION rapidhash" to load this file. \quit
 
--- Each version of a bytea, a text or a bigint: by default, with a seed, and with the secrets made from a number.
+-- Creates each version for bytea, text, and bigint: by default, with a seed, and with secrets made from a number.
 DO $body$
 DECLARE
     version text;

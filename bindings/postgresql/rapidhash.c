@@ -1,4 +1,4 @@
-/* The rapidhash family as functions of PostgreSQL. rapidhash--1.0.sql declares them. */
+/* The rapidhash family as PostgreSQL functions. rapidhash--1.0.sql declares them. */
 #include <postgres.h>
 
 #include <fmgr.h>
@@ -6,7 +6,7 @@
 
 PG_MODULE_MAGIC;
 
-/* A hash by a second argument, which some do not look at. */
+/* A hash with a second argument, which some hashes ignore. */
 typedef uint64_t hash_by_word(const void *bytes, size_t len, uint64_t word);
 
 static uint64_t second_argument(FunctionCallInfo fcinfo)
@@ -14,7 +14,7 @@ static uint64_t second_argument(FunctionCallInfo fcinfo)
     return PG_NARGS() > 1 ? (uint64_t)PG_GETARG_INT64(1) : 0;
 }
 
-/* The hash of a bytea or a text, where it lies if it is in one piece and not compressed. */
+/* Returns the hash of a bytea or a text, without a copy if the value is in a single piece and not compressed. */
 static Datum hash_bytes(FunctionCallInfo fcinfo, hash_by_word *hash)
 {
     struct varlena *message = PG_DETOAST_DATUM_PACKED(PG_GETARG_DATUM(0));
@@ -23,7 +23,7 @@ static Datum hash_bytes(FunctionCallInfo fcinfo, hash_by_word *hash)
     PG_RETURN_INT64((int64)result);
 }
 
-/* The hash of the 8 bytes of an integer, the lowest first. */
+/* Returns the hash of the 8 bytes of an integer, least significant first. */
 static Datum hash_integer(FunctionCallInfo fcinfo, hash_by_word *hash)
 {
     uint64_t number = (uint64_t)PG_GETARG_INT64(0);
@@ -46,7 +46,7 @@ static Datum hash_integer(FunctionCallInfo fcinfo, hash_by_word *hash)
         return hash_integer(fcinfo, hash); \
     }
 
-/* The calls of a version: by default, with a seed word, and with the secrets made from a number. V1 has its own. */
+/* Defines the calls of a version: by default, with a seed word, and with secrets from a number, of V1 or others. */
 #define VERSION(version, prefix, with_seed) \
     static uint64_t default_##version(const void *bytes, size_t len, uint64_t none) \
     { \

@@ -1,13 +1,13 @@
-/* The hashes as an extension of CPython 3.11 and later, over the library for C. A message is hashed where it lies. */
+/* The hashes as an extension for CPython 3.11 and later, over the C library. Messages are hashed without a copy. */
 #include "extension.h"
 
-/* The secrets' two classes, of the module rapidhash._secrets. */
+/* The two classes of secrets in the module rapidhash._secrets. */
 struct classes {
     PyObject *secrets;
     PyObject *secrets_v1;
 };
 
-/* The calls of one form. `with_seed` may be NULL. */
+/* The library's functions for a form. `with_seed` may be NULL. */
 struct form {
     uint64_t (*plain)(const void *bytes, size_t len);
     uint64_t (*with_seed)(const void *bytes, size_t len, uint64_t seed);
@@ -15,7 +15,7 @@ struct form {
     int is_v1;
 };
 
-/* What a caller gave: `secrets` is NULL or points to them, and `seed` counts if has_seed is not 0. */
+/* The seed or the secrets of a call. `secrets` may be NULL, and `seed` is valid only if has_seed is not 0. */
 struct start {
     const void *secrets;
     uint64_t seed;
@@ -28,7 +28,7 @@ static PyObject *refuse(const char *why)
     return NULL;
 }
 
-/* The bytes of secrets, or NULL with an error set. */
+/* Returns the bytes of secrets, or NULL with an error set. */
 static const void *words_of(PyObject *secrets, PyObject *class, Py_ssize_t size)
 {
     if (!PyObject_TypeCheck(secrets, (PyTypeObject *)class) || PyBytes_Size(secrets) != size)
@@ -36,7 +36,7 @@ static const void *words_of(PyObject *secrets, PyObject *class, Py_ssize_t size)
     return PyBytes_AsString(secrets);
 }
 
-/* A word of a Python integer: 0, or -1 with an error set. */
+/* Reads a word from a Python integer. Returns 0, or -1 with an error set. */
 static int read_word(PyObject *number, uint64_t *word)
 {
     PyObject *index = PyNumber_Index(number);
@@ -51,7 +51,7 @@ static int read_word(PyObject *number, uint64_t *word)
     return -1;
 }
 
-/* Sorts the arguments of a call into data, seed and secrets, each NULL if it is not there: 0, or -1. */
+/* Sorts arguments into data, seed, and secrets, each NULL if it is missing. Returns 0, or -1 with an error set. */
 static int sort(PyObject *const *args, Py_ssize_t count, PyObject *names, PyObject *sorted[3])
 {
     static const char *const known[3] = {"data", "seed", "secrets"};
@@ -71,7 +71,7 @@ static int sort(PyObject *const *args, Py_ssize_t count, PyObject *names, PyObje
     return sorted[0] == NULL ? refuse("missing argument: data"), -1 : 0;
 }
 
-/* Reads the seed or the secrets of a call: 0, or -1 with an error set. */
+/* Reads the seed or the secrets of a call. Returns 0, or -1 with an error set. */
 static int read_start(const struct form *form, PyObject *module, PyObject *const sorted[3], struct start *start)
 {
     const struct classes *classes = PyModule_GetState(module);
@@ -123,7 +123,7 @@ static PyObject *hash(
     return result;
 }
 
-/* The call of a form: its name, its function for a seed word, and whether it is V1. */
+/* Defines the call of a form, from its name, its function for a seed word, and whether it is V1. */
 #define FORM(name, with_seed, is_v1) \
     static uint64_t seeded_##name(const void *bytes, size_t len, const void *secrets) \
     { \
@@ -144,7 +144,7 @@ FORM(v3_micro, rapidhash_v3_micro_with_seed, 0)
 FORM(v3_nano, rapidhash_v3_nano_with_seed, 0)
 FORM(v3_protected, NULL, 0)
 
-/* A call that makes words of one: its name, the library's function, and the struct that this fills. */
+/* Defines a call that derives secrets from a word: its name, the library's function, and the struct to fill. */
 #define MAKER(name, function, type) \
     static PyObject *name(PyObject *module, PyObject *number) \
     { \
@@ -166,7 +166,7 @@ MAKER(seeded, rapidhash_seed_secrets, rapidhash_secrets)
      PyDoc_STR(#name "($module, data, seed=None, secrets=None)\n--\n\nReturns the " #name " hash of `data`.\n\n" \
                "Pass `seed`, a word for the default secrets, or `secrets` from make_secrets. A seed word is no\n" \
                "defence against chosen input. Raises BufferError if `data` is not contiguous, OverflowError for\n" \
-               "a seed outside 0 to 2**64 - 1, and TypeError for both.")}
+               "a seed outside 0 to 2**64 - 1, and TypeError if both are passed.")}
 
 static PyMethodDef calls[] = {
     CALL(v1), CALL(v2_0), CALL(v2_1), CALL(v2_2), CALL(v3), CALL(v3_micro), CALL(v3_nano), CALL(v3_protected),

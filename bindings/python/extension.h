@@ -1,4 +1,4 @@
-/* What the two files of the extension share. The limited API has buffers since CPython 3.11. */
+/* The declarations that both files of the extension share. The limited API includes buffers from CPython 3.11 on. */
 #ifndef RAPIDHASH_EXTENSION_H
 #define RAPIDHASH_EXTENSION_H
 
@@ -7,10 +7,10 @@
 #include <Python.h>
 #include <rapidhash_c.h>
 
-/* Other threads run while a message is hashed that is longer than so many bytes. */
+/* Other threads can run while a message longer than this many bytes is hashed. */
 #define LONG 65536
 
-/* The base of the hashers. */
+/* The base class of the hashers. */
 extern PyType_Spec rapidhash_stream_spec;
 
 #endif

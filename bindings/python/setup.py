@@ -1,5 +1,5 @@
-"""Builds a wheel of the folder that `make wheel` lays out. With librapidhash_c.a in it the wheel has the extension,
-for CPython 3.11 and later. Else it has librapidhash_c.so.1 and is for each Python."""
+"""Builds a wheel from the directory that `make wheel` prepares. If librapidhash_c.a is in it, the wheel has the
+extension and is for CPython 3.11 and later. Otherwise, the wheel has librapidhash_c.so.1 and is for every Python."""
 
 import os
 
@@ -29,7 +29,7 @@ if os.path.exists(ARCHIVE):
         ["extension.c", "stream.c"],
         include_dirs=["."],
         extra_objects=[ARCHIVE],
-        # The names of the library stay inside, so that no other library's are called instead.
+        # The symbols of the library are hidden, so that those of another library are not called instead.
         extra_compile_args=["-std=c99", "-fvisibility=hidden"],
         extra_link_args=["-Wl,--exclude-libs,ALL", "-Wl,-s"],
         py_limited_api=True,

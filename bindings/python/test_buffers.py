@@ -1,4 +1,4 @@
-"""An installed copy of the package: buffers, files and maps of files. tests/python.sh runs this over each wheel."""
+"""Tests buffers, files, and memory maps with an installed copy of the package. tests/python.sh runs it per wheel."""
 
 import hashlib
 import io
@@ -14,11 +14,11 @@ import unittest
 import rapidhash
 
 DATA = bytes(range(120))
-KNOWN = 7088138960297660729  # V3 of DATA by the Rust crate, as in test_rapidhash.py
+KNOWN = 7088138960297660729  # The V3 hash of DATA by the Rust crate, as in test_rapidhash.py
 
 
 def lets_others_run(call):
-    """Whether another thread runs during a call. It cannot take the interpreter, since the interval is long."""
+    """Returns whether a call lets another thread run. The switch interval is too long for the thread to preempt it."""
     count, done, interval = [0], threading.Event(), sys.getswitchinterval()
 
     def other():
@@ -39,14 +39,14 @@ def lets_others_run(call):
 
 
 class Long(bytes):
-    """Bytes that tell a wrong length."""
+    """Bytes that report a wrong length."""
 
     def __len__(self):
         return 1 << 40
 
 
 class Short(io.RawIOBase):
-    """A file that gives seven bytes at a time."""
+    """A file that returns seven bytes per read."""
 
     def __init__(self, data):
         super().__init__()

@@ -1,5 +1,5 @@
-"""An installed copy of the package: calls, secrets and hashers. tests/python.sh runs this over each wheel,
-and names it in RAPIDHASH_WHEEL."""
+"""Tests calls, secrets, and hashers with an installed copy of the package. tests/python.sh runs this for each wheel
+and names the wheel in RAPIDHASH_WHEEL."""
 
 import contextlib
 import copy
@@ -16,10 +16,10 @@ import unittest
 import rapidhash
 
 DATA = bytes(range(120))
-KNOWN = 7088138960297660729  # V3 of DATA by the Rust crate, as in test_rapidhash.py
+KNOWN = 7088138960297660729  # The V3 hash of DATA by the Rust crate, as in test_rapidhash.py
 WITH_SEED_1 = 8806718467852582029
 
-# Four threads write one piece, which takes so long that they meet in the library.
+# Four threads write the same piece. Each write takes so long that the threads overlap in the library.
 SHARED = """
 import threading, rapidhash
 piece, hasher, alone = bytes(range(250)) * 20000, rapidhash.V3(), rapidhash.V3()
@@ -41,7 +41,7 @@ print(hasher.intdigest() == alone.intdigest())
 
 
 def run(program, **variables):
-    """The status and the output of a program in a process of its own."""
+    """Runs a program in its own process. Returns its exit status and its output."""
     done = subprocess.run([sys.executable, "-B", "-c", program], env={**os.environ, **variables}, text=True,
                           stdout=subprocess.PIPE, stderr=subprocess.STDOUT)
     return done.returncode, done.stdout
@@ -117,7 +117,7 @@ class Calls(unittest.TestCase):
         for seed in (-1, 2**64):
             with self.assertRaises(OverflowError):
                 rapidhash.v3(data, seed=seed)
-        data.append(120)  # A bytearray refuses this as long as it is lent.
+        data.append(120)  # A bytearray refuses this while its buffer is exported.
 
 
 class Secrets(unittest.TestCase):
@@ -204,7 +204,7 @@ class Hashers(unittest.TestCase):
         self.assertEqual(count, same)
 
     def test_threads_share_a_hasher_of_long_pieces(self):
-        """In a process of its own, since a write that meets another one can end the interpreter."""
+        """Runs in its own process, because a write that overlaps another can end the interpreter."""
         self.assertEqual(run(SHARED), (0, "True\n"))
 
 

@@ -1,5 +1,5 @@
-"""What mypy has to accept. It has to refuse each line with a comment that names an error: an unneeded comment is an
-error too. tests/python.sh runs it; nothing runs this file."""
+"""Lines that mypy must accept, except those with a comment that names an error, which it must refuse. An unneeded
+comment is an error too. tests/python.sh runs mypy; nothing runs this file."""
 
 import mmap
 from array import array

@@ -1,27 +1,27 @@
-/* The rapidhash family as functions of SQL: an extension that SQLite loads. README.md has every call. */
+/* The rapidhash family as SQL functions: an extension that SQLite loads. README.md describes every function. */
 #include <rapidhash_c.h>
 #include <sqlite3ext.h>
 
 SQLITE_EXTENSION_INIT1
 
-/* SQLite 3.25 has the first sqlite3_create_window_function. */
+/* SQLite 3.25 introduced sqlite3_create_window_function. */
 #define OLDEST_SQLITE 3025000
 #define FLAGS (SQLITE_UTF8 | SQLITE_DETERMINISTIC | SQLITE_INNOCUOUS)
 
-/* A function of SQL. Its second argument is a word with this name; `word` is NULL if it has no second argument. */
+/* An SQL function. `word` is the name of its second argument, a word, or NULL if it has no second argument. */
 struct function {
     const char *name;
     const char *word;
     uint64_t (*hash)(const void *bytes, size_t len, uint64_t word);
 };
 
-/* An aggregate over the values of a column: its hash is V3, micro or nano. */
+/* An aggregate over the values of a column, with V3, micro, or nano. */
 struct aggregate {
     const char *name;
     void (*start)(struct rapidhash_stream *stream, const struct rapidhash_secrets *secrets);
 };
 
-/* What an aggregate keeps between rows, zeros at first. SQLite does not move it, so the stream may point into it. */
+/* The state of an aggregate between rows, initially zero. SQLite does not move it, so the stream may point into it. */
 struct running {
     int is_started;
     uint64_t seed;
@@ -29,7 +29,7 @@ struct running {
     struct rapidhash_stream stream;
 };
 
-/* The bytes of a value. Those of an integer are in `integer`. */
+/* The bytes of a value. If it is an integer, they are in `integer`. */
 struct message {
     const void *bytes;
     size_t len;
@@ -47,7 +47,7 @@ static void refuse(sqlite3_context *context, const char *name, const char *why)
     sqlite3_free(text);
 }
 
-/* Reads an integer as the word of the same 64 bits. Returns 0 with an error set if it is not an integer. */
+/* Reads an integer as the word with the same 64 bits. Returns 0 with an error set if the value is not an integer. */
 static int read_word(sqlite3_context *context, const char *name, const char *what, sqlite3_value *value, uint64_t *word)
 {
     char why[64];
@@ -60,7 +60,7 @@ static int read_word(sqlite3_context *context, const char *name, const char *wha
     return 1;
 }
 
-/* The 8 bytes of an integer, the lowest first. */
+/* Reads the 8 bytes of an integer, least significant first. */
 static void read_integer(sqlite3_value *value, struct message *message)
 {
     uint64_t word = (uint64_t)sqlite3_value_int64(value);
@@ -71,7 +71,7 @@ static void read_integer(sqlite3_value *value, struct message *message)
     message->len = sizeof message->integer;
 }
 
-/* Reads the bytes of a value. Returns 0 if there are none: with no result set, which means NULL, or with an error. */
+/* Reads the bytes of a value. Returns 0 if there are none: without a result, which means NULL, or with an error set. */
 static int read_message(sqlite3_context *context, const char *name, sqlite3_value *value, struct message *message)
 {
     int type = sqlite3_value_type(value);
@@ -89,7 +89,7 @@ static int read_message(sqlite3_context *context, const char *name, sqlite3_valu
         message->bytes = sqlite3_value_text(value);
         message->len = (size_t)sqlite3_value_bytes(value);
     } else {
-        /* In this order, since a zeroblob for which there is no memory becomes NULL. */
+        /* The length comes first, because a zeroblob becomes NULL if there is no memory for it. */
         message->len = (size_t)sqlite3_value_bytes(value);
         message->bytes = sqlite3_value_blob(value);
     }
@@ -99,7 +99,7 @@ static int read_message(sqlite3_context *context, const char *name, sqlite3_valu
     return 0;
 }
 
-/* The body of each function. */
+/* Implements each SQL function. */
 static void call(sqlite3_context *context, int count, sqlite3_value **values)
 {
     const struct function *function = sqlite3_user_data(context);
@@ -111,7 +111,7 @@ static void call(sqlite3_context *context, int count, sqlite3_value **values)
         sqlite3_result_int64(context, (sqlite3_int64)function->hash(message.bytes, message.len, word));
 }
 
-/* Takes one row into an aggregate. */
+/* Adds a row to an aggregate. */
 static void step(sqlite3_context *context, int count, sqlite3_value **values)
 {
     const struct aggregate *aggregate = sqlite3_user_data(context);
@@ -139,7 +139,7 @@ static void step(sqlite3_context *context, int count, sqlite3_value **values)
     rapidhash_stream_write(&running->stream, message.bytes, message.len);
 }
 
-/* The hash of the rows so far. It changes nothing, so it is the last result too. */
+/* Returns the hash of the rows so far. It changes nothing, so it also returns the final result. */
 static void answer(sqlite3_context *context)
 {
     const struct running *running = sqlite3_aggregate_context(context, 0);
@@ -147,7 +147,7 @@ static void answer(sqlite3_context *context)
         sqlite3_result_int64(context, (sqlite3_int64)rapidhash_stream_finish(&running->stream));
 }
 
-/* A window whose first row moves has no hash: a hash cannot lose bytes. */
+/* Refuses a window whose first row moves, because no bytes can be removed from a hash. */
 static void lose(sqlite3_context *context, int count, sqlite3_value **values)
 {
     const struct aggregate *aggregate = sqlite3_user_data(context);
@@ -156,7 +156,7 @@ static void lose(sqlite3_context *context, int count, sqlite3_value **values)
     refuse(context, aggregate->name, "the window has to begin with UNBOUNDED PRECEDING");
 }
 
-/* The hash of a version without a second argument, and that with the secrets made from a number. V1 has its own. */
+/* Defines the hash of a version by default, and with secrets made from a number. V1 has its own type of secrets. */
 #define HASHES(version, prefix) \
     static uint64_t default_##version(const void *bytes, size_t len, uint64_t none) \
     { \
@@ -209,7 +209,7 @@ static const struct aggregate aggregates[] = {
 
 #define COUNT(table) (sizeof(table) / sizeof *(table))
 
-/* Adds all calls to a database. SQLite finds this function by the file's name, rapidhash.so. */
+/* Adds all functions to a database. SQLite derives the name of this function from that of the file, rapidhash.so. */
 #ifdef __GNUC__
 __attribute__((visibility("default")))
 #endif

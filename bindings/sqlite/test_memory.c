@@ -1,6 +1,6 @@
-/* Lets each allocation of SQLite fail in turn, while the extension is loaded and while a query runs. The query's status
- * is then SQLITE_NOMEM, or its result is the one that it has with all memory. tests/sqlite.py builds it with
- * sanitizers. */
+/* Makes each allocation of SQLite fail in turn, while the extension is loaded and while a query runs. The query's
+ * status must then be SQLITE_NOMEM, or its result must be the same as with enough memory. tests/sqlite.py builds this
+ * program with sanitizers. */
 #include <sqlite3.h>
 #include <stdio.h>
 #include <stdlib.h>
@@ -20,7 +20,7 @@ static const char *const queries[] = {
 
 static const struct sqlite3_api_routines *routines;
 static sqlite3_mem_methods memory;
-/* How many allocations succeed before one fails. */
+/* The number of allocations that succeed before one fails. */
 static long left = -1;
 static long failures;
 
@@ -42,7 +42,7 @@ static void *reallocate(void *old, int size)
     return fails() ? NULL : memory.xRealloc(old, size);
 }
 
-/* SQLite tells its calls to an extension alone. */
+/* SQLite passes its routines only to an extension. */
 static int keep_routines(sqlite3 *database, char **error, const struct sqlite3_api_routines *api)
 {
     (void)database;
@@ -51,7 +51,7 @@ static int keep_routines(sqlite3 *database, char **error, const struct sqlite3_a
     return SQLITE_OK;
 }
 
-/* Writes the rows of a query, and returns its status. SQLite itself may lose the text of an error. */
+/* Writes the rows of a query and returns its status. SQLite itself may lose the text of an error. */
 static int run(const char *query, char *written, size_t room)
 {
     sqlite3 *database = NULL;
@@ -73,7 +73,7 @@ static int run(const char *query, char *written, size_t room)
     return status;
 }
 
-/* Runs a query with all memory, and then until no allocation was left to fail. Returns 0 if one run differs. */
+/* Runs a query with enough memory, and then again until no allocation fails. Returns 0 if a run differs. */
 static int check(const char *query)
 {
     char wanted[200], found[200];

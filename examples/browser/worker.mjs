@@ -1,7 +1,7 @@
 // Hashes one file and reports to the page: { done } bytes, the { hashes } so far, and finally the { end }.
 import { load } from "./rapidhash.mjs";
 
-// V1, V2 and protected V3 need the whole message in memory, where a longer file does not fit.
+// V1, V2, and protected V3 need the whole message in memory, which cannot hold a longer file.
 const most = 2 ** 30;
 const pause = 100;
 

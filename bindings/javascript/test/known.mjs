@@ -1,5 +1,5 @@
-// The package over known values of the Rust crate rapidhash 4.5.1, in Node and in browsers:
-// tests/javascript.sh runs it in a folder where the package is installed.
+// Compares the package with known values of the Rust crate rapidhash 4.5.1, in Node and in browsers.
+// tests/javascript.sh runs it in a directory in which the package is installed.
 import assert from "node:assert/strict";
 import { test } from "node:test";
 
@@ -10,7 +10,7 @@ const { v1, v2_0, v2_1, v2_2, v3, v3Micro, v3Nano, v3Protected, V3, V3Micro, V3N
 const data = Uint8Array.from({ length: 120 }, (_, at) => at);
 const short = data.subarray(0, 60);
 const own = BigUint64Array.of(1n, 2n, 3n, 5n, 7n, 11n, 13n, 17n);
-// A longer message of V3, micro and nano goes by pieces of this size.
+// V3, micro, and nano hash a longer message in pieces of this size.
 const piece = 131072;
 const encoder = new TextEncoder();
 
@@ -59,7 +59,7 @@ test("made secrets", () => {
   assert.deepEqual(library.makeSecretsV1(0x12345678), made.slice(0, 4));
 });
 
-// Adds a message in pieces of 1, 2, 3 and so on, or of three times that and one more.
+// Hashes a message in pieces. The first has 1 byte, and `grow` returns the size of the next from the last.
 function inPieces(hasher, message, grow) {
   for (let at = 0, size = 1; at < message.length; at += size, size = grow(size))
     hasher.update(message.subarray(at, at + size));
@@ -138,7 +138,7 @@ test("strings are their UTF-8", () => {
   const texts = ["", "a", "na\u00efve", "\x7f\x80", "a".repeat(32), "a".repeat(33),
     "\u03bb \u2192 \u{1d6cc}", "\u2192".repeat(43690), "\u2192".repeat(43691), "\u2192".repeat(piece),
     "\u{1d6cc}".repeat(100000), "a".repeat(1000000)];
-  // Whose memory has not grown yet.
+  // The memory of these calls has not grown yet.
   const { v1, v2_0, v2_1, v2_2, v3, v3Micro, v3Nano, v3Protected, V3 } = loadSync();
   assert.equal(v3("hello"), 3327445792987248966n);
   for (const text of texts) {
@@ -171,7 +171,7 @@ test("streams of the web", async () => {
   for (const [Stream, value] of known) {
     const hasher = new Stream({ secrets: own });
     assert.equal((await hasher.updateFrom(parts())).digest(), value);
-    // As in an engine whose streams have no iterator.
+    // As in an engine in which streams have no iterator.
     const { getReader } = ReadableStream.prototype;
     const stream = parts();
     await hasher.reset().updateFrom({ getReader: () => getReader.call(stream) });

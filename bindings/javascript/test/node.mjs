@@ -1,6 +1,6 @@
-// What the package does in Node alone: its streams, files as the source of a module, and a message for
-// which there is no memory. The file `large` beside this one is `seq 1 20000000 | head -c 100000000`, and
-// its hashes are those of the Rust crate.
+// Tests the package with features of Node only: its streams, files as the source of a module, and a message
+// that is too large for the memory. The file `large` in this directory is the output of
+// `seq 1 20000000 | head -c 100000000`, and its hashes are those of the Rust crate.
 import assert from "node:assert/strict";
 import { createReadStream } from "node:fs";
 import { readFile } from "node:fs/promises";

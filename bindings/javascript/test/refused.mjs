@@ -1,4 +1,4 @@
-// What the package refuses, in Node and in browsers: each fault by its class and its text.
+// Tests the refusals of the package, in Node and in browsers: the class and the text of each error.
 import assert from "node:assert/strict";
 import { test } from "node:test";
 
@@ -15,7 +15,7 @@ const words = "secrets must be a BigUint64Array, the seed first";
 const rounded = "must be an integer, and a BigInt from 2n ** 53n on";
 const range = "must be from 0 to 2n ** 64n - 1n";
 
-// What is not refused is ignored or rounded without a word.
+// Without a refusal, these values would be ignored or rounded silently.
 test("refused options", () => {
   const refused = [
     [7n, options], ["7", options], [null, options], [own, options], [new Map([["seed", 7n]]), options],

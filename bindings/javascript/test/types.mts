@@ -1,4 +1,4 @@
-// What the types accept and refuse. tsc compiles it, and nothing runs it.
+// Code that the types accept or refuse. tsc compiles it, and nothing runs it.
 import { hex, load, loadSync, type Hasher, type Message, type Options, type Rapidhash } from "yervound-rapidhash";
 
 const library: Rapidhash = loadSync();
@@ -19,31 +19,31 @@ async function pieces(): Promise<bigint> {
   return (await new V3Nano().updateFrom(parts())).digest() ^ hasher.digest();
 }
 
-// @ts-expect-error A seed is no text.
+// @ts-expect-error A seed is not a string.
 library.v3(data, { seed: "7" });
-// @ts-expect-error A bare seed is no option.
+// @ts-expect-error A bare seed is not an options object.
 library.v3(data, 7n);
 // @ts-expect-error A misspelt option.
 library.v3(data, { sed: 7n });
-// @ts-expect-error Both.
+// @ts-expect-error Both a seed and secrets.
 library.v3(data, { seed: 7n, secrets: library.seedSecrets(7) });
-// @ts-expect-error V3 with protection takes no seed.
+// @ts-expect-error Protected V3 takes no seed.
 library.v3Protected(data, { seed: 7n });
-// @ts-expect-error Secrets of V1 are words too, and no array of BigInts is.
+// @ts-expect-error The secrets of V1 are a BigUint64Array too, not an array of BigInts.
 library.v1(data, { secrets: [1n, 2n, 3n, 4n] });
-// @ts-expect-error A number is no message.
+// @ts-expect-error A number is not a message.
 library.v2_1(7);
-// @ts-expect-error Nor are numbers.
+// @ts-expect-error An array of numbers is not a message.
 new library.V3Micro().update([1, 2]);
-// @ts-expect-error A text is no stream.
+// @ts-expect-error A string is not a stream.
 void hasher.updateFrom("text");
-// @ts-expect-error A hash is no Number.
+// @ts-expect-error A hash is not a Number.
 const rounded: number = library.v2_2(data);
-// @ts-expect-error Digits are made of a BigInt.
+// @ts-expect-error hex requires a BigInt.
 hex(7);
-// @ts-expect-error A path is read later, and not at once.
+// @ts-expect-error A path cannot be read synchronously.
 loadSync("rapidhash_c.wasm");
-// @ts-expect-error The calls are those of the package.
+// @ts-expect-error The properties are read-only.
 library.room = 7;
 
 export { pieces, rounded, text };

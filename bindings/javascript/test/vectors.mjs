@@ -1,5 +1,5 @@
-// The package over all vectors of the Rust crate, whole and in pieces, in Node and in browsers. The file
-// beside this one is what share/vectors.py writes.
+// Compares the package with all vectors of the Rust crate, whole and in pieces, in Node and in browsers.
+// share/vectors.py writes the file of vectors in this directory.
 import assert from "node:assert/strict";
 import { test } from "node:test";
 
@@ -17,14 +17,14 @@ async function read(url) {
   return (await import("node:fs/promises")).readFile(url, "utf8");
 }
 
-/** The hash of a message in pieces of 1, 2, 3 bytes and so on. */
+/** Returns the hash of a message in pieces of 1, 2, 3 bytes, and so on. */
 function inPieces(hasher, message) {
   for (let at = 0, size = 1; at < message.length; at += size, size += 1)
     hasher.update(message.subarray(at, at + size));
   return hasher.digest();
 }
 
-/** The seed and secrets that a line of the file names. */
+/** Returns the seed and secrets that a line of the file names. */
 function secretsOf(version, rule) {
   if (rule === "default") return {};
   const make = version === "v1" ? library.makeSecretsV1 : library.makeSecrets;

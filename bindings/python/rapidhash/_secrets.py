@@ -1,4 +1,4 @@
-"""The secrets of the hashes, as the C library lays them out: words of 64 bits, the seed first."""
+"""The secrets of the hashes in the layout of the C library: 64-bit words, the seed first."""
 
 from __future__ import annotations
 
@@ -7,7 +7,7 @@ import sys
 
 
 class _Words(bytes):
-    """Words that nothing changes, so that a hash may read them while other threads run."""
+    """Immutable words, so that a hash can read them while other threads run."""
 
     __slots__ = ()
     _count = 0
@@ -34,14 +34,14 @@ class _Words(bytes):
 
 
 class Secrets(_Words):
-    """A seed and the secrets of all versions but V1."""
+    """A seed and the secrets for every version except V1."""
 
     __slots__ = ()
     _count = 8
 
 
 class SecretsV1(_Words):
-    """A seed and the secrets of V1."""
+    """A seed and the secrets for V1."""
 
     __slots__ = ()
     _count = 4
