@@ -3,9 +3,9 @@
  *
  *     std::uint64_t hash = rapidhash::hash("hello");
  *
- * Everything here is V3; rapidhash_c.h has the other versions, the preconditions, and what to know about values and
+ * Everything here is V3; rapidhash_c.h has the other versions, the preconditions, and notes on values and
  * security. Works with C++11 to C++23, with or without exceptions. Link with -lrapidhash_c. A program that includes the
- * C++ library's rapidhash.h cannot use this header: that one has a function with the name of this namespace.
+ * C++ library's rapidhash.h cannot use this header: that file has a function with the name of this namespace.
  */
 #ifndef RAPIDHASH_HPP
 #define RAPIDHASH_HPP
@@ -58,7 +58,7 @@ inline secrets seed_secrets(seed start) noexcept
     return made;
 }
 
-/* A view of bytes, the argument of the functions below. A std::string, string_view, vector, array or span of bytes or
+/* A view of bytes, the argument of the functions below. A std::string, string_view, vector, array, or span of bytes or
  * characters converts implicitly, and so does a C string, without its terminating zero. It owns nothing. */
 class bytes {
     template <class Range>
@@ -148,7 +148,7 @@ public:
     /* Returns the hash of the message so far. Does not modify the stream; more pieces may follow. */
     std::uint64_t finish() const noexcept { return ::rapidhash_stream_finish(&state_); }
 
-    /* Empties the message; keeps the secrets. */
+    /* Empties the message but keeps the secrets. */
     void reset() noexcept { ::rapidhash_stream_reset(&state_); }
 
 private:
@@ -178,7 +178,7 @@ inline std::string to_hex(std::uint64_t hash)
     return digits;
 }
 
-/* Parses exactly 16 hexadecimal digits, in either case. For anything else returns false and does not modify `hash`. */
+/* Parses exactly 16 hexadecimal digits, in either case. For anything else, returns false and does not modify `hash`. */
 inline bool from_hex(bytes digits, std::uint64_t &hash) noexcept
 {
     const char *const text = static_cast<const char *>(digits.data());

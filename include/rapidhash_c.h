@@ -12,7 +12,7 @@
  * Security. These hashes are not cryptographic. The default secrets are public, so messages can be found that collide
  * under every seed word. If others choose the messages, use rapidhash_make_secrets with a random number.
  *
- * Threads and memory. The functions allocate no memory, keep no global state and are thread-safe. They call only
+ * Threads and memory. The functions allocate no memory, keep no global state, and are thread-safe. They call only
  * memmove, and memset to start a stream.
  *
  * Preconditions of every hash function:
@@ -62,16 +62,16 @@ struct rapidhash_secrets {
     uint64_t secrets[7];
 };
 
-/* Derives a seed and secrets from `number`, as the Rust crate's RapidSecrets::seed. Use a random number if collisions
- * must be hard to predict. Make the secrets once and reuse them.
+/* Derives a seed and secrets from `number`, as the Rust crate's RapidSecrets::seed does. Use a random number if
+ * collisions must be hard to predict. Make the secrets once and reuse them.
  *
  * `secrets` must not be NULL. Its previous contents are ignored, and nothing else may access it during the call. */
 void rapidhash_v1_make_secrets(uint64_t number, struct rapidhash_v1_secrets *secrets);
 void rapidhash_make_secrets(uint64_t number, struct rapidhash_secrets *secrets);
 
-/* Sets the default secrets, and a seed derived from the word `seed`, as the Rust crate's RapidSecrets::seed_cpp. That
- * crate says that the C++ library derives its seed in the same way. The default seed is that of word 0, and in V1 that
- * of 0xbdd89aa982704029. The preconditions are those of rapidhash_make_secrets.
+/* Sets the default secrets and a seed derived from the word `seed`, as the Rust crate's RapidSecrets::seed_cpp does.
+ * According to that crate, the C++ library derives its seed in the same way. The default seed is that of word 0, and in
+ * V1 that of 0xbdd89aa982704029. The preconditions are those of rapidhash_make_secrets.
  *
  * Security: a seed word does not stop an attacker, since the default secrets are public. */
 void rapidhash_v1_seed_secrets(uint64_t seed, struct rapidhash_v1_secrets *secrets);
@@ -87,7 +87,7 @@ uint64_t rapidhash_v3(const void *bytes, size_t len);
 uint64_t rapidhash_v3_micro(const void *bytes, size_t len);
 uint64_t rapidhash_v3_nano(const void *bytes, size_t len);
 
-/* Returns the hash with the default secrets and a seed derived from the word `seed`, as by rapidhash_seed_secrets.
+/* Returns the hash with the default secrets and a seed derived from the word `seed`, as in rapidhash_seed_secrets.
  * Messages can be found that collide under every seed word. */
 uint64_t rapidhash_v1_with_seed(const void *bytes, size_t len, uint64_t seed);
 uint64_t rapidhash_v2_0_with_seed(const void *bytes, size_t len, uint64_t seed);
@@ -110,7 +110,7 @@ uint64_t rapidhash_v3_nano_seeded(const void *bytes, size_t len, const struct ra
 uint64_t rapidhash_v3_protected(const void *bytes, size_t len);
 uint64_t rapidhash_v3_protected_seeded(const void *bytes, size_t len, const struct rapidhash_secrets *secrets);
 
-/* A streaming hasher for V3, micro or nano: hashes a message in pieces. Call a _start function before any other, and
+/* A streaming hasher for V3, micro, or nano: hashes a message in pieces. Call a _start function before any other, and
  * treat the fields as private. It can live on the stack or in an array and be copied with =. It refers to its secrets,
  * which must stay at the same address while the stream or a copy of it is in use. One thread at a time. */
 struct rapidhash_stream {
@@ -125,14 +125,14 @@ struct rapidhash_stream {
 /* Appends the next `len` bytes to the message. */
 void rapidhash_stream_write(struct rapidhash_stream *stream, const void *bytes, size_t len);
 
-/* Returns the hash of the message so far: what rapidhash_v3_seeded, or that of micro or nano, returns for the whole
- * message. Does not modify the stream; more bytes may follow. */
+/* Returns the hash of the message so far: that of rapidhash_v3_seeded, or of micro or nano, for the whole message.
+ * Does not modify the stream: more bytes may follow. */
 uint64_t rapidhash_stream_finish(const struct rapidhash_stream *stream);
 
-/* Empties the message; keeps the secrets and the version. */
+/* Empties the message but keeps the secrets and the version. */
 void rapidhash_stream_reset(struct rapidhash_stream *stream);
 
-/* Starts a stream with 7, 5 or 3 lanes. Call one of the three functions below instead. */
+/* Starts a stream with 7, 5, or 3 lanes. Call one of the three functions below instead. */
 RAPIDHASH_C_INLINE void rapidhash_stream_start(
     struct rapidhash_stream *stream, size_t lanes, const struct rapidhash_secrets *secrets)
 {
@@ -161,7 +161,7 @@ RAPIDHASH_C_INLINE void rapidhash_v3_nano_start(
     rapidhash_stream_start(stream, 3, secrets);
 }
 
-/* Writes a hash as 8 bytes, most significant first, the same on every machine. `bytes` has room for 8 bytes. */
+/* Writes a hash as 8 bytes, most significant first, the same on every machine. `bytes` must have room for 8 bytes. */
 RAPIDHASH_C_INLINE void rapidhash_to_canonical(uint64_t hash, unsigned char *bytes)
 {
     int at;
