@@ -1,4 +1,4 @@
-//! Names the shared library as the C library for x86-64 Linux is named, where libraries have such names.
+//! Sets the same soname as that of the C library for x86-64 Linux, if the target has sonames.
 
 use std::env;
 

@@ -1,9 +1,9 @@
-//! Maps and sets over the fast hasher.
+//! Maps and sets with the fast hasher.
 
 use crate::fast::RandomState;
 use std::collections::{HashMap, HashSet};
 
-/// The map of std over [`RandomState`](crate::fast::RandomState).
+/// The map of std with [`RandomState`](crate::fast::RandomState).
 ///
 /// ```
 /// use rapidhash::RapidHashMap;
@@ -16,7 +16,7 @@ use std::collections::{HashMap, HashSet};
 /// ```
 pub type RapidHashMap<K, V> = HashMap<K, V, RandomState>;
 
-/// The set of std over [`RandomState`](crate::fast::RandomState).
+/// The set of std with [`RandomState`](crate::fast::RandomState).
 ///
 /// ```
 /// use rapidhash::RapidHashSet;
@@ -26,7 +26,7 @@ pub type RapidHashMap<K, V> = HashMap<K, V, RandomState>;
 /// ```
 pub type RapidHashSet<K> = HashSet<K, RandomState>;
 
-/// Makes maps of a new random state, under the names that std gives its own.
+/// Creates maps with a new random state. The functions have the same names as in std.
 ///
 /// ```
 /// use rapidhash::{HashMapExt, RapidHashMap};
@@ -42,7 +42,7 @@ pub trait HashMapExt {
     fn with_capacity(capacity: usize) -> Self;
 }
 
-/// Makes sets of a new random state, under the names that std gives its own.
+/// Creates sets with a new random state. The functions have the same names as in std.
 ///
 /// ```
 /// use rapidhash::{HashSetExt, RapidHashSet};

@@ -1,5 +1,5 @@
-//! The hasher and the states of maps, without the avalanche: integers are packed (`SPONGE`), and neither a
-//! write of bytes nor the hash is mixed once more.
+//! The hasher and the states of maps, without the avalanche. Integers are packed (`SPONGE`), and
+//! neither a write of bytes nor the hash is mixed once more.
 //!
 //! ```
 //! use rapidhash::fast::SeedableState;
@@ -24,7 +24,7 @@ use crate::inner;
 /// ```
 pub type RapidHasher<'s> = inner::RapidHasher<'s, false, true, false, false>;
 
-/// Builds hashers of a random seed: each state has its own.
+/// Builds hashers with a random seed: each state has its own.
 ///
 /// ```
 /// use rapidhash::fast::RandomState;
@@ -36,7 +36,7 @@ pub type RapidHasher<'s> = inner::RapidHasher<'s, false, true, false, false>;
 #[cfg(feature = "std")]
 pub type RandomState = inner::RandomState<false, true, false, false>;
 
-/// Builds hashers of the caller's seed.
+/// Builds hashers with the caller's seed.
 ///
 /// ```
 /// use rapidhash::fast::SeedableState;
@@ -48,7 +48,7 @@ pub type RandomState = inner::RandomState<false, true, false, false>;
 /// ```
 pub type SeedableState<'s> = inner::SeedableState<'s, false, true, false, false>;
 
-/// Builds hashers of the one random seed of this process.
+/// Builds hashers with the single random seed of this process.
 ///
 /// ```
 /// use rapidhash::fast::GlobalState;

@@ -1,9 +1,9 @@
-//! Streams as writers, so that `io::copy` and `write!` hash what they write.
+//! Streams as writers, so that `io::copy` and `write!` hash the bytes that they write.
 
 use crate::v3::{RapidStream, RapidStreamHasherLanes};
 use std::io::{Result, Write};
 
-/// Adds what is written to the message. It never fails.
+/// Appends the written bytes to the message. Never fails.
 ///
 /// ```
 /// use rapidhash::v3::{rapidhash_v3, RapidStreamHasherV3, DEFAULT_RAPID_SECRETS};
@@ -28,7 +28,7 @@ impl<const LANES: usize, const AVALANCHE: bool, const PROTECTED: bool> Write
     }
 }
 
-/// Adds what is written to the message. It never fails.
+/// Appends the written bytes to the message. Never fails.
 impl Write for RapidStream<'_> {
     #[inline]
     fn write(&mut self, bytes: &[u8]) -> Result<usize> {

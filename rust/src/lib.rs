@@ -1,18 +1,18 @@
 //! The rapidhash family of 64-bit hashes, with the values of version 4.5.1 of the crate `rapidhash`.
 //!
-//! The code is that of a proved library, with its contracts taken out: a checker has proved that each
-//! hash is the value of one written definition, for every input. The README says what that covers.
+//! The code is that of a proved library, without its contracts. A checker has proved, for every
+//! input, that each hash is the value of a single definition. The README states what that covers.
 //!
-//! - [`v1`], [`v2`] and [`v3`] hold the portable hashes: of a slice, of pieces, of a reader. Their values
-//!   never change, and are the same on every machine.
-//! - `RapidHashMap` and `RapidHashSet` are std's map and set over the fast hasher.
-//! - [`fast`], [`quality`] and [`inner`] hold the hasher of maps and the states that build it.
-//! - `reader` holds the reader with an error mark that the hashes of a reader take.
+//! - [`v1`], [`v2`], and [`v3`] hold the portable hashes: of a slice, of pieces, and of a reader.
+//!   Their values never change and are the same on every machine.
+//! - `RapidHashMap` and `RapidHashSet` are std's map and set with the fast hasher.
+//! - [`fast`], [`quality`], and [`inner`] hold the hasher of maps and the states that build it.
+//! - `reader` holds the reader with an error mark that the hashes of a reader use.
 //! - [`rng`] holds a small generator.
-//! - [`util`] holds the reads and the multiply that the hashes use.
+//! - [`util`] holds the reads and the multiplication that the hashes use.
 //!
-//! Without the default feature `std` the crate needs `core` alone. It then has no readers, no maps, and no
-//! state that draws random words.
+//! Without the default feature `std`, the crate needs only `core`. It then has no readers, no maps,
+//! and no state that draws random words.
 //!
 //! ```
 //! use rapidhash::v3::{rapidhash_v3, RapidStreamHasherV3, DEFAULT_RAPID_SECRETS};
@@ -28,11 +28,11 @@
 #![cfg_attr(docsrs, feature(doc_cfg))]
 #![forbid(unsafe_code)]
 #![deny(missing_docs)]
-// The proofs speak of places in arrays, the generator's word is no iterator's, and lifetimes have names.
+// Proofs use array indices, the generator's `next` is not an iterator's, and lifetimes have names.
 #![allow(clippy::needless_range_loop, clippy::should_implement_trait)]
 #![allow(clippy::needless_lifetimes)]
 
-// The proved text names the standard library and the lower of its two crates.
+// The proved source names the standard library and the lower of its two crates.
 #[cfg(not(feature = "std"))]
 extern crate core as std;
 extern crate self as rapidhash_portable;

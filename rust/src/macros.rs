@@ -1,14 +1,14 @@
-//! What the proved text calls, and Rust has otherwise.
+//! Definitions for calls in the proved source that Rust expresses differently.
 
-/// A precondition. Rattle proves that each caller keeps it; here a call that does not panics.
+/// Checks a precondition and panics if it does not hold. Rattle proves that each caller meets it.
 macro_rules! prove {
     ($holds:expr, $what:literal) => {
         assert!($holds, $what)
     };
 }
 
-/// The integer writes of `Hasher`, each by the proved method of that name. `derive(Hash)` and maps reach
-/// the sponge by them, as they do in the crate `rapidhash`.
+/// Defines the integer writes of `Hasher`, each with the proved method of the same name. Through
+/// them, `derive(Hash)` and maps reach the sponge, as in the crate `rapidhash`.
 macro_rules! forward_integers {
     () => {
         forward_integers! {
@@ -20,23 +20,23 @@ macro_rules! forward_integers {
         $(
             #[inline(always)]
             fn $name(&mut self, value: $integer) {
-                // An inherent method comes before a trait's.
+                // An inherent method takes precedence over a trait's.
                 Self::$name(self, value);
             }
         )*
     };
 }
 
-/// A signed integer as the unsigned one of the same bits.
+/// Converts a signed integer to the unsigned integer with the same bits.
 pub(crate) trait ToUnsigned {
-    /// The unsigned integer.
+    /// The type of the unsigned integer.
     type Unsigned;
 
-    /// Returns the same bits.
+    /// Returns the unsigned integer with the same bits.
     fn to_unsigned(self) -> Self::Unsigned;
 }
 
-/// Implements it by a cast.
+/// Implements `ToUnsigned` with a cast.
 macro_rules! to_unsigned {
     ($($signed:ty as $unsigned:ty),*) => {
         $(

@@ -1,5 +1,5 @@
-//! The hasher and the states with the avalanche: as [`crate::fast`], and each write of bytes and each hash is
-//! mixed once more.
+//! The hasher and the states with the avalanche: the same as in [`crate::fast`], but each write of
+//! bytes and each hash is mixed once more.
 //!
 //! ```
 //! use rapidhash::quality::SeedableState;
@@ -24,7 +24,7 @@ use crate::inner;
 /// ```
 pub type RapidHasher<'s> = inner::RapidHasher<'s, true, true, false, false>;
 
-/// Builds hashers of a random seed: each state has its own.
+/// Builds hashers with a random seed: each state has its own.
 ///
 /// ```
 /// use rapidhash::quality::RandomState;
@@ -36,7 +36,7 @@ pub type RapidHasher<'s> = inner::RapidHasher<'s, true, true, false, false>;
 #[cfg(feature = "std")]
 pub type RandomState = inner::RandomState<true, true, false, false>;
 
-/// Builds hashers of the caller's seed.
+/// Builds hashers with the caller's seed.
 ///
 /// ```
 /// use rapidhash::quality::SeedableState;
@@ -48,7 +48,7 @@ pub type RandomState = inner::RandomState<true, true, false, false>;
 /// ```
 pub type SeedableState<'s> = inner::SeedableState<'s, true, true, false, false>;
 
-/// Builds hashers of the one random seed of this process.
+/// Builds hashers with the single random seed of this process.
 ///
 /// ```
 /// use rapidhash::quality::GlobalState;

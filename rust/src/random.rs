@@ -1,5 +1,5 @@
-//! The random words of the states that are given none. They come from std's `RandomState`: no proof
-//! covers where they come from, only what is made of them.
+//! The random words of states whose caller passes none. They come from std's `RandomState`. The
+//! proofs do not cover this source, only the values made from the words.
 
 use crate::rng::RapidRng;
 use crate::secrets::RapidSecrets;
@@ -9,10 +9,10 @@ use std::collections::hash_map::RandomState;
 use std::hash::{BuildHasher, Hasher};
 use std::sync::{Mutex, PoisonError};
 
-/// The seed and the secrets of this process, made when they are first needed and never let go.
+/// The seed and the secrets of this process, created when they are first needed and never freed.
 static GLOBAL: Mutex<Option<&'static GlobalSecrets>> = Mutex::new(None);
 
-/// What each thread keeps, so that a new state takes no lock.
+/// The data of each thread, so that a new state needs no lock.
 struct Local {
     global: &'static GlobalSecrets,
     seeds: RefCell<SeedSource>,
@@ -33,18 +33,18 @@ impl Local {
     }
 }
 
-/// A random word.
+/// Returns a random word.
 fn word() -> u64 {
     RandomState::new().build_hasher().finish()
 }
 
-/// The seed and the secrets of this process.
+/// Returns the seed and the secrets of this process.
 #[inline]
 pub(crate) fn global() -> &'static GlobalSecrets {
     LOCAL.with(|local| local.global)
 }
 
-/// The next seed of this thread.
+/// Returns the next seed of this thread.
 #[inline]
 pub(crate) fn next_seed() -> u64 {
     LOCAL.with(|local| local.seeds.borrow_mut().next())
@@ -68,7 +68,7 @@ impl RapidSecrets {
     }
 }
 
-/// A generator of a random state.
+/// Creates a generator with a random state.
 impl Default for RapidRng {
     fn default() -> Self {
         RapidRng::new(word())

@@ -1,4 +1,4 @@
-//! What a stream keeps, and what a reader's error says: no contract and no hash tells it.
+//! Tests the state of a stream and the errors of readers, which no contract and no hash shows.
 #![cfg(feature = "std")]
 
 use rapidhash::v3::{DEFAULT_RAPID_SECRETS, RapidStreamHasherLanes};
@@ -6,7 +6,7 @@ use rapidhash::{v1, v2, v3};
 use std::fmt::Debug;
 use std::io::{Error, ErrorKind, Read, Result};
 
-/// The numbers of an array that a value shows by `Debug`.
+/// Returns the numbers of the array `field` in the `Debug` output of a value.
 fn shown(value: &impl Debug, field: &str) -> Vec<u64> {
     let text = format!("{value:?}");
     let (_, rest) = text.split_once(&format!("{field}: [")).unwrap();
@@ -21,7 +21,7 @@ fn counted(length: u64) -> Vec<u8> {
     (0..length).map(|place| (place % 251) as u8).collect()
 }
 
-/// A stream of these lanes after pieces of this length.
+/// Returns a stream with this number of lanes after pieces of this length.
 fn after<const LANES: usize>(
     bytes: &[u8],
     piece: usize,
@@ -33,21 +33,21 @@ fn after<const LANES: usize>(
     stream
 }
 
-/// The stream keeps the last 16 folded bytes, and the new ones behind them.
+/// The stream keeps the last 16 folded bytes and, after them, the new bytes.
 #[test]
 fn test_chunk_writing() {
     let kept = shown(&after::<7>(&counted(128), 128), "kept");
     assert_eq!(kept[..32], (96..128).collect::<Vec<u64>>()[..]);
 }
 
-/// Chunks of a large piece are folded where they lie: the buffer has what was there before.
+/// Chunks of a large piece are folded in place: the buffer still has its previous bytes.
 #[test]
 fn large_pieces_are_not_copied() {
     let kept = shown(&after::<7>(&counted(338), 338), "kept");
     assert_eq!(kept[18], 2);
 }
 
-/// A turn of two chunks leaves the lanes as two single chunks do.
+/// An iteration with two chunks leaves the lanes as two iterations with a single chunk do.
 #[test]
 fn two_chunks_fold_as_one_after_another() {
     fn agrees<const LANES: usize>() {
@@ -65,7 +65,7 @@ fn two_chunks_fold_as_one_after_another() {
     agrees::<3>();
 }
 
-/// A reader that always fails, and counts its reads.
+/// A reader that always fails and counts its reads.
 struct Broken {
     kind: ErrorKind,
     reads: u64,
@@ -78,7 +78,7 @@ impl Read for Broken {
     }
 }
 
-/// The error is the reader's own, with its text, and a read that failed is not tried again.
+/// The error is the reader's own, with its text, and a failed read is not retried.
 #[test]
 fn errors_are_those_of_the_reader() {
     use ErrorKind::{BrokenPipe, Interrupted, Other, TimedOut, UnexpectedEof, WouldBlock};

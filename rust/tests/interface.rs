@@ -1,4 +1,4 @@
-//! What users of Rust expect besides the hashes: writers, maps, copies, and panics with a message.
+//! Tests what Rust users expect besides hashes: writers, maps, copies, and panics with a message.
 #![cfg(feature = "std")]
 
 use rapidhash::reader::Source;

@@ -1,5 +1,5 @@
-//! The crate has the values of the vector files, among them those of readers, which need std, and hashes random
-//! messages alike whole and in pieces.
+//! Tests that the crate has the values of the vector files, including those of readers, which need
+//! std. Also tests that random messages have the same hash whole and in pieces.
 #![cfg(feature = "std")]
 
 mod replay;
@@ -15,8 +15,8 @@ fn every_vector_file_is_replayed() {
     assert_eq!(replay::unknown(&folder), Ok(Vec::new()));
 }
 
-/// The variable `MESSAGES` is their number. The line that this prints must be the same on each machine:
-/// tests/machines.sh compares it.
+/// The environment variable `MESSAGES` is their number. The printed line must be the same on each
+/// machine: tests/machines.sh compares it.
 #[test]
 fn random_messages_hash_alike_in_pieces() {
     let count = env::var("MESSAGES").map_or(10_000, |count| count.parse().unwrap());

@@ -1,10 +1,10 @@
-//! The hashes of a message: with the default secrets, with the caller's, and with one seed word.
+//! The hashes of a message: with the default secrets, with the caller's, and with a seed word.
 
 use crate::slice_of;
 use rapidhash::{v1, v2, v3};
 
-/// The exports of hashes: the type of their secrets, and for each the function of the crate that it calls. The
-/// third name may be missing.
+/// Defines the exports of hashes from the type of their secrets and, for each export, the function
+/// of the crate that it calls. The third name is optional.
 macro_rules! exports {
     ($secrets:ty: $($name:ident $seeded:ident $($with_seed:ident)? = $hash:expr;)*) => { $(
         /// Returns the hash with the default seed and secrets.
@@ -23,7 +23,7 @@ macro_rules! exports {
         ///
         /// # Safety
         ///
-        /// That of the hash with the default secrets; and nothing writes the secrets during the call.
+        /// That of the hash with the default secrets. Nothing writes the secrets during the call.
         #[no_mangle]
         pub unsafe extern "C" fn $seeded(bytes: *const u8, len: usize, secrets: &$secrets) -> u64 {
             // SAFETY: the caller's promise.
@@ -31,7 +31,7 @@ macro_rules! exports {
         }
 
         $(
-            /// Returns the hash with the default secrets and one seed word.
+            /// Returns the hash with the default secrets and a seed word.
             ///
             /// # Safety
             ///

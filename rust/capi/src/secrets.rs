@@ -1,8 +1,8 @@
-//! Secrets made from a number, and the default secrets with a seed made from one seed word.
+//! Secrets made from a number, and the default secrets with a seed made from a seed word.
 
 use rapidhash::{v1, v3};
 
-/// The exports of secrets: the type, and for each the function of the crate that it calls.
+/// Defines the exports of secrets, each from its type and the function of the crate that it calls.
 macro_rules! exports {
     ($($name:ident $secrets:ty = $make:expr;)*) => { $(
         /// Writes a seed and secrets.
@@ -12,7 +12,7 @@ macro_rules! exports {
         /// `secrets` points to a struct, which may hold anything, and nothing else reads or writes it during the call.
         #[no_mangle]
         pub unsafe extern "C" fn $name(number: u64, secrets: *mut $secrets) {
-            // SAFETY: the caller's promise; nothing of the old value is read or dropped.
+            // SAFETY: the caller's promise; the old value is neither read nor dropped.
             unsafe { secrets.write($make(number)) }
         }
     )* };

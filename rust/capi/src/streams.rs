@@ -1,15 +1,15 @@
-//! A message in pieces, for V3, micro or nano. The header's inline functions start a stream.
+//! Messages in pieces, for V3, micro, or nano. The header's inline functions start a stream.
 
 use crate::slice_of;
 use rapidhash::v3::RapidStream;
 
-/// Forgets the message, and keeps the secrets and the number of lanes.
+/// Empties the message but keeps the secrets and the number of lanes.
 #[no_mangle]
 pub extern "C" fn rapidhash_stream_reset(stream: &mut RapidStream<'_>) {
     stream.reset();
 }
 
-/// Adds a piece to the message.
+/// Appends a piece to the message.
 ///
 /// # Safety
 ///
@@ -25,7 +25,7 @@ pub unsafe extern "C" fn rapidhash_stream_write(
     stream.write(unsafe { slice_of(bytes, len) });
 }
 
-/// Returns the hash of the message so far. It changes nothing: further pieces may follow.
+/// Returns the hash of the message so far. Does not modify the stream: more pieces may follow.
 #[no_mangle]
 pub extern "C" fn rapidhash_stream_finish(stream: &RapidStream<'_>) -> u64 {
     stream.finish()

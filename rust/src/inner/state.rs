@@ -1,5 +1,5 @@
-//! What makes hashers for a map: each state keeps a seed and secrets, and nothing else. That is the proved
-//! `seeded`; where a random seed and random secrets come from is outside the proof.
+//! The states that build hashers for a map. Each keeps only a seed and secrets, in the proved
+//! `seeded`. The source of a random seed and of random secrets is outside the proof.
 
 #[cfg(feature = "std")]
 use crate::random::{global, next_seed};
@@ -12,7 +12,7 @@ mod seeded;
 use super::RapidHasher;
 use seeded::Seeded;
 
-/// Builds hashers of the one random seed of this process: all its maps hash in the same way.
+/// Builds hashers with the single random seed of this process: all its maps hash in the same way.
 ///
 /// ```
 /// use rapidhash::inner::GlobalState;
@@ -35,7 +35,7 @@ pub struct GlobalState<
 impl<const AVALANCHE: bool, const SPONGE: bool, const COMPACT: bool, const PROTECTED: bool>
     GlobalState<AVALANCHE, SPONGE, COMPACT, PROTECTED>
 {
-    /// Returns a state of the seed and the secrets of this process.
+    /// Returns a state with the seed and the secrets of this process.
     #[inline]
     pub fn new() -> Self {
         let global = global();
@@ -80,8 +80,8 @@ impl<const AVALANCHE: bool, const SPONGE: bool, const COMPACT: bool, const PROTE
     }
 }
 
-/// Builds hashers of a random seed, and of the random secrets of this process. Each state has a seed of its
-/// own; two seeds may be equal.
+/// Builds hashers with a random seed and the random secrets of this process. Each state has its own
+/// seed; two seeds may be equal.
 ///
 /// ```
 /// use rapidhash::inner::RandomState;
@@ -106,7 +106,7 @@ pub struct RandomState<
 impl<const AVALANCHE: bool, const SPONGE: bool, const COMPACT: bool, const PROTECTED: bool>
     RandomState<AVALANCHE, SPONGE, COMPACT, PROTECTED>
 {
-    /// Returns a state of a new random seed.
+    /// Returns a state with a new random seed.
     #[inline]
     pub fn new() -> Self {
         Self {
@@ -150,7 +150,7 @@ impl<const AVALANCHE: bool, const SPONGE: bool, const COMPACT: bool, const PROTE
     }
 }
 
-/// Builds hashers of the caller's seed.
+/// Builds hashers with the caller's seed.
 ///
 /// ```
 /// use rapidhash::inner::SeedableState;
@@ -174,21 +174,21 @@ pub struct SeedableState<
 impl<'s, const AVALANCHE: bool, const SPONGE: bool, const COMPACT: bool, const PROTECTED: bool>
     SeedableState<'s, AVALANCHE, SPONGE, COMPACT, PROTECTED>
 {
-    /// Returns a state of a seed made of `seed` as [`RapidSecrets::seed_cpp`](crate::v3::RapidSecrets::seed_cpp)
-    /// makes it, and of the random secrets of this process.
+    /// Returns a state with the random secrets of this process and a seed made from `seed` as in
+    /// [`RapidSecrets::seed_cpp`](crate::v3::RapidSecrets::seed_cpp).
     #[cfg(feature = "std")]
     pub fn new(seed: u64) -> Self {
         Self::custom(RapidSecrets::seed_cpp(seed).seed, global().get())
     }
 
-    /// Returns a state of a random seed, and of the random secrets of this process.
+    /// Returns a state with a random seed and the random secrets of this process.
     #[cfg(feature = "std")]
     #[inline]
     pub fn random() -> Self {
         Self::custom(next_seed(), global().get())
     }
 
-    /// Returns the state of the default seed and the default secrets, the same in every run of every program.
+    /// Returns the state with the default seed and secrets, the same in every run of every program.
     /// Anyone who knows them can find keys that all have the same hash.
     #[inline]
     pub fn fixed() -> Self {
@@ -196,7 +196,7 @@ impl<'s, const AVALANCHE: bool, const SPONGE: bool, const COMPACT: bool, const P
         Self::custom(default.seed, &default.secrets)
     }
 
-    /// Returns a state of a seed and secrets as they are.
+    /// Returns a state with this seed and these secrets, used as they are.
     #[inline]
     pub fn custom(seed: u64, secrets: &'s [u64; 7]) -> Self {
         Self {

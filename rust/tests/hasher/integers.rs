@@ -1,4 +1,4 @@
-//! Each call that takes an integer, by itself.
+//! Tests each call with an integer argument separately.
 
 use rapidhash::inner::{RapidHasher, SeedableState};
 use rapidhash::v3::DEFAULT_RAPID_SECRETS;
@@ -7,19 +7,19 @@ use std::hash::{BuildHasher, Hasher};
 /// Secret 0 is 1, and the others are 0.
 const SECRETS: [u64; 7] = [1, 0, 0, 0, 0, 0, 0];
 
-/// A new hasher of these secrets and the seed 0, without an avalanche.
+/// Returns a new hasher with these secrets and the seed 0, without the avalanche.
 fn hasher<'s, const SPONGE: bool>() -> RapidHasher<'s, false, SPONGE, false, false> {
     SeedableState::custom(0, &SECRETS).build_hasher()
 }
 
-/// The same after an integer of one byte.
+/// Returns the same hasher after an integer of one byte.
 fn begun<'s, const SPONGE: bool>() -> RapidHasher<'s, false, SPONGE, false, false> {
     let mut hasher = hasher::<SPONGE>();
     hasher.write_u8(1);
     hasher
 }
 
-/// Two integers of 32 bits: signed, and by their bits.
+/// Returns the hashes of two 32-bit integers, written as signed and as unsigned integers.
 fn of_32<const SPONGE: bool>(signed: i32, bits: u32) -> (u64, u64) {
     let mut one = begun::<SPONGE>();
     let mut other = begun::<SPONGE>();
@@ -30,7 +30,7 @@ fn of_32<const SPONGE: bool>(signed: i32, bits: u32) -> (u64, u64) {
     (one.finish(), other.finish())
 }
 
-/// An integer of 64 bits: by its bits, signed, as an index and as an offset.
+/// Returns the hashes of a 64-bit integer: by its bits, signed, as an index, and as an offset.
 #[cfg(target_pointer_width = "64")]
 fn of_64<const SPONGE: bool>(signed: i64, bits: u64) -> [u64; 4] {
     let mut plain = begun::<SPONGE>();
@@ -49,7 +49,7 @@ fn of_64<const SPONGE: bool>(signed: i64, bits: u64) -> [u64; 4] {
     ]
 }
 
-/// An integer of 128 bits: signed, and by its bits.
+/// Returns the hashes of a 128-bit integer, written as a signed and as an unsigned integer.
 fn of_128<const SPONGE: bool>(signed: i128, bits: u128) -> (u64, u64) {
     let mut one = begun::<SPONGE>();
     let mut other = begun::<SPONGE>();
@@ -109,9 +109,9 @@ fn integers_of_64_bits() {
     }
 }
 
-/// Worked out by hand, with seed 0: a hash is the low half of the block times the high half with
-/// bit 0 flipped, folded. So 2^64 - 1 times 2^64 - 2, 3 times 1, 2 times 2^64 - 2, and 2^32 - 1
-/// times 1.
+/// The values are computed by hand, with seed 0. A hash is the low half of the block times the high
+/// half with bit 0 flipped, folded. The products are 2^64 - 1 times 2^64 - 2, 3 times 1, 2 times
+/// 2^64 - 2, and 2^32 - 1 times 1.
 #[test]
 fn known_answers_of_single_calls() {
     let mut wide = hasher::<true>();
@@ -142,7 +142,7 @@ fn hashers_of_the_default_seed() {
     assert_ne!(Fresh::new(1).finish(), seed);
 }
 
-/// A hash that is taken between two writes changes neither the final hash nor what follows.
+/// Computing a hash between two writes changes neither the final hash nor later hashes.
 fn asked<const SPONGE: bool, const COMPACT: bool>() -> [u64; 6] {
     let state = SeedableState::<false, SPONGE, COMPACT, false>::custom(0, &SECRETS);
     let mut asked = state.build_hasher();

@@ -1,9 +1,9 @@
-//! Keys through the traits of std. The expected hashes are the crate's, version 4.5.1.
+//! Tests keys with the traits of std. The expected hashes are those of the crate, version 4.5.1.
 
 use rapidhash::{fast, quality};
 use std::hash::{BuildHasher, Hash, Hasher};
 
-/// Whether slices of wider integers have the expected hashes: std passes them as they are in memory.
+/// Whether slices of wider integers have the expected hashes: std passes their in-memory bytes.
 const LITTLE_ENDIAN: bool = cfg!(target_endian = "little");
 
 #[derive(Hash)]
@@ -40,7 +40,7 @@ fn key(number: u8, kind: Kind, offset: Option<isize>) -> Key {
     }
 }
 
-/// The hashes of a key by the fixed states of `fast` and `quality`.
+/// Returns the hashes of a key with the fixed states of `fast` and `quality`.
 fn hashes<T: Hash + ?Sized>(key: &T) -> (u64, u64) {
     let mut fast = fast::SeedableState::fixed().build_hasher();
     let mut quality = quality::SeedableState::fixed().build_hasher();
@@ -81,7 +81,7 @@ fn plain_keys() {
     assert_eq!(hashes(&tuple) == known, LITTLE_ENDIAN);
 }
 
-/// The trait's integer writes reach the sponge: two of a block are the same as the joined one.
+/// The trait's integer writes reach the sponge: two in a block equal a write of the joined integer.
 #[test]
 fn integers_of_the_trait_are_packed() {
     let (mut parts, mut whole) = (fast::RapidHasher::default(), fast::RapidHasher::default());

@@ -1,4 +1,4 @@
-//! The hasher of maps: its integers and blocks, its states, and keys that derive `Hash`.
+//! Tests the hasher of maps: its integers and blocks, its states, and keys that derive `Hash`.
 
 mod blocks;
 mod integers;

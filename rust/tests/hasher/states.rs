@@ -1,11 +1,11 @@
-//! The states of `fast`, `quality` and `inner`, with secrets of the caller's and of this process.
+//! Tests the states of `fast`, `quality`, and `inner`, with secrets of the caller and the process.
 
 use rapidhash::inner::{GlobalSecrets, SeedSource};
 use rapidhash::v3::RapidSecrets;
 use rapidhash::{fast, inner, quality};
 use std::hash::{BuildHasher, Hasher};
 
-/// The hash of an integer, which waits in the sponge, and four bytes.
+/// Returns the hash of an integer, which waits in the sponge, and four bytes.
 fn hash_by(mut hasher: impl Hasher) -> u64 {
     hasher.write_u64(4711);
     hasher.write(b"user");
@@ -16,7 +16,7 @@ fn hash_of<S: BuildHasher>(state: &S) -> u64 {
     hash_by(state.build_hasher())
 }
 
-/// The hashes are the crate's, of hashers with these seeds and secrets.
+/// The expected hashes are those of the crate, from hashers with these seeds and secrets.
 #[test]
 fn states_of_known_seeds() {
     let own = [2, 3, 5, 7, 11, 13, 17];
@@ -43,7 +43,7 @@ fn states_of_known_seeds() {
     assert_eq!(hash_of(&random), 16952220623277801737);
 }
 
-/// Hashers without a state. The hashes are the crate's.
+/// Tests hashers without a state. The expected hashes are those of the crate.
 #[test]
 fn hashers_of_known_seeds() {
     let (mut fast, mut quality) = (
@@ -62,7 +62,7 @@ fn hashers_of_known_seeds() {
     assert_eq!(byte.finish(), 10048983286878558978);
 }
 
-/// Each type builds hashers of its own options.
+/// Each type builds hashers with its own options.
 #[test]
 fn aliases_name_their_options() {
     let fast: inner::SeedableState<false, true> = fast::SeedableState::fixed();
@@ -115,7 +115,7 @@ fn states_without_words() {
     );
 }
 
-/// All threads have the secrets of the process, and none has the seeds of another.
+/// All threads have the secrets of the process, but no thread has the seeds of another.
 #[cfg(feature = "std")]
 #[test]
 fn threads_share_secrets_and_no_seeds() {

@@ -1,4 +1,4 @@
-//! The hash of a reader is that of its bytes.
+//! Tests that the hash of a reader equals that of its bytes.
 
 use crate::readers::asked::{
     gave, sound, v1_of, v1_of_files, v1_of_slice, v2_of, v2_of_file, v2_of_slice,
@@ -7,7 +7,7 @@ use rapidhash::rng::RapidRng;
 use rapidhash::{v1, v2};
 type Fail = Box<dyn std::error::Error>;
 
-/// Lengths on both sides of what a buffer holds.
+/// Lengths on both sides of the buffers' sizes.
 const LONG: [usize; 12] = [
     8191, 8192, 8193, 8416, 8417, 65519, 65535, 65536, 65537, 131040, 131056, 140000,
 ];
@@ -17,8 +17,8 @@ fn random_bytes() -> Vec<u8> {
     (0..140_000).map(|_| (rng.next() % 256) as u8).collect()
 }
 
-/// Whether V1 of the first `n` bytes is the same number from a reader of one byte a read, from one
-/// that returns all it is asked for, by each file form, and of the slice.
+/// Returns whether the V1 hash of the first `n` bytes is the same from a reader with one byte per
+/// read, from a reader that returns all requested bytes, from each file form, and from the slice.
 fn v1_agrees(bytes: &[u8], n: usize) -> bool {
     let bytes = &bytes[..n.min(bytes.len())];
     let len = bytes.len() as u64;
@@ -31,7 +31,7 @@ fn v1_agrees(bytes: &[u8], n: usize) -> bool {
         && inline.is_hash(v1::rapidhash_v1(bytes))
 }
 
-/// The same of V2.
+/// Returns the same for V2.
 fn v2_agrees<const MINOR: u8>(bytes: &[u8], n: usize) -> bool {
     let bytes = &bytes[..n.min(bytes.len())];
     let len = bytes.len() as u64;

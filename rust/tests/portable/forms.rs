@@ -1,4 +1,4 @@
-//! The lengths at which two forms agree. They are those of the Rust crate, for random bytes.
+//! Tests the lengths at which two forms agree. They are those of the Rust crate, for random bytes.
 
 use rapidhash::rng::RapidRng;
 use rapidhash::v1::rapidhash_v1_inline;
@@ -8,7 +8,7 @@ use rapidhash::v3::{
 };
 use rapidhash::{v1, v2};
 
-/// 512 bytes of a generator, one a word.
+/// Returns 512 bytes from a generator, one per word.
 fn drawn() -> [u8; 512] {
     let mut rng = RapidRng::new(0);
     let mut bytes = [0; 512];
@@ -18,7 +18,7 @@ fn drawn() -> [u8; 512] {
     bytes
 }
 
-/// Micro is V3 up to 80 bytes and nano up to 48, and no longer message has one hash by both.
+/// Micro equals V3 up to 80 bytes, and nano up to 48. No longer message has the same hash.
 #[test]
 fn compare_micro_nano_v3() {
     let bytes = drawn();
@@ -33,8 +33,8 @@ fn compare_micro_nano_v3() {
     }
 }
 
-/// From 57 to 64 bytes V2.0 folds a row, and V2.1 none. V2.2 reads one to three bytes in another
-/// way than V2.1, and takes another secret for the third pair of a message without rows.
+/// From 57 to 64 bytes, V2.0 folds a row, but V2.1 folds none. V2.2 reads one to three bytes
+/// differently from V2.1 and uses another secret for the third pair of a message without rows.
 #[test]
 fn the_minors_differ_at_few_lengths() {
     let bytes = drawn();

@@ -1,4 +1,4 @@
-//! The portable hashes: known values, streams, and readers that end early or fail.
+//! Tests the portable hashes: known values, streams, and readers that end early or fail.
 // These tests are written in Rattle, whose style differs here.
 #![allow(clippy::manual_range_contains, clippy::needless_range_loop)]
 

@@ -1,4 +1,4 @@
-//! The hashes of a slice, with their options as values.
+//! The hashes of a slice, with the options as values.
 
 use rapidhash::{v1, v2, v3};
 
@@ -19,7 +19,7 @@ macro_rules! with_consts {
 }
 pub(crate) use with_consts;
 
-/// A seed with the three secrets of V1, and with the seven of the others.
+/// A seed with the three secrets of V1, and with the seven secrets of the other versions.
 pub struct Start {
     pub three: v1::RapidSecrets,
     pub seven: v3::RapidSecrets,

@@ -36,7 +36,7 @@ pub enum Item {
 }
 
 impl Item {
-    /// An integer by the hasher's own call for its type.
+    /// Writes the item. An integer uses the hasher's own call for its type.
     fn write_to<const A: bool, const S: bool, const C: bool, const P: bool>(
         &self,
         hasher: &mut RapidHasher<'_, A, S, C, P>,
@@ -59,8 +59,8 @@ impl Item {
     }
 }
 
-/// An item by its name. Where a machine's `usize` has 32 bits it cannot hold some of the values:
-/// they go by the call of 64 bits, as which that of `usize` is documented.
+/// Returns an item from its name. A 32-bit `usize` cannot hold some of the values. They use the
+/// 64-bit call, which is documented to equal the `usize` call.
 fn named(word: &str) -> Result<Item, String> {
     let (name, value) = word.split_once(':').ok_or("no name and value")?;
     Ok(match name {
@@ -87,7 +87,7 @@ fn named(word: &str) -> Result<Item, String> {
     })
 }
 
-/// Bytes by their hex digits, `-` for none.
+/// Returns bytes from their hexadecimal digits, or no bytes from `-`.
 fn bytes_of(digits: &str) -> Result<Vec<u8>, String> {
     let digits = if digits == "-" { "" } else { digits };
     if digits.len() % 2 != 0 {
@@ -112,7 +112,7 @@ fn answer<const A: bool, const S: bool, const C: bool, const P: bool>(
     hasher.finish()
 }
 
-/// The hash after the items, of a hasher with the seed and secrets.
+/// Returns the hash after the items, from a hasher with the seed and secrets.
 pub fn hash(options: Options, start: &RapidSecrets, items: &[Item]) -> u64 {
     let Options {
         avalanche,
@@ -146,7 +146,7 @@ pub fn replay(line: &str) -> Case {
     Ok(())
 }
 
-/// The sponge has no say in a write of bytes.
+/// The sponge does not affect a write of bytes.
 pub fn replay_core(line: &str) -> Case {
     let [avalanche, protected, rule, length, secrets, expected] = fields(line)?;
     let items = [Item::Bytes(message(rule, length)?)];

@@ -1,4 +1,4 @@
-//! Hashes of random messages by all forms, with all options, and a checksum of them.
+//! Hashes of random messages in all forms, with all options, and a checksum of them.
 
 use super::forms::Form::{self, Micro, Nano, V1, V1Bug, V2Minor0, V2Minor1, V2Minor2, V3};
 use super::forms::{Options, Start, hash};
@@ -9,10 +9,10 @@ use rapidhash::{v1, v3};
 
 const FORMS: [Form; 8] = [V1, V1Bug, V2Minor0, V2Minor1, V2Minor2, V3, Micro, Nano];
 
-/// Messages are cut from a room of this many bytes, at any place, so at any alignment.
+/// Messages are cut from a buffer of this many bytes at any offset, so at any alignment.
 const ROOM: usize = 16384;
 
-/// Words that do not come from the crate: the messages must not depend on what is tested.
+/// Words that do not come from the crate: the messages must not depend on the tested code.
 struct Draws(u64);
 
 impl Draws {
@@ -24,7 +24,7 @@ impl Draws {
         word ^ (word >> 31)
     }
 
-    /// A number from 0 to one less than the bound.
+    /// Returns a number from 0 to one less than the bound.
     fn below(&mut self, bound: usize) -> usize {
         (self.word() % bound as u64) as usize
     }
@@ -33,7 +33,7 @@ impl Draws {
         self.word() % 2 == 1
     }
 
-    /// Most lengths are up to 1,100, many of them short, and one of 16 is longer.
+    /// Returns a length. Most are up to 1,100, many of them short, and one in 16 is longer.
     fn length(&mut self) -> usize {
         match self.below(16) {
             0 => 1101 + self.below(7000),
@@ -50,7 +50,7 @@ impl Draws {
         }
     }
 
-    /// A seed and secrets that are any words.
+    /// Returns a seed and secrets of arbitrary words.
     fn words(&mut self) -> Start {
         let seed = self.word();
         let [a, b, c, d, e, f, g] = [(); 7].map(|()| self.word());
@@ -67,7 +67,7 @@ impl Draws {
     }
 }
 
-/// A message in random pieces, and the question for its hash.
+/// Returns the steps that write a message in random pieces and request its hash.
 fn in_pieces<'d>(draws: &mut Draws, message: &'d [u8]) -> Vec<Step<'d>> {
     let mut rest = message;
     let mut steps = Vec::new();
@@ -80,7 +80,7 @@ fn in_pieces<'d>(draws: &mut Draws, message: &'d [u8]) -> Vec<Step<'d>> {
     steps
 }
 
-/// A message, and integers in its midst, as items of the hasher of maps.
+/// Returns a message with integers in the middle, as items of the hasher of maps.
 fn in_memory(draws: &mut Draws, message: &[u8]) -> Vec<Item> {
     let (front, back) = message.split_at(draws.below(message.len() + 1));
     let mut all = vec![Item::Bytes(front.to_vec())];
@@ -98,7 +98,7 @@ fn in_memory(draws: &mut Draws, message: &[u8]) -> Vec<Item> {
     all
 }
 
-/// One hash. A message in pieces must have the hash of the whole.
+/// Returns a hash. A message in pieces must have the hash of the whole.
 fn one(draws: &mut Draws, message: &[u8]) -> Result<u64, String> {
     let start = draws.start()?;
     let [avalanche, compact, protected, sponge] = [(); 4].map(|()| draws.flag());
@@ -135,7 +135,7 @@ fn one(draws: &mut Draws, message: &[u8]) -> Result<u64, String> {
     }
 }
 
-/// The checksum of the hashes of so many messages, in their order, as a line of text.
+/// Returns the checksum of the hashes of `count` messages, in order, as a line of text.
 pub fn checksum(count: u64) -> Result<String, String> {
     let mut draws = Draws(0);
     let mut room = vec![0u8; ROOM];
@@ -146,7 +146,7 @@ pub fn checksum(count: u64) -> Result<String, String> {
     for _ in 0..count {
         let length = draws.length();
         let at = draws.below(ROOM - length - 8);
-        // So that no message is the same twice: eight new bytes in it, or all where it is shorter.
+        // No message repeats: eight bytes of each are new, or all if it is shorter.
         let changed = at + draws.below(length.saturating_sub(8) + 1);
         room[changed..changed + 8].copy_from_slice(&draws.word().to_le_bytes());
         let hash = one(&mut draws, &room[at..at + length])?;

@@ -1,5 +1,5 @@
-//! Replays the vector files: compares the crate with values that come from elsewhere. The README.md
-//! beside the files says where from, and by what rules a file names messages and secrets.
+//! Replays the vector files: compares the crate with values from other sources. The README.md
+//! beside the files states these sources, and the rules by which a file names messages and secrets.
 //!
 //! Only the rules that the files use are here; any other is an error.
 
@@ -15,7 +15,7 @@ pub mod streams;
 use std::fs;
 use std::path::Path;
 
-/// Each file with its number of cases, so that a file cut short is noticed.
+/// Each file with its number of cases, so that a truncated file is noticed.
 pub const FILES: [(&str, usize); 24] = [
     ("generator.tsv", 60),
     ("hasher_items.tsv", 300),
@@ -43,10 +43,10 @@ pub const FILES: [(&str, usize); 24] = [
     ("worked_stream.tsv", 8),
 ];
 
-/// The cases of all files together.
+/// The number of cases in all files together.
 pub const CASES: usize = 7419;
 
-/// The error says how the crate's value differs, or what in the line cannot be read.
+/// The error states how the crate's value differs, or which part of the line cannot be read.
 pub type Case = Result<(), String>;
 
 /// Replays a line of a file.
@@ -69,7 +69,7 @@ const KINDS: [(&str, Replay); 13] = [
     (seeds::STEPS_COLUMNS, seeds::replay_steps),
 ];
 
-/// Replays a file; returns how many cases it has. The error tells the first case that differs.
+/// Replays a file. Returns the number of its cases. The error names the first case that differs.
 pub fn file(path: &Path) -> Result<usize, String> {
     let text = fs::read_to_string(path).map_err(|error| error.to_string())?;
     let mut lines = (1..)
@@ -100,7 +100,7 @@ pub fn file(path: &Path) -> Result<usize, String> {
     Ok(cases)
 }
 
-/// Replays all files of a folder; returns a line for each, and whether all cases agree.
+/// Replays all files in a directory. Returns a line per file, and whether all cases agree.
 pub fn folder(folder: &Path) -> (Vec<String>, bool) {
     let mut report = Vec::new();
     let mut total = 0;
@@ -124,7 +124,7 @@ pub fn folder(folder: &Path) -> (Vec<String>, bool) {
     (report, good && total == CASES)
 }
 
-/// The names of the vector files in a folder that [`FILES`] does not have.
+/// Returns the names of the vector files in a directory that [`FILES`] does not have.
 pub fn unknown(folder: &Path) -> Result<Vec<String>, String> {
     let mut names = Vec::new();
     for entry in fs::read_dir(folder).map_err(|error| error.to_string())? {

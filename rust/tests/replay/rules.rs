@@ -1,11 +1,11 @@
-//! The rules by which a vector file names messages, secrets and numbers.
+//! The rules by which a vector file names messages, secrets, and numbers.
 
 use super::forms::Start;
 use rapidhash::rng::RapidRng;
 use rapidhash::{v1, v3};
 use std::str::FromStr;
 
-/// The fields of a line, whose number is known.
+/// Returns the fields of a line, whose number is known.
 pub fn fields<const COUNT: usize>(line: &str) -> Result<[&str; COUNT], String> {
     let all: Vec<&str> = line.split('\t').collect();
     all.try_into().map_err(|_| format!("no {COUNT} fields"))
@@ -16,7 +16,7 @@ pub fn number<T: FromStr>(text: &str) -> Result<T, String> {
         .map_err(|_| format!("no number of this type: {text}"))
 }
 
-/// The numbers of a field, with spaces between them.
+/// Returns the numbers of a field, separated by spaces.
 pub fn numbers(field: &str) -> Result<Vec<u64>, String> {
     field.split_whitespace().map(number).collect()
 }
@@ -29,7 +29,7 @@ pub fn flag(field: &str) -> Result<bool, String> {
     }
 }
 
-/// The message of a rule and a length.
+/// Returns the message of a rule and a length.
 pub fn message(rule: &str, length: &str) -> Result<Vec<u8>, String> {
     let length: usize = number(length)?;
     let bytes = match rule.split_once(':') {
@@ -55,7 +55,7 @@ fn square(i: u64, length: u64) -> u8 {
     ((i * i + 7 * i + length) % 251) as u8
 }
 
-/// The little-endian bytes of a generator's words.
+/// Returns the little-endian bytes of a generator's words.
 fn drawn(seed: u64, length: usize) -> Vec<u8> {
     let mut rng = RapidRng::new(seed);
     let mut bytes = Vec::with_capacity(length + 8);
@@ -66,7 +66,7 @@ fn drawn(seed: u64, length: usize) -> Vec<u8> {
     bytes
 }
 
-/// Bytes that are 0, except those at the named places, as in `0=1,16=2`.
+/// Returns bytes that are 0, except at the named offsets, as in `0=1,16=2`.
 fn placed(places: &str, length: usize) -> Result<Vec<u8>, String> {
     let mut bytes = vec![0; length];
     for pair in places.split(',').filter(|pair| !pair.is_empty()) {
@@ -79,7 +79,7 @@ fn placed(places: &str, length: usize) -> Result<Vec<u8>, String> {
     Ok(bytes)
 }
 
-/// The seed and the secrets of a rule.
+/// Returns the seed and the secrets of a rule.
 pub fn start_of(rule: &str) -> Result<Start, String> {
     match rule.split_once(':') {
         None if rule == "default" => Ok(Start {
@@ -95,7 +95,7 @@ pub fn start_of(rule: &str) -> Result<Start, String> {
     }
 }
 
-/// A seed, and secrets that are 0, except at the places named after it, as in `0,1=1`.
+/// Returns a seed and secrets that are 0, except at the indices named after it, as in `0,1=1`.
 fn bare(words: &str) -> Result<Start, String> {
     let mut seed = 0;
     let mut secrets = [0; 7];

@@ -1,4 +1,4 @@
-//! Cases of secrets made of numbers, and of the generator.
+//! Cases of secrets made from numbers, and of the generator.
 
 use super::rules::{fields, number, numbers};
 use super::{Case, same};
@@ -20,7 +20,7 @@ pub const TIME_COLUMNS: &str = "seed\tsecs\tnanos\texpected";
 
 pub const STEPS_COLUMNS: &str = "first\tsecond\texpected";
 
-/// The seed, and then the secrets.
+/// Returns the seed, followed by the secrets.
 fn made(form: &str, call: &str, number: u64) -> Result<Vec<u64>, String> {
     let seven = match (form, call) {
         ("v1", _) => {
@@ -67,7 +67,7 @@ pub fn replay_made(line: &str) -> Case {
     same("the list", global.get().to_vec(), numbers(expected)?)
 }
 
-/// A global seed, and then seeds of a source.
+/// Compares a global seed, followed by the seeds of a source.
 pub fn replay_source(line: &str) -> Case {
     let [random, second, expected] = fields(line)?;
     let expected = numbers(expected)?;
@@ -78,7 +78,7 @@ pub fn replay_source(line: &str) -> Case {
     same("the list", answers, expected)
 }
 
-/// Words, the state that is left, and the words that the crate calls not portable.
+/// Compares words, the state after them, and the words that the crate calls not portable.
 pub fn replay_generator(line: &str) -> Case {
     let [seed, count, expected] = fields(line)?;
     let (seed, count): (u64, usize) = (number(seed)?, number(count)?);
@@ -96,7 +96,7 @@ pub fn replay_generator(line: &str) -> Case {
     same("the list", drawn, numbers(expected)?)
 }
 
-/// The word for a time, and the seed that it leaves.
+/// Compares the word for a time, and the seed after it.
 pub fn replay_time(line: &str) -> Case {
     let [seed, secs, nanos, expected] = fields(line)?;
     let mut seed = number(seed)?;

@@ -1,4 +1,4 @@
-//! Cases of the stream hashers: messages in pieces, with hashes asked for between them.
+//! Cases of the stream hashers: messages in pieces, with requests for hashes between them.
 
 use super::forms::with_consts;
 use super::rules::{fields, flag, message, number, numbers, start_of};
@@ -10,7 +10,7 @@ pub const COLUMNS: &str = "avalanche\tprotected\tmessage\tlength\tsecrets\topera
 pub const LANES_COLUMNS: &str =
     "lanes\tavalanche\tprotected\tmessage\tlength\tsecrets\toperations\tsteps\texpected";
 
-/// What a stream hasher is asked to do.
+/// An operation of a stream hasher.
 pub enum Step<'d> {
     Write(&'d [u8]),
     Finish,
@@ -33,7 +33,7 @@ fn answers<const LANES: usize, const AVALANCHE: bool, const PROTECTED: bool>(
     hashes
 }
 
-/// The hashes that a stream hasher of 7, 5 or 3 lanes returns, one for each `Finish`.
+/// Returns the hashes from a stream hasher with 7, 5, or 3 lanes, one per `Finish`.
 pub fn hashes(
     lanes: usize,
     options: (bool, bool),
@@ -49,7 +49,7 @@ pub fn hashes(
     }))
 }
 
-/// Cuts a message from its beginning on: `f` asks for a hash, `r` resets, a number is a size.
+/// Cuts a message from its beginning. `f` requests a hash, `r` resets, and a number is a size.
 fn cut<'d>(message: &'d [u8], operations: &str) -> Result<Vec<Step<'d>>, String> {
     let mut rest = message;
     let mut steps = Vec::new();
@@ -68,7 +68,7 @@ fn cut<'d>(message: &'d [u8], operations: &str) -> Result<Vec<Step<'d>>, String>
     Ok(steps)
 }
 
-/// The seven fields that both kinds of cases have.
+/// Compares a case, from the seven fields that both kinds of cases have.
 fn compare(lanes: &str, fields: [&str; 7]) -> Case {
     let [
         avalanche,
@@ -94,7 +94,7 @@ pub fn replay(line: &str) -> Case {
     compare("7", fields(line)?)
 }
 
-/// The column `steps` is not compared: it counts what the definition folds.
+/// Does not compare the column `steps`, which counts the chunks that the definition folds.
 pub fn replay_lanes(line: &str) -> Case {
     let [
         lanes,
