@@ -1,18 +1,19 @@
 #!/usr/bin/env bash
-# Runs the tests of the Rust crate on other machines: under qemu's emulation, and in Node as WebAssembly, where no test
-# starts a thread. Debian's cargo builds them by its rustc 1.63, the oldest compiler that the crate promises. A million
-# random messages must have the checksum of x86_64. On machines with a C compiler, a program in C makes every call of
-# the library that rust/capi is. What a machine lacks is skipped and counted. The last line counts the cases.
+# Runs the tests of the Rust crate on other machines: under qemu, and in Node as WebAssembly, which has no threads and
+# where cargo ignores the tests that panic. Debian's cargo builds them with its rustc 1.63, the oldest compiler that the
+# crate supports. The hashes of a million random messages must have the checksum of x86_64. On machines with a C
+# compiler, a program in C makes every call of the library in rust/capi. A machine that lacks a program is skipped and
+# counted. The last line counts the cases.
 #
-# The other packages of Debian are unpacked in build/machines, or the folder that RAPIDHASH_MACHINES names, which
-# stays for later runs. They are not installed.
+# The other Debian packages are unpacked in build/machines, or in the directory that RAPIDHASH_MACHINES names, which
+# later runs reuse. They are not installed.
 . "$(dirname "$0")/cases.sh"
 folder=$(realpath -m "${RAPIDHASH_MACHINES:-$top/build/machines}")
 root=$folder/root
 export APT_CONFIG=$folder/apt/apt.conf
 
-# The machines: Debian's name, rustc's, GNU's and qemu's. Those without qemu's run without it, and so does i386 on
-# x86_64, since qemu's stops at threads.
+# The machines: our name, and those of Debian, rustc, GNU, and qemu. Without the last, no qemu is used: x86_64 runs the
+# programs of i386, whose threads never end under qemu.
 machines=(
   'x86_64 - x86_64-unknown-linux-gnu - -'
   'aarch64 arm64 aarch64-unknown-linux-gnu aarch64-linux-gnu aarch64'
@@ -22,14 +23,14 @@ machines=(
   'armhf armhf armv7-unknown-linux-gnueabihf arm-linux-gnueabihf arm'
   'wasm32 - wasm32-wasi - -'
 )
-# How many of them are built and run at a time.
+# The number of machines that are built and run in parallel.
 jobs=2
-# The compiler with the libraries that it and the linkers need, and the emulators.
+# The compiler, the libraries that it and the linkers need, and the emulators.
 compiler=(rustc libstd-rust-1.63 libstd-rust-dev libllvm14 lib{z3-4,edit2,bsd0,md0,xml2,icu72,ffi8,jansson4,binutils}
   qemu-user-static)
 
-# An apt with an index of its own, so that neither the packages nor the architectures of the system
-# change. No sandbox, since its user cannot write here.
+# Prepares an apt with its own index, so that neither the packages nor the architectures of the system change. It has
+# no sandbox, because the sandbox's user cannot write here.
 prepare_apt() {
   mkdir -p "$folder"/{have,root,apt/lists/partial,apt/archives/partial} && : >"$folder/apt/status" &&
     echo 'deb [signed-by=/usr/share/keyrings/debian-archive-keyring.gpg]' \
@@ -47,7 +48,7 @@ Dir::Etc::sourceparts "-";
 CONF
 }
 
-# Unpacks packages, if an earlier run has not done it: NAME PACKAGE..
+# Unpacks packages, unless an earlier run has done so: NAME PACKAGE..
 fetch() {
   local stamp=$folder/have/$1 debs=$folder/debs.$1
   shift
@@ -58,7 +59,7 @@ fetch() {
   ) && echo "$*" >"$stamp" && rm -rf "$debs"
 }
 
-# The compiler's packages. Only if they are missing is the index read, so the others are found by an old one.
+# Unpacks the compiler. Reads the index only if the compiler is missing, so later packages use an old index.
 fetch_compiler() {
   if ! command -v apt-get >/dev/null || ! command -v dpkg >/dev/null; then
     echo "no apt-get and dpkg, which bring Debian's compiler"
@@ -68,12 +69,12 @@ fetch_compiler() {
     fetch compiler "${compiler[@]}" && with_old rustc --version
 }
 
-# A command with the unpacked compiler.
+# Runs a command with the unpacked compiler: COMMAND..
 with_old() {
   env PATH="$root/usr/bin:$PATH" LD_LIBRARY_PATH="$root/usr/lib/x86_64-linux-gnu" "$@"
 }
 
-# Whether all is there that a machine needs; if not, the last line says what is missing: NAME PACKAGE..
+# Checks that a machine has all that it needs. If not, the last line names what is missing: NAME PACKAGE..
 has_all() {
   if [ ! -x /usr/bin/cargo ]; then
     echo "no /usr/bin/cargo, which Debian's package cargo brings"
@@ -89,7 +90,7 @@ has_all() {
   fi
 }
 
-# Prints the line of a case, whose log stays, since other machines run beside this one: NAME COMMAND..
+# Prints the line of a case but keeps its log, because other machines run in parallel: NAME COMMAND..
 try() {
   local name=$1 log=$room/$1.log
   shift
@@ -101,7 +102,7 @@ try() {
   fi
 }
 
-# Runs the tests of the crate on a machine, and the calls of its library for C: NAME DEBIAN RUSTC GNU QEMU
+# Runs the tests of the crate and of its C library on a machine: NAME DEBIAN RUSTC GNU QEMU
 machine() {
   local name=$1 debian=$2 target=$3 gnu=$4 qemu=$5 packages=() tests=(--tests) cc=(cc) run=() of_target
   of_target=CARGO_TARGET_$(tr a-z- A-Z_ <<<"$target")
@@ -110,7 +111,7 @@ machine() {
     x86_64) ;;
     wasm32)
       packages=(libstd-rust-dev-wasm32 lld-14 wasi-libc)
-      tests=(--test vectors --test portable)
+      tests=(--tests -- --skip threads)
       cc=()
       run=(node --no-warnings "$top/tests/machines/wasi.mjs")
       export "${of_target}_LINKER=$root/usr/bin/wasm-ld-14" "${of_target}_RUSTFLAGS=-L $root/usr/lib/wasm32-wasi"
@@ -135,19 +136,19 @@ machine() {
   [ "${#cc[@]}" -eq 0 ] || try "${name}_c" calls_from_c "$CARGO_TARGET_DIR/$target/release/librapidhash_c.a"
 }
 
-# Every call of the library for C on a machine, whose words are in `cc` and `run`: ARCHIVE
+# Makes every call of the C library on a machine, with the compiler in `cc` and the emulator in `run`: ARCHIVE
 calls_from_c() {
   with_old /usr/bin/cargo build --release --manifest-path capi/Cargo.toml &&
     "${cc[@]}" -O2 -I"$top/include" "$top/tests/c_library.c" "$1" -o "$CARGO_TARGET_DIR/c_library" &&
     "${run[@]}" "$CARGO_TARGET_DIR/c_library"
 }
 
-# What the random messages printed on a machine: NAME
+# Prints the checksum of the random messages on a machine: NAME
 checksum() {
   grep -o '[0-9]* messages of .*' "$room/$1_messages.log"
 }
 
-# Another machine has the checksum of x86_64: NAME
+# Checks that another machine has the checksum of x86_64: NAME
 same_checksum() {
   checksum "$1" && diff <(checksum x86_64) <(checksum "$1")
 }

@@ -1,4 +1,4 @@
-// Runs a WebAssembly program by the WASI of Node: PROGRAM WORD..
+// Runs a WebAssembly program with the WASI of Node: PROGRAM ARGUMENT..
 import { readFile } from 'node:fs/promises';
 import { WASI } from 'node:wasi';
 
