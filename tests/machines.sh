@@ -1,6 +1,6 @@
 #!/usr/bin/env bash
-# Runs the tests of the Rust crate on other machines: under qemu, and in Node as WebAssembly, which has no threads and
-# where cargo ignores the tests that panic. Debian's cargo builds them with its rustc 1.63, the oldest compiler that the
+# Runs the tests of the Rust crate on other machines: under qemu, and in Node as WebAssembly, which has no threads, and
+# for which Rust ignores the tests that panic. Debian's cargo builds them with rustc 1.63, the oldest compiler that the
 # crate supports. The hashes of a million random messages must have the checksum of x86_64. On machines with a C
 # compiler, a program in C makes every call of the library in rust/capi. A machine that lacks a program is skipped and
 # counted. The last line counts the cases.

@@ -1,4 +1,4 @@
-//! The tests of the portable hashes, of slices, of pieces and of readers, and of the command line.
+//! Tests of the portable hashes (of slices, pieces and readers) and of the command line.
 //!
 //! The counts of chunk steps are contracts ([`counts`]); the rest is what no contract says, with
 //! numbers worked out by hand or taken from the Rust crate.

@@ -40,7 +40,7 @@ impl Write for OneByteWriter {
 }
 
 /// Accepts no byte, and returns 0 without an error.
-#[derive(Debug, Clone, Copy, PartialEq, Eq)]
+#[derive(Drop)]
 pub struct FullWriter;
 
 impl Write for FullWriter {

@@ -6,7 +6,7 @@ use std::io::ErrorKind;
 
 /// What a call returned, how many reads it made, the most bytes that one of them asked for, and how
 /// many bytes are left.
-#[derive(Debug, Clone, Copy, PartialEq, Eq)]
+#[derive(Clone, Copy, PartialEq, Eq)]
 pub(crate) struct Outcome {
     pub(crate) returned: Result<u64, ErrorKind>,
     pub(crate) reads: u64,
