@@ -104,7 +104,8 @@ try() {
 
 # Runs the tests of the crate and of its C library on a machine: NAME DEBIAN RUSTC GNU QEMU
 machine() {
-  local name=$1 debian=$2 target=$3 gnu=$4 qemu=$5 packages=() tests=(--tests) cc=(cc) run=() of_target
+  local name=$1 debian=$2 target=$3 gnu=$4 qemu=$5 of_target
+  local packages=() tests=(--tests) cc=(cc) run=() flags='-D warnings'
   of_target=CARGO_TARGET_$(tr a-z- A-Z_ <<<"$target")
   export CARGO_BUILD_TARGET=$target CARGO_TARGET_DIR=$room/$name.out CARGO_NET_OFFLINE=true
   case $name in
@@ -114,7 +115,8 @@ machine() {
       tests=(--tests -- --skip threads)
       cc=()
       run=(node --no-warnings "$top/tests/machines/wasi.mjs")
-      export "${of_target}_LINKER=$root/usr/bin/wasm-ld-14" "${of_target}_RUSTFLAGS=-L $root/usr/lib/wasm32-wasi"
+      flags+=" -L $root/usr/lib/wasm32-wasi"
+      export "${of_target}_LINKER=$root/usr/bin/wasm-ld-14"
       ;;
     *)
       packages=(libstd-rust-dev:"$debian" {gcc-12,cpp-12,binutils}-"$gnu"
@@ -122,9 +124,11 @@ machine() {
       cc=(with_old "$root/usr/bin/$gnu-gcc-12" --sysroot="$root")
       run=("$root/usr/bin/qemu-$qemu-static" -L "$root/usr/$gnu")
       [ "$qemu" != - ] || run=("$root/usr/$gnu/lib/ld-linux.so.2" --library-path "$root/usr/$gnu/lib")
-      export "${of_target}_LINKER=$root/usr/bin/$gnu-gcc-12" "${of_target}_RUSTFLAGS=-C link-arg=--sysroot=$root"
+      flags+=" -C link-arg=--sysroot=$root"
+      export "${of_target}_LINKER=$root/usr/bin/$gnu-gcc-12"
       ;;
   esac
+  export "${of_target}_RUSTFLAGS=$flags"
   [ "${#run[@]}" -eq 0 ] || export "${of_target}_RUNNER=${run[*]}"
   if ! has_all "$name" "${packages[@]}" >"$room/$name.log" 2>&1; then
     printf 'skipped %s: %s\n' "$name" "$(tail -n 1 "$room/$name.log")"
