@@ -43,7 +43,6 @@ mod macros;
 #[cfg(feature = "std")]
 mod collections;
 pub mod fast;
-mod few;
 pub mod inner;
 #[cfg(feature = "std")]
 mod io;

@@ -32,7 +32,7 @@ pub use stream::{
 #[inline(always)]
 pub fn rapidhash_v3(bytes: &[u8]) -> u64 {
     let secrets = RapidSecrets::default_ref();
-    hash::<7, 1, MIXED, UNROLLED, PLAIN>(bytes, secrets.seed, &secrets.secrets)
+    hash::<7, MIXED, UNROLLED, PLAIN>(bytes, secrets.seed, &secrets.secrets)
 }
 
 /// Returns the hash of `bytes` with the caller's seed and secrets. Collisions that were prepared
@@ -68,7 +68,7 @@ pub fn rapidhash_v3_inline<const AVALANCHE: bool, const COMPACT: bool, const PRO
     bytes: &[u8],
     secrets: &RapidSecrets,
 ) -> u64 {
-    hash::<7, 0, AVALANCHE, COMPACT, PROTECTED>(bytes, secrets.seed, &secrets.secrets)
+    hash::<7, AVALANCHE, COMPACT, PROTECTED>(bytes, secrets.seed, &secrets.secrets)
 }
 
 /// Returns the hash of `bytes` with five lanes. Up to 80 bytes it is V3's. The options are those of
@@ -85,7 +85,7 @@ pub fn rapidhash_v3_micro_inline<const AVALANCHE: bool, const PROTECTED: bool>(
     bytes: &[u8],
     secrets: &RapidSecrets,
 ) -> u64 {
-    hash::<5, 1, AVALANCHE, UNROLLED, PROTECTED>(bytes, secrets.seed, &secrets.secrets)
+    hash::<5, AVALANCHE, UNROLLED, PROTECTED>(bytes, secrets.seed, &secrets.secrets)
 }
 
 /// Returns the hash of `bytes` with three lanes: the least code in a program that calls it once. Up
@@ -102,5 +102,5 @@ pub fn rapidhash_v3_nano_inline<const AVALANCHE: bool, const PROTECTED: bool>(
     bytes: &[u8],
     secrets: &RapidSecrets,
 ) -> u64 {
-    hash::<3, 2, AVALANCHE, UNROLLED, PROTECTED>(bytes, secrets.seed, &secrets.secrets)
+    hash::<3, AVALANCHE, UNROLLED, PROTECTED>(bytes, secrets.seed, &secrets.secrets)
 }
