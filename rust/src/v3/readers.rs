@@ -87,20 +87,29 @@ pub fn rapidhash_v3_source_lanes<
     }
 }
 
-/// The loop of every hash here, from a hasher of no bytes. It is out of line because of its buffer.
+/// The loop of every hash here, from a hasher of no bytes. Short reads gather in the buffer until
+/// it is more than half full, so that no read requests less than half of it. The loop is out of
+/// line because of its buffer.
 #[inline(never)]
 fn read_all<R: Read, const LANES: usize, const SIZE: usize, const PROTECTED: bool>(
     source: &mut Source<R>,
     mut hasher: RapidStreamHasherLanes<'_, LANES, true, PROTECTED>,
 ) -> io::Result<u64> {
     source.clear();
-    let mut buffer = [0u8; SIZE];
+    let mut room = [0u8; SIZE];
+    let buffer = &mut room[..];
+    let mut at = 0;
     for _turn in 0..u64::MAX {
-        let n = source.read(&mut buffer)?;
+        let n = source.read(&mut buffer[at..])?;
         if n == 0 {
+            hasher.write(&buffer[..at]);
             return Ok(hasher.finish());
         }
-        hasher.write(&buffer[..n]);
+        at += n;
+        if at > SIZE / 2 {
+            hasher.write(&buffer[..at]);
+            at = 0;
+        }
     }
     Err(io::Error::from(ErrorKind::Other))
 }
