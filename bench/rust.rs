@@ -6,6 +6,7 @@ mod keys;
 use rapidhash::{fast, v1, v2, v3};
 use std::hint::black_box;
 use std::io::Read;
+use std::ops::Range;
 use std::time::{Duration, Instant};
 
 /// The equal lengths of the messages of a row, and the ranges of its mixed lengths.
@@ -39,42 +40,84 @@ pub fn row(group: &str, name: &str, items: usize, mut work: impl FnMut() -> u64)
     println!("{group}\t{name}\t{:.3}", least.as_nanos() as f64 / items as f64);
 }
 
+/// A hash as programs call it: inlined into the loop, if the crate lets the compiler inline it.
+trait Form: Copy {
+    fn hash(self, text: &[u8]) -> u64;
+}
+
+/// Defines a form with the secrets that it needs, or none.
+macro_rules! forms {
+    ($($name:ident($secrets:ty), $own:ident, $text:ident => $hash:expr;)*) => { $(
+        #[derive(Clone, Copy)]
+        struct $name<'s>(&'s $secrets);
+
+        impl Form for $name<'_> {
+            #[inline(always)]
+            fn hash(self, $text: &[u8]) -> u64 {
+                let $own = self.0;
+                $hash
+            }
+        }
+    )* };
+}
+
+forms! {
+    V1(()), _none, text => v1::rapidhash_v1(text);
+    V1Seeded(v1::RapidSecrets), own, text => v1::rapidhash_v1_seeded(text, own);
+    V22(()), _none, text => v2::rapidhash_v2_2(text);
+    V3(()), _none, text => v3::rapidhash_v3(text);
+    V3Seeded(v3::RapidSecrets), own, text => v3::rapidhash_v3_seeded(text, own);
+    Micro(()), _none, text => v3::rapidhash_v3_micro_inline::<true, false>(text, &v3::DEFAULT_RAPID_SECRETS);
+    Nano(()), _none, text => v3::rapidhash_v3_nano_inline::<true, false>(text, &v3::DEFAULT_RAPID_SECRETS);
+}
+
 /// The hashes summed: the processor works on several at a time.
 #[inline(never)]
-fn summed(texts: &[&[u8]], hash: impl Fn(&[u8]) -> u64) -> u64 {
-    texts.iter().fold(0, |sum, text| sum.wrapping_add(hash(text)))
+fn summed(texts: &[&[u8]], form: impl Form) -> u64 {
+    texts.iter().fold(0, |sum, text| sum.wrapping_add(form.hash(text)))
 }
 
 /// The hashes stored, as a filter or a column stores them.
 #[inline(never)]
-fn stored(texts: &[&[u8]], out: &mut [u64], hash: impl Fn(&[u8]) -> u64) -> u64 {
+fn stored(texts: &[&[u8]], out: &mut [u64], form: impl Form) -> u64 {
     for (text, place) in texts.iter().zip(out.iter_mut()) {
-        *place = hash(text);
+        *place = form.hash(text);
     }
     out[0]
 }
 
+/// The hashes of parts of a buffer, joined in order.
+#[inline(never)]
+fn joined(bytes: &[u8], parts: &[Range<usize>], form: impl Form) -> u64 {
+    parts.iter().fold(0, |sum: u64, part| (sum ^ form.hash(&bytes[part.clone()])).wrapping_mul(3))
+}
+
 /// Each message begins where the hash before it says: the time from bytes to hash.
 #[inline(never)]
-fn chained(bytes: &[u8], lengths: &[usize], hash: impl Fn(&[u8]) -> u64) -> u64 {
-    lengths.iter().fold(0, |last, &length| {
+fn chained(bytes: &[u8], parts: &[Range<usize>], form: impl Form) -> u64 {
+    parts.iter().fold(0, |last, part| {
         let at = (last % 64) as usize;
-        hash(&bytes[at..at + length])
+        form.hash(&bytes[at..at + part.len()])
     })
 }
 
-/// The rows of a form: three loops over each length and range.
-fn slices(form: &str, bytes: &[u8], hash: impl Fn(&[u8]) -> u64 + Copy) {
+/// The rows of a form: four loops over each length and range.
+fn slices(name: &str, bytes: &[u8], form: impl Form) {
     let mut numbers = Numbers(9);
     let equal = LENGTHS.iter().map(|&length| (length.to_string(), length, length, 500));
-    let mixed = RANGES.iter().map(|&(low, high)| (format!("{low}-{high}"), low, high, 4000));
-    for (name, low, high, count) in equal.chain(mixed) {
-        let lengths: Vec<usize> = (0..count).map(|_| numbers.between(low, high)).collect();
-        let texts: Vec<&[u8]> = lengths.iter().map(|&length| &bytes[numbers.between(0, 4095)..][..length]).collect();
-        let (texts, mut out) = (black_box(texts), vec![0; count]);
-        row(form, &format!("{name} sum"), count, || summed(&texts, hash));
-        row(form, &format!("{name} store"), count, || stored(&texts, &mut out, hash));
-        row(form, &format!("{name} chain"), count, || chained(bytes, black_box(&lengths), hash));
+    let mixed = RANGES.iter().map(|&(low, high)| (format!("{low}-{high}"), low, high, 20_000));
+    for (lengths, low, high, count) in equal.chain(mixed) {
+        let mut part = |_| {
+            let (start, length) = (numbers.between(0, 4095), numbers.between(low, high));
+            start..start + length
+        };
+        let parts: Vec<Range<usize>> = black_box((0..count).map(&mut part).collect());
+        let texts: Vec<&[u8]> = black_box(parts.iter().map(|part| &bytes[part.clone()]).collect());
+        let mut out = vec![0; count];
+        row(name, &format!("{lengths} sum"), count, || summed(&texts, form));
+        row(name, &format!("{lengths} store"), count, || stored(&texts, &mut out, form));
+        row(name, &format!("{lengths} join"), count, || joined(bytes, &parts, form));
+        row(name, &format!("{lengths} chain"), count, || chained(bytes, &parts, form));
     }
 }
 
@@ -82,14 +125,13 @@ fn all_slices() {
     let mut numbers = Numbers(7);
     let bytes: Vec<u8> = (0..8192).map(|_| numbers.next() as u8).collect();
     let (three, seven) = black_box((v1::RapidSecrets::seed(7), v3::RapidSecrets::seed(7)));
-    let defaults = &v3::DEFAULT_RAPID_SECRETS;
-    slices("v1", &bytes, v1::rapidhash_v1);
-    slices("v1 seeded", &bytes, |text| v1::rapidhash_v1_seeded(text, &three));
-    slices("v2.2", &bytes, v2::rapidhash_v2_2);
-    slices("v3", &bytes, v3::rapidhash_v3);
-    slices("v3 seeded", &bytes, |text| v3::rapidhash_v3_seeded(text, &seven));
-    slices("micro", &bytes, |text| v3::rapidhash_v3_micro_inline::<true, false>(text, defaults));
-    slices("nano", &bytes, |text| v3::rapidhash_v3_nano_inline::<true, false>(text, defaults));
+    slices("v1", &bytes, V1(&()));
+    slices("v1 seeded", &bytes, V1Seeded(&three));
+    slices("v2.2", &bytes, V22(&()));
+    slices("v3", &bytes, V3(&()));
+    slices("v3 seeded", &bytes, V3Seeded(&seven));
+    slices("micro", &bytes, Micro(&()));
+    slices("nano", &bytes, Nano(&()));
 }
 
 /// A reader that returns at most `most` bytes per read.

@@ -4,23 +4,28 @@
 
 use crate::util::{read_u32, read_u32_combined, read_u64};
 
+const_fn! {
 /// The last 16 bytes as two words.
 #[inline(always)]
-pub(crate) fn last_16(bytes: &[u8]) -> (u64, u64) {
+pub(crate) const fn last_16(bytes: &[u8]) -> (u64, u64) {
     let n = bytes.len();
     (read_u64(bytes, n - 16), read_u64(bytes, n - 8))
 }
+}
 
+const_fn! {
 /// The first, the middle and the last of 1 to 3 bytes in one word.
 #[inline(always)]
-fn three_bytes(bytes: &[u8]) -> u64 {
+const fn three_bytes(bytes: &[u8]) -> u64 {
     let n = bytes.len();
     ((bytes[0] as u64) << 56) | ((bytes[n / 2] as u64) << 32) | bytes[n - 1] as u64
 }
+}
 
+const_fn! {
 /// The two words of V1, of at most 16 bytes.
 #[inline(always)]
-pub(crate) fn short_words_v1(bytes: &[u8]) -> (u64, u64) {
+pub(crate) const fn short_words_v1(bytes: &[u8]) -> (u64, u64) {
     let n = bytes.len();
     if n >= 8 {
         (
@@ -36,10 +41,12 @@ pub(crate) fn short_words_v1(bytes: &[u8]) -> (u64, u64) {
         (0, 0)
     }
 }
+}
 
+const_fn! {
 /// The two words of V2, of at most 16 bytes.
 #[inline(always)]
-pub(crate) fn short_words_v2<const MINOR: u8>(bytes: &[u8]) -> (u64, u64) {
+pub(crate) const fn short_words_v2<const MINOR: u8>(bytes: &[u8]) -> (u64, u64) {
     let n = bytes.len();
     if n >= 4 {
         words_from_4(bytes)
@@ -52,10 +59,12 @@ pub(crate) fn short_words_v2<const MINOR: u8>(bytes: &[u8]) -> (u64, u64) {
         ((first as u64) << 56 | last as u64, middle as u64)
     }
 }
+}
 
+const_fn! {
 /// The two words of V3, micro, nano and the in-memory core, of at most 16 bytes.
 #[inline(always)]
-pub(crate) fn short_words_v3(bytes: &[u8]) -> (u64, u64) {
+pub(crate) const fn short_words_v3(bytes: &[u8]) -> (u64, u64) {
     let n = bytes.len();
     if n >= 4 {
         words_from_4(bytes)
@@ -66,14 +75,17 @@ pub(crate) fn short_words_v3(bytes: &[u8]) -> (u64, u64) {
         ((first as u64) << 45 | last as u64, middle as u64)
     }
 }
+}
 
+const_fn! {
 /// The two words of V2, V3, micro, nano and the in-memory core, of 4 to 16 bytes.
 #[inline(always)]
-fn words_from_4(bytes: &[u8]) -> (u64, u64) {
+const fn words_from_4(bytes: &[u8]) -> (u64, u64) {
     let n = bytes.len();
     if n >= 8 {
         (read_u64(bytes, 0), read_u64(bytes, n - 8))
     } else {
         (read_u32(bytes, 0) as u64, read_u32(bytes, n - 4) as u64)
     }
+}
 }

@@ -6,11 +6,12 @@ use crate::lanes::wide_lanes;
 use crate::tail::{close, fold_tail};
 use crate::words::{last_16, short_words_v1};
 
+const_fn! {
 /// Returns the hash of `bytes`. `AVALANCHE` mixes the last product once more, `PROTECTED` mixes
 /// each product with its factors, `V1_BUG` folds a row at 48 bytes, and `COMPACT` changes the code
 /// but no value.
 #[inline(always)]
-pub fn hash<
+pub const fn hash<
     const AVALANCHE: bool,
     const COMPACT: bool,
     const PROTECTED: bool,
@@ -26,10 +27,12 @@ pub fn hash<
     }
     close_short::<AVALANCHE, PROTECTED>(bytes, short_words_v1(bytes), seed, secrets)
 }
+}
 
+const_fn! {
 /// The hash of at most 16 bytes, made of their two words.
 #[inline(always)]
-fn close_short<const AVALANCHE: bool, const PROTECTED: bool>(
+const fn close_short<const AVALANCHE: bool, const PROTECTED: bool>(
     bytes: &[u8],
     words: (u64, u64),
     seed: u64,
@@ -39,10 +42,12 @@ fn close_short<const AVALANCHE: bool, const PROTECTED: bool>(
     let [first, second, _] = *secrets;
     close::<AVALANCHE, PROTECTED>(words, seed ^ len, second, (first ^ len, second))
 }
+}
 
+const_fn! {
 /// The hash above 16 bytes. A message that has no row makes no call.
 #[inline(always)]
-fn long<const AVALANCHE: bool, const COMPACT: bool, const PROTECTED: bool, const V1_BUG: bool>(
+const fn long<const AVALANCHE: bool, const COMPACT: bool, const PROTECTED: bool, const V1_BUG: bool>(
     bytes: &[u8],
     seed: u64,
     secrets: &[u64; 3],
@@ -55,11 +60,13 @@ fn long<const AVALANCHE: bool, const COMPACT: bool, const PROTECTED: bool, const
         with_rows::<AVALANCHE, COMPACT, PROTECTED, V1_BUG>(bytes, seed, secrets)
     }
 }
+}
 
+const_fn! {
 /// The hash of a message that has a row, out of line.
 #[cold]
 #[inline(never)]
-fn with_rows<
+const fn with_rows<
     const AVALANCHE: bool,
     const COMPACT: bool,
     const PROTECTED: bool,
@@ -73,11 +80,13 @@ fn with_rows<
     let (joined, tail) = wide_lanes::<3, 0, COMPACT, PROTECTED>(bytes, seed ^ len, secrets);
     close_tail::<AVALANCHE, PROTECTED>(tail, bytes, len, joined, secrets)
 }
+}
 
+const_fn! {
 /// The hash of `len` bytes, more than 16, made of the joined lanes, the tail, and bytes that end in
 /// the message's last 16.
 #[inline(always)]
-pub(crate) fn close_tail<const AVALANCHE: bool, const PROTECTED: bool>(
+pub(crate) const fn close_tail<const AVALANCHE: bool, const PROTECTED: bool>(
     tail: &[u8],
     ending: &[u8],
     len: u64,
@@ -91,9 +100,12 @@ pub(crate) fn close_tail<const AVALANCHE: bool, const PROTECTED: bool>(
     seed = fold_tail::<2, PROTECTED>(tail, &[s[2], s[2]], seed);
     close::<AVALANCHE, PROTECTED>(last_16(ending), seed, s[1], (s[0] ^ len, s[1]))
 }
+}
 
+const_fn! {
 /// The length of the longest message without a row.
 #[inline(always)]
-fn longest_rowless<const V1_BUG: bool>() -> usize {
+const fn longest_rowless<const V1_BUG: bool>() -> usize {
     if V1_BUG { 47 } else { 48 }
+}
 }

@@ -11,11 +11,12 @@ use crate::words::{last_16, short_words_v3};
 /// messages slower.
 const LONGEST_INLINED: usize = 80;
 
+const_fn! {
 /// Returns the hash of `bytes` with an odd number of lanes. `AVALANCHE` mixes the last product once
 /// more, `PROTECTED` mixes each product with its factors, and `COMPACT` changes the code but no
 /// value.
 #[inline(always)]
-pub fn hash<
+pub const fn hash<
     const LANES: usize,
     const AVALANCHE: bool,
     const COMPACT: bool,
@@ -31,11 +32,13 @@ pub fn hash<
     }
     close_short::<LANES, AVALANCHE, PROTECTED>(bytes, short_words_v3(bytes), seed, secrets)
 }
+}
 
+const_fn! {
 /// The hash of at most 16 bytes, made of their two words. From 4 bytes on the length is mixed into
 /// the seed.
 #[inline(always)]
-fn close_short<const LANES: usize, const AVALANCHE: bool, const PROTECTED: bool>(
+const fn close_short<const LANES: usize, const AVALANCHE: bool, const PROTECTED: bool>(
     bytes: &[u8],
     words: (u64, u64),
     seed: u64,
@@ -45,10 +48,12 @@ fn close_short<const LANES: usize, const AVALANCHE: bool, const PROTECTED: bool>
     let start = if n > 3 { seed ^ n } else { seed };
     close::<AVALANCHE, PROTECTED>(words, start, second, (ALTERNATING_BITS, second ^ n))
 }
+}
 
+const_fn! {
 /// The hash above 16 bytes.
 #[inline(always)]
-fn long<const LANES: usize, const AVALANCHE: bool, const COMPACT: bool, const PROTECTED: bool>(
+const fn long<const LANES: usize, const AVALANCHE: bool, const COMPACT: bool, const PROTECTED: bool>(
     bytes: &[u8],
     seed: u64,
     secrets: &[u64; 7],
@@ -60,11 +65,13 @@ fn long<const LANES: usize, const AVALANCHE: bool, const COMPACT: bool, const PR
         with_rows::<LANES, AVALANCHE, COMPACT, PROTECTED>(bytes, seed, secrets)
     }
 }
+}
 
+const_fn! {
 /// The hash above 16 bytes, out of line.
 #[cold]
 #[inline(never)]
-fn with_rows<
+const fn with_rows<
     const LANES: usize,
     const AVALANCHE: bool,
     const COMPACT: bool,
@@ -77,11 +84,13 @@ fn with_rows<
     let (joined, tail) = wide_lanes::<LANES, 1, COMPACT, PROTECTED>(bytes, seed, secrets);
     close_tail::<AVALANCHE, PROTECTED>(tail, bytes, joined, secrets)
 }
+}
 
+const_fn! {
 /// The hash above 16 bytes, made of the joined lanes, the tail, and bytes that end in the message's
 /// last 16.
 #[inline(always)]
-pub(crate) fn close_tail<const AVALANCHE: bool, const PROTECTED: bool>(
+pub(crate) const fn close_tail<const AVALANCHE: bool, const PROTECTED: bool>(
     tail: &[u8],
     ending: &[u8],
     joined: u64,
@@ -93,4 +102,5 @@ pub(crate) fn close_tail<const AVALANCHE: bool, const PROTECTED: bool>(
     let t = tail.len() as u64;
     let (a, b) = last_16(ending);
     close::<AVALANCHE, PROTECTED>((a ^ t, b), seed, second, (ALTERNATING_BITS, second ^ t))
+}
 }

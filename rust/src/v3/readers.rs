@@ -42,9 +42,13 @@ pub fn rapidhash_v3_source<R: Read, const PROTECTED: bool>(
 /// Returns the hash of [`rapidhash_v3_source`], with a buffer of `SIZE` bytes on the stack: no read
 /// requests more.
 ///
+/// # Errors
+///
+/// Those of [`rapidhash_v3_source`].
+///
 /// # Panics
 ///
-/// In Rust, if `SIZE` is 0. Rattle's checker refuses such a call.
+/// If `SIZE` is 0.
 pub fn rapidhash_v3_source_sized<R: Read, const SIZE: usize, const PROTECTED: bool>(
     source: &mut Source<R>,
     secrets: &RapidSecrets,
@@ -65,9 +69,13 @@ pub fn rapidhash_v3_source_sized<R: Read, const SIZE: usize, const PROTECTED: bo
 /// # Ok::<(), std::io::Error>(())
 /// ```
 ///
+/// # Errors
+///
+/// Those of [`rapidhash_v3_source`].
+///
 /// # Panics
 ///
-/// In Rust, if `LANES` is not 7, 5 or 3, or `SIZE` is 0. Rattle's checker refuses such a call.
+/// If `LANES` is not 7, 5 or 3, or `SIZE` is 0.
 pub fn rapidhash_v3_source_lanes<
     R: Read,
     const LANES: usize,
@@ -130,14 +138,21 @@ pub fn rapidhash_v3_file<R: Read>(data: R) -> io::Result<u64> {
     rapidhash_v3_file_inline::<R, false>(data, RapidSecrets::default_ref())
 }
 
-/// Returns the hash of all that a reader has, with the caller's seed and secrets. Errors are those
-/// of [`rapidhash_v3_file`].
+/// Returns the hash of all that a reader has, with the caller's seed and secrets.
+///
+/// # Errors
+///
+/// Those of [`rapidhash_v3_file`].
 pub fn rapidhash_v3_file_seeded<R: Read>(data: R, secrets: &RapidSecrets) -> io::Result<u64> {
     rapidhash_v3_file_inline::<R, false>(data, secrets)
 }
 
 /// Returns the hash of all that a reader has; `PROTECTED` mixes each product with its factors.
-/// Errors are those of [`rapidhash_v3_file`].
+///
+///
+/// # Errors
+///
+/// Those of [`rapidhash_v3_file`].
 pub fn rapidhash_v3_file_inline<R: Read, const PROTECTED: bool>(
     data: R,
     secrets: &RapidSecrets,
@@ -148,9 +163,13 @@ pub fn rapidhash_v3_file_inline<R: Read, const PROTECTED: bool>(
 /// Returns the hash of [`rapidhash_v3_file_inline`], with a buffer of `SIZE` bytes on the stack: no
 /// read requests more.
 ///
+/// # Errors
+///
+/// Those of [`rapidhash_v3_file`].
+///
 /// # Panics
 ///
-/// In Rust, if `SIZE` is 0. Rattle's checker refuses such a call.
+/// If `SIZE` is 0.
 pub fn rapidhash_v3_file_sized<R: Read, const SIZE: usize, const PROTECTED: bool>(
     data: R,
     secrets: &RapidSecrets,
@@ -160,9 +179,13 @@ pub fn rapidhash_v3_file_sized<R: Read, const SIZE: usize, const PROTECTED: bool
 
 /// Returns the hash of [`rapidhash_v3_file_sized`], with 7, 5 or 3 lanes: V3, micro or nano.
 ///
+/// # Errors
+///
+/// Those of [`rapidhash_v3_file`].
+///
 /// # Panics
 ///
-/// In Rust, if `LANES` is not 7, 5 or 3, or `SIZE` is 0. Rattle's checker refuses such a call.
+/// If `LANES` is not 7, 5 or 3, or `SIZE` is 0.
 pub fn rapidhash_v3_file_lanes<
     R: Read,
     const LANES: usize,

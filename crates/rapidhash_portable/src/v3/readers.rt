@@ -54,6 +54,10 @@ pub fn rapidhash_v3_source<R: Read, const PROTECTED: bool>(
 /// Returns the hash of [`rapidhash_v3_source`], with a buffer of `SIZE` bytes on the stack: no read
 /// requests more.
 ///
+/// # Errors
+///
+/// Those of [`rapidhash_v3_source`].
+///
 /// # Panics
 ///
 /// In Rust, if `SIZE` is 0. Rattle's checker refuses such a call.
@@ -82,6 +86,10 @@ pub fn rapidhash_v3_source_sized<R: Read, const SIZE: usize, const PROTECTED: bo
 /// assert_eq!(hash, 3327445792987248966);
 /// # Ok::<(), std::io::Error>(())
 /// ```
+///
+/// # Errors
+///
+/// Those of [`rapidhash_v3_source`].
 ///
 /// # Panics
 ///
@@ -163,8 +171,11 @@ pub fn rapidhash_v3_file<R: Read + Drop>(data: R) -> io::Result<u64>
     rapidhash_v3_file_inline::<R, false>(data, RapidSecrets::default_ref())
 }
 
-/// Returns the hash of all that a reader has, with the caller's seed and secrets. Errors are those
-/// of [`rapidhash_v3_file`].
+/// Returns the hash of all that a reader has, with the caller's seed and secrets.
+///
+/// # Errors
+///
+/// Those of [`rapidhash_v3_file`].
 pub fn rapidhash_v3_file_seeded<R: Read + Drop>(data: R, secrets: &RapidSecrets) -> io::Result<u64>
     ensures { HashesKnown (R.remaining «data») result
         (seeded_hash v3 standard secrets.now) }
@@ -173,7 +184,11 @@ pub fn rapidhash_v3_file_seeded<R: Read + Drop>(data: R, secrets: &RapidSecrets)
 }
 
 /// Returns the hash of all that a reader has; `PROTECTED` mixes each product with its factors.
-/// Errors are those of [`rapidhash_v3_file`].
+///
+///
+/// # Errors
+///
+/// Those of [`rapidhash_v3_file`].
 pub fn rapidhash_v3_file_inline<R: Read + Drop, const PROTECTED: bool>(
     data: R,
     secrets: &RapidSecrets,
@@ -186,6 +201,10 @@ pub fn rapidhash_v3_file_inline<R: Read + Drop, const PROTECTED: bool>(
 
 /// Returns the hash of [`rapidhash_v3_file_inline`], with a buffer of `SIZE` bytes on the stack: no
 /// read requests more.
+///
+/// # Errors
+///
+/// Those of [`rapidhash_v3_file`].
 ///
 /// # Panics
 ///
@@ -202,6 +221,10 @@ pub fn rapidhash_v3_file_sized<R: Read + Drop, const SIZE: usize, const PROTECTE
 }
 
 /// Returns the hash of [`rapidhash_v3_file_sized`], with 7, 5 or 3 lanes: V3, micro or nano.
+///
+/// # Errors
+///
+/// Those of [`rapidhash_v3_file`].
 ///
 /// # Panics
 ///
