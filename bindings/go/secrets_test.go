@@ -63,7 +63,19 @@ func TestKnownSecrets(t *testing.T) {
 		}
 		count++
 	}
-	compare(t, "lines", uint64(count), 360)
+	if count < 360 {
+		t.Errorf("%d lines, and 360 are known", count)
+	}
+}
+
+// TestRepairedSeeds makes seeds whose mix has no bit in the upper 16 bits, in bits 24 to 39, or in the lower 16, but
+// has the bits next to them. The Rust crate has these values.
+func TestRepairedSeeds(t *testing.T) {
+	for number, known := range map[uint64]uint64{
+		1053423: 9223652938801408785, 137630: 10552500177576716518, 214786: 10769207283923746817,
+	} {
+		compare(t, fmt.Sprint("seed of ", number), MakeSecrets(number).Seed, known)
+	}
 }
 
 // secretsOf returns a seed and secrets as a line of the file has them.

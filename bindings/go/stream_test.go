@@ -127,6 +127,23 @@ func TestSeededStreams(t *testing.T) {
 	}
 }
 
+// TestReset resets streams that have folded rows, and writes messages that fill no row.
+func TestReset(t *testing.T) {
+	message := long()[:300]
+	for name, call := range calls {
+		if call.start == nil {
+			continue
+		}
+		stream := call.start(&own)
+		for size := 0; size <= 50; size++ {
+			stream.Write(message)
+			stream.Reset()
+			stream.Write(data()[:size])
+			compare(t, fmt.Sprint(name, " of ", size), stream.Sum64(), call.seeded(data()[:size], &own))
+		}
+	}
+}
+
 // savedByAnotherRelease is a stream of micro with the secrets in own, after 100 bytes, as release 1.0 saved it.
 const savedByAnotherRelease = "" +
 	"726170696468617368010501140000000000000001000000000000000200000000000000030000000000000005000000000000000700" +

@@ -125,6 +125,17 @@ public class RapidhashTest {
         assertThrows(IllegalArgumentException.class, () -> Secrets.of(1, 2, 3, 5));
     }
 
+    /**
+     * Makes seeds whose mix has no bit in the upper 16 bits, in bits 24 to 39, or in the lower 16, but has the bits
+     * next to them. The Rust crate has these values.
+     */
+    @Test
+    public void repairedSeeds() {
+        assertEquals("9223652938801408785", Rapidhash.toDecimal(Secrets.make(1053423).seed()));
+        assertEquals("10552500177576716518", Rapidhash.toDecimal(Secrets.make(137630).seed()));
+        assertEquals("10769207283923746817", Rapidhash.toDecimal(Secrets.make(214786).seed()));
+    }
+
     @Test
     public void texts() {
         assertEquals("18446744073709551615", Rapidhash.toDecimal(-1));

@@ -2,6 +2,7 @@ package example.yervound.rapidhash;
 
 import static org.junit.Assert.assertEquals;
 import static org.junit.Assert.assertNotNull;
+import static org.junit.Assert.assertTrue;
 
 import java.io.IOException;
 import java.nio.ByteBuffer;
@@ -98,6 +99,6 @@ public class VectorsTest {
             assertEquals(Arrays.toString(Arrays.copyOfRange(known, 1, known.length)), Arrays.toString(first));
             count++;
         }
-        assertEquals(360, count);
+        assertTrue(count + " lines, and 360 are known", count >= 360);
     }
 }
