@@ -138,7 +138,7 @@ $(wheel): $(shared) include/rapidhash_c.h LICENSE-MIT LICENSE-APACHE NOTICE \
 jar = build/yervound-rapidhash-1.0.0.jar
 jar: $(jar)
 
-$(jar): LICENSE-MIT LICENSE-APACHE NOTICE bindings/java/pom.xml $(shell find bindings/java/src/main -name '*.java')
+$(jar): LICENSE-MIT LICENSE-APACHE NOTICE bindings/java/pom.xml $(shell find bindings/java/src/main -name '*.java' 2>/dev/null)
 	@command -v javac >/dev/null || { echo 'make: javac, of a JDK, is not on PATH' >&2; exit 2; }
 	@rm -rf build/java && mkdir -p build/java/META-INF/maven
 	@javac --release 11 -Xlint:all -Xdoclint:all,-missing -Werror -d build/java $(filter %.java,$^)

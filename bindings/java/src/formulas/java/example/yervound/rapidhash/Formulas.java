@@ -19,6 +19,8 @@ import java.nio.ByteOrder;
  */
 public final class Formulas {
     private static final int ROOM = 32768;
+    private static final ByteBuffer HEAP = ByteBuffer.allocate(64 + ROOM);
+    private static final ByteBuffer DIRECT = ByteBuffer.allocateDirect(64 + ROOM);
 
     private Formulas() {}
 
@@ -64,9 +66,16 @@ public final class Formulas {
         int from = offset;
         for (int cut = 14; cut < 19; cut++) {
             int to = cut == 18 ? end : offset + (int) record[cut];
-            stream.update(room.duplicate().position(from).limit(to));
+            stream.update(apart(room, from, to));
             from = to;
         }
         return stream.getValue();
+    }
+
+    /** Returns a copy of a piece, before which are no bytes of its message: a stream must not read them there. */
+    private static ByteBuffer apart(ByteBuffer room, int from, int to) {
+        ByteBuffer copy = room.isDirect() ? DIRECT : HEAP;
+        copy.clear().position(64).put(room.duplicate().position(from).limit(to));
+        return copy.flip().position(64);
     }
 }
