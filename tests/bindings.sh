@@ -23,9 +23,9 @@ compiles_alone() {
     <<<'#include <rapidhash_c.h>'
 }
 
-# Prints the names that the header declares but does not define.
+# Prints the names that the header declares but does not define if a program links the library.
 declared() {
-  grep -E '^[a-z].*\(.*;$' "$header" | grep -oE 'rapidhash_[a-z0-9_]+\(' | tr -d '(' | sort
+  cc -E -P -DRAPIDHASH_LINK "$header" | grep -oE '^extern .* rapidhash_[a-z0-9_]+\(' | sed 's/.* //; s/(//' | sort
 }
 
 # Checks that a file defines the names of the header and no others: SUFFIX-OF-EACH-NAME NM-ARGUMENT..
@@ -78,7 +78,7 @@ signatures() {
 
 # Checks that the manual page has each function of the header with the same signature, and no other.
 manual_has_the_header() {
-  cc -E -P "$header" | signatures >"$room/signatures" &&
+  cc -E -P -DRAPIDHASH_LINK "$header" | signatures >"$room/signatures" &&
     [ "$(wc -l <"$room/signatures")" -gt "$(declared | wc -l)" ] &&
     mandoc -Tascii "$top/share/rapidhash_c.3" | sed 's|.\x08||g' | signatures | diff "$room/signatures" -
 }
@@ -167,7 +167,7 @@ test_library_of_rust() {
 prepare_by make -s -C "$top"
 prepare_by lay_out
 
-for standard in c89 c99 c11 c17 c2x c++98 c++11 c++17 c++20 c++23; do
+for standard in c99 c11 c17 c2x c++11 c++17 c++20 c++23; do
   try "header_$standard" compiles_alone "$standard"
 done
 try names_of_the_archive defines_the_header '' "$archive"

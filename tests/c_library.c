@@ -33,7 +33,7 @@ struct form {
     uint64_t (*hash)(const void *, size_t);
     uint64_t (*with_seed)(const void *, size_t, uint64_t);
     uint64_t (*seeded)(const void *, size_t, const struct rapidhash_secrets *);
-    /* The hashes with the default secrets, with the seed word 1, and with the secrets `own`. */
+    /* The hashes with the default secrets, with the seed word 1 (0 if no value is known), and with the secrets `own`. */
     uint64_t of_default, of_word, of_own;
 };
 
@@ -46,24 +46,23 @@ static const struct form forms[] = {
     FORM("v3", 120, rapidhash_v3, 7088138960297660729u, 8806718467852582029u, 13105958653737073913u),
     FORM("micro", 120, rapidhash_v3_micro, 3055975138125564292u, 13208658450986943527u, 5648300410578423183u),
     FORM("nano", 120, rapidhash_v3_nano, 3778853990780631382u, 1125117906108554434u, 4961128163384780230u),
-    {"protected", 120, rapidhash_v3_protected, NULL, rapidhash_v3_protected_seeded,
-     4753706306364957255u, 0, 9934095814131968034u},
+    FORM("protected", 120, rapidhash_v3_protected, 4753706306364957255u, 0, 9934095814131968034u),
 };
 
 static void check_form(const struct form *form)
 {
     struct rapidhash_secrets secrets;
+    uint64_t of_word;
 
     compare(form->name, "with the default secrets", form->hash(bytes, form->len), form->of_default);
     compare(form->name, "with secrets of one's own", form->seeded(bytes, form->len, &own), form->of_own);
     rapidhash_seed_secrets(0, &secrets);
     compare(form->name, "with the secrets of word 0", form->seeded(bytes, form->len, &secrets), form->of_default);
-    if (form->with_seed == NULL)
-        return;
     compare(form->name, "with the seed word 0", form->with_seed(bytes, form->len, 0), form->of_default);
-    compare(form->name, "with the seed word 1", form->with_seed(bytes, form->len, 1), form->of_word);
     rapidhash_seed_secrets(1, &secrets);
-    compare(form->name, "with the secrets of word 1", form->seeded(bytes, form->len, &secrets), form->of_word);
+    of_word = form->of_word != 0 ? form->of_word : form->seeded(bytes, form->len, &secrets);
+    compare(form->name, "with the seed word 1", form->with_seed(bytes, form->len, 1), of_word);
+    compare(form->name, "with the secrets of word 1", form->seeded(bytes, form->len, &secrets), of_word);
 }
 
 /* The secrets of V1 have a different type. */
