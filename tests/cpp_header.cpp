@@ -96,9 +96,9 @@ static void check_seeds()
     compare("a seed word", rapidhash::hash(message, rapidhash::seed(1)), of_word);
     compare("a word's secrets", rapidhash::hash(message, rapidhash::seed_secrets(rapidhash::seed(1))), of_word);
     compare("secrets of one's own", rapidhash::hash(message, own), of_own);
-    compare("a hasher with a word", rapidhash::hasher(rapidhash::seed(1))(message), of_word);
-    compare("a hasher with secrets", rapidhash::hasher(own)(message), of_own);
-    compare("a hasher", rapidhash::hasher()("hello"), hash_of_hello);
+    compare("a hasher with a word", rapidhash::hasher(rapidhash::seed(1))(message), static_cast<std::size_t>(of_word));
+    compare("a hasher with secrets", rapidhash::hasher(own)(message), static_cast<std::size_t>(of_own));
+    compare("a hasher", rapidhash::hasher()("hello"), static_cast<std::size_t>(hash_of_hello));
     compare("a stream with a word", rapidhash::stream(rapidhash::seed(1)).update(message).finish(), of_word);
     compare("a stream", rapidhash::stream().update("hel").update("lo!", 2).finish(), hash_of_hello);
 }
@@ -169,7 +169,7 @@ static void check_case(const rapidhash::secrets &made, bool is_default, const st
     if (is_default)
         compare(name, rapidhash::hash(message), known);
     compare(name + ", with secrets", rapidhash::hash(message, made), known);
-    compare(name + ", by a hasher", rapidhash::hasher(made)(message), known);
+    compare(name + ", by a hasher", rapidhash::hasher(made)(message), static_cast<std::size_t>(known));
     for (std::size_t at = 0, size = 1; at < message.size(); at += size, size++) {
         if (size > message.size() - at)
             size = message.size() - at;
