@@ -1,4 +1,5 @@
-# make             proves and builds the tools and the C library, if they are missing or out of date
+# make             proves and builds the tools and the C library, if they are missing or out of date. Without the
+#                  toolchain, cc alone builds the C library from its header
 # make check       proves everything and runs all tests: must pass before a push
 # make quick       formats the sources, writes the Rust crate, checks the pages, and proves the changed code
 # make test        proves and runs the tests of all crates, and runs the programs end to end
@@ -24,8 +25,15 @@ DATADIR = $(PREFIX)/share
 DESTDIR =
 
 soname = librapidhash_c.so.1
+# Without the toolchain, and without a library that it has built, the library is the header compiled by cc.
+kit := $(or $(shell command -v rt),$(wildcard crates/rapidhash_c/out/librapidhash_c.a))
+ifneq ($(kit),)
 archive = crates/rapidhash_c/out/librapidhash_c.a
 shared = build/$(soname)
+else
+archive = build/header/librapidhash_c.a
+shared = build/header/$(soname)
+endif
 name = yervound-1.0-x86_64-linux
 
 # The kit's linker, located from the path that rt prints, and the directories that may contain a machine's C library.
@@ -37,11 +45,11 @@ system = /lib/x86_64-linux-gnu /lib64 /usr/lib
 .DELETE_ON_ERROR:
 MAKEFLAGS += --no-builtin-rules
 
-all: tool sums library
+all: $(if $(kit),tool sums) library
 
 tool: rapidhash_cli
 sums: example_sums
-library: $(shared)
+library: $(archive) $(shared)
 
 # A product is out of date if a source file or source directory is newer than the start of its build. So an edit during
 # a build counts. Two builds of a crate cannot overlap, because rt makes the second wait.
@@ -62,7 +70,7 @@ $(2): $$(filter crates.txt $(patsubst %,crates/%/%,$(1) $(4)),$$(sources))
 endef
 both = rapidhash_portable rapidhash
 program = $(call product,$(1),crates/$(1)/out/$(1),run -- $(2),$(3))
-$(eval $(call product,rapidhash_c,$(archive),lib,rapidhash_portable))
+$(eval $(call product,rapidhash_c,crates/rapidhash_c/out/librapidhash_c.a,lib,rapidhash_portable))
 # Each program has an argument with which it exits immediately, because rt runs the program after building it.
 $(eval $(call program,rapidhash_cli,--help,rapidhash_portable rapidhash_tool))
 $(eval $(call program,example_sums,--version,rapidhash_portable))
@@ -71,12 +79,27 @@ $(eval $(call program,example_perfect,--help,$(both)))
 $(eval $(call program,example_shards,red,$(both)))
 $(eval $(call program,example_dedupe,args,$(both)))
 
+ifeq ($(kit),)
+CFLAGS = -O2
+build/header/rapidhash_c.o: share/rapidhash_c.c include/rapidhash_c.h
+	@echo 'make: there is no rt: building the C library from its header with $(CC), which is not the proved build' >&2
+	@mkdir -p build/header
+	@$(CC) -std=c99 -fPIC $(CPPFLAGS) $(CFLAGS) -Iinclude -c $< -o $@
+
+$(archive): build/header/rapidhash_c.o
+	@rm -f $@
+	@$(AR) rcs $@ $<
+
+$(shared): build/header/rapidhash_c.o share/librapidhash_c.map
+	@$(CC) -shared $(LDFLAGS) -Wl,-soname,$(soname),--version-script,share/librapidhash_c.map,-z,relro,-z,now $< -o $@
+else
 $(shared): $(archive) share/librapidhash_c.map
 	@command -v rt >/dev/null || { echo 'make: rt, whose kit has the linker, is not on PATH' >&2; exit 2; }
 	@mkdir -p build
 	@$(linker) -shared -soname $(soname) -z now -z relro -z noexecstack -z text --gc-sections --build-id=sha1 \
 	  --eh-frame-hdr --version-script share/librapidhash_c.map --whole-archive $(archive) --no-whole-archive \
 	  --as-needed $(addprefix -L,$(system)) -l:libc.so.6 -o $(shared)
+endif
 
 module = build/rapidhash_c.wasm
 folder = build/npm/module.mjs
@@ -150,7 +173,7 @@ sqlite: $(extension)
 
 $(extension): $(archive) bindings/sqlite/rapidhash.c include/rapidhash_c.h
 	@mkdir -p build
-	@cc -std=c99 -O2 -Wall -Wextra -Wpedantic -Werror -fPIC -fvisibility=hidden -shared -Iinclude \
+	@cc -std=c99 -O2 -Wall -Wextra -Wpedantic -Werror -DRAPIDHASH_LINK -fPIC -fvisibility=hidden -shared -Iinclude \
 	  bindings/sqlite/rapidhash.c $(archive) -Wl,--exclude-libs,ALL,-z,relro,-z,now -o $@
 
 postgresql: $(archive)
@@ -194,6 +217,9 @@ bench/%.tsv: always
 # bin/install reads the directories from variables, so that the shell interprets none of their characters.
 folders = PREFIX BINDIR LIBDIR INCLUDEDIR DATADIR DESTDIR
 $(foreach name,$(folders),$(eval install uninstall: export $(name) := $$($(name))))
+install: export ARCHIVE = $(archive)
+install: export SHARED = $(shared)
+install: export TOOLS = $(if $(kit),rapidhash rapidsum)
 
 install:
 	@$(MAKE) -q all || { echo 'make install: something is missing or out of date: run make first' >&2; exit 2; }

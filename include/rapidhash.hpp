@@ -3,9 +3,9 @@
  *
  *     std::uint64_t hash = rapidhash::hash("hello");
  *
- * Everything here is V3; rapidhash_c.h has the other versions, the preconditions, and notes on values and
- * security. Works with C++11 to C++23, with or without exceptions. Link with -lrapidhash_c. A program that includes the
- * C++ library's rapidhash.h cannot use this header: that file has a function with the name of this namespace.
+ * Everything here is V3; rapidhash_c.h has the other versions, the preconditions, and notes on linking, values, and
+ * security. Works with C++11 to C++23, with or without exceptions, and needs nothing to link. A program that includes
+ * the C++ library's rapidhash.h cannot use this header: that file has a function with the name of this namespace.
  */
 #ifndef RAPIDHASH_HPP
 #define RAPIDHASH_HPP
@@ -26,8 +26,9 @@ namespace rapidhash {
 /* A seed and seven secrets: the struct of rapidhash_c.h. */
 using secrets = ::rapidhash_secrets;
 
-static_assert(CHAR_BIT == 8 && sizeof(std::size_t) == 8, "the library is for bytes of 8 bits and addresses of 64");
-static_assert(sizeof(secrets) == 64 && sizeof(::rapidhash_stream) == 216, "the structs are laid out as in the library");
+static_assert(CHAR_BIT == 8, "the library is for bytes of 8 bits");
+static_assert(sizeof(secrets) == 64 && (sizeof(std::size_t) != 8 || sizeof(::rapidhash_stream) == 216),
+              "the structs are laid out as in the library");
 static_assert(std::is_standard_layout<secrets>::value && std::is_trivially_copyable<secrets>::value,
               "secrets are plain");
 static_assert(std::is_standard_layout<::rapidhash_stream>::value
@@ -82,15 +83,11 @@ private:
     std::size_t size_;
 };
 
-/* Returns the hash with the default seed and secrets, with a seed word, or with the caller's seed and secrets. */
+/* Returns the hash with the default seed and secrets, with a seed word, or with the caller's seed and secrets. A number
+ * is neither: pass a pointer and a length as {pointer, length}, and a seed word as seed(word). */
 inline std::uint64_t hash(bytes message) noexcept
 {
     return ::rapidhash_v3(message.data(), message.size());
-}
-
-inline std::uint64_t hash(const void *data, std::size_t size) noexcept
-{
-    return ::rapidhash_v3(data, size);
 }
 
 inline std::uint64_t hash(bytes message, seed start) noexcept
@@ -114,7 +111,7 @@ public:
     explicit hasher(seed start) noexcept : secrets_(seed_secrets(start)) {}
     explicit hasher(const secrets &own) noexcept : secrets_(own) {}
 
-    std::size_t operator()(bytes key) const noexcept { return hash(key, secrets_); }
+    std::size_t operator()(bytes key) const noexcept { return static_cast<std::size_t>(hash(key, secrets_)); }
 
 private:
     secrets secrets_;

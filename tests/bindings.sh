@@ -1,8 +1,9 @@
 #!/usr/bin/env bash
 # Builds the C library, static and shared, and tests it and the bindings built on it:
-# - the header alone with each C and C++ standard, the names that the two files define, and every call from C and C++
+# - the code of the header by each compiler, C and C++ standard, and option, with all vectors
+# - the names that the two files define, and every call from C and C++
 # - the manual, the hashes compared with those of the Rust crate, and the Go package, also for other machines
-# - the library for other machines that cargo builds from the Rust crate
+# - the library that cc alone compiles from the header
 # Languages that are missing on this machine are skipped and not counted. The last line counts the cases.
 . "$(dirname "$0")/cases.sh"
 header=$top/include/rapidhash_c.h
@@ -17,15 +18,22 @@ lay_out() {
     python3 "$top/share/vectors.py" "$top/crates/test_replay/data" >"$room/rapidhash_vectors.tsv"
 }
 
-# Checks that the header compiles alone, in an empty program: STANDARD
-compiles_alone() {
-  cc -x "${1//[0-9]*/}" "-std=$1" -pedantic -Wall -Wextra -Werror -fsyntax-only -I"$top/include" - \
-    <<<'#include <rapidhash_c.h>'
+# Checks that a compiler accepts the header without a warning, and that its code has the values of the vectors:
+# COMPILER STANDARD
+is_the_library() {
+  "$1" "-std=$2" -x "${2//[0-9]*/}" -O2 -pedantic -Wall -Wextra -Wconversion -Wshadow -Werror -I"$top/include" \
+    "$top/tests/c_library.c" -o "$room/c_library" && "$room/c_library" "$room/rapidhash_vectors.tsv"
 }
 
-# Prints the names that the header declares but does not define.
+# Checks the code of the header as another compiler, machine, or option chooses it: COMPILER ARGUMENT..
+has_the_values() {
+  "$@" -I"$top/include" "$top/tests/c_library.c" -o "$room/c_library" &&
+    "$room/c_library" "$room/rapidhash_vectors.tsv"
+}
+
+# Prints the names that the header declares but does not define if a program links the library.
 declared() {
-  grep -E '^[a-z].*\(.*;$' "$header" | grep -oE 'rapidhash_[a-z0-9_]+\(' | tr -d '(' | sort
+  cc -E -P -DRAPIDHASH_LINK "$header" | grep -oE '^extern .* rapidhash_[a-z0-9_]+\(' | sed 's/.* //; s/(//' | sort
 }
 
 # Checks that a file defines the names of the header and no others: SUFFIX-OF-EACH-NAME NM-ARGUMENT..
@@ -34,7 +42,8 @@ defines_the_header() {
   # Fewer names mean that this test cannot read the layout of the header.
   [ "$(wc -l <"$room/declared")" -gt 20 ] &&
     nm "${@:2}" --defined-only --extern-only --format=posix >"$room/nm" &&
-    awk 'NF > 1 { sub(/@@RAPIDHASH_1[.][0-9]+$/, "@@RAPIDHASH_1", $1); print $1 }' "$room/nm" | sort | diff "$room/declared" -
+    awk 'NF > 1 && $2 != "A" { sub(/@@RAPIDHASH_1[.][0-9]+$/, "@@RAPIDHASH_1", $1); print $1 }' "$room/nm" |
+    sort | diff "$room/declared" -
 }
 
 # Programs find each name under its first release. The C library provides every undefined name of the shared library.
@@ -62,13 +71,15 @@ keeps_unwind_tables() {
 
 # Builds and runs a program of every call of the library, linked with an archive: COMPILER ARGUMENT..
 calls_from_c() {
-  "$@" -O2 -Wall -Wextra -Werror -o "$room/c_library" && "$room/c_library"
+  "$@" -DRAPIDHASH_LINK -O2 -Wall -Wextra -Werror -I"$top/include" "$top/tests/c_library.c" -x none "$archive" \
+    -o "$room/c_library" && "$room/c_library" "$room/rapidhash_vectors.tsv" &&
+    nm --defined-only "$room/c_library" | grep ' T rapidhash_v3$'
 }
 
 # Tests the whole C++ header with the vectors, in a program without exceptions: COMPILER STANDARD
 calls_from_cpp() {
   "$1" "-std=$2" -O2 -Wall -Wextra -Wpedantic -Werror -fno-exceptions -I"$top/include" "$top/tests/cpp_header.cpp" \
-    "$archive" -o "$room/cpp_header" && "$room/cpp_header" "$room/rapidhash_vectors.tsv"
+    -o "$room/cpp_header" && "$room/cpp_header" "$room/rapidhash_vectors.tsv"
 }
 
 # Prints the functions in a text without comments: the return type, name, and parameters of each.
@@ -78,7 +89,7 @@ signatures() {
 
 # Checks that the manual page has each function of the header with the same signature, and no other.
 manual_has_the_header() {
-  cc -E -P "$header" | signatures >"$room/signatures" &&
+  cc -E -P -DRAPIDHASH_LINK "$header" | signatures >"$room/signatures" &&
     [ "$(wc -l <"$room/signatures")" -gt "$(declared | wc -l)" ] &&
     mandoc -Tascii "$top/share/rapidhash_c.3" | sed 's|.\x08||g' | signatures | diff "$room/signatures" -
 }
@@ -101,18 +112,18 @@ build_rust() {
   rustc -O --edition 2021 --crate-type staticlib "$top/tests/fuzz.rs" --extern "rapidhash=$rlib" -o "$room/librust.a"
 }
 
-# Builds tests/fuzz.c with the C library and the Rust crate: COMPILER ARGUMENT..
+# Builds tests/fuzz.c with the Rust crate: COMPILER ARGUMENT..
 beside_rust() {
-  "$@" -Wall -Wextra -Werror "-I$top/include" "$top/tests/fuzz.c" "$archive" "$room/librust.a" \
+  "$@" -Wall -Wextra -Werror "-I$top/include" -x c "$top/tests/fuzz.c" -x none "$archive" "$room/librust.a" \
     -lpthread -ldl -lm -o "$room/beside_rust"
 }
 
-# Compares the hashes of ten million random messages.
+# Compares the hashes of ten million random messages by the archive.
 random_messages() {
-  build_rust && beside_rust cc -O2 -DMESSAGES=10000000 && "$room/beside_rust"
+  build_rust && beside_rust cc -O2 -DMESSAGES=10000000 -DRAPIDHASH_LINK && "$room/beside_rust"
 }
 
-# Compares the hashes of a million inputs from libFuzzer, or of as many as fit into RAPIDHASH_FUZZ_SECONDS.
+# Compares the header's hashes of a million inputs from libFuzzer, or of as many as fit into RAPIDHASH_FUZZ_SECONDS.
 fuzz() {
   local runs=-runs=1000000
   [ -z "${RAPIDHASH_FUZZ_SECONDS:-}" ] || runs=-max_total_time=$RAPIDHASH_FUZZ_SECONDS
@@ -141,37 +152,65 @@ test_go() {
   try go_page in_go works_as_its_page_says README.md
 }
 
-# Tests the library of the Rust crate in its own temporary directory.
-test_library_of_rust() {
-  local room=$room/rust
-  local archive=$room/target/release/librapidhash_c.a shared=$room/target/release/librapidhash_c.so
-  mkdir "$room"
-  try rust_build cargo build --release --offline --quiet --manifest-path "$top/rust/capi/Cargo.toml" \
-    --target-dir "$room/target"
-  try rust_layout lay_out
-  try rust_names defines_the_header '' -D "$shared"
-  try rust_soname bash -c 'readelf -dW "$1" | grep -F "SONAME" | grep -F "[librapidhash_c.so.1]"' - "$shared"
-  try rust_c_archive calls_from_c cc -std=c99 -I"$top/include" "$top/tests/c_library.c" "$archive"
-  try rust_c_shared builds_by_pkg_config "$room/lib"
-  try_with rust_cpp_header g++ calls_from_cpp g++ c++11
-  cp "$top/share/check_vectors.py" "$room"
-  try rust_python env PYTHONPATH="$top/bindings/python" python3 -B "$room/check_vectors.py"
+# Copies the repository and runs make there without the Rattle toolchain: ARGUMENT..
+make_without_the_kit() {
+  local path
+  path=$(tr : '\n' <<<"$PATH" | while read -r folder; do [ -x "$folder/rt" ] || echo "$folder"; done | paste -sd :)
+  if [ ! -d "$room/bare" ]; then
+    mkdir "$room/bare" && (cd "$top" && git ls-files -z | xargs -0 cp --parents -t "$room/bare") || return 1
+  fi
+  PATH=$path make -s -C "$room/bare" "$@"
+}
+
+builds_from_the_header() {
+  make_without_the_kit >"$room/said" 2>&1 && [ "$(grep -c 'not the proved build' "$room/said")" = 1 ] &&
+    [ "$(wc -l <"$room/said")" = 1 ] && [ -z "$(make_without_the_kit 2>&1)" ] &&
+    make_without_the_kit install PREFIX="$room/usr" && [ ! -e "$room/usr/bin" ]
+}
+
+# Tests the library that cc compiles from the header: it replaces the proved one on other machines.
+test_library_of_the_header() {
+  local archive=$room/usr/lib/librapidhash_c.a shared=$room/usr/lib/librapidhash_c.so.1
+  try header_build builds_from_the_header
+  try header_names defines_the_header '' "$archive"
+  try header_names_of_the_shared_library defines_the_header @@RAPIDHASH_1 -D "$shared"
+  try header_soname bash -c 'readelf -dW "$1" | grep -F "SONAME" | grep -F "[librapidhash_c.so.1]"' - "$shared"
+  try header_archive calls_from_c cc -std=c99
+  try header_shared builds_by_pkg_config "$room/usr/lib"
+  try_with header_cmake cmake builds_by_cmake "$room/usr"
+  mkdir "$room/python"
+  cp -r "$room/usr/lib" "$room/rapidhash_vectors.tsv" "$top/share/check_vectors.py" "$room/python"
+  try header_python env PYTHONPATH="$top/bindings/python" python3 -B "$room/python/check_vectors.py"
+  try header_uninstall make_without_the_kit uninstall PREFIX="$room/usr"
+  try header_nothing_left bash -c '[ -z "$(find "$1" ! -type d)" ]' - "$room/usr"
 }
 
 prepare_by make -s -C "$top"
 prepare_by lay_out
 
-for standard in c89 c99 c11 c17 c2x c++98 c++11 c++17 c++20 c++23; do
-  try "header_$standard" compiles_alone "$standard"
+for compiler in gcc clang; do
+  for standard in c99 c11 c17 c2x c++11 c++17 c++20; do
+    try_with "header_${standard}_$compiler" "$compiler" is_the_library "$compiler" "$standard"
+  done
 done
+try header_without_int128 has_the_values cc -O2 -DRAPIDHASH_NO_INT128
+try header_with_assertions has_the_values cc -O3 -include assert.h -DRAPIDHASH_ASSERT=assert
+try_with header_with_sanitizers clang has_the_values clang -O1 -fsanitize=address,undefined -fno-sanitize-recover=all
+try_with header_tcc tcc has_the_values tcc
+if cc -m32 -x c - -o "$room/probe" 2>/dev/null <<<'#include <stdio.h>
+int main(void) { return 0; }'; then
+  try header_32_bits has_the_values cc -m32 -O2
+else
+  echo 'skipped header_32_bits: no libraries of 32 bits'
+fi
 try names_of_the_archive defines_the_header '' "$archive"
 try names_of_the_shared_library defines_the_header @@RAPIDHASH_1 -D "$shared"
 try needed_library needs_the_c_library_alone
 try build_id bash -c 'readelf -n "$1" | grep -E "^ *Build ID: [0-9a-f]{40}\$"' - "$shared"
 try code_and_data keeps_code_and_data_apart
 try unwind_tables keeps_unwind_tables
-try c_archive calls_from_c cc -std=c99 -I"$top/include" "$top/tests/c_library.c" "$archive"
-try cpp_archive calls_from_c c++ -I"$top/include" -x c++ "$top/tests/c_library.c" -x none "$archive"
+try c_archive calls_from_c cc -std=c99
+try cpp_archive calls_from_c c++ -x c++
 for standard in c++11 c++17 c++20; do
   try_with "cpp_header_$standard" g++ calls_from_cpp g++ "$standard"
   try_with "cpp_header_${standard}_clang" clang++ calls_from_cpp clang++ "$standard"
@@ -182,6 +221,6 @@ try_with random_messages rustc random_messages
 try_with fuzz clang fuzz
 
 if command -v go >/dev/null; then test_go; else echo 'skipped go: no go'; fi
-if command -v cargo >/dev/null; then test_library_of_rust; else echo 'skipped the library of rust: no cargo'; fi
+test_library_of_the_header
 
 finish

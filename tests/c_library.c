@@ -1,8 +1,9 @@
-/* Calls every function of the C library and compares the results with those of the Rust crate
- * rapidhash 4.5.1. Prints each value that differs. The last line counts the values, and the exit
- * status is 1 if one differs. */
+/* Calls every function of the C library and compares the results with those of the Rust crate rapidhash 4.5.1. An
+ * argument names a file that share/vectors.py wrote, whose values are also compared. Prints each value that differs. The
+ * last line counts the values, and the exit status is 1 if one differs. */
 #include <inttypes.h>
 #include <stdio.h>
+#include <stdlib.h>
 #include <string.h>
 
 #include "rapidhash_c.h"
@@ -23,47 +24,46 @@ static void compare(const char *name, const char *what, uint64_t value, uint64_t
         passed++;
     } else {
         failed++;
-        printf("FAILED %s %s: %" PRIu64 ", and %" PRIu64 " is right\n", name, what, value, known);
+        printf("FAILED %s %.60s: %" PRIu64 ", and %" PRIu64 " is right\n", name, what, value, known);
     }
 }
 
 struct form {
-    const char *name;
+    const char *name; /* as in the file */
     size_t len;
     uint64_t (*hash)(const void *, size_t);
     uint64_t (*with_seed)(const void *, size_t, uint64_t);
     uint64_t (*seeded)(const void *, size_t, const struct rapidhash_secrets *);
-    /* The hashes with the default secrets, with the seed word 1, and with the secrets `own`. */
+    /* The hashes with the default secrets, with the seed word 1 (0 if no value is known), and with the secrets `own`. */
     uint64_t of_default, of_word, of_own;
 };
 
 #define FORM(name, len, hash, of_default, of_word, of_own) \
     {name, len, hash, hash##_with_seed, hash##_seeded, of_default, of_word, of_own}
 static const struct form forms[] = {
-    FORM("v2.0", 60, rapidhash_v2_0, 13186137053657766175u, 10726147324944781525u, 7480442917932512801u),
-    FORM("v2.1", 60, rapidhash_v2_1, 13012060828128651499u, 10166538060445963011u, 15302905912564408163u),
-    FORM("v2.2", 60, rapidhash_v2_2, 6181707366222537282u, 10905583924937672291u, 11896991483551387597u),
+    FORM("v2_0", 60, rapidhash_v2_0, 13186137053657766175u, 10726147324944781525u, 7480442917932512801u),
+    FORM("v2_1", 60, rapidhash_v2_1, 13012060828128651499u, 10166538060445963011u, 15302905912564408163u),
+    FORM("v2_2", 60, rapidhash_v2_2, 6181707366222537282u, 10905583924937672291u, 11896991483551387597u),
     FORM("v3", 120, rapidhash_v3, 7088138960297660729u, 8806718467852582029u, 13105958653737073913u),
-    FORM("micro", 120, rapidhash_v3_micro, 3055975138125564292u, 13208658450986943527u, 5648300410578423183u),
-    FORM("nano", 120, rapidhash_v3_nano, 3778853990780631382u, 1125117906108554434u, 4961128163384780230u),
-    {"protected", 120, rapidhash_v3_protected, NULL, rapidhash_v3_protected_seeded,
-     4753706306364957255u, 0, 9934095814131968034u},
+    FORM("v3_micro", 120, rapidhash_v3_micro, 3055975138125564292u, 13208658450986943527u, 5648300410578423183u),
+    FORM("v3_nano", 120, rapidhash_v3_nano, 3778853990780631382u, 1125117906108554434u, 4961128163384780230u),
+    FORM("v3_protected", 120, rapidhash_v3_protected, 4753706306364957255u, 0, 9934095814131968034u),
 };
 
 static void check_form(const struct form *form)
 {
     struct rapidhash_secrets secrets;
+    uint64_t of_word;
 
     compare(form->name, "with the default secrets", form->hash(bytes, form->len), form->of_default);
     compare(form->name, "with secrets of one's own", form->seeded(bytes, form->len, &own), form->of_own);
     rapidhash_seed_secrets(0, &secrets);
     compare(form->name, "with the secrets of word 0", form->seeded(bytes, form->len, &secrets), form->of_default);
-    if (form->with_seed == NULL)
-        return;
     compare(form->name, "with the seed word 0", form->with_seed(bytes, form->len, 0), form->of_default);
-    compare(form->name, "with the seed word 1", form->with_seed(bytes, form->len, 1), form->of_word);
     rapidhash_seed_secrets(1, &secrets);
-    compare(form->name, "with the secrets of word 1", form->seeded(bytes, form->len, &secrets), form->of_word);
+    of_word = form->of_word != 0 ? form->of_word : form->seeded(bytes, form->len, &secrets);
+    compare(form->name, "with the seed word 1", form->with_seed(bytes, form->len, 1), of_word);
+    compare(form->name, "with the secrets of word 1", form->seeded(bytes, form->len, &secrets), of_word);
 }
 
 /* The secrets of V1 have a different type. */
@@ -196,7 +196,54 @@ static void check_canonical(void)
     compare("canonical bytes", "read", rapidhash_from_canonical(known), 0xf01ed23cb45a9678u);
 }
 
-int main(void)
+/* Returns the hash of a case by its form, with the default secrets or with those made from a number. */
+static uint64_t hash_of_case(const char *name, const char *made, const void *message, size_t len)
+{
+    const uint64_t number = made != NULL ? strtoull(made, NULL, 10) : 0;
+    struct rapidhash_v1_secrets of_v1;
+    struct rapidhash_secrets secrets;
+    size_t i = 0;
+
+    if (strcmp(name, "v1") == 0) {
+        rapidhash_v1_make_secrets(number, &of_v1);
+        return made != NULL ? rapidhash_v1_seeded(message, len, &of_v1) : rapidhash_v1(message, len);
+    }
+    while (strcmp(forms[i].name, name) != 0)
+        i++;
+    rapidhash_make_secrets(number, &secrets);
+    return made != NULL ? forms[i].seeded(message, len, &secrets) : forms[i].hash(message, len);
+}
+
+/* Compares the cases of a file. Each message is in memory of its length, so that a tool sees each read past its end. */
+static void check_vectors(const char *path)
+{
+    static char line[20000], name[20], secrets[40], digits[17000];
+    uint64_t known, cases = 0;
+    FILE *const file = fopen(path, "r");
+
+    while (file != NULL && fgets(line, sizeof line, file) != NULL) {
+        const size_t len = sscanf(line, "%19s %39s %16999s %" SCNu64, name, secrets, digits, &known) == 4
+            ? strlen(digits) / 2 : sizeof digits;
+        unsigned char *message;
+        size_t i;
+        unsigned byte;
+
+        if (len == sizeof digits || line[0] == '#')
+            continue;
+        message = (unsigned char *)malloc(len);
+        for (i = 0; i < len && sscanf(digits + 2 * i, "%2x", &byte) == 1; i++)
+            message[i] = (unsigned char)byte;
+        compare(name, line, hash_of_case(name, strncmp(secrets, "make:", 5) == 0 ? secrets + 5 : NULL, message, len),
+                known);
+        free(message);
+        cases++;
+    }
+    compare(path, "cases", cases, 1152);
+    if (file != NULL)
+        fclose(file);
+}
+
+int main(int count, char **words)
 {
     size_t i;
 
@@ -219,6 +266,8 @@ int main(void)
     }
     check_copied_bytes();
     check_canonical();
+    if (count > 1)
+        check_vectors(words[1]);
     printf("%d passed, %d failed\n", passed, failed);
     return failed != 0;
 }

@@ -46,6 +46,13 @@ static std::vector<unsigned char> counted()
     return message;
 }
 
+/* Finds whether hash can be called with a text and a number, which could be its length or a seed. */
+template <class Number, class = void> struct takes_a_number : std::false_type {};
+template <class Number>
+struct takes_a_number<Number, decltype(void(rapidhash::hash("hello", std::declval<Number>())))> : std::true_type {};
+static_assert(takes_a_number<rapidhash::seed>::value, "the test sees a call that compiles");
+static_assert(!takes_a_number<int>::value && !takes_a_number<std::size_t>::value, "a number is no length of a text");
+
 /* Only a range of bytes converts to bytes, and a length does not convert to a seed. */
 using rapidhash::bytes;
 static_assert(!std::is_convertible<std::wstring, bytes>::value, "a wide string is no bytes");
@@ -65,10 +72,10 @@ static void check_texts()
     compare("a string", rapidhash::hash(text), hash_of_hello);
     compare("a vector", rapidhash::hash(vector), hash_of_hello);
     compare("an array", rapidhash::hash(array), hash_of_hello);
-    compare("a pointer and a length", rapidhash::hash("hello, world", 5), hash_of_hello);
+    compare("a pointer and a length", rapidhash::hash({"hello, world", 5}), hash_of_hello);
     compare("a part of a string", rapidhash::hash({text.data(), 5}), hash_of_hello);
     compare("no bytes", rapidhash::hash(std::string()), 232177599295442350U);
-    compare("no bytes at no address", rapidhash::hash(nullptr, 0), 232177599295442350U);
+    compare("no bytes at no address", rapidhash::hash({nullptr, 0}), 232177599295442350U);
 #if __cplusplus >= 201703L
     compare("a view", rapidhash::hash(std::string_view("hello, world").substr(0, 5)), hash_of_hello);
     const std::array<std::byte, 5> plain = {{std::byte{0x68}, std::byte{0x65}, std::byte{0x6c}, std::byte{0x6c},
@@ -89,9 +96,9 @@ static void check_seeds()
     compare("a seed word", rapidhash::hash(message, rapidhash::seed(1)), of_word);
     compare("a word's secrets", rapidhash::hash(message, rapidhash::seed_secrets(rapidhash::seed(1))), of_word);
     compare("secrets of one's own", rapidhash::hash(message, own), of_own);
-    compare("a hasher with a word", rapidhash::hasher(rapidhash::seed(1))(message), of_word);
-    compare("a hasher with secrets", rapidhash::hasher(own)(message), of_own);
-    compare("a hasher", rapidhash::hasher()("hello"), hash_of_hello);
+    compare("a hasher with a word", rapidhash::hasher(rapidhash::seed(1))(message), static_cast<std::size_t>(of_word));
+    compare("a hasher with secrets", rapidhash::hasher(own)(message), static_cast<std::size_t>(of_own));
+    compare("a hasher", rapidhash::hasher()("hello"), static_cast<std::size_t>(hash_of_hello));
     compare("a stream with a word", rapidhash::stream(rapidhash::seed(1)).update(message).finish(), of_word);
     compare("a stream", rapidhash::stream().update("hel").update("lo!", 2).finish(), hash_of_hello);
 }
@@ -162,7 +169,7 @@ static void check_case(const rapidhash::secrets &made, bool is_default, const st
     if (is_default)
         compare(name, rapidhash::hash(message), known);
     compare(name + ", with secrets", rapidhash::hash(message, made), known);
-    compare(name + ", by a hasher", rapidhash::hasher(made)(message), known);
+    compare(name + ", by a hasher", rapidhash::hasher(made)(message), static_cast<std::size_t>(known));
     for (std::size_t at = 0, size = 1; at < message.size(); at += size, size++) {
         if (size > message.size() - at)
             size = message.size() - at;

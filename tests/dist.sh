@@ -36,9 +36,9 @@ builds_the_rust_crate() {
     [ "$(cargo run --quiet --offline)" = 3327445792987248966 ]
 }
 
-# Builds and links the library for other machines with the commands on its page.
-builds_for_other_machines() {
-  cd "$room/unpacked" && blocks C.md c hello >hello.c && blocks rust/capi/README.md sh rust/capi >commands &&
+# Builds the first program with the header alone, with the command on its page.
+builds_with_the_header() {
+  cd "$room/unpacked" && blocks C.md c hello >hello.c && blocks C.md sh Iinclude >commands &&
     [ "$(bash -e commands)" = 3327445792987248966 ]
 }
 
@@ -63,7 +63,7 @@ try wrong_vector tells_a_wrong_vector
 try library builds_by_pkg_config "$room/unpacked/lib"
 try_with cmake cmake builds_by_cmake "$room/unpacked"
 try rust_crate builds_the_rust_crate
-try library_of_rust builds_for_other_machines
+try header builds_with_the_header
 try_with module node loads_the_module
 try wheel installs_a_wheel
 

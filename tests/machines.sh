@@ -1,9 +1,9 @@
 #!/usr/bin/env bash
 # Runs the tests of the Rust crate on other machines: under qemu, and in Node as WebAssembly, which has no threads, and
 # for which Rust ignores the tests that panic. Debian's cargo builds them with rustc 1.63, the oldest compiler that the
-# crate supports. The hashes of a million random messages must have the checksum of x86_64. On machines with a C
-# compiler, a program in C makes every call of the library in rust/capi. A machine that lacks a program is skipped and
-# counted. The last line counts the cases.
+# crate supports. The hashes of a million random messages must have the checksum of x86_64. The C header, compiled for
+# each machine and for powerpc, which is big-endian with 32 bits, must have the values of all vectors, with a 128-bit
+# product and without. A machine that lacks a program is skipped and counted. The last line counts the cases.
 #
 # The other Debian packages are unpacked in build/machines, or in the directory that RAPIDHASH_MACHINES names, which
 # later runs reuse. They are not installed.
@@ -12,8 +12,8 @@ folder=$(realpath -m "${RAPIDHASH_MACHINES:-$top/build/machines}")
 root=$folder/root
 export APT_CONFIG=$folder/apt/apt.conf
 
-# The machines: our name, and those of Debian, rustc, GNU, and qemu. Without the last, no qemu is used: x86_64 runs the
-# programs of i386, whose threads never end under qemu.
+# The machines: our name, and those of Debian, rustc, GNU, and qemu. Without that of rustc, the crate is not tested.
+# Without the last, no qemu is used: x86_64 runs the programs of i386, whose threads never end under qemu.
 machines=(
   'x86_64 - x86_64-unknown-linux-gnu - -'
   'aarch64 arm64 aarch64-unknown-linux-gnu aarch64-linux-gnu aarch64'
@@ -21,6 +21,7 @@ machines=(
   'ppc64el ppc64el powerpc64le-unknown-linux-gnu powerpc64le-linux-gnu ppc64le'
   'i386 i386 i686-unknown-linux-gnu i686-linux-gnu -'
   'armhf armhf armv7-unknown-linux-gnueabihf arm-linux-gnueabihf arm'
+  'powerpc powerpc - powerpc-linux-gnu ppc'
   'wasm32 - wasm32-wasi - -'
 )
 # The number of machines that are built and run in parallel.
@@ -102,10 +103,10 @@ try() {
   fi
 }
 
-# Runs the tests of the crate and of its C library on a machine: NAME DEBIAN RUSTC GNU QEMU
+# Runs the tests of the C header and of the crate on a machine: NAME DEBIAN RUSTC GNU QEMU
 machine() {
   local name=$1 debian=$2 target=$3 gnu=$4 qemu=$5 of_target
-  local packages=() tests=(--tests) cc=(cc) run=() flags='-D warnings'
+  local packages=() tests=(--tests) cc=(cc) run=() flags='-D warnings' product
   of_target=CARGO_TARGET_$(tr a-z- A-Z_ <<<"$target")
   export CARGO_BUILD_TARGET=$target CARGO_TARGET_DIR=$room/$name.out CARGO_NET_OFFLINE=true
   case $name in
@@ -119,8 +120,9 @@ machine() {
       export "${of_target}_LINKER=$root/usr/bin/wasm-ld-14"
       ;;
     *)
-      packages=(libstd-rust-dev:"$debian" {gcc-12,cpp-12,binutils}-"$gnu"
+      packages=({gcc-12,cpp-12,binutils}-"$gnu"
         {libc6,libc6-dev,linux-libc-dev,libgcc-12-dev,libgcc-s1}-"$debian-cross")
+      [ "$target" = - ] || packages+=(libstd-rust-dev:"$debian")
       cc=(with_old "$root/usr/bin/$gnu-gcc-12" --sysroot="$root")
       run=("$root/usr/bin/qemu-$qemu-static" -L "$root/usr/$gnu")
       [ "$qemu" != - ] || run=("$root/usr/$gnu/lib/ld-linux.so.2" --library-path "$root/usr/$gnu/lib")
@@ -134,17 +136,18 @@ machine() {
     printf 'skipped %s: %s\n' "$name" "$(tail -n 1 "$room/$name.log")"
     return
   fi
-  cd "$top/rust" || return
+  for product in '' -DRAPIDHASH_NO_INT128; do
+    [ "${#cc[@]}" -eq 0 ] || try "${name}_c${product#-DRAPIDHASH}" has_the_values "$product"
+  done
+  [ "$target" != - ] && cd "$top/rust" || return 0
   try "${name}_tests" with_old /usr/bin/cargo test --release "${tests[@]}"
   MESSAGES=1000000 try "${name}_messages" with_old /usr/bin/cargo test --release --test vectors -- --nocapture random
-  [ "${#cc[@]}" -eq 0 ] || try "${name}_c" calls_from_c "$CARGO_TARGET_DIR/$target/release/librapidhash_c.a"
 }
 
-# Makes every call of the C library on a machine, with the compiler in `cc` and the emulator in `run`: ARCHIVE
-calls_from_c() {
-  with_old /usr/bin/cargo build --release --manifest-path capi/Cargo.toml &&
-    "${cc[@]}" -O2 -I"$top/include" "$top/tests/c_library.c" "$1" -o "$CARGO_TARGET_DIR/c_library" &&
-    "${run[@]}" "$CARGO_TARGET_DIR/c_library"
+# Compares the values of the C header on a machine, with the compiler in `cc` and the emulator in `run`: [OPTION]
+has_the_values() {
+  "${cc[@]}" -O2 ${1:+"$1"} -I"$top/include" "$top/tests/c_library.c" -o "$room/$name.c" &&
+    "${run[@]}" "$room/$name.c" "$room/vectors"
 }
 
 # Prints the checksum of the random messages on a machine: NAME
@@ -157,6 +160,7 @@ same_checksum() {
   checksum "$1" && diff <(checksum x86_64) <(checksum "$1")
 }
 
+python3 "$top/share/vectors.py" "$top/crates/test_replay/data" >"$room/vectors"
 fetch_compiler >"$room/compiler.log" 2>&1 && touch "$room/compiler"
 for row in "${machines[@]}"; do
   while [ "$(jobs -rp | wc -l)" -ge "$jobs" ]; do wait -n; done

@@ -13,8 +13,7 @@ from cases import TOP, blocks, finish, shell, tell
 
 MADE = TOP / "docs" / "api"
 PAGES = sorted([*TOP.glob("*.md"), *TOP.glob("docs/*.md"), *MADE.glob("*.md"), *TOP.glob("*/NOTES.md"),
-                *TOP.glob("bindings/*/README.md"), TOP / "share" / "dist.md", TOP / "rust" / "README.md",
-                TOP / "rust" / "capi" / "README.md"])
+                *TOP.glob("bindings/*/README.md"), TOP / "share" / "dist.md", TOP / "rust" / "README.md"])
 # Directories that builds create, and paths that exist only in an archive or in an installed copy.
 BUILT = ("build/", "crates/example_NAME", "tests/example_NAME", "crates/first")
 PATH = re.compile(r"`((?:crates|docs|tests|bench|bin|include|bindings|share|\.ci)/[^` ]*)`")

@@ -51,8 +51,6 @@ for features in --all-features --no-default-features; do
   try "documentation_${features#--}" env RUSTDOCFLAGS='-D warnings' cargo doc --no-deps "$features"
   try "tests_${features#--}" tests_pass cargo test "$features" --tests
 done
-try layout_of_capi cargo fmt --check --manifest-path capi/Cargo.toml
-try lints_of_capi cargo clippy --manifest-path capi/Cargo.toml -- -D warnings
 try examples tests_pass cargo test --doc
 try no_dependency bash -c '[ "$(cargo tree | wc -l)" -eq 1 ]'
 try no_unsafe grep -x '#!\[forbid(unsafe_code)\]' src/lib.rs
@@ -64,7 +62,6 @@ if [ -x /usr/bin/rustc ] && [ -x /usr/bin/cargo ]; then
   try oldest_compiler_without_std tests_pass debian test --tests --no-default-features
   try examples_by_the_oldest_compiler tests_pass debian test --doc
   try readme_by_the_oldest_compiler readme_runs debian
-  try capi_by_the_oldest_compiler debian build --manifest-path capi/Cargo.toml
 else
   printf "skipped Debian's compiler: no /usr/bin/rustc and /usr/bin/cargo\n"
 fi

@@ -28,6 +28,7 @@ if os.path.exists(ARCHIVE):
         "rapidhash._extension",
         ["extension.c", "stream.c"],
         include_dirs=["."],
+        define_macros=[("RAPIDHASH_LINK", None)],
         extra_objects=[ARCHIVE],
         # The symbols of the library are hidden, so that those of another library are not called instead.
         extra_compile_args=["-std=c99", "-fvisibility=hidden"],

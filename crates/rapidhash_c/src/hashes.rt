@@ -227,3 +227,11 @@ pub extern "C" fn rapidhash_v3_protected_seeded(bytes: &[u8], secrets: &RapidSec
 {
     rapidhash_v3_inline::<MIXED, UNROLLED, GUARDED>(bytes, secrets)
 }
+
+/// The hash of `bytes` by V3 with PROTECTED, with one seed word.
+#[unsafe(no_mangle)]
+pub extern "C" fn rapidhash_v3_protected_with_seed(bytes: &[u8], seed: u64) -> u64
+    ensures { result ≡ portable_hash v3 guarded (cpp_seeded seed 2) default_secrets bytes.now }
+{
+    rapidhash_v3_inline::<MIXED, UNROLLED, GUARDED>(bytes, &RapidSecrets::seed_cpp(seed))
+}

@@ -1,0 +1,71 @@
+/* Hashes what tests/formulas/main.rs asks for, with the C header over random loads and a random product. */
+#include <stdio.h>
+#include <stdlib.h>
+
+#include "rapidhash_c.h"
+
+enum { ROOM = 32768 };
+
+struct record {
+    uint64_t form, options, key;
+    struct rapidhash_secrets own;
+    uint64_t offset, length, streamed, cuts[4], unused[2];
+};
+
+typedef uint64_t seeded(const void *, size_t, const struct rapidhash_secrets *);
+typedef void start(struct rapidhash_stream *, const struct rapidhash_secrets *);
+
+static uint64_t in_pieces(const struct record *asked, const uint8_t *bytes)
+{
+    static start *const starts[] = {rapidhash_v3_start, rapidhash_v3_micro_start, rapidhash_v3_nano_start};
+    struct rapidhash_stream stream;
+    size_t at = 0;
+
+    starts[asked->form - 4](&stream, &asked->own);
+    for (int i = 0; i < 5; i++) {
+        const size_t end = i < 4 ? (size_t)asked->cuts[i] : (size_t)asked->length, len = end - at;
+        /* The pieces lie apart, so that a stream finds no earlier bytes in front of one. */
+        uint8_t *const piece = (uint8_t *)malloc(len + 1);
+
+        memcpy(piece + 1, bytes + at, len);
+        rapidhash_stream_write(&stream, piece + 1, len);
+        free(piece);
+        at = end;
+    }
+    return rapidhash_stream_finish(&stream);
+}
+
+static uint64_t hash(const struct record *asked, const uint8_t *bytes)
+{
+    static seeded *const forms[] = {NULL, rapidhash_v2_0_seeded, rapidhash_v2_1_seeded, rapidhash_v2_2_seeded,
+                                    rapidhash_v3_seeded, rapidhash_v3_micro_seeded, rapidhash_v3_nano_seeded};
+    struct rapidhash_v1_secrets of_v1 = {asked->own.seed, {0, 0, 0}};
+
+    memcpy(of_v1.secrets, asked->own.secrets, sizeof of_v1.secrets);
+    if (asked->form == 0)
+        return rapidhash_v1_seeded(bytes, asked->length, &of_v1);
+    if (asked->options & 2)
+        return rapidhash_v3_protected_seeded(bytes, asked->length, &asked->own);
+    return forms[asked->form](bytes, asked->length, &asked->own);
+}
+
+int main(void)
+{
+    static uint8_t room[ROOM];
+    struct record asked;
+
+    if (fread(room, 1, ROOM, stdin) != ROOM)
+        return 1;
+    while (fread(&asked, sizeof asked, 1, stdin) == 1) {
+        /* The message ends with its allocation, so that a sanitizer sees each read past its end. */
+        uint8_t *const bytes = (uint8_t *)malloc(asked.length + 1);
+        uint64_t found;
+
+        memcpy(bytes + 1, room + asked.offset, asked.length);
+        key = asked.key;
+        found = asked.streamed ? in_pieces(&asked, bytes + 1) : hash(&asked, bytes + 1);
+        fwrite(&found, sizeof found, 1, stdout);
+        free(bytes);
+    }
+    return fflush(stdout) != 0;
+}
