@@ -255,7 +255,11 @@ vendor:
 clean:
 	rm -rf crates/*/out build
 
-# Not part of the gate, because it takes some additional minutes.
+# The next two are not part of the gate, because they take some additional minutes.
+.PHONY: test-edits
+test-edits:
+	@tests/must_fail.py
+
 .PHONY: test-vendor
 test-vendor:
 	@tests/vendor.sh ci
