@@ -9,6 +9,7 @@
 header=$top/include/rapidhash_c.h
 archive=$top/crates/rapidhash_c/out/librapidhash_c.a
 shared=$top/build/librapidhash_c.so.1
+vectors=("$room/rapidhash_vectors.tsv" "$top/crates/test_replay/data/secrets.tsv")
 export GOCACHE=$room/go GOPROXY=off
 
 # Lays out the two files of a library in the temporary directory as if installed, with the vectors.
@@ -22,13 +23,13 @@ lay_out() {
 # COMPILER STANDARD
 is_the_library() {
   "$1" "-std=$2" -x "${2//[0-9]*/}" -O2 -pedantic -Wall -Wextra -Wconversion -Wshadow -Werror -I"$top/include" \
-    "$top/tests/c_library.c" -o "$room/c_library" && "$room/c_library" "$room/rapidhash_vectors.tsv"
+    "$top/tests/c_library.c" -o "$room/c_library" && "$room/c_library" "${vectors[@]}"
 }
 
 # Checks the code of the header as another compiler, machine, or option chooses it: COMPILER ARGUMENT..
 has_the_values() {
   "$@" -I"$top/include" "$top/tests/c_library.c" -o "$room/c_library" &&
-    "$room/c_library" "$room/rapidhash_vectors.tsv"
+    "$room/c_library" "${vectors[@]}"
 }
 
 # Prints the names that the header declares but does not define if a program links the library.
@@ -72,7 +73,7 @@ keeps_unwind_tables() {
 # Builds and runs a program of every call of the library, linked with an archive: COMPILER ARGUMENT..
 calls_from_c() {
   "$@" -DRAPIDHASH_LINK -O2 -Wall -Wextra -Werror -I"$top/include" "$top/tests/c_library.c" -x none "$archive" \
-    -o "$room/c_library" && "$room/c_library" "$room/rapidhash_vectors.tsv" &&
+    -o "$room/c_library" && "$room/c_library" "${vectors[@]}" &&
     nm --defined-only "$room/c_library" | grep ' T rapidhash_v3$'
 }
 
