@@ -30,6 +30,9 @@
 #include <stddef.h>
 #include <stdint.h>
 #include <string.h>
+#ifdef _MSC_VER
+#include <intrin.h>
+#endif
 
 /* The version of this header. The hashes are those of the Rust crate rapidhash 4.5.1. */
 #define RAPIDHASH_C_VERSION_MAJOR 1
@@ -176,7 +179,6 @@ static inline uint64_t rapidhash_from_canonical(const unsigned char *bytes)
 #define RAPIDHASH_FOLD static inline __attribute__((always_inline, unused))
 #define RAPIDHASH_APART static __attribute__((noinline, unused))
 #elif defined(_MSC_VER)
-#include <intrin.h>
 #define RAPIDHASH_FOLD static __forceinline
 #define RAPIDHASH_APART static __declspec(noinline) inline
 #else
@@ -410,7 +412,6 @@ RAPIDHASH_FOLD uint64_t rapidhash_tail_v3_(
                             RAPIDHASH_C_BITS, s[1] ^ t);
 }
 
-/* Defines the out-of-line functions of a form. */
 #define RAPIDHASH_C_LONG(form, lanes, guard) \
     RAPIDHASH_APART uint64_t rapidhash_rows_##form##_(const uint8_t *p, size_t n, uint64_t seed, const uint64_t *s) \
     { \
@@ -546,8 +547,7 @@ RAPIDHASH_C_FORM(rapidhash_v3_micro, 5, rapidhash_secrets, rapidhash_default_.se
 RAPIDHASH_C_FORM(rapidhash_v3_nano, 3, rapidhash_secrets, rapidhash_default_.seed, 2)
 RAPIDHASH_C_FORM(rapidhash_v3_protected, 70, rapidhash_secrets, rapidhash_default_.seed, 2)
 
-RAPIDHASH_API uint32_t rapidhash_c_version(void)
-{ return RAPIDHASH_C_VERSION_NUMBER; }
+RAPIDHASH_API uint32_t rapidhash_c_version(void) { return RAPIDHASH_C_VERSION_NUMBER; }
 RAPIDHASH_API void rapidhash_v1_make_secrets(uint64_t number, struct rapidhash_v1_secrets *secrets)
 { secrets->seed = rapidhash_chain_(number, 3, secrets->secrets); }
 RAPIDHASH_API void rapidhash_make_secrets(uint64_t number, struct rapidhash_secrets *secrets)

@@ -174,10 +174,17 @@ builds_from_the_header() {
     make_without_the_kit install PREFIX="$room/usr" && [ ! -e "$room/usr/bin" ]
 }
 
+# Compiles and runs the first program of docs/C.md with the header alone, as the page says.
+first_program_runs() {
+  blocks "$top/docs/C.md" c hello >"$room/bare/hello.c" && blocks "$top/docs/C.md" sh Iinclude >"$room/commands" &&
+    cd "$room/bare" && [ "$(bash -e "$room/commands")" = 3327445792987248966 ]
+}
+
 # Tests the library that cc compiles from the header: it replaces the proved one on other machines.
 test_library_of_the_header() {
   local archive=$room/usr/lib/librapidhash_c.a shared=$room/usr/lib/librapidhash_c.so.1
   try header_build builds_from_the_header
+  try header_first_program first_program_runs
   try header_names defines_the_header '' "$archive"
   try header_names_of_the_shared_library defines_the_header @@RAPIDHASH_1 -D "$shared"
   try header_soname bash -c 'readelf -dW "$1" | grep -F "SONAME" | grep -F "[librapidhash_c.so.1]"' - "$shared"
