@@ -8,6 +8,7 @@
 # make library     proves and builds the C library, static and shared
 # make wasm        builds the same library for WebAssembly, with 32-bit addresses
 # make npm, wheel, sqlite, and postgresql build the bindings, including the library: see docs/BINDINGS.md
+# make jar         builds the package for Java, which needs a JDK alone
 # make page        copies examples/browser and the npm package to build/browser, for any file server
 # make install     installs the built files, manual pages, and completions under PREFIX; uninstall removes them
 # make dist        packs everything that a user without the toolchain needs into a single archive in build/
@@ -39,7 +40,7 @@ name = yervound-1.0-x86_64-linux
 linker = $(dir $(shell rt doc))toolchain/bin/ld.lld
 system = /lib/x86_64-linux-gnu /lib64 /usr/lib
 
-.PHONY: all tool sums library wasm npm page wheel sqlite postgresql deb check quick test fmt bench install uninstall \
+.PHONY: all tool sums library wasm npm page wheel jar sqlite postgresql deb check quick test fmt bench install uninstall \
   clean dist vendor rapidhash_c rapidhash_cli example_sums example_bloom example_perfect example_shards example_dedupe
 .DELETE_ON_ERROR:
 MAKEFLAGS += --no-builtin-rules
@@ -156,6 +157,16 @@ $(wheel): $(shared) include/rapidhash_c.h LICENSE-MIT LICENSE-APACHE NOTICE \
 	@if $(can_extend); then $(call pack_wheel,build/wheel_extension,$(archive),); else \
 	  echo 'make: no wheel with an extension, which needs cc and the headers of Python 3.11 or later' >&2; fi
 	@$(call pack_wheel,build/wheel,$(shared),rapidhash)
+
+jar = build/yervound-rapidhash-1.0.0.jar
+jar: $(jar)
+
+$(jar): LICENSE-MIT LICENSE-APACHE NOTICE bindings/java/pom.xml $(shell find bindings/java/src/main -name '*.java' 2>/dev/null)
+	@command -v javac >/dev/null || { echo 'make: javac, of a JDK, is not on PATH' >&2; exit 2; }
+	@rm -rf build/java && mkdir -p build/java/META-INF/maven
+	@javac --release 11 -Xlint:all -Xdoclint:all,-missing -Werror -d build/java $(filter %.java,$^)
+	@cp LICENSE-MIT LICENSE-APACHE NOTICE build/java/META-INF && cp bindings/java/pom.xml build/java/META-INF/maven
+	@jar --create --file $@ --module-version 1.0.0 -C build/java .
 
 extension = build/rapidhash.so
 sqlite: $(extension)

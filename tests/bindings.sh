@@ -2,7 +2,7 @@
 # Builds the C library, static and shared, and tests it and the bindings built on it:
 # - the code of the header by each compiler, C and C++ standard, and option, with all vectors
 # - the names that the two files define, and every call from C and C++
-# - the manual, the hashes compared with those of the Rust crate, and both forms of the Go package
+# - the manual, the hashes compared with those of the Rust crate, and the Go package, also for other machines
 # - the library that cc alone compiles from the header
 # Languages that are missing on this machine are skipped and not counted. The last line counts the cases.
 . "$(dirname "$0")/cases.sh"
@@ -134,27 +134,22 @@ fuzz() {
 
 # Runs a command in the directory of the Go package: COMMAND..
 in_go() (
-  export PKG_CONFIG_PATH=$room/lib/pkgconfig LD_LIBRARY_PATH=$room/lib RAPIDHASH_VECTORS=$room/rapidhash_vectors.tsv
+  export RAPIDHASH_VECTORS=$room/rapidhash_vectors.tsv RAPIDHASH_SECRETS=$top/crates/test_replay/data/secrets.tsv
   cd "$top/bindings/go" && "$@"
 )
-
-# Checks that the compiler reports the need for cgo on a processor for which the package has no code.
-names_what_is_missing() {
-  CGO_ENABLED=0 GOARCH=arm64 go build . 2>&1 | grep this_processor_takes_CGO_ENABLED_1_and_the_C_library_rapidhash_c
-}
 
 test_go() {
   local os
   try go_licences has_the_licences "$top/bindings/go"
   try go_layout in_go bash -c '[ -z "$(gofmt -l .)" ]'
-  try_with go_generator ld in_go python3 test_generate.py
-  try_with go_current ld in_go ./generate.py --check "$archive"
   try go in_go env CGO_ENABLED=0 go test -count 1 .
   try go_race in_go go test -count 1 -race .
-  try go_cgo in_go go test -count 1 -tags rapidhash_cgo .
-  try go_vet_cgo in_go go vet -tags rapidhash_cgo .
+  try go_fuzz in_go go test -run - -fuzz FuzzPieces -fuzztime 20000x .
+  try go_386 in_go env GOARCH=386 go test -count 1 .
+  try_with go_arm64 qemu-aarch64 in_go env GOARCH=arm64 go test -count 1 -exec qemu-aarch64 .
+  try_with go_s390x qemu-s390x in_go env GOARCH=s390x go test -count 1 -exec qemu-s390x .
   for os in linux windows darwin; do try "go_vet_$os" in_go env GOOS="$os" GOARCH=amd64 go vet .; done
-  try go_elsewhere in_go names_what_is_missing
+  try go_vet_formulas in_go go vet -tags formulas ./...
   try go_page in_go works_as_its_page_says README.md
 }
 

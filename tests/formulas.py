@@ -17,12 +17,19 @@ FOLDER = TOP / "tests" / "formulas"
 C = ("-std=c99 -Wall -Wextra -Werror -Wno-unused-function '-DRAPIDHASH_PRIMITIVES=\"primitives.h\"' -include assert.h"
      " -DRAPIDHASH_ASSERT=assert -I$YERVOUND/include -I$YERVOUND/tests/formulas $YERVOUND/tests/formulas/subject.c")
 RUST = "rustc -O --edition 2021 --extern rapidhash=librapidhash.rlib $YERVOUND/tests/formulas/subject.rs"
+JAVA = ("mkdir java && cp -r $YERVOUND/bindings/java/src/main/java/. $YERVOUND/bindings/java/src/formulas/java/. java &&"
+        " rm java/module-info.java && javac --release 11 -d classes $(find java -name '*.java')")
+GO = ("(cd $YERVOUND/bindings/go && GOCACHE=$OLDPWD/cache GOPROXY=off go build -tags formulas -o $OLDPWD/go"
+      " ./internal/formulas)")
 # The subjects: name, kind, the program that it needs, and the commands that build and run it in the directory ROOM.
 SUBJECTS = [
     ("c_gcc", "native", "gcc", f"gcc -O2 {C} -o c_gcc", "./c_gcc"),
     ("c_clang", "native", "clang", f"clang -O1 -fsanitize=address,undefined {C} -o c_clang", "./c_clang"),
     ("c_tcc", "native", "tcc", f"tcc {C} -o c_tcc", "./c_tcc"),
     ("rust", "kernels", "rustc", f"{RUST} -o rust", "./rust"),
+    ("go", "native", "go", GO, "./go"),
+    ("java", "native", "javac", JAVA, "java -cp classes example.yervound.rapidhash.Formulas"),
+    ("java_direct", "native", "javac", "true", "java -cp classes example.yervound.rapidhash.Formulas direct"),
 ]
 
 

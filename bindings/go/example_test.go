@@ -25,6 +25,19 @@ func ExampleV3WithSeed() {
 	// false
 }
 
+// The four lines are those of README.md.
+func Example_readme() {
+	stream := rapidhash.NewV3WithSeed(0)
+	fmt.Println(rapidhash.V3WithSeed([]byte("hello"), 1) == rapidhash.V3Seeded([]byte("hello"), rapidhash.SeedSecrets(1)))
+	fmt.Println(rapidhash.V3Seeded([]byte("hello"), rapidhash.MakeSecrets(42)) == rapidhash.V3([]byte("hello")))
+	fmt.Fprint(stream, "hello")
+	fmt.Println(stream.Sum64(), stream.UnmarshalBinary([]byte("other")))
+	// Output:
+	// true
+	// false
+	// 3327445792987248966 rapidhash: not a saved Stream, or one of another version
+}
+
 func ExampleStream() {
 	var stream rapidhash.Stream
 	if _, err := io.Copy(&stream, strings.NewReader("hello")); err != nil {

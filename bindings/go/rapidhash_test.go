@@ -39,7 +39,7 @@ func TestDefaultSecrets(t *testing.T) {
 	compare(t, "v3 of nothing", V3(nil), 232177599295442350)
 }
 
-func TestSeedWords(t *testing.T) {
+func TestKnownSeedWord(t *testing.T) {
 	long, short := data(), data()[:60]
 	compare(t, "v1", V1WithSeed(short, 1), 16595489079910452471)
 	compare(t, "v2.0", V2_0WithSeed(short, 1), 10726147324944781525)
@@ -131,29 +131,17 @@ func TestZeroStreams(t *testing.T) {
 	compare(t, "block size", uint64(sized.BlockSize()), 112)
 }
 
-// TestBesidePointers uses bytes, secrets, and a stream next to Go pointers. cgo panics if it finds such pointers.
-func TestBesidePointers(t *testing.T) {
-	type mixed struct {
-		before  *int
-		bytes   [5]byte
-		secrets Secrets
-		stream  Stream
-		after   *int
-	}
-	here := &mixed{new(int), [5]byte{'h', 'e', 'l', 'l', 'o'}, own, *NewV3(&own), new(int)}
-	known := V3Seeded([]byte("hello"), &own)
-	compare(t, "bytes", V3Seeded(here.bytes[:], &here.secrets), known)
-	here.stream.Write(here.bytes[:])
-	compare(t, "stream", here.stream.Sum64(), known)
-	here.stream.Reset()
-	compare(t, "reset", here.stream.Sum64(), V3Seeded(nil, &own))
-}
-
 func TestNilSecretsPanic(t *testing.T) {
-	for name, call := range map[string]func(){
-		"v1": func() { V1Seeded(data(), nil) },
-		"v3": func() { V3Seeded(data(), nil) },
-	} {
+	cases := map[string]func(){"v1": func() { V1Seeded(data(), nil) }, "v1 of nothing": func() { V1Seeded(nil, nil) },
+		"v3 string": func() { V3StringSeeded("hello", nil) }}
+	for name, call := range calls {
+		hash := call.seeded
+		if hash != nil {
+			cases[name] = func() { hash(data(), nil) }
+			cases[name+" of nothing"] = func() { hash(nil, nil) }
+		}
+	}
+	for name, call := range cases {
 		func() {
 			defer func() {
 				if recover() == nil {

@@ -1,84 +1,79 @@
 package rapidhash
 
 import (
+	"bytes"
 	"encoding/binary"
 	"errors"
 	"fmt"
-	"unsafe"
 )
 
-// A saved stream has the magic, the number of lanes, whether a block is folded, and the number of bytes kept since. The
-// seed, the secrets, and seven lanes follow, most significant byte first, then 16 folded bytes, and room for a block.
-const (
-	magic      = "rapidhash\x01"
-	headSize   = len(magic) + 3
-	foldedSize = 16
-	keptSize   = foldedSize + 16*7
-	savedSize  = headSize + 8*8 + 7*8 + keptSize
-)
+// foldedSize is the number of folded bytes that a stream keeps: the last words of its message may begin in them.
+const foldedSize = 16
+
+// state is a saved stream. Its numbers are stored most significant byte first.
+type state struct {
+	Magic    [10]byte
+	Count    uint8 // the number of lanes
+	IsFolded uint8 // 1 if the lanes have folded a row, or else 0
+	Size     uint8 // the number of bytes kept after the folded ones
+	Secrets  Secrets
+	Lanes    [7]uint64
+	Kept     [foldedSize + 112]byte
+}
+
+// magic begins every saved stream. Its last byte is the version of the format.
+var magic = [10]byte{'r', 'a', 'p', 'i', 'd', 'h', 'a', 's', 'h', 1}
 
 // MarshalBinary returns the state of the stream, including its seed and secrets. The error is always nil.
 func (stream *Stream) MarshalBinary() ([]byte, error) {
 	stream.ensureStarted()
-	inner := &stream.inner
-	saved := make([]byte, 0, savedSize)
-	saved = append(saved, magic...)
-	saved = append(saved, byte(inner.lanes), byte(inner.any), byte(inner.len))
-	saved = binary.BigEndian.AppendUint64(saved, stream.secrets.Seed)
-	for _, secret := range stream.secrets.Secrets {
-		saved = binary.BigEndian.AppendUint64(saved, secret)
+	saved := state{Magic: magic, Count: uint8(stream.count), Size: uint8(stream.size)}
+	saved.Secrets, saved.Lanes = stream.secrets, stream.lanes
+	if stream.isFolded {
+		saved.IsFolded = 1
 	}
-	for _, lane := range inner.lane {
-		saved = binary.BigEndian.AppendUint64(saved, uint64(lane))
-	}
-	kept := (*[keptSize]byte)(unsafe.Pointer(&inner.kept))
-	saved = append(saved, kept[:foldedSize+int(inner.len)]...)
-	return saved[:savedSize], nil
+	copy(saved.Kept[:], stream.kept[:foldedSize+stream.size])
+	var out bytes.Buffer
+	err := binary.Write(&out, binary.BigEndian, &saved)
+	return out.Bytes(), err
 }
 
 // UnmarshalBinary restores a state that MarshalBinary returned. If the bytes are not such a state, it returns an error
 // and does not change the stream.
-func (stream *Stream) UnmarshalBinary(saved []byte) error {
-	if err := check(saved); err != nil {
+func (stream *Stream) UnmarshalBinary(data []byte) error {
+	var saved state
+	if !bytes.HasPrefix(data, magic[:]) {
+		return errors.New("rapidhash: not a saved Stream, or one of another version")
+	}
+	if size := binary.Size(saved); len(data) != size {
+		return fmt.Errorf("rapidhash: a saved Stream has %d bytes, not %d", size, len(data))
+	}
+	if err := binary.Read(bytes.NewReader(data), binary.BigEndian, &saved); err != nil {
+		return fmt.Errorf("rapidhash: %w", err)
+	}
+	if err := saved.check(); err != nil {
 		return err
 	}
-	lanes, isFolded, kept := int(saved[10]), saved[11] == 1, int(saved[12])
-	var words [15]uint64
-	rest := saved[headSize:]
-	for at := range words {
-		words[at] = binary.BigEndian.Uint64(rest)
-		rest = rest[8:]
+	stream.start(int(saved.Count), &saved.Secrets)
+	if stream.isFolded = saved.IsFolded == 1; stream.isFolded {
+		copy(stream.lanes[:saved.Count], saved.Lanes[:])
+		copy(stream.kept[:foldedSize], saved.Kept[:])
 	}
-	secrets := Secrets{Seed: words[0]}
-	copy(secrets.Secrets[:], words[1:8])
-	stream.start(lanes, &secrets)
-	if isFolded {
-		stream.inner.any = 1
-		copy((*[7]uint64)(unsafe.Pointer(&stream.inner.lane))[:lanes], words[8:])
-		copy((*[foldedSize]byte)(unsafe.Pointer(&stream.inner.kept))[:], rest)
-	}
-	streamWrite(&stream.inner, &stream.secrets, rest[foldedSize:foldedSize+kept])
+	stream.size = copy(stream.kept[foldedSize:], saved.Kept[foldedSize:foldedSize+saved.Size])
 	return nil
 }
 
-// check returns an error if the bytes are not a saved stream. After a folded block, a stream keeps at least one byte.
-// It never keeps more than a block.
-func check(saved []byte) error {
-	if len(saved) < len(magic) || string(saved[:len(magic)]) != magic {
-		return errors.New("rapidhash: not a saved Stream, or one of another version")
+// check returns an error if no stream has the state. After a folded row, a stream keeps at least one byte. It never
+// keeps more than a row.
+func (saved *state) check() error {
+	if count := saved.Count; count != 7 && count != 5 && count != 3 {
+		return fmt.Errorf("rapidhash: a saved Stream has 7, 5 or 3 lanes, not %d", count)
 	}
-	if len(saved) != savedSize {
-		return fmt.Errorf("rapidhash: a saved Stream has %d bytes, not %d", savedSize, len(saved))
+	if saved.IsFolded > 1 {
+		return fmt.Errorf("rapidhash: a saved Stream has folded a row or not: 1 or 0, not %d", saved.IsFolded)
 	}
-	lanes, isFolded, kept := int(saved[10]), saved[11], int(saved[12])
-	if lanes != 7 && lanes != 5 && lanes != 3 {
-		return fmt.Errorf("rapidhash: a saved Stream has 7, 5 or 3 lanes, not %d", lanes)
-	}
-	if isFolded > 1 {
-		return fmt.Errorf("rapidhash: a saved Stream has folded a block or not: 1 or 0, not %d", isFolded)
-	}
-	if kept > 16*lanes || kept < int(isFolded) {
-		return fmt.Errorf("rapidhash: a saved Stream keeps %d to %d bytes here, not %d", isFolded, 16*lanes, kept)
+	if saved.Size > 16*saved.Count || saved.Size < saved.IsFolded {
+		return fmt.Errorf("rapidhash: a saved Stream keeps %d to %d bytes here, not %d", saved.IsFolded, 16*saved.Count, saved.Size)
 	}
 	return nil
 }

@@ -12,9 +12,12 @@ import (
 //
 // It is a hash.Hash64, so io.Copy can write to it. MarshalBinary can save its state in the middle of a message.
 type Stream struct {
-	inner   state
-	secrets Secrets
-	block   int
+	secrets  Secrets
+	lanes    lanes
+	kept     [foldedSize + 112]byte // the last bytes folded, and then those that follow
+	size     int                    // the number of bytes that follow
+	count    int                    // the number of lanes, or 0 if the stream is not started
+	isFolded bool                   // whether the lanes have folded a row
 }
 
 var (
@@ -25,70 +28,75 @@ var (
 )
 
 // NewV3 starts a stream for V3. If secrets is nil, the default ones are used.
-func NewV3(secrets *Secrets) *Stream {
-	return new(Stream).start(7, secrets)
-}
+func NewV3(secrets *Secrets) *Stream { return new(Stream).start(7, secrets) }
 
-// NewV3Micro starts a stream for micro.
-func NewV3Micro(secrets *Secrets) *Stream {
-	return new(Stream).start(5, secrets)
-}
+// NewV3Micro starts a stream for micro. If secrets is nil, the default ones are used.
+func NewV3Micro(secrets *Secrets) *Stream { return new(Stream).start(5, secrets) }
 
-// NewV3Nano starts a stream for nano.
-func NewV3Nano(secrets *Secrets) *Stream {
-	return new(Stream).start(3, secrets)
-}
+// NewV3Nano starts a stream for nano. If secrets is nil, the default ones are used.
+func NewV3Nano(secrets *Secrets) *Stream { return new(Stream).start(3, secrets) }
 
-func (stream *Stream) start(lanes int, secrets *Secrets) *Stream {
-	*stream = Stream{block: 16 * lanes}
-	if secrets == nil {
-		seedSecrets(0, &stream.secrets)
-	} else {
+// NewV3WithSeed starts a stream for V3 with the default secrets and a seed word.
+func NewV3WithSeed(seed uint64) *Stream { return NewV3(&Secrets{seedOf(seed), defaults}) }
+
+// NewV3MicroWithSeed starts a stream for micro with the default secrets and a seed word.
+func NewV3MicroWithSeed(seed uint64) *Stream { return NewV3Micro(&Secrets{seedOf(seed), defaults}) }
+
+// NewV3NanoWithSeed starts a stream for nano with the default secrets and a seed word.
+func NewV3NanoWithSeed(seed uint64) *Stream { return NewV3Nano(&Secrets{seedOf(seed), defaults}) }
+
+func (stream *Stream) start(count int, secrets *Secrets) *Stream {
+	*stream = Stream{secrets: Secrets{defaultSeed, defaults}, count: count}
+	if secrets != nil {
 		stream.secrets = *secrets
 	}
-	switch lanes { // The field has another type if C declares the struct.
-	case 7:
-		stream.inner.lanes = 7
-	case 5:
-		stream.inner.lanes = 5
-	default:
-		stream.inner.lanes = 3
-	}
-	streamReset(&stream.inner, &stream.secrets)
+	stream.lanes.start(stream.secrets.Seed)
 	return stream
 }
 
 // ensureStarted starts a zero stream.
 func (stream *Stream) ensureStarted() {
-	if stream.block == 0 {
+	if stream.count == 0 {
 		stream.start(7, nil)
 	}
 }
 
-// part is the maximum number of bytes that a single call hashes.
-const part = 1 << 20
-
 // Write appends a piece to the message. It never returns an error.
 func (stream *Stream) Write(data []byte) (int, error) {
 	stream.ensureStarted()
-	rest := data
-	for len(rest) > part {
-		streamWrite(&stream.inner, &stream.secrets, rest[:part])
-		rest = rest[part:]
+	if len(data) > 16*stream.count-stream.size {
+		stream.fold(data)
+	} else {
+		stream.size += copy(stream.kept[foldedSize+stream.size:], data)
 	}
-	streamWrite(&stream.inner, &stream.secrets, rest)
 	return len(data), nil
 }
 
-// WriteString appends the bytes of a string, as Write does, without a copy.
-func (stream *Stream) WriteString(text string) (int, error) {
-	return stream.Write(bytesOf(text))
+// fold appends a piece for which there is no room. It keeps the last 1 to 16 * count bytes, and the 16 before them.
+func (stream *Stream) fold(data []byte) {
+	kept, secrets := stream.kept[:foldedSize+16*stream.count], stream.secrets.Secrets[:stream.count]
+	end := copy(kept[foldedSize+stream.size:], data)
+	stream.lanes.fold(kept[foldedSize:], 0, secrets)
+	rest := stream.lanes.fold(data[end:], 1, secrets)
+	if end = len(data) - len(rest); end >= foldedSize {
+		copy(kept[:foldedSize], data[end-foldedSize:])
+	} else {
+		copy(kept, kept[len(kept)-foldedSize:])
+	}
+	stream.size, stream.isFolded = copy(kept[foldedSize:], rest), true
 }
+
+// WriteString appends the bytes of a string, as Write does, without a copy.
+func (stream *Stream) WriteString(text string) (int, error) { return stream.Write(bytesOf(text)) }
 
 // Sum64 returns the hash of the message so far. More pieces may follow.
 func (stream *Stream) Sum64() uint64 {
 	stream.ensureStarted()
-	return streamFinish(&stream.inner, &stream.secrets)
+	ending := stream.kept[:foldedSize+stream.size]
+	if !stream.isFolded {
+		return v3(ending[foldedSize:], stream.count, stream.secrets.Seed, &stream.secrets.Secrets)
+	}
+	return v3Close(ending[foldedSize:], ending, stream.lanes.joined(), &stream.secrets.Secrets)
 }
 
 // Sum appends the hash as 8 bytes, most significant first.
@@ -99,16 +107,15 @@ func (stream *Stream) Sum(data []byte) []byte {
 // Reset empties the message but keeps the secrets and the version.
 func (stream *Stream) Reset() {
 	stream.ensureStarted()
-	streamReset(&stream.inner, &stream.secrets)
+	stream.lanes.start(stream.secrets.Seed)
+	stream.size, stream.isFolded = 0, false
 }
 
 // Size returns the length of a hash in bytes.
-func (stream *Stream) Size() int {
-	return 8
-}
+func (stream *Stream) Size() int { return 8 }
 
 // BlockSize returns the number of bytes that the hash folds at a time.
 func (stream *Stream) BlockSize() int {
 	stream.ensureStarted()
-	return stream.block
+	return 16 * stream.count
 }

@@ -2,17 +2,17 @@ package rapidhash
 
 import (
 	"bytes"
+	"encoding/binary"
+	"encoding/hex"
 	"fmt"
 	"io"
-	"runtime"
 	"strings"
-	"sync"
 	"testing"
 )
 
-// long returns a message that is longer than a single call hashes.
+// long returns a message that is longer than a mebibyte.
 func long() []byte {
-	message := make([]byte, 3*part+5)
+	message := make([]byte, 3<<20+5)
 	for at := range message {
 		message[at] = byte(at % 251)
 	}
@@ -22,7 +22,7 @@ func long() []byte {
 func TestLongPieces(t *testing.T) {
 	message := long()
 	for start, hash := range map[*Stream]func([]byte) uint64{NewV3(nil): V3, NewV3Nano(nil): V3Nano} {
-		for _, size := range []int{part, part + 1, len(message)} {
+		for _, size := range []int{1 << 20, 1<<20 + 1, len(message)} {
 			start.Reset()
 			written, err := start.Write(message[:size])
 			if written != size || err != nil {
@@ -45,20 +45,6 @@ func TestTakesWhatWritersTake(t *testing.T) {
 	if len(sum) != 1+stream.Size() || sum[0] != 7 || sum[1] != byte(stream.Sum64()>>56) {
 		t.Errorf("%x is not 7 and then the hash", sum)
 	}
-}
-
-func TestStrings(t *testing.T) {
-	text := string(data())
-	compare(t, "v3", V3String(text), 7088138960297660729)
-	compare(t, "word", V3StringWithSeed(text, 1), 8806718467852582029)
-	compare(t, "secrets", V3StringSeeded(text, &own), 13105958653737073913)
-	compare(t, "nothing", V3String(""), 232177599295442350)
-	stream := NewV3(&own)
-	size, err := stream.WriteString(text)
-	if size != len(text) || err != nil {
-		t.Error(size, err)
-	}
-	compare(t, "written", stream.Sum64(), 13105958653737073913)
 }
 
 // TestSavedStates saves the state of each stream after each length, and another stream continues from it.
@@ -112,59 +98,135 @@ func TestRefusedStates(t *testing.T) {
 	}
 }
 
+// TestEveryCut writes 300 bytes in two pieces, with each cut, and compares the hash with that of the slice.
+func TestEveryCut(t *testing.T) {
+	message := long()[1000:1300]
+	for name, call := range calls {
+		if call.start == nil {
+			continue
+		}
+		known := call.seeded(message, &own)
+		for cut := 0; cut <= len(message); cut++ {
+			stream := call.start(&own)
+			stream.Write(message[:cut])
+			stream.Write(message[cut:])
+			compare(t, fmt.Sprint(name, " cut at ", cut), stream.Sum64(), known)
+		}
+	}
+}
+
+func TestSeededStreams(t *testing.T) {
+	message := long()[:200000]
+	starts := map[string]func(uint64) *Stream{"v3": NewV3WithSeed, "v3_micro": NewV3MicroWithSeed, "v3_nano": NewV3NanoWithSeed}
+	for name, start := range starts {
+		for _, seed := range seeds {
+			stream := start(seed)
+			stream.Write(message)
+			compare(t, fmt.Sprint(name, " with ", seed), stream.Sum64(), calls[name].word(message, seed))
+		}
+	}
+}
+
+// TestReset resets streams that have folded rows, and writes messages that fill no row.
+func TestReset(t *testing.T) {
+	message := long()[:300]
+	for name, call := range calls {
+		if call.start == nil {
+			continue
+		}
+		stream := call.start(&own)
+		for size := 0; size <= 50; size++ {
+			stream.Write(message)
+			stream.Reset()
+			stream.Write(data()[:size])
+			compare(t, fmt.Sprint(name, " of ", size), stream.Sum64(), call.seeded(data()[:size], &own))
+		}
+	}
+}
+
+// savedByAnotherRelease is a stream of micro with the secrets in own, after 100 bytes, as release 1.0 saved it.
+const savedByAnotherRelease = "" +
+	"726170696468617368010501140000000000000001000000000000000200000000000000030000000000000005000000000000000700" +
+	"0000000000000b000000000000000d00000000000000113d84178d68135a2718a8824ab2b42a9e530d7e647a791088d1f985cdc5fd81" +
+	"aa47777f7e67074cb400000000000000010000000000000001404142434445464748494a4b4c4d4e4f505152535455565758595a5b5c" +
+	"5d5e5f606162630000000000000000000000000000000000000000000000000000000000000000000000000000000000000000000000" +
+	"000000000000000000000000000000000000000000000000000000000000000000000000000000000000000000"
+
+func TestSavedBytes(t *testing.T) {
+	stream := NewV3Micro(&own)
+	stream.Write(data()[:100])
+	saved, err := stream.MarshalBinary()
+	if err != nil || hex.EncodeToString(saved) != savedByAnotherRelease {
+		t.Errorf("%x %v", saved, err)
+	}
+	old, _ := hex.DecodeString(savedByAnotherRelease)
+	if err := stream.UnmarshalBinary(old); err != nil {
+		t.Fatal(err)
+	}
+	stream.Write(data()[100:])
+	compare(t, "restored", stream.Sum64(), 5648300410578423183)
+}
+
+// TestSavedBytesOfShortStreams checks each byte of a saved stream that has folded nothing: its lanes are the seed.
+func TestSavedBytesOfShortStreams(t *testing.T) {
+	stream := NewV3Nano(&own)
+	stream.WriteString("hello")
+	known := append([]byte("rapidhash\x01"), 3, 0, 5)
+	for _, word := range append([]uint64{own.Seed}, own.Secrets[:]...) {
+		known = binary.BigEndian.AppendUint64(known, word)
+	}
+	for lane := 0; lane < 7; lane++ {
+		known = binary.BigEndian.AppendUint64(known, own.Seed)
+	}
+	known = append(append(known, make([]byte, 16)...), "hello"...)
+	known = append(known, make([]byte, 112-5)...)
+	if saved, _ := stream.MarshalBinary(); !bytes.Equal(saved, known) {
+		t.Errorf("%x is not %x", saved, known)
+	}
+}
+
 func TestAllocatesNothing(t *testing.T) {
-	bytes, text := data(), string(data())
-	stream, of := NewV3(nil), MakeSecretsV1(1)
-	for name, run := range map[string]func(){
-		"v1":      func() { V1(bytes); V1Seeded(bytes, of); V1WithSeed(bytes, 1) },
-		"v2":      func() { V2_0(bytes); V2_1Seeded(bytes, &own); V2_2WithSeed(bytes, 1) },
-		"v3":      func() { V3(bytes); V3Seeded(bytes, &own); V3WithSeed(bytes, 1); V3String(text) },
+	bytes, text, made, madeV1 := long()[:5000], string(long()[:5000]), MakeSecrets(1), MakeSecretsV1(1)
+	stream := NewV3(nil)
+	runs := map[string]func(){
+		"v1":      func() { V1(bytes); V1Seeded(bytes, madeV1); V1WithSeed(bytes, 1); V1String(text) },
+		"strings": func() { V3String(text); V3StringSeeded(text, made); V3StringWithSeed(text, 1) },
 		"write":   func() { stream.Write(bytes); stream.WriteString(text) },
 		"sum":     func() { stream.Sum64(); stream.Sum(bytes[:0]); stream.Reset() },
 		"restart": func() { *stream = Stream{}; stream.Write(bytes) },
-	} {
+	}
+	for name, call := range calls {
+		call := call
+		runs[name] = func() { call.plain(bytes); call.word(bytes, 1); call.text(text) }
+		if call.seeded != nil {
+			runs[name+" seeded"] = func() { call.seeded(bytes, made) }
+		}
+	}
+	for name, run := range runs {
 		if count := testing.AllocsPerRun(100, run); count != 0 {
 			t.Errorf("%s allocates %v times", name, count)
 		}
 	}
 }
 
-// TestSmallStacks hashes in goroutines with little stack space, at many depths, while others collect garbage.
-func TestSmallStacks(t *testing.T) {
-	var all sync.WaitGroup
-	message, known := long()[:5000], map[string]uint64{}
-	for name, call := range calls {
-		known[name] = call.plain(message)
-	}
-	for depth := 0; depth < 200; depth++ {
-		all.Add(1)
-		go func(depth int) {
-			defer all.Done()
-			deeper(depth, func() {
-				for name, call := range calls {
-					compare(t, name, call.plain(message), known[name])
-					if call.start != nil {
-						stream := *call.start(nil)
-						stream.Write(message)
-						compare(t, name, stream.Sum64(), known[name])
-					}
-				}
-			})
-		}(depth)
-		if depth%20 == 0 {
-			runtime.GC()
+// FuzzPieces compares a stream of pieces with the hash of the slice, for each version that has streams.
+func FuzzPieces(f *testing.F) {
+	f.Add([]byte("hello"), uint64(1), uint16(2), uint16(3))
+	f.Add(data(), uint64(1)<<63, uint16(48), uint16(112))
+	f.Fuzz(func(t *testing.T, message []byte, seed uint64, first, second uint16) {
+		secrets := MakeSecrets(seed)
+		for name, call := range calls {
+			if call.start == nil {
+				continue
+			}
+			stream, rest := call.start(secrets), message
+			for _, size := range []uint16{first, second} {
+				cut := int(size) % (len(rest) + 1)
+				stream.Write(rest[:cut])
+				rest = rest[cut:]
+			}
+			stream.Write(rest)
+			compare(t, name, stream.Sum64(), call.seeded(message, secrets))
 		}
-	}
-	all.Wait()
-}
-
-//go:noinline
-func deeper(depth int, run func()) byte {
-	var room [48]byte
-	if depth == 0 {
-		run()
-		return room[0]
-	}
-	room[depth%48] = deeper(depth-1, run)
-	return room[0]
+	})
 }

@@ -9,27 +9,30 @@ import (
 	"testing"
 )
 
-// call has the functions of a version, with the default secrets and with secrets made from a number.
+// call has the functions of a version: those with the default seed and secrets, with a seed word, and with secrets.
 type call struct {
 	plain  func([]byte) uint64
+	word   func([]byte, uint64) uint64
+	text   func(string) uint64
 	seeded func([]byte, *Secrets) uint64
 	start  func(*Secrets) *Stream
 }
 
 var calls = map[string]call{
-	"v1":           {plain: V1},
-	"v2_0":         {plain: V2_0, seeded: V2_0Seeded},
-	"v2_1":         {plain: V2_1, seeded: V2_1Seeded},
-	"v2_2":         {plain: V2_2, seeded: V2_2Seeded},
-	"v3":           {V3, V3Seeded, NewV3},
-	"v3_micro":     {V3Micro, V3MicroSeeded, NewV3Micro},
-	"v3_nano":      {V3Nano, V3NanoSeeded, NewV3Nano},
-	"v3_protected": {plain: V3Protected, seeded: V3ProtectedSeeded},
+	"v1":           {V1, V1WithSeed, V1String, nil, nil},
+	"v2_0":         {V2_0, V2_0WithSeed, V2_0String, V2_0Seeded, nil},
+	"v2_1":         {V2_1, V2_1WithSeed, V2_1String, V2_1Seeded, nil},
+	"v2_2":         {V2_2, V2_2WithSeed, V2_2String, V2_2Seeded, nil},
+	"v3":           {V3, V3WithSeed, V3String, V3Seeded, NewV3},
+	"v3_micro":     {V3Micro, V3MicroWithSeed, V3MicroString, V3MicroSeeded, NewV3Micro},
+	"v3_nano":      {V3Nano, V3NanoWithSeed, V3NanoString, V3NanoSeeded, NewV3Nano},
+	"v3_protected": {V3Protected, V3ProtectedWithSeed, V3ProtectedString, V3ProtectedSeeded, nil},
 }
 
 // hash returns the hash of a message with the secrets of a rule, default or make:NUMBER, and these secrets.
 func (call call) hash(t *testing.T, rule string, message []byte) (uint64, *Secrets) {
 	if rule == "default" {
+		compare(t, "string", call.text(string(message)), call.plain(message))
 		return call.plain(message), nil
 	}
 	number, err := strconv.ParseUint(strings.TrimPrefix(rule, "make:"), 10, 64)

@@ -1,5 +1,8 @@
-//! The hasher and the states of maps, without the avalanche. Integers are packed (`SPONGE`), and
-//! neither a write of bytes nor the hash is mixed once more.
+//! The hasher and the states of maps, without the avalanche: the choice for a map that mixes hashes itself, as those of
+//! std, hashbrown and indexmap do. [`crate::quality`] costs one multiply more per hash, and is for tables and filters
+//! that use the bits of a hash as they are.
+//!
+//! Integers are packed (`SPONGE`), and neither a write of bytes nor the hash is mixed once more.
 //!
 //! ```
 //! use rapidhash::fast::SeedableState;
@@ -33,16 +36,17 @@ pub type RapidHasher<'s> = inner::RapidHasher<'s, false, true, false, false>;
 /// let mut map = HashMap::with_hasher(RandomState::new());
 /// map.insert("answer", 42);
 /// ```
-#[cfg(feature = "std")]
 pub type RandomState = inner::RandomState<false, true, false, false>;
 
 /// Builds hashers with the caller's seed.
 ///
 /// ```
 /// use rapidhash::fast::SeedableState;
+/// use rapidhash::v3::RapidSecrets;
 /// use std::collections::HashMap;
 ///
-/// let state = SeedableState::custom(1, &[2, 3, 5, 7, 11, 13, 17]);
+/// let secrets = RapidSecrets::seed(0x1234_5678);
+/// let state = SeedableState::custom(secrets.seed, &secrets.secrets);
 /// let mut map = HashMap::with_hasher(state);
 /// map.insert("answer", 42);
 /// ```
@@ -55,5 +59,4 @@ pub type SeedableState<'s> = inner::SeedableState<'s, false, true, false, false>
 ///
 /// assert_eq!(GlobalState::new(), GlobalState::new());
 /// ```
-#[cfg(feature = "std")]
 pub type GlobalState = inner::GlobalState<false, true, false, false>;

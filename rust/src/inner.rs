@@ -20,6 +20,4 @@ mod state;
 
 pub use crate::seeding::{GlobalSecrets, SeedSource};
 pub use hasher::RapidHasher;
-pub use state::SeedableState;
-#[cfg(feature = "std")]
-pub use state::{GlobalState, RandomState};
+pub use state::{GlobalState, RandomState, SeedableState};

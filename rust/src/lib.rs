@@ -11,8 +11,8 @@
 //! - [`rng`] holds a small generator.
 //! - [`util`] holds the reads and the multiplication that the hashes use.
 //!
-//! Without the default feature `std`, the crate needs only `core`. It then has no readers, no maps,
-//! and no state that draws random words.
+//! Without the default feature `std`, the crate needs only `core`. It then has no readers and no maps,
+//! and its states take their seeds from addresses instead of random words.
 //!
 //! ```
 //! use rapidhash::v3::{rapidhash_v3, RapidStreamHasherV3, DEFAULT_RAPID_SECRETS};
@@ -28,9 +28,25 @@
 #![cfg_attr(docsrs, feature(doc_cfg))]
 #![forbid(unsafe_code)]
 #![deny(missing_docs)]
-// Proofs use array indices, the generator's `next` is not an iterator's, and lifetimes have names.
-#![allow(clippy::needless_range_loop, clippy::should_implement_trait)]
-#![allow(clippy::needless_lifetimes)]
+// Proofs use array indices, and casts that they show to lose nothing. The generator's `next` is not an iterator's.
+#![allow(
+    clippy::needless_range_loop,
+    clippy::should_implement_trait,
+    clippy::cast_lossless
+)]
+#![allow(
+    clippy::cast_possible_truncation,
+    clippy::cast_sign_loss,
+    clippy::checked_conversions
+)]
+// Lifetimes have names, and values of 8 bytes are borrowed, as contracts refer to them.
+#![allow(clippy::needless_lifetimes, clippy::trivially_copy_pass_by_ref)]
+// Measured: hashes are inlined into their callers, and a large buffer of a reader is on the stack.
+#![allow(clippy::inline_always, clippy::large_stack_arrays)]
+// The maps' traits are for the crate's own hasher. `const` depends on the compiler.
+#![allow(clippy::implicit_hasher, clippy::incompatible_msrv)]
+// Compilers before 1.87 know no lint of the next name.
+#![allow(unknown_lints, clippy::elidable_lifetime_names)]
 
 // The proved source names the standard library and the lower of its two crates.
 #[cfg(not(feature = "std"))]
@@ -43,7 +59,6 @@ mod macros;
 #[cfg(feature = "std")]
 mod collections;
 pub mod fast;
-mod few;
 pub mod inner;
 #[cfg(feature = "std")]
 mod io;
@@ -53,7 +68,6 @@ mod known_length;
 mod lanes;
 mod memory;
 pub mod quality;
-#[cfg(feature = "std")]
 mod random;
 #[cfg(feature = "std")]
 pub mod reader;

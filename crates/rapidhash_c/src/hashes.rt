@@ -1,6 +1,5 @@
 //! The hashes of a slice by each form: with the default seed and secrets, with the caller's, and
-//! with one seed word. Messages above 16 bytes are hashed in `long`, so that shorter ones are not
-//! slower.
+//! with one seed word.
 
 ghost use Rattle.std.specs.Prelude.{◌≡◌, ◌<◌, ◌≤◌, ◌%◌, false, true};
 ghost use Rattle.rapidhash_portable.specs.Form.{guarded, micro, nano, standard, v1, v2, v3};
@@ -8,7 +7,6 @@ ghost use Rattle.rapidhash_portable.specs.Hash.{default_hash, portable_hash, see
 ghost use Rattle.rapidhash_portable.specs.Secrets.{cpp_seeded, default_secrets, default_secrets_v1};
 ghost use Rattle.rapidhash_portable.specs.declared.form.Form.TheVariants.{V3};
 
-use crate::long::{long_v1, long_v2, long_v3};
 use rapidhash_portable::kernel::{GUARDED, MIXED, PLAIN, UNROLLED, v1, v2, v3};
 use rapidhash_portable::v1::RapidSecrets as RapidSecretsV1;
 use rapidhash_portable::v3::{RapidSecrets, rapidhash_v3_inline};
@@ -19,9 +17,6 @@ pub extern "C" fn rapidhash_v1(bytes: &[u8]) -> u64
     ensures { result ≡ default_hash v1 standard bytes.now }
 {
     let defaults = RapidSecretsV1::default_ref();
-    if bytes.len() > 16 {
-        return long_v1(bytes, defaults.seed, &defaults.secrets);
-    }
     v1::hash::<MIXED, UNROLLED, PLAIN, false>(bytes, defaults.seed, &defaults.secrets)
 }
 
@@ -30,9 +25,6 @@ pub extern "C" fn rapidhash_v1(bytes: &[u8]) -> u64
 pub extern "C" fn rapidhash_v1_seeded(bytes: &[u8], secrets: &RapidSecretsV1) -> u64
     ensures { result ≡ seeded_hash_v1 false standard secrets.now bytes.now }
 {
-    if bytes.len() > 16 {
-        return long_v1(bytes, secrets.seed, &secrets.secrets);
-    }
     v1::hash::<MIXED, UNROLLED, PLAIN, false>(bytes, secrets.seed, &secrets.secrets)
 }
 
@@ -42,9 +34,6 @@ pub extern "C" fn rapidhash_v1_with_seed(bytes: &[u8], seed: u64) -> u64
     ensures { result ≡ portable_hash v1 standard (cpp_seeded seed 0) default_secrets_v1 bytes.now }
 {
     let seed = RapidSecretsV1::seed_cpp(seed).seed;
-    if bytes.len() > 16 {
-        return long_v1(bytes, seed, &RapidSecretsV1::default_ref().secrets);
-    }
     v1::hash::<MIXED, UNROLLED, PLAIN, false>(bytes, seed, &RapidSecretsV1::default_ref().secrets)
 }
 
@@ -54,9 +43,6 @@ fn v2_of<const MINOR: u8>(bytes: &[u8], seed: u64, secrets: &[u64; 7]) -> u64
     requires { MINOR ≤ 2 }
     ensures { result ≡ portable_hash (v2 MINOR) standard seed secrets.now bytes.now }
 {
-    if bytes.len() > 16 {
-        return long_v2::<MINOR>(bytes, seed, secrets);
-    }
     v2::hash::<MINOR, MIXED, UNROLLED, PLAIN>(bytes, seed, secrets)
 }
 
@@ -138,17 +124,14 @@ pub extern "C" fn rapidhash_v2_2_with_seed(bytes: &[u8], seed: u64) -> u64
     v2_of::<2>(bytes, seed, &RapidSecrets::default_ref().secrets)
 }
 
-/// The hash by V3, micro or nano. Messages of up to `FEW` rows make no call but that of `long`.
+/// The hash by V3, micro or nano.
 #[inline(always)]
-fn v3_of<const LANES: usize, const FEW: usize>(bytes: &[u8], seed: u64, secrets: &[u64; 7]) -> u64
+fn v3_of<const LANES: usize>(bytes: &[u8], seed: u64, secrets: &[u64; 7]) -> u64
     requires few { LANES ≤ 7 }
     requires odd { LANES % 2 ≡ 1 }
     ensures { result ≡ portable_hash (V3 LANES) standard seed secrets.now bytes.now }
 {
-    if bytes.len() > 16 {
-        return long_v3::<LANES, FEW>(bytes, seed, secrets);
-    }
-    v3::hash::<LANES, FEW, MIXED, UNROLLED, PLAIN>(bytes, seed, secrets)
+    v3::hash::<LANES, MIXED, UNROLLED, PLAIN>(bytes, seed, secrets)
 }
 
 /// The hash of `bytes` by V3, with the default seed and secrets.
@@ -157,7 +140,7 @@ pub extern "C" fn rapidhash_v3(bytes: &[u8]) -> u64
     ensures { result ≡ default_hash v3 standard bytes.now }
 {
     let defaults = RapidSecrets::default_ref();
-    v3_of::<7, 1>(bytes, defaults.seed, &defaults.secrets)
+    v3_of::<7>(bytes, defaults.seed, &defaults.secrets)
 }
 
 /// The hash of `bytes` by V3, with a seed and secrets of the caller's.
@@ -165,7 +148,7 @@ pub extern "C" fn rapidhash_v3(bytes: &[u8]) -> u64
 pub extern "C" fn rapidhash_v3_seeded(bytes: &[u8], secrets: &RapidSecrets) -> u64
     ensures { result ≡ seeded_hash v3 standard secrets.now bytes.now }
 {
-    v3_of::<7, 1>(bytes, secrets.seed, &secrets.secrets)
+    v3_of::<7>(bytes, secrets.seed, &secrets.secrets)
 }
 
 /// The hash of `bytes` by V3, with one seed word.
@@ -174,7 +157,7 @@ pub extern "C" fn rapidhash_v3_with_seed(bytes: &[u8], seed: u64) -> u64
     ensures { result ≡ portable_hash v3 standard (cpp_seeded seed 2) default_secrets bytes.now }
 {
     let seed = RapidSecrets::seed_cpp(seed).seed;
-    v3_of::<7, 1>(bytes, seed, &RapidSecrets::default_ref().secrets)
+    v3_of::<7>(bytes, seed, &RapidSecrets::default_ref().secrets)
 }
 
 /// The hash of `bytes` by V3 micro, with the default seed and secrets.
@@ -183,7 +166,7 @@ pub extern "C" fn rapidhash_v3_micro(bytes: &[u8]) -> u64
     ensures { result ≡ default_hash micro standard bytes.now }
 {
     let defaults = RapidSecrets::default_ref();
-    v3_of::<5, 1>(bytes, defaults.seed, &defaults.secrets)
+    v3_of::<5>(bytes, defaults.seed, &defaults.secrets)
 }
 
 /// The hash of `bytes` by V3 micro, with a seed and secrets of the caller's.
@@ -191,7 +174,7 @@ pub extern "C" fn rapidhash_v3_micro(bytes: &[u8]) -> u64
 pub extern "C" fn rapidhash_v3_micro_seeded(bytes: &[u8], secrets: &RapidSecrets) -> u64
     ensures { result ≡ seeded_hash micro standard secrets.now bytes.now }
 {
-    v3_of::<5, 1>(bytes, secrets.seed, &secrets.secrets)
+    v3_of::<5>(bytes, secrets.seed, &secrets.secrets)
 }
 
 /// The hash of `bytes` by V3 micro, with one seed word.
@@ -200,7 +183,7 @@ pub extern "C" fn rapidhash_v3_micro_with_seed(bytes: &[u8], seed: u64) -> u64
     ensures { result ≡ portable_hash micro standard (cpp_seeded seed 2) default_secrets bytes.now }
 {
     let seed = RapidSecrets::seed_cpp(seed).seed;
-    v3_of::<5, 1>(bytes, seed, &RapidSecrets::default_ref().secrets)
+    v3_of::<5>(bytes, seed, &RapidSecrets::default_ref().secrets)
 }
 
 /// The hash of `bytes` by V3 nano, with the default seed and secrets.
@@ -209,7 +192,7 @@ pub extern "C" fn rapidhash_v3_nano(bytes: &[u8]) -> u64
     ensures { result ≡ default_hash nano standard bytes.now }
 {
     let defaults = RapidSecrets::default_ref();
-    v3_of::<3, 2>(bytes, defaults.seed, &defaults.secrets)
+    v3_of::<3>(bytes, defaults.seed, &defaults.secrets)
 }
 
 /// The hash of `bytes` by V3 nano, with a seed and secrets of the caller's.
@@ -217,7 +200,7 @@ pub extern "C" fn rapidhash_v3_nano(bytes: &[u8]) -> u64
 pub extern "C" fn rapidhash_v3_nano_seeded(bytes: &[u8], secrets: &RapidSecrets) -> u64
     ensures { result ≡ seeded_hash nano standard secrets.now bytes.now }
 {
-    v3_of::<3, 2>(bytes, secrets.seed, &secrets.secrets)
+    v3_of::<3>(bytes, secrets.seed, &secrets.secrets)
 }
 
 /// The hash of `bytes` by V3 nano, with one seed word.
@@ -226,7 +209,7 @@ pub extern "C" fn rapidhash_v3_nano_with_seed(bytes: &[u8], seed: u64) -> u64
     ensures { result ≡ portable_hash nano standard (cpp_seeded seed 2) default_secrets bytes.now }
 {
     let seed = RapidSecrets::seed_cpp(seed).seed;
-    v3_of::<3, 2>(bytes, seed, &RapidSecrets::default_ref().secrets)
+    v3_of::<3>(bytes, seed, &RapidSecrets::default_ref().secrets)
 }
 
 /// The hash of `bytes` by V3 with PROTECTED, with the default seed and secrets.

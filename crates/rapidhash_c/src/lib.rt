@@ -5,7 +5,6 @@
 ghost use Rattle.std.specs.Prelude.{◌≡◌};
 
 mod hashes;
-mod long;
 mod secrets;
 mod streams;
 

@@ -7,13 +7,11 @@ use Rattle.rapidhash_portable.proofs.MemoryLemmas.{after_pairs-is, after_pairs-s
 use Rattle.rapidhash_portable.proofs.ReadingLemmas.{FrontIsFolded-none, HashesAll-known, MarksFailures-settles}
 use Rattle.rapidhash_portable.proofs.SecretsLemmas.{AreFilled-more, chained-more, made_state-more}
 use Rattle.rapidhash_portable.proofs.TailLemmas.{after_tail-none, after_tail-more, after_tail-same, after_tail-whole}
-use Rattle.rapidhash_portable.proofs.WordsLemmas.{last_words-long, last_words-short, short_words-none}
+use Rattle.rapidhash_portable.proofs.WordsLemmas.{last_words-long, last_words-short}
 
 pub ruleset tests = (nat_tests)
 
--- no bytes, up to 16 bytes, no rows
-pub ruleset no_bytes = (short_words-none)
-
+-- up to 16 bytes, no rows
 pub ruleset short = (nat_tests, hash-short)
 
 pub ruleset no_rows = (nat_tests, AfterRows-none, shape_of-v3-none)

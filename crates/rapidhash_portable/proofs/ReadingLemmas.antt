@@ -1,8 +1,8 @@
 -- What was taken of a reader, read by read, and what a hash returns of it.
-use Rattle.std.proofs.Common.{◌≡◌, ℕ, ◌+◌, ◌-◌, ◌*◌, ◌≤◌, ◌<◌, Bool, false, List, [], ◌++◌, Option, Result, Ok, Err, length, take, replicate, refl, sym, ap, ◌∙◌, arith, length-append, length-take-le}
+use Rattle.std.proofs.Common.{◌≡◌, ℕ, ◌+◌, ◌-◌, ◌*◌, ◌≤◌, ◌<◌, Bool, false, List, [], ◌++◌, Option, Result, Ok, Err, length, replicate, refl, sym, ap, subst, ◌∙◌, append_assoc, arith, length-append}
 use Rattle.std.proofs.KnownBytes.{Consumes-nil, Consumes-trans, Consumes-whole}
 use Rattle.std.proofs.lemmas.Bool.{false≢true, true≢false}
-use Rattle.std.proofs.lemmas.List.{nil_from_length}
+use Rattle.std.proofs.lemmas.List.{append-nil, nil_from_length}
 use Rattle.std.specs.Io.KnownBytes.{Consumes}
 use Rattle.std.specs.declared.io.Error.{Error}
 use Rattle.std.specs.declared.io.ErrorKind.TheVariants.{UnexpectedEof}
@@ -101,24 +101,35 @@ MarksFailures-settles (Err Ended) (Err e) marked settled = record { clean = tt; 
 
 -- ---- all bytes
 
--- bytes for which `Stands` holds were taken, one or more a turn
-pub record HaveRead (old now : Option (List ℕ)) (Stands : List ℕ → Type 0) (turn : ℕ) : Type 0 where
-  pub bytes : List ℕ
-  pub taken : Consumes old now bytes
-  pub stands : Stands bytes
-  pub some : turn ≤ length bytes
+-- bytes were taken, one or more a turn: `Stands` holds for those before the last ones, which are kept
+pub record HaveRead (old now : Option (List ℕ)) (Stands : List ℕ → Type 0) (kept : List ℕ) (turn : ℕ) : Type 0 where
+  pub front : List ℕ
+  pub taken : Consumes old now (front ++ kept)
+  pub stands : Stands front
+  pub some : turn ≤ length (front ++ kept)
 
--- a read more
-pub HaveRead-more : (old now new : Option (List ℕ)) (Stands Stands' : List ℕ → Type 0) (turn n : ℕ) (buf : List ℕ) →
-    HaveRead old now Stands turn → Consumes now new (take n buf) → 0 < n → n ≤ length buf →
-    ((x : List ℕ) → Stands x → Stands' (x ++ take n buf)) → HaveRead old new Stands' (turn + 1)
-HaveRead-more old now new Stands Stands' turn n buf h taken some fits more =
+-- a read more, whose bytes are kept
+pub HaveRead-more : {old now : Option (List ℕ)} {Stands : List ℕ → Type 0} {kept : List ℕ} {turn : ℕ} →
+    HaveRead old now Stands kept turn → (new : Option (List ℕ)) (piece : List ℕ) →
+    Consumes now new piece → 0 < length piece → HaveRead old new Stands (kept ++ piece) (turn + 1)
+HaveRead-more {kept = kept} h new piece took some =
+    let joined = append_assoc h.front kept piece in
     record {
-      bytes = h.bytes ++ take n buf;
-      taken = Consumes-trans old now new h.bytes (take n buf) h.taken taken;
-      stands = more h.bytes h.stands;
-      some = omega (arith, length-append h.bytes (take n buf), length-take-le n buf fits);
+      front = h.front;
+      taken = subst (Consumes _ _) joined (Consumes-trans _ _ _ _ _ h.taken took);
+      stands = h.stands;
+      some = omega (arith, h.some, ap length joined, length-append (h.front ++ kept) piece);
     }
+
+-- what was kept is added to what stands
+pub HaveRead-added : {old now : Option (List ℕ)} {Stands : List ℕ → Type 0} {kept : List ℕ} {turn : ℕ} (Stands' : List ℕ → Type 0) →
+    HaveRead old now Stands kept turn → ((x : List ℕ) → Stands x → Stands' (x ++ kept)) → HaveRead old now Stands' [] turn
+HaveRead-added {kept = kept} Stands' h adds = let all = append-nil (h.front ++ kept) in record {
+  front = h.front ++ kept;
+  taken = subst (Consumes _ _) (sym all) h.taken;
+  stands = adds h.front h.stands;
+  some = omega (arith, h.some, ap length all);
+}
 
 -- all bytes that were known were taken
 pub HashesAll-known : {E : Type 0} {old new : Option (List ℕ)} (result : Result ℕ E) {failed : E → Bool} {hash : List ℕ → ℕ} →

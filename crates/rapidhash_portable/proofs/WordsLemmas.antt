@@ -31,11 +31,6 @@ mixed_words-short (V1 bug) n t words h = refl
 mixed_words-short (V2 minor) n t words h = refl
 mixed_words-short (V3 lanes) n t words h = rw (le-ltb 16 n h) refl
 
--- the words of no bytes
-pub short_words-none : (form : Form) (x : List ℕ) → length x ≡ 0 → short_words form x ≡ (0, 0)
-unfolding short_words
-short_words-none form x h = grind (arith, nat_tests)
-
 -- the words of 1 to 3 bytes
 pub short_words-few : (form : Form) (x : List ℕ) → 0 < length x → length x < 4 → short_words form x ≡ words_to_3 form x
 unfolding short_words

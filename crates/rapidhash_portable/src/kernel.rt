@@ -2,8 +2,8 @@
 //! Each form is one function `hash`. It is public because the C library calls it, and the language
 //! has no visibility for just one other crate; `rapidhash` does not re-export it.
 //!
-//! Up to 16 bytes each class of lengths has its own close. With one close for all, a caller's loop
-//! would load the default secrets for each message.
+//! Each is one close of at most 16 bytes and one tail, inlined into the caller, and the rows out of
+//! line: larger bodies are not inlined in programs with the default profile of cargo.
 
 pub mod v1;
 pub mod v2;

@@ -9,12 +9,11 @@
 //! - [`kernel`] holds the hashes of a slice as the definition has them, with a seed and secrets.
 //! - [`memory`] is the core of the in-memory hasher of the crate `rapidhash`.
 //!
-//! The rows (`lanes`), messages with few rows (`few`), what follows the rows (`tail`), the
-//! words that a message ends in (`words`), the reads of a known length (`known_length`) and the
-//! arithmetic of secrets (`secrets`) are private.
+//! The rows (`lanes`), what follows the rows (`tail`), the words that a message ends in (`words`),
+//! the reads of a known length (`known_length`) and the arithmetic of secrets (`secrets`) are
+//! private.
 #![tactic(auto)]
 
-mod few;
 pub mod form;
 pub mod kernel;
 mod known_length;

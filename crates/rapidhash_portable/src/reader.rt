@@ -46,8 +46,11 @@ impl<R: Read> Source<R> {
         }
     }
 
-    /// Reads once and returns the reader's own result. Any error turns the mark on, including that
-    /// of an interrupted read.
+    /// Reads once and returns the reader's own result.
+    ///
+    /// # Errors
+    ///
+    /// The reader's own error. Each turns the mark on, including that of an interrupted read.
     pub fn read(&mut self, buf: &mut [u8]) -> io::Result<usize>
         ensures mark { is_marked self.new ≡ (is_marked self.old || is_err result) }
         ensures bound { ReadsAtMost result buf.new }

@@ -39,7 +39,7 @@ impl RapidSecrets {
     /// ```
     #[inline(always)]
     #[tactic(auto, using(crate::proofs::SecretsLemmas::default_number))]
-    pub fn default_ref() -> &'static Self
+    pub const fn default_ref() -> &'static Self
         ensures seed { result.now.seed ≡ default_seed }
         ensures secrets { result.now.secrets ≡ default_secrets }
     {

@@ -34,7 +34,7 @@ pub fn rapidhash_v3(bytes: &[u8]) -> u64
     ensures { result ≡ default_hash v3 standard bytes.now }
 {
     let secrets = RapidSecrets::default_ref();
-    hash::<7, 1, MIXED, UNROLLED, PLAIN>(bytes, secrets.seed, &secrets.secrets)
+    hash::<7, MIXED, UNROLLED, PLAIN>(bytes, secrets.seed, &secrets.secrets)
 }
 
 /// Returns the hash of `bytes` with the caller's seed and secrets. Collisions that were prepared
@@ -74,7 +74,7 @@ pub fn rapidhash_v3_inline<const AVALANCHE: bool, const COMPACT: bool, const PRO
 ) -> u64
     ensures { result ≡ seeded_hash v3 (options AVALANCHE PROTECTED) secrets.now bytes.now }
 {
-    hash::<7, 0, AVALANCHE, COMPACT, PROTECTED>(bytes, secrets.seed, &secrets.secrets)
+    hash::<7, AVALANCHE, COMPACT, PROTECTED>(bytes, secrets.seed, &secrets.secrets)
 }
 
 /// Returns the hash of `bytes` with five lanes. Up to 80 bytes it is V3's. The options are those of
@@ -93,7 +93,7 @@ pub fn rapidhash_v3_micro_inline<const AVALANCHE: bool, const PROTECTED: bool>(
 ) -> u64
     ensures { result ≡ seeded_hash micro (options AVALANCHE PROTECTED) secrets.now bytes.now }
 {
-    hash::<5, 1, AVALANCHE, UNROLLED, PROTECTED>(bytes, secrets.seed, &secrets.secrets)
+    hash::<5, AVALANCHE, UNROLLED, PROTECTED>(bytes, secrets.seed, &secrets.secrets)
 }
 
 /// Returns the hash of `bytes` with three lanes: the least code in a program that calls it once. Up
@@ -112,5 +112,5 @@ pub fn rapidhash_v3_nano_inline<const AVALANCHE: bool, const PROTECTED: bool>(
 ) -> u64
     ensures { result ≡ seeded_hash nano (options AVALANCHE PROTECTED) secrets.now bytes.now }
 {
-    hash::<3, 2, AVALANCHE, UNROLLED, PROTECTED>(bytes, secrets.seed, &secrets.secrets)
+    hash::<3, AVALANCHE, UNROLLED, PROTECTED>(bytes, secrets.seed, &secrets.secrets)
 }

@@ -27,85 +27,80 @@ fn three_bytes(bytes: &[u8]) -> u64
     ((bytes[0] as u64) << 56) | ((bytes[n / 2] as u64) << 32) | bytes[n - 1] as u64
 }
 
-/// The two words of V1, of 4 to 16 bytes. The test for 8 bytes compiles to no jump.
+/// The two words of V1, of at most 16 bytes.
 #[inline(always)]
 #[tactic(auto, using(crate::proofs::Cases::tests), unfolding(crate::specs::Words::short_words))]
-pub(crate) fn words_to_16_v1(bytes: &[u8]) -> (u64, u64)
-    requires some { 4 ≤ length bytes.now }
-    requires few { length bytes.now ≤ 16 }
+pub(crate) fn short_words_v1(bytes: &[u8]) -> (u64, u64)
+    requires { length bytes.now ≤ 16 }
     ensures { (bug : Bool) → result ≡ short_words (V1 bug) bytes.now }
 {
     let n = bytes.len();
-    let inset = if n >= 8 { 4 } else { 0 };
-    (
-        read_u32_combined(bytes, 0, n - 4),
-        read_u32_combined(bytes, inset, n - 4 - inset),
-    )
+    if n >= 8 {
+        (
+            read_u32_combined(bytes, 0, n - 4),
+            read_u32_combined(bytes, 4, n - 8),
+        )
+    } else if n >= 4 {
+        let all = read_u32_combined(bytes, 0, n - 4);
+        (all, all)
+    } else if n > 0 {
+        (three_bytes(bytes), 0)
+    } else {
+        (0, 0)
+    }
 }
 
-/// The two words of V1, of 1 to 3 bytes.
+/// The two words of V2, of at most 16 bytes.
 #[inline(always)]
 #[tactic(auto, using(crate::proofs::Cases::tests), unfolding(crate::specs::Words::short_words))]
-pub(crate) fn words_to_3_v1(bytes: &[u8]) -> (u64, u64)
-    requires some { 0 < length bytes.now }
-    requires few { length bytes.now ≤ 3 }
-    ensures { (bug : Bool) → result ≡ short_words (V1 bug) bytes.now }
-{
-    (three_bytes(bytes), 0)
-}
-
-/// The two words of V2, of 1 to 3 bytes.
-#[inline(always)]
-#[tactic(auto, using(crate::proofs::Cases::tests), unfolding(crate::specs::Words::short_words))]
-pub(crate) fn words_to_3_v2<const MINOR: u8>(bytes: &[u8]) -> (u64, u64)
-    requires some { 0 < length bytes.now }
-    requires few { length bytes.now ≤ 3 }
+pub(crate) fn short_words_v2<const MINOR: u8>(bytes: &[u8]) -> (u64, u64)
+    requires { length bytes.now ≤ 16 }
     ensures { result ≡ short_words (V2 MINOR) bytes.now }
 {
-    if MINOR < 2 {
-        return (three_bytes(bytes), 0);
-    }
     let n = bytes.len();
-    let (first, middle, last) = (bytes[0], bytes[n / 2], bytes[n - 1]);
-    ((first as u64) << 56 | last as u64, middle as u64)
+    if n >= 4 {
+        words_from_4(bytes)
+    } else if n == 0 {
+        (0, 0)
+    } else if MINOR < 2 {
+        (three_bytes(bytes), 0)
+    } else {
+        let (first, middle, last) = (bytes[0], bytes[n / 2], bytes[n - 1]);
+        ((first as u64) << 56 | last as u64, middle as u64)
+    }
 }
 
-/// The two words of V2, V3, micro, nano and the in-memory core, of 8 to 16 bytes.
+/// The two words of V3, micro, nano and the in-memory core, of at most 16 bytes.
 #[inline(always)]
 #[tactic(auto, using(crate::proofs::Cases::tests), unfolding(crate::specs::Words::short_words))]
-pub(crate) fn words_to_16(bytes: &[u8]) -> (u64, u64)
-    requires some { 8 ≤ length bytes.now }
-    requires few { length bytes.now ≤ 16 }
-    ensures v2 { (minor : ℕ) → result ≡ short_words (V2 minor) bytes.now }
-    ensures v3 { (lanes : ℕ) → result ≡ short_words (V3 lanes) bytes.now }
-{
-    (read_u64(bytes, 0), read_u64(bytes, bytes.len() - 8))
-}
-
-/// The two words of V2, V3, micro, nano and the in-memory core, of 4 to 7 bytes.
-#[inline(always)]
-#[tactic(auto, using(crate::proofs::Cases::tests), unfolding(crate::specs::Words::short_words))]
-pub(crate) fn words_to_7(bytes: &[u8]) -> (u64, u64)
-    requires some { 4 ≤ length bytes.now }
-    requires few { length bytes.now ≤ 7 }
-    ensures v2 { (minor : ℕ) → result ≡ short_words (V2 minor) bytes.now }
-    ensures v3 { (lanes : ℕ) → result ≡ short_words (V3 lanes) bytes.now }
-{
-    (
-        read_u32(bytes, 0) as u64,
-        read_u32(bytes, bytes.len() - 4) as u64,
-    )
-}
-
-/// The two words of V3, micro, nano and the in-memory core, of 1 to 3 bytes.
-#[inline(always)]
-#[tactic(auto, using(crate::proofs::Cases::tests), unfolding(crate::specs::Words::short_words))]
-pub(crate) fn words_to_3_v3(bytes: &[u8]) -> (u64, u64)
-    requires some { 0 < length bytes.now }
-    requires few { length bytes.now ≤ 3 }
+pub(crate) fn short_words_v3(bytes: &[u8]) -> (u64, u64)
+    requires { length bytes.now ≤ 16 }
     ensures { (lanes : ℕ) → result ≡ short_words (V3 lanes) bytes.now }
 {
     let n = bytes.len();
-    let (first, middle, last) = (bytes[0], bytes[n / 2], bytes[n - 1]);
-    ((first as u64) << 45 | last as u64, middle as u64)
+    if n >= 4 {
+        words_from_4(bytes)
+    } else if n == 0 {
+        (0, 0)
+    } else {
+        let (first, middle, last) = (bytes[0], bytes[n / 2], bytes[n - 1]);
+        ((first as u64) << 45 | last as u64, middle as u64)
+    }
+}
+
+/// The two words of V2, V3, micro, nano and the in-memory core, of 4 to 16 bytes.
+#[inline(always)]
+#[tactic(auto, using(crate::proofs::Cases::tests), unfolding(crate::specs::Words::short_words))]
+fn words_from_4(bytes: &[u8]) -> (u64, u64)
+    requires some { 4 ≤ length bytes.now }
+    requires few { length bytes.now ≤ 16 }
+    ensures v2 { (minor : ℕ) → result ≡ short_words (V2 minor) bytes.now }
+    ensures v3 { (lanes : ℕ) → result ≡ short_words (V3 lanes) bytes.now }
+{
+    let n = bytes.len();
+    if n >= 8 {
+        (read_u64(bytes, 0), read_u64(bytes, n - 8))
+    } else {
+        (read_u32(bytes, 0) as u64, read_u32(bytes, n - 4) as u64)
+    }
 }

@@ -2,6 +2,7 @@
 
 use rapidhash::inner::{GlobalSecrets, SeedSource};
 use rapidhash::{fast, inner, quality};
+use rapidhash_portable::v3::RapidSecrets;
 use std::hash::{BuildHasher, Hasher};
 
 /// The hasher with a sponge, and with no other option but an avalanche.
@@ -73,9 +74,9 @@ fn fast_states_of_known_seeds(rt: HostRuntime) {
     assert!(rt; answer::<false>(global.build_hasher()) == 1604029122039678008);
     let random = fast_random(fast::RandomState::new(&secrets, &mut source));
     assert!(rt; answer::<false>(random.build_hasher()) == 16952220623277801737);
-    let own = [2, 3, 5, 7, 11, 13, 17];
-    let seedable = fast_seedable(fast::SeedableState::custom(1, &own));
-    assert!(rt; answer::<false>(seedable.build_hasher()) == 7367051224096954094);
+    let own = RapidSecrets::seed(0x1234_5678);
+    let seedable = fast_seedable(fast::SeedableState::custom(own.seed, &own.secrets));
+    assert!(rt; answer::<false>(seedable.build_hasher()) == 10106110107239218242);
 }
 
 /// The same with an avalanche.
@@ -89,7 +90,7 @@ fn quality_states_of_known_seeds(rt: HostRuntime) {
     assert!(rt; answer::<true>(global.build_hasher()) == 9139235253658562816);
     let random = quality_random(quality::RandomState::new(&secrets, &mut source));
     assert!(rt; answer::<true>(random.build_hasher()) == 6209511124463679340);
-    let own = [2, 3, 5, 7, 11, 13, 17];
-    let seedable = quality_seedable(quality::SeedableState::custom(1, &own));
-    assert!(rt; answer::<true>(seedable.build_hasher()) == 4813190096566161236);
+    let own = RapidSecrets::seed(0x1234_5678);
+    let seedable = quality_seedable(quality::SeedableState::custom(own.seed, &own.secrets));
+    assert!(rt; answer::<true>(seedable.build_hasher()) == 10622765197646220428);
 }

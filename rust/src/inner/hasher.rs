@@ -2,8 +2,6 @@
 
 //! The hasher.
 
-mod integers;
-
 use crate::inner::sponge::Sponge;
 use rapidhash_portable::memory::memory_hash;
 use rapidhash_portable::util::rapid_mix;
@@ -13,9 +11,8 @@ use std::hash::Hasher;
 /// A hasher of bytes and integers, with every option. Most programs name it by `fast::RapidHasher`
 /// or `quality::RapidHasher`.
 ///
-/// The inherent methods, such as [`RapidHasher::write_u8`], pack integers. In Rust the trait's
-/// integer writes are these methods. In Rattle they are the trait's provided ones, which pass the
-/// bytes of an integer to `write`.
+/// The inherent methods, such as [`RapidHasher::write_u8`], pack integers. The trait's integer writes are the
+/// same.
 ///
 /// ```
 /// use rapidhash::fast::RapidHasher;
@@ -57,6 +54,7 @@ impl<'s, const AVALANCHE: bool, const SPONGE: bool, const COMPACT: bool, const P
     /// let hash = hasher.finish();
     /// ```
     #[inline(always)]
+    #[must_use]
     pub const fn new(seed: u64) -> Self {
         RapidHasher::from_parts(
             RapidSecrets::seed_cpp(seed).seed,
@@ -66,6 +64,7 @@ impl<'s, const AVALANCHE: bool, const SPONGE: bool, const COMPACT: bool, const P
 
     /// Returns a hasher of the default seed and the default secrets: [`RapidHasher::new`] of 0.
     #[inline(always)]
+    #[must_use]
     pub const fn default_const() -> Self {
         RapidHasher::new(0)
     }
@@ -103,6 +102,8 @@ impl<'s, const AVALANCHE: bool, const SPONGE: bool, const COMPACT: bool, const P
         }
     }
 }
+
+mod integers;
 
 impl<'s, const AVALANCHE: bool, const SPONGE: bool, const COMPACT: bool, const PROTECTED: bool>
     Hasher for RapidHasher<'s, AVALANCHE, SPONGE, COMPACT, PROTECTED>

@@ -1,8 +1,7 @@
 //! The states that build hashers for a map. Each keeps only a seed and secrets, in the proved
 //! `seeded`. The source of a random seed and of random secrets is outside the proof.
 
-#[cfg(feature = "std")]
-use crate::random::{global, next_seed};
+use crate::random::{global_seed, next_seed, secrets};
 use crate::secrets::RapidSecrets;
 use std::fmt::{Debug, Formatter, Result};
 use std::hash::BuildHasher;
@@ -20,7 +19,6 @@ use seeded::Seeded;
 /// let state = GlobalState::<false, true, false, false>::new();
 /// assert_eq!(state, GlobalState::new());
 /// ```
-#[cfg(feature = "std")]
 #[derive(Clone, Copy, PartialEq, Eq)]
 pub struct GlobalState<
     const AVALANCHE: bool,
@@ -31,24 +29,22 @@ pub struct GlobalState<
     seeded: Seeded<'static>,
 }
 
-#[cfg(feature = "std")]
 impl<const AVALANCHE: bool, const SPONGE: bool, const COMPACT: bool, const PROTECTED: bool>
     GlobalState<AVALANCHE, SPONGE, COMPACT, PROTECTED>
 {
     /// Returns a state with the seed and the secrets of this process.
+    #[must_use]
     #[inline]
     pub fn new() -> Self {
-        let global = global();
         Self {
             seeded: Seeded {
-                seed: global.get_global_seed(),
-                secrets: global.get(),
+                seed: global_seed(),
+                secrets: secrets(),
             },
         }
     }
 }
 
-#[cfg(feature = "std")]
 impl<const AVALANCHE: bool, const SPONGE: bool, const COMPACT: bool, const PROTECTED: bool> Default
     for GlobalState<AVALANCHE, SPONGE, COMPACT, PROTECTED>
 {
@@ -59,7 +55,6 @@ impl<const AVALANCHE: bool, const SPONGE: bool, const COMPACT: bool, const PROTE
     }
 }
 
-#[cfg(feature = "std")]
 impl<const AVALANCHE: bool, const SPONGE: bool, const COMPACT: bool, const PROTECTED: bool>
     BuildHasher for GlobalState<AVALANCHE, SPONGE, COMPACT, PROTECTED>
 {
@@ -71,7 +66,6 @@ impl<const AVALANCHE: bool, const SPONGE: bool, const COMPACT: bool, const PROTE
     }
 }
 
-#[cfg(feature = "std")]
 impl<const AVALANCHE: bool, const SPONGE: bool, const COMPACT: bool, const PROTECTED: bool> Debug
     for GlobalState<AVALANCHE, SPONGE, COMPACT, PROTECTED>
 {
@@ -91,7 +85,6 @@ impl<const AVALANCHE: bool, const SPONGE: bool, const COMPACT: bool, const PROTE
 /// let mut map = HashMap::with_hasher(state);
 /// map.insert("answer", 42);
 /// ```
-#[cfg(feature = "std")]
 #[derive(Clone, Copy, PartialEq, Eq)]
 pub struct RandomState<
     const AVALANCHE: bool,
@@ -102,23 +95,22 @@ pub struct RandomState<
     seeded: Seeded<'static>,
 }
 
-#[cfg(feature = "std")]
 impl<const AVALANCHE: bool, const SPONGE: bool, const COMPACT: bool, const PROTECTED: bool>
     RandomState<AVALANCHE, SPONGE, COMPACT, PROTECTED>
 {
     /// Returns a state with a new random seed.
+    #[must_use]
     #[inline]
     pub fn new() -> Self {
         Self {
             seeded: Seeded {
                 seed: next_seed(),
-                secrets: global().get(),
+                secrets: secrets(),
             },
         }
     }
 }
 
-#[cfg(feature = "std")]
 impl<const AVALANCHE: bool, const SPONGE: bool, const COMPACT: bool, const PROTECTED: bool> Default
     for RandomState<AVALANCHE, SPONGE, COMPACT, PROTECTED>
 {
@@ -129,7 +121,6 @@ impl<const AVALANCHE: bool, const SPONGE: bool, const COMPACT: bool, const PROTE
     }
 }
 
-#[cfg(feature = "std")]
 impl<const AVALANCHE: bool, const SPONGE: bool, const COMPACT: bool, const PROTECTED: bool>
     BuildHasher for RandomState<AVALANCHE, SPONGE, COMPACT, PROTECTED>
 {
@@ -141,7 +132,6 @@ impl<const AVALANCHE: bool, const SPONGE: bool, const COMPACT: bool, const PROTE
     }
 }
 
-#[cfg(feature = "std")]
 impl<const AVALANCHE: bool, const SPONGE: bool, const COMPACT: bool, const PROTECTED: bool> Debug
     for RandomState<AVALANCHE, SPONGE, COMPACT, PROTECTED>
 {
@@ -154,9 +144,11 @@ impl<const AVALANCHE: bool, const SPONGE: bool, const COMPACT: bool, const PROTE
 ///
 /// ```
 /// use rapidhash::inner::SeedableState;
+/// use rapidhash::v3::RapidSecrets;
 /// use std::collections::HashMap;
 ///
-/// let state = SeedableState::<false, true, false, false>::custom(1, &[2, 3, 5, 7, 11, 13, 17]);
+/// let secrets = RapidSecrets::seed(0x1234_5678);
+/// let state = SeedableState::<false, true, false, false>::custom(secrets.seed, &secrets.secrets);
 /// let mut map = HashMap::with_hasher(state);
 /// map.insert("answer", 42);
 /// ```
@@ -176,27 +168,31 @@ impl<'s, const AVALANCHE: bool, const SPONGE: bool, const COMPACT: bool, const P
 {
     /// Returns a state with the random secrets of this process and a seed made from `seed` as in
     /// [`RapidSecrets::seed_cpp`](crate::v3::RapidSecrets::seed_cpp).
-    #[cfg(feature = "std")]
+    #[must_use]
     pub fn new(seed: u64) -> Self {
-        Self::custom(RapidSecrets::seed_cpp(seed).seed, global().get())
+        Self::custom(RapidSecrets::seed_cpp(seed).seed, secrets())
     }
 
     /// Returns a state with a random seed and the random secrets of this process.
-    #[cfg(feature = "std")]
+    #[must_use]
     #[inline]
     pub fn random() -> Self {
-        Self::custom(next_seed(), global().get())
+        Self::custom(next_seed(), secrets())
     }
 
     /// Returns the state with the default seed and secrets, the same in every run of every program.
     /// Anyone who knows them can find keys that all have the same hash.
+    #[must_use]
     #[inline]
     pub fn fixed() -> Self {
         let default = RapidSecrets::default_ref();
         Self::custom(default.seed, &default.secrets)
     }
 
-    /// Returns a state with this seed and these secrets, used as they are.
+    /// Returns a state with this seed and these secrets, used as they are. Make them with
+    /// [`RapidSecrets::seed`](crate::v3::RapidSecrets::seed): with small numbers as secrets, many keys have hashes
+    /// that agree in the bits that a map looks at first, and a lookup takes a hundred times as long.
+    #[must_use]
     #[inline]
     pub fn custom(seed: u64, secrets: &'s [u64; 7]) -> Self {
         Self {
@@ -205,13 +201,13 @@ impl<'s, const AVALANCHE: bool, const SPONGE: bool, const COMPACT: bool, const P
     }
 
     /// Returns the same as [`SeedableState::custom`].
+    #[must_use]
     #[inline]
     pub fn with_seed(seed: u64, secrets: &'s [u64; 7]) -> Self {
         Self::custom(seed, secrets)
     }
 }
 
-#[cfg(feature = "std")]
 impl<'s, const AVALANCHE: bool, const SPONGE: bool, const COMPACT: bool, const PROTECTED: bool>
     Default for SeedableState<'s, AVALANCHE, SPONGE, COMPACT, PROTECTED>
 {

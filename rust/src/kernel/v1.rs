@@ -2,16 +2,16 @@
 
 //! V1 of a slice.
 
-use crate::few::wide_lanes_of;
 use crate::lanes::wide_lanes;
 use crate::tail::{close, fold_tail};
-use crate::words::{last_16, words_to_3_v1, words_to_16_v1};
+use crate::words::{last_16, short_words_v1};
 
+const_fn! {
 /// Returns the hash of `bytes`. `AVALANCHE` mixes the last product once more, `PROTECTED` mixes
 /// each product with its factors, `V1_BUG` folds a row at 48 bytes, and `COMPACT` changes the code
 /// but no value.
 #[inline(always)]
-pub fn hash<
+pub const fn hash<
     const AVALANCHE: bool,
     const COMPACT: bool,
     const PROTECTED: bool,
@@ -25,18 +25,14 @@ pub fn hash<
     if n > 16 {
         return long::<AVALANCHE, COMPACT, PROTECTED, V1_BUG>(bytes, seed, secrets);
     }
-    if n >= 4 {
-        close_short::<AVALANCHE, PROTECTED>(bytes, words_to_16_v1(bytes), seed, secrets)
-    } else if n > 0 {
-        close_short::<AVALANCHE, PROTECTED>(bytes, words_to_3_v1(bytes), seed, secrets)
-    } else {
-        close_short::<AVALANCHE, PROTECTED>(bytes, (0, 0), seed, secrets)
-    }
+    close_short::<AVALANCHE, PROTECTED>(bytes, short_words_v1(bytes), seed, secrets)
+}
 }
 
+const_fn! {
 /// The hash of at most 16 bytes, made of their two words.
 #[inline(always)]
-fn close_short<const AVALANCHE: bool, const PROTECTED: bool>(
+const fn close_short<const AVALANCHE: bool, const PROTECTED: bool>(
     bytes: &[u8],
     words: (u64, u64),
     seed: u64,
@@ -46,10 +42,12 @@ fn close_short<const AVALANCHE: bool, const PROTECTED: bool>(
     let [first, second, _] = *secrets;
     close::<AVALANCHE, PROTECTED>(words, seed ^ len, second, (first ^ len, second))
 }
+}
 
-/// The hash above 16 bytes. Messages of up to two rows make no call.
+const_fn! {
+/// The hash above 16 bytes. A message that has no row makes no call.
 #[inline(always)]
-fn long<const AVALANCHE: bool, const COMPACT: bool, const PROTECTED: bool, const V1_BUG: bool>(
+const fn long<const AVALANCHE: bool, const COMPACT: bool, const PROTECTED: bool, const V1_BUG: bool>(
     bytes: &[u8],
     seed: u64,
     secrets: &[u64; 3],
@@ -58,30 +56,17 @@ fn long<const AVALANCHE: bool, const COMPACT: bool, const PROTECTED: bool, const
     if n <= longest_rowless::<V1_BUG>() {
         let len = n as u64;
         close_tail::<AVALANCHE, PROTECTED>(bytes, bytes, len, seed ^ len, secrets)
-    } else if !COMPACT && n < 96 {
-        few_rows::<1, AVALANCHE, PROTECTED, V1_BUG>(bytes, seed, secrets)
-    } else if !COMPACT && n < 144 {
-        few_rows::<2, AVALANCHE, PROTECTED, V1_BUG>(bytes, seed, secrets)
     } else {
         with_rows::<AVALANCHE, COMPACT, PROTECTED, V1_BUG>(bytes, seed, secrets)
     }
 }
-
-/// The hash of a message that has `ROWS` rows, at least one.
-#[inline(always)]
-fn few_rows<const ROWS: usize, const AVALANCHE: bool, const PROTECTED: bool, const V1_BUG: bool>(
-    bytes: &[u8],
-    seed: u64,
-    secrets: &[u64; 3],
-) -> u64 {
-    let len = bytes.len() as u64;
-    let (joined, tail) = wide_lanes_of::<3, 0, ROWS, PROTECTED>(bytes, seed ^ len, secrets);
-    close_tail::<AVALANCHE, PROTECTED>(tail, bytes, len, joined, secrets)
 }
 
+const_fn! {
 /// The hash of a message that has a row, out of line.
+#[cold]
 #[inline(never)]
-fn with_rows<
+const fn with_rows<
     const AVALANCHE: bool,
     const COMPACT: bool,
     const PROTECTED: bool,
@@ -95,11 +80,13 @@ fn with_rows<
     let (joined, tail) = wide_lanes::<3, 0, COMPACT, PROTECTED>(bytes, seed ^ len, secrets);
     close_tail::<AVALANCHE, PROTECTED>(tail, bytes, len, joined, secrets)
 }
+}
 
+const_fn! {
 /// The hash of `len` bytes, more than 16, made of the joined lanes, the tail, and bytes that end in
 /// the message's last 16.
 #[inline(always)]
-pub(crate) fn close_tail<const AVALANCHE: bool, const PROTECTED: bool>(
+pub(crate) const fn close_tail<const AVALANCHE: bool, const PROTECTED: bool>(
     tail: &[u8],
     ending: &[u8],
     len: u64,
@@ -113,9 +100,12 @@ pub(crate) fn close_tail<const AVALANCHE: bool, const PROTECTED: bool>(
     seed = fold_tail::<2, PROTECTED>(tail, &[s[2], s[2]], seed);
     close::<AVALANCHE, PROTECTED>(last_16(ending), seed, s[1], (s[0] ^ len, s[1]))
 }
+}
 
-/// Returns the length of the longest message without a row.
+const_fn! {
+/// The length of the longest message without a row.
 #[inline(always)]
-pub fn longest_rowless<const V1_BUG: bool>() -> usize {
+const fn longest_rowless<const V1_BUG: bool>() -> usize {
     if V1_BUG { 47 } else { 48 }
+}
 }

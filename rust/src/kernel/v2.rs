@@ -2,16 +2,16 @@
 
 //! V2 of a slice, in its three minors.
 
-use crate::few::mixed_lanes_of;
 use crate::lanes::mixed_lanes;
 use crate::tail::{close, fold_tail};
 use crate::util::ALTERNATING_BITS;
-use crate::words::{last_16, words_to_3_v2, words_to_7, words_to_16};
+use crate::words::{last_16, short_words_v2};
 
+const_fn! {
 /// Returns the hash of `bytes`. `AVALANCHE` mixes the last product once more, `PROTECTED` mixes
 /// each product with its factors, and `COMPACT` changes the code but no value.
 #[inline(always)]
-pub fn hash<const MINOR: u8, const AVALANCHE: bool, const COMPACT: bool, const PROTECTED: bool>(
+pub const fn hash<const MINOR: u8, const AVALANCHE: bool, const COMPACT: bool, const PROTECTED: bool>(
     bytes: &[u8],
     seed: u64,
     secrets: &[u64; 7],
@@ -20,22 +20,14 @@ pub fn hash<const MINOR: u8, const AVALANCHE: bool, const COMPACT: bool, const P
     if n > 16 {
         return long::<MINOR, AVALANCHE, COMPACT, PROTECTED>(bytes, seed, secrets);
     }
-    if n >= 4 {
-        if n < 8 {
-            close_short::<AVALANCHE, PROTECTED>(bytes, words_to_7(bytes), seed, secrets)
-        } else {
-            close_short::<AVALANCHE, PROTECTED>(bytes, words_to_16(bytes), seed, secrets)
-        }
-    } else if n == 0 {
-        close_short::<AVALANCHE, PROTECTED>(bytes, (0, 0), seed, secrets)
-    } else {
-        close_short::<AVALANCHE, PROTECTED>(bytes, words_to_3_v2::<MINOR>(bytes), seed, secrets)
-    }
+    close_short::<AVALANCHE, PROTECTED>(bytes, short_words_v2::<MINOR>(bytes), seed, secrets)
+}
 }
 
+const_fn! {
 /// The hash of at most 16 bytes, made of their two words.
 #[inline(always)]
-fn close_short<const AVALANCHE: bool, const PROTECTED: bool>(
+const fn close_short<const AVALANCHE: bool, const PROTECTED: bool>(
     bytes: &[u8],
     words: (u64, u64),
     seed: u64,
@@ -45,10 +37,12 @@ fn close_short<const AVALANCHE: bool, const PROTECTED: bool>(
     let second = secrets[1];
     close::<AVALANCHE, PROTECTED>(words, seed ^ len, second, (ALTERNATING_BITS ^ len, second))
 }
+}
 
-/// The hash above 16 bytes. Messages of fewer than 112 bytes make no call.
+const_fn! {
+/// The hash above 16 bytes. A message that has no row makes no call.
 #[inline(always)]
-fn long<const MINOR: u8, const AVALANCHE: bool, const COMPACT: bool, const PROTECTED: bool>(
+const fn long<const MINOR: u8, const AVALANCHE: bool, const COMPACT: bool, const PROTECTED: bool>(
     bytes: &[u8],
     seed: u64,
     secrets: &[u64; 7],
@@ -56,18 +50,16 @@ fn long<const MINOR: u8, const AVALANCHE: bool, const COMPACT: bool, const PROTE
     let n = bytes.len();
     if n <= longest_rowless::<MINOR>() {
         without_rows::<MINOR, AVALANCHE, PROTECTED>(bytes, seed, secrets)
-    } else if !COMPACT && n < 96 {
-        few_rows::<MINOR, 1, AVALANCHE, PROTECTED>(bytes, seed, secrets)
-    } else if !COMPACT && n < 112 {
-        few_rows::<MINOR, 2, AVALANCHE, PROTECTED>(bytes, seed, secrets)
     } else {
         with_rows::<MINOR, AVALANCHE, COMPACT, PROTECTED>(bytes, seed, secrets)
     }
 }
+}
 
+const_fn! {
 /// The hash above 16 bytes of a message that has no row.
 #[inline(always)]
-fn without_rows<const MINOR: u8, const AVALANCHE: bool, const PROTECTED: bool>(
+const fn without_rows<const MINOR: u8, const AVALANCHE: bool, const PROTECTED: bool>(
     bytes: &[u8],
     seed: u64,
     secrets: &[u64; 7],
@@ -77,22 +69,13 @@ fn without_rows<const MINOR: u8, const AVALANCHE: bool, const PROTECTED: bool>(
     let seed = fold_tail::<3, PROTECTED>(bytes, &table, seed ^ len);
     close_long::<AVALANCHE, PROTECTED>(bytes, len, seed, secrets)
 }
-
-/// The hash of a message that has `ROWS` rows, all of three pairs.
-#[inline(always)]
-fn few_rows<const MINOR: u8, const ROWS: usize, const AVALANCHE: bool, const PROTECTED: bool>(
-    bytes: &[u8],
-    seed: u64,
-    secrets: &[u64; 7],
-) -> u64 {
-    let len = bytes.len() as u64;
-    let (joined, tail) = mixed_lanes_of::<ROWS, PROTECTED>(bytes, seed ^ len, secrets);
-    close_tail::<AVALANCHE, PROTECTED>(tail, bytes, len, joined, secrets)
 }
 
+const_fn! {
 /// The hash of a message that has a row, out of line.
+#[cold]
 #[inline(never)]
-fn with_rows<const MINOR: u8, const AVALANCHE: bool, const COMPACT: bool, const PROTECTED: bool>(
+const fn with_rows<const MINOR: u8, const AVALANCHE: bool, const COMPACT: bool, const PROTECTED: bool>(
     bytes: &[u8],
     seed: u64,
     secrets: &[u64; 7],
@@ -101,11 +84,13 @@ fn with_rows<const MINOR: u8, const AVALANCHE: bool, const COMPACT: bool, const 
     let (joined, tail) = mixed_lanes::<COMPACT, PROTECTED>(bytes, seed ^ len, secrets);
     close_tail::<AVALANCHE, PROTECTED>(tail, bytes, len, joined, secrets)
 }
+}
 
+const_fn! {
 /// The hash of `len` bytes that have a row, made of the joined lanes, the tail, and bytes that end
 /// in the message's last 16.
 #[inline(always)]
-pub(crate) fn close_tail<const AVALANCHE: bool, const PROTECTED: bool>(
+pub(crate) const fn close_tail<const AVALANCHE: bool, const PROTECTED: bool>(
     tail: &[u8],
     ending: &[u8],
     len: u64,
@@ -115,11 +100,13 @@ pub(crate) fn close_tail<const AVALANCHE: bool, const PROTECTED: bool>(
     let seed = fold_tail::<2, PROTECTED>(tail, &[secrets[2], secrets[2]], joined);
     close_long::<AVALANCHE, PROTECTED>(ending, len, seed, secrets)
 }
+}
 
+const_fn! {
 /// The hash of `len` bytes, more than 16, made of the seed after all pairs, and bytes that end in
 /// the message's last 16.
 #[inline(always)]
-fn close_long<const AVALANCHE: bool, const PROTECTED: bool>(
+const fn close_long<const AVALANCHE: bool, const PROTECTED: bool>(
     ending: &[u8],
     len: u64,
     seed: u64,
@@ -132,15 +119,20 @@ fn close_long<const AVALANCHE: bool, const PROTECTED: bool>(
         (ALTERNATING_BITS ^ len, secrets[1]),
     )
 }
-
-/// Returns the length of the longest message without a row.
-#[inline(always)]
-pub fn longest_rowless<const MINOR: u8>() -> usize {
-    if MINOR == 0 { 56 } else { 64 }
 }
 
+const_fn! {
+/// The length of the longest message without a row.
+#[inline(always)]
+const fn longest_rowless<const MINOR: u8>() -> usize {
+    if MINOR == 0 { 56 } else { 64 }
+}
+}
+
+const_fn! {
 /// The index of the secret for the third pair of such a message.
 #[inline(always)]
-fn last_place<const MINOR: u8>() -> usize {
+const fn last_place<const MINOR: u8>() -> usize {
     if MINOR < 2 { 0 } else { 1 }
+}
 }

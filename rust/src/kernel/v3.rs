@@ -2,20 +2,22 @@
 
 //! V3 of a slice, and its relatives micro and nano, which differ from it in the number of lanes.
 
-use crate::few::wide_lanes_of;
 use crate::lanes::wide_lanes;
 use crate::tail::{close, fold_tail};
 use crate::util::ALTERNATING_BITS;
-use crate::words::{last_16, words_to_3_v3, words_to_7, words_to_16};
+use crate::words::{last_16, short_words_v3};
 
+/// The longest message that makes no call. Longer tails, inlined into a loop, make the shortest
+/// messages slower.
+const LONGEST_INLINED: usize = 80;
+
+const_fn! {
 /// Returns the hash of `bytes` with an odd number of lanes. `AVALANCHE` mixes the last product once
 /// more, `PROTECTED` mixes each product with its factors, and `COMPACT` changes the code but no
-/// value. Messages of up to `FEW` rows make no call, if it is 0, 1 or 2. A row of seven pairs is
-/// inlined only with the default secrets: with others it makes shorter messages slower.
+/// value.
 #[inline(always)]
-pub fn hash<
+pub const fn hash<
     const LANES: usize,
-    const FEW: usize,
     const AVALANCHE: bool,
     const COMPACT: bool,
     const PROTECTED: bool,
@@ -26,34 +28,17 @@ pub fn hash<
 ) -> u64 {
     let n = bytes.len();
     if n > 16 {
-        return long::<LANES, FEW, AVALANCHE, COMPACT, PROTECTED>(bytes, seed, secrets);
+        return long::<LANES, AVALANCHE, COMPACT, PROTECTED>(bytes, seed, secrets);
     }
-    // Nano is faster with this class first.
-    if LANES == 3 && n >= 8 {
-        return close_short::<LANES, AVALANCHE, PROTECTED>(
-            bytes,
-            words_to_16(bytes),
-            seed,
-            secrets,
-        );
-    }
-    if n >= 4 {
-        if n < 8 {
-            close_short::<LANES, AVALANCHE, PROTECTED>(bytes, words_to_7(bytes), seed, secrets)
-        } else {
-            close_short::<LANES, AVALANCHE, PROTECTED>(bytes, words_to_16(bytes), seed, secrets)
-        }
-    } else if n == 0 {
-        close_short::<LANES, AVALANCHE, PROTECTED>(bytes, (0, 0), seed, secrets)
-    } else {
-        close_short::<LANES, AVALANCHE, PROTECTED>(bytes, words_to_3_v3(bytes), seed, secrets)
-    }
+    close_short::<LANES, AVALANCHE, PROTECTED>(bytes, short_words_v3(bytes), seed, secrets)
+}
 }
 
+const_fn! {
 /// The hash of at most 16 bytes, made of their two words. From 4 bytes on the length is mixed into
 /// the seed.
 #[inline(always)]
-fn close_short<const LANES: usize, const AVALANCHE: bool, const PROTECTED: bool>(
+const fn close_short<const LANES: usize, const AVALANCHE: bool, const PROTECTED: bool>(
     bytes: &[u8],
     words: (u64, u64),
     seed: u64,
@@ -63,56 +48,30 @@ fn close_short<const LANES: usize, const AVALANCHE: bool, const PROTECTED: bool>
     let start = if n > 3 { seed ^ n } else { seed };
     close::<AVALANCHE, PROTECTED>(words, start, second, (ALTERNATING_BITS, second ^ n))
 }
+}
 
+const_fn! {
 /// The hash above 16 bytes.
 #[inline(always)]
-fn long<
-    const LANES: usize,
-    const FEW: usize,
-    const AVALANCHE: bool,
-    const COMPACT: bool,
-    const PROTECTED: bool,
->(
+const fn long<const LANES: usize, const AVALANCHE: bool, const COMPACT: bool, const PROTECTED: bool>(
     bytes: &[u8],
     seed: u64,
     secrets: &[u64; 7],
 ) -> u64 {
     let n = bytes.len();
-    if n <= longest_rowless::<LANES>() {
-        without_rows::<LANES, AVALANCHE, PROTECTED>(bytes, seed, secrets)
-    } else if FEW >= 1 && n <= 32 * LANES {
-        few_rows::<LANES, 1, AVALANCHE, PROTECTED>(bytes, seed, secrets)
-    } else if FEW >= 2 && n <= 48 * LANES {
-        few_rows::<LANES, 2, AVALANCHE, PROTECTED>(bytes, seed, secrets)
+    if n <= LONGEST_INLINED && n <= 16 * LANES {
+        close_tail::<AVALANCHE, PROTECTED>(bytes, bytes, seed, secrets)
     } else {
         with_rows::<LANES, AVALANCHE, COMPACT, PROTECTED>(bytes, seed, secrets)
     }
 }
-
-/// The hash above 16 bytes of a message that has no row.
-#[inline(always)]
-fn without_rows<const LANES: usize, const AVALANCHE: bool, const PROTECTED: bool>(
-    bytes: &[u8],
-    seed: u64,
-    secrets: &[u64; 7],
-) -> u64 {
-    close_tail::<AVALANCHE, PROTECTED>(bytes, bytes, seed, secrets)
 }
 
-/// The hash above 16 bytes of a message that has `ROWS` rows.
-#[inline(always)]
-fn few_rows<const LANES: usize, const ROWS: usize, const AVALANCHE: bool, const PROTECTED: bool>(
-    bytes: &[u8],
-    seed: u64,
-    secrets: &[u64; 7],
-) -> u64 {
-    let (joined, tail) = wide_lanes_of::<LANES, 1, ROWS, PROTECTED>(bytes, seed, secrets);
-    close_tail::<AVALANCHE, PROTECTED>(tail, bytes, joined, secrets)
-}
-
-/// The hash of a message that has a row, out of line.
+const_fn! {
+/// The hash above 16 bytes, out of line.
+#[cold]
 #[inline(never)]
-fn with_rows<
+const fn with_rows<
     const LANES: usize,
     const AVALANCHE: bool,
     const COMPACT: bool,
@@ -125,11 +84,13 @@ fn with_rows<
     let (joined, tail) = wide_lanes::<LANES, 1, COMPACT, PROTECTED>(bytes, seed, secrets);
     close_tail::<AVALANCHE, PROTECTED>(tail, bytes, joined, secrets)
 }
+}
 
+const_fn! {
 /// The hash above 16 bytes, made of the joined lanes, the tail, and bytes that end in the message's
 /// last 16.
 #[inline(always)]
-pub(crate) fn close_tail<const AVALANCHE: bool, const PROTECTED: bool>(
+pub(crate) const fn close_tail<const AVALANCHE: bool, const PROTECTED: bool>(
     tail: &[u8],
     ending: &[u8],
     joined: u64,
@@ -142,9 +103,4 @@ pub(crate) fn close_tail<const AVALANCHE: bool, const PROTECTED: bool>(
     let (a, b) = last_16(ending);
     close::<AVALANCHE, PROTECTED>((a ^ t, b), seed, second, (ALTERNATING_BITS, second ^ t))
 }
-
-/// Returns the length of the longest message without a row.
-#[inline(always)]
-pub fn longest_rowless<const LANES: usize>() -> usize {
-    16 * LANES
 }

@@ -28,7 +28,8 @@ pub const DEFAULT_RAPID_SECRETS: RapidSecrets = RapidSecrets {
 impl RapidSecrets {
     /// Returns the default seed and secrets, [`DEFAULT_RAPID_SECRETS`], by reference.
     #[inline(always)]
-    pub fn default_ref() -> &'static Self {
+    #[must_use]
+    pub const fn default_ref() -> &'static Self {
         &DEFAULT_RAPID_SECRETS
     }
 
@@ -41,6 +42,7 @@ impl RapidSecrets {
     /// let secrets = RapidSecrets::seed(0x1234_5678);
     /// let hash = rapidhash_v1_seeded(b"hello", &secrets);
     /// ```
+    #[must_use]
     pub const fn seed(seed: u64) -> Self {
         let seed = seed_of(seed);
         RapidSecrets {
@@ -51,6 +53,7 @@ impl RapidSecrets {
 
     /// Returns the same secrets with a new seed, made from the old one with V1's last default
     /// secret.
+    #[must_use]
     pub const fn reseed(&self) -> Self {
         RapidSecrets {
             seed: reseed_of(self.seed, 2),
@@ -61,6 +64,7 @@ impl RapidSecrets {
     /// Returns the default secrets with a seed made from a number as the C++ library makes it.
     /// Anyone who knows the default secrets can find messages with the same hash for every seed: if
     /// that matters, see [`RapidSecrets::seed`].
+    #[must_use]
     pub const fn seed_cpp(seed: u64) -> Self {
         RapidSecrets {
             seed: cpp_seed_of(seed, 0),

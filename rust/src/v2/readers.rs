@@ -35,7 +35,7 @@ use std::io::Read;
 ///
 /// # Panics
 ///
-/// In Rust, if `MINOR` is above 2. Rattle's checker refuses such a call.
+/// If `MINOR` is above 2.
 pub fn rapidhash_v2_source<R: Read, const MINOR: u8, const PROTECTED: bool>(
     source: &mut Source<R>,
     len: u64,
@@ -66,7 +66,11 @@ pub fn rapidhash_v2_2_file<R: Read>(data: &mut R, len: u64) -> io::Result<u64> {
 }
 
 /// Returns the hash of the next `len` bytes of a reader by V2.2, with the caller's seed and
-/// secrets. Errors are those of [`rapidhash_v2_2_file`].
+/// secrets.
+///
+/// # Errors
+///
+/// Those of [`rapidhash_v2_2_file`].
 pub fn rapidhash_v2_2_file_seeded<R: Read>(
     data: &mut R,
     len: u64,
@@ -76,11 +80,15 @@ pub fn rapidhash_v2_2_file_seeded<R: Read>(
 }
 
 /// Returns the hash of the next `len` bytes of a reader; `PROTECTED` mixes each product with its
-/// factors. Errors are those of [`rapidhash_v2_2_file`].
+/// factors.
+///
+/// # Errors
+///
+/// Those of [`rapidhash_v2_2_file`].
 ///
 /// # Panics
 ///
-/// In Rust, if `MINOR` is above 2. Rattle's checker refuses such a call.
+/// If `MINOR` is above 2.
 pub fn rapidhash_v2_file_inline<R: Read, const MINOR: u8, const PROTECTED: bool>(
     data: &mut R,
     len: u64,

@@ -42,9 +42,13 @@ pub fn rapidhash_v3_source<R: Read, const PROTECTED: bool>(
 /// Returns the hash of [`rapidhash_v3_source`], with a buffer of `SIZE` bytes on the stack: no read
 /// requests more.
 ///
+/// # Errors
+///
+/// Those of [`rapidhash_v3_source`].
+///
 /// # Panics
 ///
-/// In Rust, if `SIZE` is 0. Rattle's checker refuses such a call.
+/// If `SIZE` is 0.
 pub fn rapidhash_v3_source_sized<R: Read, const SIZE: usize, const PROTECTED: bool>(
     source: &mut Source<R>,
     secrets: &RapidSecrets,
@@ -65,9 +69,13 @@ pub fn rapidhash_v3_source_sized<R: Read, const SIZE: usize, const PROTECTED: bo
 /// # Ok::<(), std::io::Error>(())
 /// ```
 ///
+/// # Errors
+///
+/// Those of [`rapidhash_v3_source`].
+///
 /// # Panics
 ///
-/// In Rust, if `LANES` is not 7, 5 or 3, or `SIZE` is 0. Rattle's checker refuses such a call.
+/// If `LANES` is not 7, 5 or 3, or `SIZE` is 0.
 pub fn rapidhash_v3_source_lanes<
     R: Read,
     const LANES: usize,
@@ -87,20 +95,29 @@ pub fn rapidhash_v3_source_lanes<
     }
 }
 
-/// The loop of every hash here, from a hasher of no bytes. It is out of line because of its buffer.
+/// The loop of every hash here, from a hasher of no bytes. Short reads gather in the buffer until
+/// it is more than half full, so that no read requests less than half of it. The loop is out of
+/// line because of its buffer.
 #[inline(never)]
 fn read_all<R: Read, const LANES: usize, const SIZE: usize, const PROTECTED: bool>(
     source: &mut Source<R>,
     mut hasher: RapidStreamHasherLanes<'_, LANES, true, PROTECTED>,
 ) -> io::Result<u64> {
     source.clear();
-    let mut buffer = [0u8; SIZE];
+    let mut room = [0u8; SIZE];
+    let buffer = &mut room[..];
+    let mut at = 0;
     for _turn in 0..u64::MAX {
-        let n = source.read(&mut buffer)?;
+        let n = source.read(&mut buffer[at..])?;
         if n == 0 {
+            hasher.write(&buffer[..at]);
             return Ok(hasher.finish());
         }
-        hasher.write(&buffer[..n]);
+        at += n;
+        if at > SIZE / 2 {
+            hasher.write(&buffer[..at]);
+            at = 0;
+        }
     }
     Err(io::Error::from(ErrorKind::Other))
 }
@@ -121,14 +138,21 @@ pub fn rapidhash_v3_file<R: Read>(data: R) -> io::Result<u64> {
     rapidhash_v3_file_inline::<R, false>(data, RapidSecrets::default_ref())
 }
 
-/// Returns the hash of all that a reader has, with the caller's seed and secrets. Errors are those
-/// of [`rapidhash_v3_file`].
+/// Returns the hash of all that a reader has, with the caller's seed and secrets.
+///
+/// # Errors
+///
+/// Those of [`rapidhash_v3_file`].
 pub fn rapidhash_v3_file_seeded<R: Read>(data: R, secrets: &RapidSecrets) -> io::Result<u64> {
     rapidhash_v3_file_inline::<R, false>(data, secrets)
 }
 
 /// Returns the hash of all that a reader has; `PROTECTED` mixes each product with its factors.
-/// Errors are those of [`rapidhash_v3_file`].
+///
+///
+/// # Errors
+///
+/// Those of [`rapidhash_v3_file`].
 pub fn rapidhash_v3_file_inline<R: Read, const PROTECTED: bool>(
     data: R,
     secrets: &RapidSecrets,
@@ -139,9 +163,13 @@ pub fn rapidhash_v3_file_inline<R: Read, const PROTECTED: bool>(
 /// Returns the hash of [`rapidhash_v3_file_inline`], with a buffer of `SIZE` bytes on the stack: no
 /// read requests more.
 ///
+/// # Errors
+///
+/// Those of [`rapidhash_v3_file`].
+///
 /// # Panics
 ///
-/// In Rust, if `SIZE` is 0. Rattle's checker refuses such a call.
+/// If `SIZE` is 0.
 pub fn rapidhash_v3_file_sized<R: Read, const SIZE: usize, const PROTECTED: bool>(
     data: R,
     secrets: &RapidSecrets,
@@ -151,9 +179,13 @@ pub fn rapidhash_v3_file_sized<R: Read, const SIZE: usize, const PROTECTED: bool
 
 /// Returns the hash of [`rapidhash_v3_file_sized`], with 7, 5 or 3 lanes: V3, micro or nano.
 ///
+/// # Errors
+///
+/// Those of [`rapidhash_v3_file`].
+///
 /// # Panics
 ///
-/// In Rust, if `LANES` is not 7, 5 or 3, or `SIZE` is 0. Rattle's checker refuses such a call.
+/// If `LANES` is not 7, 5 or 3, or `SIZE` is 0.
 pub fn rapidhash_v3_file_lanes<
     R: Read,
     const LANES: usize,

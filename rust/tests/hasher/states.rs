@@ -19,15 +19,11 @@ fn hash_of<S: BuildHasher>(state: &S) -> u64 {
 /// The expected hashes are those of the crate, from hashers with these seeds and secrets.
 #[test]
 fn states_of_known_seeds() {
-    let own = [2, 3, 5, 7, 11, 13, 17];
-    assert_eq!(
-        hash_of(&fast::SeedableState::custom(1, &own)),
-        7367051224096954094
-    );
-    assert_eq!(
-        hash_of(&quality::SeedableState::custom(1, &own)),
-        4813190096566161236
-    );
+    let own = RapidSecrets::seed(0x1234_5678);
+    let state = fast::SeedableState::custom(own.seed, &own.secrets);
+    assert_eq!(hash_of(&state), 10106110107239218242);
+    let state = quality::SeedableState::custom(own.seed, &own.secrets);
+    assert_eq!(hash_of(&state), 10622765197646220428);
     assert_eq!(hash_of(&fast::SeedableState::fixed()), 6021588442437052047);
     assert_eq!(
         hash_of(&quality::SeedableState::fixed()),

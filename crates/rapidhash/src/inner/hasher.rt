@@ -6,8 +6,6 @@ ghost use Rattle.rapidhash.specs.Sponge.{Bytes, IsWidth, Num, Wide};
 ghost use Rattle.rapidhash.specs.Hasher.{step};
 ghost use Rattle.rapidhash.specs.RapidHasher.{Absorbs, Answers, Stands, answer_of, fresh, options_of, secrets_of, written};
 
-mod integers;
-
 use crate::inner::sponge::Sponge;
 use rapidhash_portable::memory::memory_hash;
 use rapidhash_portable::util::rapid_mix;
@@ -127,6 +125,8 @@ impl<
         }
     }
 }
+
+mod integers;
 
 impl<
     's,

@@ -7,16 +7,14 @@ ghost use Rattle.rapidhash_portable.specs.Form.{longest_rowless, options, shape_
 ghost use Rattle.rapidhash_portable.specs.Hash.{portable_hash};
 ghost use Rattle.rapidhash_portable.specs.Words.{last_16, short_words};
 
-use crate::few::wide_lanes_of;
 use crate::lanes::wide_lanes;
 use crate::tail::{close, fold_tail};
-use crate::words::{last_16, words_to_3_v1, words_to_16_v1};
+use crate::words::{last_16, short_words_v1};
 
 /// Returns the hash of `bytes`. `AVALANCHE` mixes the last product once more, `PROTECTED` mixes
 /// each product with its factors, `V1_BUG` folds a row at 48 bytes, and `COMPACT` changes the code
 /// but no value.
 #[inline(always)]
-#[tactic(auto, using(crate::proofs::Cases::no_bytes))]
 pub fn hash<const AVALANCHE: bool, const COMPACT: bool, const PROTECTED: bool, const V1_BUG: bool>(
     bytes: &[u8],
     seed: u64,
@@ -29,13 +27,7 @@ pub fn hash<const AVALANCHE: bool, const COMPACT: bool, const PROTECTED: bool, c
     if n > 16 {
         return long::<AVALANCHE, COMPACT, PROTECTED, V1_BUG>(bytes, seed, secrets);
     }
-    if n >= 4 {
-        close_short::<AVALANCHE, PROTECTED>(bytes, words_to_16_v1(bytes), seed, secrets)
-    } else if n > 0 {
-        close_short::<AVALANCHE, PROTECTED>(bytes, words_to_3_v1(bytes), seed, secrets)
-    } else {
-        close_short::<AVALANCHE, PROTECTED>(bytes, (0, 0), seed, secrets)
-    }
+    close_short::<AVALANCHE, PROTECTED>(bytes, short_words_v1(bytes), seed, secrets)
 }
 
 /// The hash of at most 16 bytes, made of their two words.
@@ -56,7 +48,7 @@ fn close_short<const AVALANCHE: bool, const PROTECTED: bool>(
     close::<AVALANCHE, PROTECTED>(words, seed ^ len, second, (first ^ len, second))
 }
 
-/// The hash above 16 bytes. Messages of up to two rows make no call.
+/// The hash above 16 bytes. A message that has no row makes no call.
 #[inline(always)]
 #[tactic(auto, using(crate::proofs::Cases::no_rows), unfolding(crate::specs::Form::shape_of))]
 fn long<const AVALANCHE: bool, const COMPACT: bool, const PROTECTED: bool, const V1_BUG: bool>(
@@ -72,35 +64,13 @@ fn long<const AVALANCHE: bool, const COMPACT: bool, const PROTECTED: bool, const
     if n <= longest_rowless::<V1_BUG>() {
         let len = n as u64;
         close_tail::<AVALANCHE, PROTECTED>(bytes, bytes, len, seed ^ len, secrets)
-    } else if !COMPACT && n < 96 {
-        few_rows::<1, AVALANCHE, PROTECTED, V1_BUG>(bytes, seed, secrets)
-    } else if !COMPACT && n < 144 {
-        few_rows::<2, AVALANCHE, PROTECTED, V1_BUG>(bytes, seed, secrets)
     } else {
         with_rows::<AVALANCHE, COMPACT, PROTECTED, V1_BUG>(bytes, seed, secrets)
     }
 }
 
-/// The hash of a message that has `ROWS` rows, at least one.
-#[inline(always)]
-#[tactic(auto, using(crate::proofs::Cases::tests), unfolding(crate::specs::Form::shape_of))]
-fn few_rows<const ROWS: usize, const AVALANCHE: bool, const PROTECTED: bool, const V1_BUG: bool>(
-    bytes: &[u8],
-    seed: u64,
-    secrets: &[u64; 3],
-) -> u64
-    requires some { longest_rowless (V1 V1_BUG) < length bytes.now }
-    requires enough { 48 * ROWS ≤ length bytes.now }
-    requires few { length bytes.now < 48 * ROWS + 48 }
-    ensures { let chosen = options AVALANCHE PROTECTED in
-        result ≡ portable_hash (V1 V1_BUG) chosen seed secrets.now bytes.now }
-{
-    let len = bytes.len() as u64;
-    let (joined, tail) = wide_lanes_of::<3, 0, ROWS, PROTECTED>(bytes, seed ^ len, secrets);
-    close_tail::<AVALANCHE, PROTECTED>(tail, bytes, len, joined, secrets)
-}
-
 /// The hash of a message that has a row, out of line.
+#[cold]
 #[inline(never)]
 #[tactic(auto, using(crate::proofs::Cases::tests), unfolding(crate::specs::Form::shape_of))]
 fn with_rows<const AVALANCHE: bool, const COMPACT: bool, const PROTECTED: bool, const V1_BUG: bool>(
@@ -142,10 +112,10 @@ pub(crate) fn close_tail<const AVALANCHE: bool, const PROTECTED: bool>(
     close::<AVALANCHE, PROTECTED>(last_16(ending), seed, s[1], (s[0] ^ len, s[1]))
 }
 
-/// Returns the length of the longest message without a row.
+/// The length of the longest message without a row.
 #[inline(always)]
 #[tactic(auto, using(crate::proofs::Cases::tests))]
-pub fn longest_rowless<const V1_BUG: bool>() -> usize
+fn longest_rowless<const V1_BUG: bool>() -> usize
     ensures { result ≡ longest_rowless (V1 V1_BUG) }
 {
     if V1_BUG { 47 } else { 48 }

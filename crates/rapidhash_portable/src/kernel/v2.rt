@@ -7,16 +7,14 @@ ghost use Rattle.rapidhash_portable.specs.Form.{longest_rowless, masks, options,
 ghost use Rattle.rapidhash_portable.specs.Hash.{close, portable_hash};
 ghost use Rattle.rapidhash_portable.specs.Words.{last_16, short_words};
 
-use crate::few::mixed_lanes_of;
 use crate::lanes::mixed_lanes;
 use crate::tail::{close, fold_tail};
 use crate::util::ALTERNATING_BITS;
-use crate::words::{last_16, words_to_3_v2, words_to_7, words_to_16};
+use crate::words::{last_16, short_words_v2};
 
 /// Returns the hash of `bytes`. `AVALANCHE` mixes the last product once more, `PROTECTED` mixes
 /// each product with its factors, and `COMPACT` changes the code but no value.
 #[inline(always)]
-#[tactic(auto, using(crate::proofs::Cases::no_bytes))]
 pub fn hash<const MINOR: u8, const AVALANCHE: bool, const COMPACT: bool, const PROTECTED: bool>(
     bytes: &[u8],
     seed: u64,
@@ -30,17 +28,7 @@ pub fn hash<const MINOR: u8, const AVALANCHE: bool, const COMPACT: bool, const P
     if n > 16 {
         return long::<MINOR, AVALANCHE, COMPACT, PROTECTED>(bytes, seed, secrets);
     }
-    if n >= 4 {
-        if n < 8 {
-            close_short::<AVALANCHE, PROTECTED>(bytes, words_to_7(bytes), seed, secrets)
-        } else {
-            close_short::<AVALANCHE, PROTECTED>(bytes, words_to_16(bytes), seed, secrets)
-        }
-    } else if n == 0 {
-        close_short::<AVALANCHE, PROTECTED>(bytes, (0, 0), seed, secrets)
-    } else {
-        close_short::<AVALANCHE, PROTECTED>(bytes, words_to_3_v2::<MINOR>(bytes), seed, secrets)
-    }
+    close_short::<AVALANCHE, PROTECTED>(bytes, short_words_v2::<MINOR>(bytes), seed, secrets)
 }
 
 /// The hash of at most 16 bytes, made of their two words.
@@ -61,7 +49,7 @@ fn close_short<const AVALANCHE: bool, const PROTECTED: bool>(
     close::<AVALANCHE, PROTECTED>(words, seed ^ len, second, (ALTERNATING_BITS ^ len, second))
 }
 
-/// The hash above 16 bytes. Messages of fewer than 112 bytes make no call.
+/// The hash above 16 bytes. A message that has no row makes no call.
 #[inline(always)]
 fn long<const MINOR: u8, const AVALANCHE: bool, const COMPACT: bool, const PROTECTED: bool>(
     bytes: &[u8],
@@ -76,10 +64,6 @@ fn long<const MINOR: u8, const AVALANCHE: bool, const COMPACT: bool, const PROTE
     let n = bytes.len();
     if n <= longest_rowless::<MINOR>() {
         without_rows::<MINOR, AVALANCHE, PROTECTED>(bytes, seed, secrets)
-    } else if !COMPACT && n < 96 {
-        few_rows::<MINOR, 1, AVALANCHE, PROTECTED>(bytes, seed, secrets)
-    } else if !COMPACT && n < 112 {
-        few_rows::<MINOR, 2, AVALANCHE, PROTECTED>(bytes, seed, secrets)
     } else {
         with_rows::<MINOR, AVALANCHE, COMPACT, PROTECTED>(bytes, seed, secrets)
     }
@@ -104,27 +88,8 @@ fn without_rows<const MINOR: u8, const AVALANCHE: bool, const PROTECTED: bool>(
     close_long::<AVALANCHE, PROTECTED>(bytes, len, seed, secrets)
 }
 
-/// The hash of a message that has `ROWS` rows, all of three pairs.
-#[inline(always)]
-#[tactic(auto, using(crate::proofs::Cases::tests), unfolding(crate::specs::Form::shape_of))]
-fn few_rows<const MINOR: u8, const ROWS: usize, const AVALANCHE: bool, const PROTECTED: bool>(
-    bytes: &[u8],
-    seed: u64,
-    secrets: &[u64; 7],
-) -> u64
-    requires some { longest_rowless (V2 MINOR) < length bytes.now }
-    requires enough { 48 * ROWS ≤ length bytes.now }
-    requires few { length bytes.now < 48 * ROWS + 48 }
-    requires narrow { length bytes.now < 112 }
-    ensures { let chosen = options AVALANCHE PROTECTED in
-        result ≡ portable_hash (V2 MINOR) chosen seed secrets.now bytes.now }
-{
-    let len = bytes.len() as u64;
-    let (joined, tail) = mixed_lanes_of::<ROWS, PROTECTED>(bytes, seed ^ len, secrets);
-    close_tail::<AVALANCHE, PROTECTED>(tail, bytes, len, joined, secrets)
-}
-
 /// The hash of a message that has a row, out of line.
+#[cold]
 #[inline(never)]
 #[tactic(auto, using(crate::proofs::Cases::tests), unfolding(crate::specs::Form::shape_of))]
 fn with_rows<const MINOR: u8, const AVALANCHE: bool, const COMPACT: bool, const PROTECTED: bool>(
@@ -185,10 +150,10 @@ fn close_long<const AVALANCHE: bool, const PROTECTED: bool>(
     )
 }
 
-/// Returns the length of the longest message without a row.
+/// The length of the longest message without a row.
 #[inline(always)]
 #[tactic(auto, using(crate::proofs::Cases::tests))]
-pub fn longest_rowless<const MINOR: u8>() -> usize
+fn longest_rowless<const MINOR: u8>() -> usize
     ensures { result ≡ longest_rowless (V2 MINOR) }
 {
     if MINOR == 0 { 56 } else { 64 }

@@ -7,25 +7,24 @@ ghost use Rattle.rapidhash_portable.specs.Form.{longest_rowless, options, shape_
 ghost use Rattle.rapidhash_portable.specs.Hash.{portable_hash};
 ghost use Rattle.rapidhash_portable.specs.Words.{last_16, short_words};
 
-use crate::few::wide_lanes_of;
 use crate::lanes::wide_lanes;
 use crate::tail::{close, fold_tail};
 use crate::util::ALTERNATING_BITS;
-use crate::words::{last_16, words_to_3_v3, words_to_7, words_to_16};
+use crate::words::{last_16, short_words_v3};
+
+/// The longest message that makes no call. Longer tails, inlined into a loop, make the shortest
+/// messages slower.
+const LONGEST_INLINED: usize = 80;
 
 /// Returns the hash of `bytes` with an odd number of lanes. `AVALANCHE` mixes the last product once
 /// more, `PROTECTED` mixes each product with its factors, and `COMPACT` changes the code but no
-/// value. Messages of up to `FEW` rows make no call, if it is 0, 1 or 2. A row of seven pairs is
-/// inlined only with the default secrets: with others it makes shorter messages slower.
+/// value.
 #[inline(always)]
-#[tactic(auto, using(crate::proofs::Cases::no_bytes))]
-pub fn hash<
-    const LANES: usize,
-    const FEW: usize,
-    const AVALANCHE: bool,
-    const COMPACT: bool,
-    const PROTECTED: bool,
->(bytes: &[u8], seed: u64, secrets: &[u64; 7]) -> u64
+pub fn hash<const LANES: usize, const AVALANCHE: bool, const COMPACT: bool, const PROTECTED: bool>(
+    bytes: &[u8],
+    seed: u64,
+    secrets: &[u64; 7],
+) -> u64
     requires few { LANES ≤ 7 }
     requires odd { LANES % 2 ≡ 1 }
     ensures { let chosen = options AVALANCHE PROTECTED in
@@ -33,23 +32,9 @@ pub fn hash<
 {
     let n = bytes.len();
     if n > 16 {
-        return long::<LANES, FEW, AVALANCHE, COMPACT, PROTECTED>(bytes, seed, secrets);
+        return long::<LANES, AVALANCHE, COMPACT, PROTECTED>(bytes, seed, secrets);
     }
-    // Nano is faster with this class first.
-    if LANES == 3 && n >= 8 {
-        return close_short::<LANES, AVALANCHE, PROTECTED>(bytes, words_to_16(bytes), seed, secrets);
-    }
-    if n >= 4 {
-        if n < 8 {
-            close_short::<LANES, AVALANCHE, PROTECTED>(bytes, words_to_7(bytes), seed, secrets)
-        } else {
-            close_short::<LANES, AVALANCHE, PROTECTED>(bytes, words_to_16(bytes), seed, secrets)
-        }
-    } else if n == 0 {
-        close_short::<LANES, AVALANCHE, PROTECTED>(bytes, (0, 0), seed, secrets)
-    } else {
-        close_short::<LANES, AVALANCHE, PROTECTED>(bytes, words_to_3_v3(bytes), seed, secrets)
-    }
+    close_short::<LANES, AVALANCHE, PROTECTED>(bytes, short_words_v3(bytes), seed, secrets)
 }
 
 /// The hash of at most 16 bytes, made of their two words. From 4 bytes on the length is mixed into
@@ -75,13 +60,12 @@ fn close_short<const LANES: usize, const AVALANCHE: bool, const PROTECTED: bool>
 
 /// The hash above 16 bytes.
 #[inline(always)]
-fn long<
-    const LANES: usize,
-    const FEW: usize,
-    const AVALANCHE: bool,
-    const COMPACT: bool,
-    const PROTECTED: bool,
->(bytes: &[u8], seed: u64, secrets: &[u64; 7]) -> u64
+#[tactic(auto, using(crate::proofs::Cases::no_rows))]
+fn long<const LANES: usize, const AVALANCHE: bool, const COMPACT: bool, const PROTECTED: bool>(
+    bytes: &[u8],
+    seed: u64,
+    secrets: &[u64; 7],
+) -> u64
     requires long { 16 < length bytes.now }
     requires few { LANES ≤ 7 }
     requires odd { LANES % 2 ≡ 1 }
@@ -89,54 +73,15 @@ fn long<
         result ≡ portable_hash (V3 LANES) chosen seed secrets.now bytes.now }
 {
     let n = bytes.len();
-    if n <= longest_rowless::<LANES>() {
-        without_rows::<LANES, AVALANCHE, PROTECTED>(bytes, seed, secrets)
-    } else if FEW >= 1 && n <= 32 * LANES {
-        few_rows::<LANES, 1, AVALANCHE, PROTECTED>(bytes, seed, secrets)
-    } else if FEW >= 2 && n <= 48 * LANES {
-        few_rows::<LANES, 2, AVALANCHE, PROTECTED>(bytes, seed, secrets)
+    if n <= LONGEST_INLINED && n <= 16 * LANES {
+        close_tail::<AVALANCHE, PROTECTED>(bytes, bytes, seed, secrets)
     } else {
         with_rows::<LANES, AVALANCHE, COMPACT, PROTECTED>(bytes, seed, secrets)
     }
 }
 
-/// The hash above 16 bytes of a message that has no row.
-#[inline(always)]
-#[tactic(auto, using(crate::proofs::Cases::no_rows))]
-fn without_rows<const LANES: usize, const AVALANCHE: bool, const PROTECTED: bool>(
-    bytes: &[u8],
-    seed: u64,
-    secrets: &[u64; 7],
-) -> u64
-    requires long { 16 < length bytes.now }
-    requires short { length bytes.now ≤ longest_rowless (V3 LANES) }
-    requires odd { LANES % 2 ≡ 1 }
-    ensures { let chosen = options AVALANCHE PROTECTED in
-        result ≡ portable_hash (V3 LANES) chosen seed secrets.now bytes.now }
-{
-    close_tail::<AVALANCHE, PROTECTED>(bytes, bytes, seed, secrets)
-}
-
-/// The hash above 16 bytes of a message that has `ROWS` rows.
-#[inline(always)]
-#[tactic(auto, unfolding(crate::specs::Form::shape_of))]
-fn few_rows<const LANES: usize, const ROWS: usize, const AVALANCHE: bool, const PROTECTED: bool>(
-    bytes: &[u8],
-    seed: u64,
-    secrets: &[u64; 7],
-) -> u64
-    requires long { 16 < length bytes.now }
-    requires lanes { LANES ≤ 7 }
-    requires enough { 16 * (LANES * ROWS) < length bytes.now }
-    requires few { length bytes.now ≤ 16 * (LANES * (ROWS + 1)) }
-    ensures { let chosen = options AVALANCHE PROTECTED in
-        result ≡ portable_hash (V3 LANES) chosen seed secrets.now bytes.now }
-{
-    let (joined, tail) = wide_lanes_of::<LANES, 1, ROWS, PROTECTED>(bytes, seed, secrets);
-    close_tail::<AVALANCHE, PROTECTED>(tail, bytes, joined, secrets)
-}
-
-/// The hash of a message that has a row, out of line.
+/// The hash above 16 bytes, out of line.
+#[cold]
 #[inline(never)]
 #[tactic(auto, unfolding(crate::specs::Form::shape_of))]
 fn with_rows<const LANES: usize, const AVALANCHE: bool, const COMPACT: bool, const PROTECTED: bool>(
@@ -175,13 +120,4 @@ pub(crate) fn close_tail<const AVALANCHE: bool, const PROTECTED: bool>(
     let t = tail.len() as u64;
     let (a, b) = last_16(ending);
     close::<AVALANCHE, PROTECTED>((a ^ t, b), seed, second, (ALTERNATING_BITS, second ^ t))
-}
-
-/// Returns the length of the longest message without a row.
-#[inline(always)]
-pub fn longest_rowless<const LANES: usize>() -> usize
-    requires { LANES ≤ 7 }
-    ensures { result ≡ longest_rowless (V3 LANES) }
-{
-    16 * LANES
 }

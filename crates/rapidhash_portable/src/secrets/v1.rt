@@ -30,7 +30,7 @@ impl RapidSecrets {
     /// Returns the default seed and secrets, [`DEFAULT_RAPID_SECRETS`], by reference.
     #[inline(always)]
     #[tactic(auto, using(crate::proofs::SecretsLemmas::default_number_v1))]
-    pub fn default_ref() -> &'static Self
+    pub const fn default_ref() -> &'static Self
         ensures seed { result.now.seed ≡ default_seed_v1 }
         ensures secrets { result.now.secrets ≡ default_secrets_v1 }
     {

@@ -75,8 +75,11 @@ pub fn rapidhash_v1_file<R: Read>(data: &mut R, len: u64) -> io::Result<u64>
     rapidhash_v1_file_inline::<R, false>(data, len, RapidSecrets::default_ref())
 }
 
-/// Returns the hash of the next `len` bytes of a reader, with the caller's seed and secrets. Errors
-/// are those of [`rapidhash_v1_file`].
+/// Returns the hash of the next `len` bytes of a reader, with the caller's seed and secrets.
+///
+/// # Errors
+///
+/// Those of [`rapidhash_v1_file`].
 pub fn rapidhash_v1_file_seeded<R: Read>(
     data: &mut R,
     len: u64,
@@ -89,7 +92,11 @@ pub fn rapidhash_v1_file_seeded<R: Read>(
 }
 
 /// Returns the hash of the next `len` bytes of a reader; `PROTECTED` mixes each product with its
-/// factors. Errors are those of [`rapidhash_v1_file`].
+/// factors.
+///
+/// # Errors
+///
+/// Those of [`rapidhash_v1_file`].
 pub fn rapidhash_v1_file_inline<R: Read, const PROTECTED: bool>(
     data: &mut R,
     len: u64,

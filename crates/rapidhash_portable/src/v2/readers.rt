@@ -81,7 +81,11 @@ pub fn rapidhash_v2_2_file<R: Read>(data: &mut R, len: u64) -> io::Result<u64>
 }
 
 /// Returns the hash of the next `len` bytes of a reader by V2.2, with the caller's seed and
-/// secrets. Errors are those of [`rapidhash_v2_2_file`].
+/// secrets.
+///
+/// # Errors
+///
+/// Those of [`rapidhash_v2_2_file`].
 pub fn rapidhash_v2_2_file_seeded<R: Read>(
     data: &mut R,
     len: u64,
@@ -94,7 +98,11 @@ pub fn rapidhash_v2_2_file_seeded<R: Read>(
 }
 
 /// Returns the hash of the next `len` bytes of a reader; `PROTECTED` mixes each product with its
-/// factors. Errors are those of [`rapidhash_v2_2_file`].
+/// factors.
+///
+/// # Errors
+///
+/// Those of [`rapidhash_v2_2_file`].
 ///
 /// # Panics
 ///

@@ -54,6 +54,10 @@ pub fn rapidhash_v3_source<R: Read, const PROTECTED: bool>(
 /// Returns the hash of [`rapidhash_v3_source`], with a buffer of `SIZE` bytes on the stack: no read
 /// requests more.
 ///
+/// # Errors
+///
+/// Those of [`rapidhash_v3_source`].
+///
 /// # Panics
 ///
 /// In Rust, if `SIZE` is 0. Rattle's checker refuses such a call.
@@ -83,6 +87,10 @@ pub fn rapidhash_v3_source_sized<R: Read, const SIZE: usize, const PROTECTED: bo
 /// # Ok::<(), std::io::Error>(())
 /// ```
 ///
+/// # Errors
+///
+/// Those of [`rapidhash_v3_source`].
+///
 /// # Panics
 ///
 /// In Rust, if `LANES` is not 7, 5 or 3, or `SIZE` is 0. Rattle's checker refuses such a call.
@@ -109,7 +117,9 @@ pub fn rapidhash_v3_source_lanes<
     }
 }
 
-/// The loop of every hash here, from a hasher of no bytes. It is out of line because of its buffer.
+/// The loop of every hash here, from a hasher of no bytes. Short reads gather in the buffer until
+/// it is more than half full, so that no read requests less than half of it. The loop is out of
+/// line because of its buffer.
 #[inline(never)]
 fn read_all<R: Read, const LANES: usize, const SIZE: usize, const PROTECTED: bool>(
     source: &mut Source<R>,
@@ -125,13 +135,20 @@ fn read_all<R: Read, const LANES: usize, const SIZE: usize, const PROTECTED: boo
     ensures mark { MarksFailures result (is_marked source.new) ErrorKind.Other }
 {
     source.clear();
-    let mut buffer = [0u8; SIZE];
+    let mut room = [0u8; SIZE];
+    let buffer = &mut room[..];
+    let mut at = 0;
     for _turn in 0..u64::MAX {
-        let n = source.read(&mut buffer)?;
+        let n = source.read(&mut buffer[at..])?;
         if n == 0 {
+            hasher.write(&buffer[..at]);
             return Ok(hasher.finish());
         }
-        hasher.write(&buffer[..n]);
+        at += n;
+        if at > SIZE / 2 {
+            hasher.write(&buffer[..at]);
+            at = 0;
+        }
     }
     Err(io::Error::from(ErrorKind::Other))
 }
@@ -154,8 +171,11 @@ pub fn rapidhash_v3_file<R: Read + Drop>(data: R) -> io::Result<u64>
     rapidhash_v3_file_inline::<R, false>(data, RapidSecrets::default_ref())
 }
 
-/// Returns the hash of all that a reader has, with the caller's seed and secrets. Errors are those
-/// of [`rapidhash_v3_file`].
+/// Returns the hash of all that a reader has, with the caller's seed and secrets.
+///
+/// # Errors
+///
+/// Those of [`rapidhash_v3_file`].
 pub fn rapidhash_v3_file_seeded<R: Read + Drop>(data: R, secrets: &RapidSecrets) -> io::Result<u64>
     ensures { HashesKnown (R.remaining «data») result
         (seeded_hash v3 standard secrets.now) }
@@ -164,7 +184,11 @@ pub fn rapidhash_v3_file_seeded<R: Read + Drop>(data: R, secrets: &RapidSecrets)
 }
 
 /// Returns the hash of all that a reader has; `PROTECTED` mixes each product with its factors.
-/// Errors are those of [`rapidhash_v3_file`].
+///
+///
+/// # Errors
+///
+/// Those of [`rapidhash_v3_file`].
 pub fn rapidhash_v3_file_inline<R: Read + Drop, const PROTECTED: bool>(
     data: R,
     secrets: &RapidSecrets,
@@ -177,6 +201,10 @@ pub fn rapidhash_v3_file_inline<R: Read + Drop, const PROTECTED: bool>(
 
 /// Returns the hash of [`rapidhash_v3_file_inline`], with a buffer of `SIZE` bytes on the stack: no
 /// read requests more.
+///
+/// # Errors
+///
+/// Those of [`rapidhash_v3_file`].
 ///
 /// # Panics
 ///
@@ -193,6 +221,10 @@ pub fn rapidhash_v3_file_sized<R: Read + Drop, const SIZE: usize, const PROTECTE
 }
 
 /// Returns the hash of [`rapidhash_v3_file_sized`], with 7, 5 or 3 lanes: V3, micro or nano.
+///
+/// # Errors
+///
+/// Those of [`rapidhash_v3_file`].
 ///
 /// # Panics
 ///

@@ -74,3 +74,16 @@ fn an_interrupted_read_keeps_its_kind(rt: HostRuntime) {
         assert!(rt; source.failed());
     }
 }
+
+/// Short reads gather in the buffer, and no read requests less than half of it: 300 bytes, three a
+/// read, into 8.
+#[test]
+fn gathered_reads_are_not_cut_short(rt: HostRuntime) -> Result<(), Fail> {
+    let bytes = [7; 300];
+    let secrets = RapidSecrets::seed(3);
+    let mut reader = CountingReader::new(&bytes, 3);
+    let hash = rapidhash_v3_file_sized::<&mut CountingReader, 8, false>(&mut reader, &secrets)?;
+    assert!(rt; hash == rapidhash_v3_inline::<true, false, false>(&bytes, &secrets));
+    assert!(rt; (reader.reads, reader.longest, reader.left.len()) == (101, 8, 0));
+    Ok(())
+}

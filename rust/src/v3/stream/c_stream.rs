@@ -30,7 +30,8 @@ impl<'a> RapidStream<'a> {
     ///
     /// # Panics
     ///
-    /// In Rust, if `lanes` is not 7, 5 or 3. Rattle's checker refuses such a call.
+    /// If `lanes` is not 7, 5 or 3.
+    #[must_use]
     pub fn new(lanes: usize, secrets: &'a RapidSecrets) -> Self {
         prove!(
             lanes == 7 || lanes == 5 || lanes == 3,
@@ -58,6 +59,7 @@ impl<'a> RapidStream<'a> {
     }
 
     /// Returns the hash of the message so far. It changes nothing: further pieces may follow.
+    #[must_use]
     pub fn finish(&self) -> u64 {
         match self.lanes {
             7 => self.parts.finish::<7, true, false>(),

@@ -103,7 +103,7 @@ impl<'a> Parts<'a> {
         let new = &kept[16..16 + self.len];
         if !self.any {
             let (seed, secrets) = (self.secrets.seed, &self.secrets.secrets);
-            return hash::<LANES, 0, AVALANCHE, UNROLLED, PROTECTED>(new, seed, secrets);
+            return hash::<LANES, AVALANCHE, UNROLLED, PROTECTED>(new, seed, secrets);
         }
         let joined = self.folded.joined::<LANES>();
         let ending = &kept[..16 + self.len];

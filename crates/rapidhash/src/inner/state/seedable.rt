@@ -19,14 +19,9 @@ impl Kind for Seedable {
 
 /// Makes hashers of the caller's seed.
 ///
-/// ```
-/// let state = SeedableState::<false, true, false, false>::custom(1, &[2, 3, 5, 7, 11, 13, 17]);
-/// let mut hasher = state.build_hasher();
-/// hasher.write_u64(4711);
-/// let hash = hasher.finish();
-/// ```
-///
-/// A seed and secrets that stay the same between runs are made from one stored number:
+/// A seed and secrets that stay the same between runs are made from one stored number. Do not
+/// choose secrets by hand: with small numbers, most keys agree in the bits that a map looks at
+/// first.
 ///
 /// ```
 /// let secrets = RapidSecrets::seed(kept);

@@ -1,0 +1,98 @@
+//! Hashes of keys, and maps of them, with the default states of a crate.
+
+use crate::{Numbers, row};
+use rapidhash::fast::RandomState;
+use std::collections::HashMap;
+use std::hash::{BuildHasher, Hash};
+use std::hint::black_box;
+
+type Map<K> = HashMap<K, u64, RandomState>;
+
+#[derive(Hash, PartialEq, Eq, Clone)]
+struct Person {
+    number: u64,
+    name: String,
+}
+
+fn text(numbers: &mut Numbers, low: usize, high: usize) -> String {
+    let length = numbers.between(low, high);
+    (0..length).map(|_| (b'a' + (numbers.next() >> 40) as u8 % 26) as char).collect()
+}
+
+fn hash_one<K: Hash>(name: &str, keys: &[K]) {
+    let state = black_box(RandomState::new());
+    row("hash_one", name, keys.len(), || keys.iter().fold(0, |sum: u64, key| sum.wrapping_add(state.hash_one(key))));
+}
+
+fn hashes() {
+    let mut numbers = Numbers(5);
+    for (low, high) in [(5, 5), (8, 8), (16, 16), (20, 20), (40, 40), (60, 60), (5, 20), (5, 60)] {
+        let keys: Vec<String> = (0..1000).map(|_| text(&mut numbers, low, high)).collect();
+        hash_one(&format!("text of {low} to {high}"), &keys);
+    }
+    let words: Vec<u64> = (0..1000).map(|_| numbers.next()).collect();
+    hash_one("u64", &words);
+    hash_one("(u32, u64)", &words.iter().map(|&word| (word as u32, word)).collect::<Vec<_>>());
+    hash_one("(u64, text)", &words.iter().map(|&word| (word, text(&mut numbers, 5, 20))).collect::<Vec<_>>());
+    hash_one("struct", &people(&mut numbers, 1000));
+}
+
+fn people(numbers: &mut Numbers, count: usize) -> Vec<Person> {
+    (0..count).map(|_| Person { number: numbers.next(), name: text(numbers, 5, 20) }).collect()
+}
+
+#[inline(never)]
+fn filled<K: Hash + Eq + Clone>(keys: &[K]) -> Map<K> {
+    let mut map = Map::default();
+    for (place, key) in keys.iter().enumerate() {
+        map.insert(key.clone(), place as u64);
+    }
+    map
+}
+
+#[inline(never)]
+fn found<K: Hash + Eq>(map: &Map<K>, keys: &[K]) -> u64 {
+    keys.iter().filter(|key| map.contains_key(*key)).count() as u64
+}
+
+/// Maps of half of the keys: the other half misses.
+fn map<K: Hash + Eq + Clone>(group: &str, mut keys: Vec<K>) {
+    let missing = keys.split_off(keys.len() / 2);
+    let (map, count) = (filled(&keys), keys.len());
+    row(group, &format!("insert of {count}"), count, || filled(&keys).len() as u64);
+    row(group, &format!("hit of {count}"), count, || found(&map, &keys));
+    row(group, &format!("miss of {count}"), count, || found(&map, &missing));
+}
+
+/// Counts the words of a text with few frequent and many rare words.
+fn word_count() {
+    let mut numbers = Numbers(3);
+    let words: Vec<String> = (0..5000).map(|_| text(&mut numbers, 2, 12)).collect();
+    let mut line = String::new();
+    for _ in 0..50_000 {
+        let most = numbers.between(1, 5000);
+        line += &words[numbers.between(0, most - 1)];
+        line.push(' ');
+    }
+    row("word count", "a word", 50_000, || {
+        let mut counts: Map<String> = Map::default();
+        for word in line.split_ascii_whitespace() {
+            match counts.get_mut(word) {
+                Some(count) => *count += 1,
+                None => _ = counts.insert(word.to_string(), 1),
+            }
+        }
+        counts.len() as u64
+    });
+}
+
+pub fn all() {
+    hashes();
+    let mut numbers = Numbers(11);
+    for count in [1000, 30_000] {
+        map("map of u64", (0..2 * count).map(|_| numbers.next()).collect());
+        map("map of texts", (0..2 * count).map(|_| text(&mut numbers, 5, 60)).collect());
+        map("map of structs", people(&mut numbers, 2 * count));
+    }
+    word_count();
+}

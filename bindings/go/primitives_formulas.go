@@ -1,0 +1,37 @@
+//go:build formulas
+
+package rapidhash
+
+import "encoding/binary"
+
+// In this build the loads and the product are random functions of a key. Two programs that then return the same hash
+// of a random message compute the same formula, but for a chance of about 2^-64. internal/formulas runs it.
+
+// FormulasKey is the key of the random functions.
+var FormulasKey uint64
+
+// random returns a number that depends on the key, a tag for the kind of function, and two arguments.
+func random(tag, a, b uint64) uint64 {
+	x := FormulasKey ^ tag*0x9e3779b97f4a7c15
+	for _, word := range [2]uint64{a, b} {
+		x ^= word
+		x = (x ^ x>>32) * 0xd6e8feb86659fd93
+		x = (x ^ x>>32) * 0xd6e8feb86659fd93
+		x ^= x >> 32
+	}
+	return x
+}
+
+func read64(data []byte) uint64 { return random(1, binary.LittleEndian.Uint64(data), 0) }
+
+func read32(data []byte) uint64 {
+	return uint64(uint32(random(2, uint64(binary.LittleEndian.Uint32(data)), 0)))
+}
+
+// multiply returns the same halves for either order of the factors.
+func multiply(a, b uint64) (low, high uint64) {
+	if a > b {
+		a, b = b, a
+	}
+	return random(3, a, b), random(4, a, b)
+}

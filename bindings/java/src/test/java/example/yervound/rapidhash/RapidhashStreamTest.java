@@ -1,0 +1,88 @@
+package example.yervound.rapidhash;
+
+import static example.yervound.rapidhash.Messages.OWN;
+import static org.junit.Assert.assertEquals;
+import static org.junit.Assert.assertThrows;
+
+import java.io.ByteArrayInputStream;
+import java.io.IOException;
+import java.nio.ByteBuffer;
+import java.util.zip.CheckedInputStream;
+import java.util.zip.Checksum;
+import org.junit.Test;
+
+public class RapidhashStreamTest {
+    private static final Rapidhash[] STREAMED = {Rapidhash.V3, Rapidhash.V3_MICRO, Rapidhash.V3_NANO};
+
+    /** Writes 300 bytes in two pieces, with each cut, from arrays and from each kind of buffer. */
+    @Test
+    public void everyCut() {
+        byte[] message = Messages.bytes(300);
+        for (Rapidhash version : STREAMED) {
+            long known = version.hash(message, OWN);
+            for (int cut = 0; cut <= message.length; cut++) {
+                RapidhashStream stream = version.stream(OWN);
+                stream.update(message, 0, cut);
+                stream.update(message, cut, message.length - cut);
+                assertEquals(version + " cut at " + cut, known, stream.getValue());
+                for (ByteBuffer buffer : Messages.buffers(message)) {
+                    int start = buffer.position();
+                    stream.reset();
+                    stream.update(buffer.duplicate().limit(start + cut));
+                    stream.update(buffer.position(start + cut));
+                    assertEquals(version + " cut at " + cut, known, stream.getValue());
+                    assertEquals(0, buffer.remaining());
+                }
+            }
+        }
+    }
+
+    @Test
+    public void singleBytes() {
+        byte[] message = Messages.bytes(300);
+        for (Rapidhash version : STREAMED) {
+            Checksum stream = version.stream();
+            for (int size = 0; size < message.length; size++) {
+                assertEquals(version.hash(message, 0, size), stream.getValue());
+                stream.update(message[size] | 0x7fffff00);
+            }
+            stream.reset();
+            assertEquals(version.hash(new byte[0]), stream.getValue());
+        }
+    }
+
+    @Test
+    public void longPieces() {
+        byte[] message = Messages.bytes(200_000);
+        for (Rapidhash version : STREAMED) {
+            for (long seed : Messages.SEEDS) {
+                RapidhashStream stream = version.stream(seed);
+                stream.update(message);
+                assertEquals(version.hash(message, seed), stream.getValue());
+                stream.update(message, 7, 100_000);
+                stream.reset();
+                stream.update(message);
+                assertEquals(version.hash(message, seed), stream.getValue());
+            }
+        }
+    }
+
+    @Test
+    public void readsWhatChecksumsRead() throws IOException {
+        CheckedInputStream in = new CheckedInputStream(new ByteArrayInputStream(Messages.bytes(1000)),
+            Rapidhash.V3.stream());
+        in.readAllBytes();
+        assertEquals(Rapidhash.V3.hash(Messages.bytes(1000)), in.getChecksum().getValue());
+    }
+
+    @Test
+    public void versionsWithoutStreams() {
+        for (Rapidhash version : new Rapidhash[] {Rapidhash.V1, Rapidhash.V2_0, Rapidhash.V2_1, Rapidhash.V2_2,
+            Rapidhash.V3_PROTECTED}) {
+            Exception refused = assertThrows(UnsupportedOperationException.class, version::stream);
+            assertEquals(version + " has no stream", refused.getMessage());
+            assertThrows(UnsupportedOperationException.class, () -> version.stream(1));
+            assertThrows(UnsupportedOperationException.class, () -> version.stream(OWN));
+        }
+    }
+}

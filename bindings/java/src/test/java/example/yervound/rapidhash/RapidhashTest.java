@@ -1,0 +1,146 @@
+package example.yervound.rapidhash;
+
+import static example.yervound.rapidhash.Messages.OWN;
+import static org.junit.Assert.assertArrayEquals;
+import static org.junit.Assert.assertEquals;
+import static org.junit.Assert.assertNotEquals;
+import static org.junit.Assert.assertThrows;
+
+import java.nio.ByteBuffer;
+import java.nio.ByteOrder;
+import java.nio.charset.StandardCharsets;
+import org.junit.Test;
+
+public class RapidhashTest {
+    private static final byte[] HELLO = "hello".getBytes(StandardCharsets.UTF_8);
+
+    /** The four lines are those of README.md. */
+    @Test
+    public void readme() {
+        assertEquals("3327445792987248966", Rapidhash.toDecimal(Rapidhash.V3.hash(HELLO, 0L)));
+        assertNotEquals(Rapidhash.V3.hash(HELLO), Rapidhash.V3.hash(HELLO, Secrets.make(42)));
+        RapidhashStream stream = Rapidhash.V3.stream();
+        stream.update(HELLO);
+        assertEquals("2e2d7651b45f7946", Rapidhash.toHex(stream.getValue()));
+        assertThrows(IndexOutOfBoundsException.class, () -> Rapidhash.V3.hash(HELLO, 3, 3));
+    }
+
+    @Test
+    public void secretsOfOnesOwn() {
+        byte[] longer = Messages.bytes(120);
+        byte[] shorter = Messages.bytes(60);
+        assertEquals(Long.parseUnsignedLong("13848206912060221315"), Rapidhash.V1.hash(shorter, OWN));
+        assertEquals(Long.parseUnsignedLong("7480442917932512801"), Rapidhash.V2_0.hash(shorter, OWN));
+        assertEquals(Long.parseUnsignedLong("15302905912564408163"), Rapidhash.V2_1.hash(shorter, OWN));
+        assertEquals(Long.parseUnsignedLong("11896991483551387597"), Rapidhash.V2_2.hash(shorter, OWN));
+        assertEquals(Long.parseUnsignedLong("13105958653737073913"), Rapidhash.V3.hash(longer, OWN));
+        assertEquals(Long.parseUnsignedLong("5648300410578423183"), Rapidhash.V3_MICRO.hash(longer, OWN));
+        assertEquals(Long.parseUnsignedLong("4961128163384780230"), Rapidhash.V3_NANO.hash(longer, OWN));
+        assertEquals(Long.parseUnsignedLong("9934095814131968034"), Rapidhash.V3_PROTECTED.hash(longer, OWN));
+    }
+
+    @Test
+    public void seedWords() {
+        assertEquals(Long.parseUnsignedLong("8806718467852582029"), Rapidhash.V3.hash(Messages.bytes(120), 1L));
+        assertEquals(Long.parseUnsignedLong("16595489079910452471"), Rapidhash.V1.hash(Messages.bytes(60), 1L));
+        for (int size : new int[] {0, 1, 3, 4, 8, 16, 17, 48, 56, 64, 112, 113, 300, 5000}) {
+            byte[] message = Messages.bytes(size);
+            for (long seed : Messages.SEEDS) {
+                for (Rapidhash version : Rapidhash.values()) {
+                    long known = version.hash(message, Messages.ofSeed(version, seed));
+                    assertEquals(known, version.hash(message, seed));
+                    assertEquals(known, version.hash(Messages.padded(message), 3, size, seed));
+                    Messages.buffers(message).forEach(buffer -> assertEquals(known, version.hash(buffer, seed)));
+                }
+            }
+        }
+    }
+
+    @Test
+    public void buffersStayAsTheyAre() {
+        for (ByteBuffer buffer : Messages.buffers(HELLO)) {
+            int position = buffer.position();
+            int limit = buffer.limit();
+            buffer.order(ByteOrder.BIG_ENDIAN).mark();
+            assertEquals(3327445792987248966L, Rapidhash.V3.hash(buffer));
+            buffer.order(ByteOrder.LITTLE_ENDIAN);
+            assertEquals(3327445792987248966L, Rapidhash.V3.hash(buffer));
+            assertEquals(position, buffer.position());
+            assertEquals(limit, buffer.limit());
+            assertEquals(position, buffer.reset().position());
+        }
+    }
+
+    @Test
+    public void rangesWithinTheArray() {
+        int[][] ranges = {{-1, 2}, {0, 6}, {6, 0}, {3, 3}, {0, -1}, {Integer.MAX_VALUE, 1}, {1, Integer.MAX_VALUE}};
+        for (int[] range : ranges) {
+            for (Rapidhash version : Rapidhash.values()) {
+                refuses(() -> version.hash(HELLO, range[0], range[1]));
+                refuses(() -> version.hash(HELLO, range[0], range[1], 1L));
+                refuses(() -> version.hash(HELLO, range[0], range[1], OWN));
+            }
+            refuses(() -> Rapidhash.V3.stream().update(HELLO, range[0], range[1]));
+        }
+        assertEquals(Rapidhash.V3.hash(new byte[0]), Rapidhash.V3.hash(HELLO, 5, 0));
+    }
+
+    private static void refuses(org.junit.function.ThrowingRunnable call) {
+        assertThrows(IndexOutOfBoundsException.class, call);
+    }
+
+    @Test
+    public void nullsAreNamed() {
+        Rapidhash v3 = Rapidhash.V3;
+        names("bytes", () -> v3.hash((byte[]) null));
+        names("bytes", () -> v3.hash((byte[]) null, 1L));
+        names("bytes", () -> v3.hash((byte[]) null, OWN));
+        names("bytes", () -> v3.hash(null, 0, 0));
+        names("buffer", () -> v3.hash((ByteBuffer) null));
+        names("buffer", () -> v3.hash((ByteBuffer) null, 1L));
+        names("secrets", () -> v3.hash(HELLO, null));
+        names("secrets", () -> v3.hash(HELLO, 0, 5, null));
+        names("secrets", () -> v3.hash(ByteBuffer.wrap(HELLO), null));
+        names("secrets", () -> v3.stream(null));
+        names("secrets", () -> Secrets.of(1, (long[]) null));
+        names("bytes", () -> v3.stream().update((byte[]) null));
+        names("bytes", () -> v3.stream().update(null, 0, 0));
+        names("buffer", () -> v3.stream().update((ByteBuffer) null));
+    }
+
+    private static void names(String argument, org.junit.function.ThrowingRunnable call) {
+        assertEquals(argument, assertThrows(NullPointerException.class, call).getMessage());
+    }
+
+    @Test
+    public void secretsAreValues() {
+        assertEquals(Secrets.make(7), Secrets.make(7));
+        assertEquals(Secrets.make(7).hashCode(), Secrets.make(7).hashCode());
+        assertNotEquals(Secrets.make(7), Secrets.make(8));
+        assertNotEquals(Secrets.of(1, 2, 3, 5, 7, 11, 13, 18), OWN);
+        assertNotEquals(Secrets.of(2, 2, 3, 5, 7, 11, 13, 17), OWN);
+        OWN.secrets()[0] = 9;
+        assertArrayEquals(new long[] {2, 3, 5, 7, 11, 13, 17}, OWN.secrets());
+        assertEquals("Secrets[hidden]", OWN.toString());
+        assertThrows(IllegalArgumentException.class, () -> Secrets.of(1, 2, 3, 5));
+    }
+
+    /**
+     * Makes seeds whose mix has no bit in the upper 16 bits, in bits 24 to 39, or in the lower 16, but has the bits
+     * next to them. The Rust crate has these values.
+     */
+    @Test
+    public void repairedSeeds() {
+        assertEquals("9223652938801408785", Rapidhash.toDecimal(Secrets.make(1053423).seed()));
+        assertEquals("10552500177576716518", Rapidhash.toDecimal(Secrets.make(137630).seed()));
+        assertEquals("10769207283923746817", Rapidhash.toDecimal(Secrets.make(214786).seed()));
+    }
+
+    @Test
+    public void texts() {
+        assertEquals("18446744073709551615", Rapidhash.toDecimal(-1));
+        assertEquals("ffffffffffffffff", Rapidhash.toHex(-1));
+        assertEquals("0000000000000000", Rapidhash.toHex(0));
+        assertEquals("000000000000002a", Rapidhash.toHex(42));
+    }
+}

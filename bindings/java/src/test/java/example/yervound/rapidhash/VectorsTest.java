@@ -1,0 +1,104 @@
+package example.yervound.rapidhash;
+
+import static org.junit.Assert.assertEquals;
+import static org.junit.Assert.assertNotNull;
+import static org.junit.Assert.assertTrue;
+
+import java.io.IOException;
+import java.nio.ByteBuffer;
+import java.nio.file.Files;
+import java.nio.file.Path;
+import java.util.Arrays;
+import java.util.Map;
+import java.util.TreeMap;
+import java.util.stream.Collectors;
+import org.junit.Test;
+
+/** Compares all values of the Rust crate. Two environment variables name their files. */
+public class VectorsTest {
+    private static Iterable<String[]> lines(String variable) throws IOException {
+        String name = System.getenv(variable);
+        assertNotNull(variable + " names no file", name);
+        return Files.lines(Path.of(name)).filter(line -> !line.startsWith("#")).skip(1).map(line -> line.split("\t"))
+            .collect(Collectors.toList());
+    }
+
+    private static byte[] bytesOf(String digits) {
+        byte[] bytes = new byte[digits.length() / 2];
+        for (int at = 0; at < bytes.length; at++) {
+            bytes[at] = (byte) Integer.parseInt(digits.substring(2 * at, 2 * at + 2), 16);
+        }
+        return bytes;
+    }
+
+    /** Compares the hashes of the file that share/vectors.py writes, from each kind of memory and in pieces. */
+    @Test
+    public void hashes() throws IOException {
+        Map<String, Rapidhash> versions = Messages.versions();
+        Map<Rapidhash, Integer> counts = new TreeMap<>();
+        for (String[] words : lines("RAPIDHASH_VECTORS")) {
+            Rapidhash version = versions.get(words[0]);
+            byte[] message = bytesOf(words[2].replace("-", ""));
+            long known = Long.parseUnsignedLong(words[3]);
+            if (words[1].equals("default")) {
+                compareDefault(version, message, known);
+            } else {
+                Secrets secrets = Secrets.make(Long.parseUnsignedLong(words[1].substring("make:".length())));
+                compare(version, message, secrets, known);
+            }
+            counts.merge(version, 1, Integer::sum);
+        }
+        for (Rapidhash version : Rapidhash.values()) {
+            assertEquals(version + "'s vectors", Integer.valueOf(144), counts.get(version));
+        }
+    }
+
+    private static void compareDefault(Rapidhash version, byte[] message, long known) {
+        assertEquals(known, version.hash(message));
+        assertEquals(known, version.hash(Messages.padded(message), 3, message.length));
+        for (ByteBuffer buffer : Messages.buffers(message)) {
+            assertEquals(known, version.hash(buffer));
+        }
+        compare(version, message, Messages.ofSeed(version, version == Rapidhash.V1 ? 0xbdd89aa982704029L : 0), known);
+    }
+
+    private static void compare(Rapidhash version, byte[] message, Secrets secrets, long known) {
+        assertEquals(known, version.hash(message, secrets));
+        assertEquals(known, version.hash(Messages.padded(message), 3, message.length, secrets));
+        for (ByteBuffer buffer : Messages.buffers(message)) {
+            assertEquals(known, version.hash(buffer, secrets));
+        }
+        if (version == Rapidhash.V3 || version == Rapidhash.V3_MICRO || version == Rapidhash.V3_NANO) {
+            assertEquals(known, inPieces(version.stream(secrets), message));
+        }
+    }
+
+    /** Returns the hash of a message in pieces of 1, 2, 3 bytes, and so on. */
+    private static long inPieces(RapidhashStream stream, byte[] message) {
+        for (int at = 0, size = 1; at < message.length; at += size++) {
+            stream.update(message, at, Math.min(size, message.length - at));
+        }
+        return stream.getValue();
+    }
+
+    /** Compares the secrets of numbers and seed words up to 2^64 - 1. */
+    @Test
+    public void secrets() throws IOException {
+        int count = 0;
+        for (String[] words : lines("RAPIDHASH_SECRETS")) {
+            long number = Long.parseUnsignedLong(words[2]);
+            Secrets found = words[0].equals("v1") ? Secrets.ofSeedV1(number) : Secrets.ofSeed(number);
+            if (words[1].equals("seed")) {
+                found = Secrets.make(number);
+            } else if (!words[1].equals("seed_cpp")) {
+                continue;
+            }
+            long[] known = Arrays.stream(words[3].split(" ")).mapToLong(Long::parseUnsignedLong).toArray();
+            assertEquals(known[0], found.seed());
+            long[] first = Arrays.copyOf(found.secrets(), known.length - 1);
+            assertEquals(Arrays.toString(Arrays.copyOfRange(known, 1, known.length)), Arrays.toString(first));
+            count++;
+        }
+        assertTrue(count + " lines, and 360 are known", count >= 360);
+    }
+}
