@@ -305,6 +305,7 @@ RAPIDHASH_FOLD const uint8_t *rapidhash_rows_(
         rapidhash_row_(lanes, 2, guard, lane, p, s);
     for (; *n >= row + least; *n -= row, p += row)
         rapidhash_row_(lanes, 1, guard, lane, p, s);
+    RAPIDHASH_ASSERT(*n < row + least);
     return p;
 }
 
@@ -318,12 +319,10 @@ RAPIDHASH_FOLD uint64_t rapidhash_join_(int lanes, const uint64_t *lane)
 /* Sets the last two words of 1 to 16 bytes, in V1 of 1 to 3. V1, V2.0, and V2.1 join up to 3 bytes in one word. */
 RAPIDHASH_FOLD void rapidhash_words_(int shift, bool joined, const uint8_t *p, size_t n, uint64_t *a, uint64_t *b)
 {
-    if (n >= 8) {
-        *a = rapidhash_load8_(p);
-        *b = rapidhash_load8_(p + n - 8);
-    } else if (n >= 4) {
-        *a = rapidhash_load4_(p);
-        *b = rapidhash_load4_(p + n - 4);
+    RAPIDHASH_ASSERT(n <= 16);
+    if (n >= 4) {
+        *a = n >= 8 ? rapidhash_load8_(p) : rapidhash_load4_(p);
+        *b = n >= 8 ? rapidhash_load8_(p + n - 8) : rapidhash_load4_(p + n - 4);
     } else if (n > 0) {
         *a = (uint64_t)p[0] << shift | (joined ? (uint64_t)p[n / 2] << 32 : 0) | p[n - 1];
         *b = joined ? 0 : p[n / 2];
@@ -354,13 +353,12 @@ RAPIDHASH_APART uint64_t rapidhash_long_v1_(const uint8_t *p, size_t n, uint64_t
 
 RAPIDHASH_FOLD uint64_t rapidhash_v1_(const uint8_t *p, size_t n, uint64_t seed, const uint64_t *s)
 {
-    const size_t inset = n >= 8 ? 4 : 0;
     uint64_t a = 0, b = 0;
     seed ^= n;
     if (n > 16) return rapidhash_long_v1_(p, n, seed, s);
     if (n >= 4) {
         a = rapidhash_load4_(p) << 32 | rapidhash_load4_(p + n - 4);
-        b = rapidhash_load4_(p + inset) << 32 | rapidhash_load4_(p + n - 4 - inset);
+        b = n >= 8 ? rapidhash_load4_(p + 4) << 32 | rapidhash_load4_(p + n - 8) : a;
     } else {
         rapidhash_words_(56, true, p, n, &a, &b);
     }
