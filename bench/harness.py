@@ -41,8 +41,8 @@ yervound = []
 [dependencies]
 rapidhash = {{ package = "{package}", path = "{crate}" }}
 
-[profile.release]
-opt-level = 3
+[profile.lto]
+inherits = "release"
 lto = "fat"
 codegen-units = 1
 
@@ -65,17 +65,17 @@ def build_rattle(crate):
     return TOP / "crates" / crate / "out" / crate
 
 
-def build_rust(name, source, features=(), flags=""):
+def build_rust(name, source, features=(), flags="", profile="lto"):
     """Builds the program from a source with the crate of this name."""
-    room, crate = ROOM / "_".join([Path(source).stem, name, *features]), CRATES[name]
+    room, crate = ROOM / "_".join([Path(source).stem, name, *features, profile]), CRATES[name]
     room.mkdir(parents=True, exist_ok=True)
     package = re.search(r'^name = "(.*)"', (crate / "Cargo.toml").read_text(), re.MULTILINE)[1]
     manifest = MANIFEST.format(source=TOP / "bench" / source, package=package, crate=crate)
     (room / "Cargo.toml").write_text(manifest)
     features = [*features, *["yervound"] * (package != "rapidhash")]
-    words = ["cargo", "build", "--release", "--offline", "--quiet", "--features", ",".join(features)]
+    words = ["cargo", "build", "--profile", profile, "--offline", "--quiet", "--features", ",".join(features)]
     run(*words, folder=room, env=dict(os.environ, RUSTFLAGS=flags))
-    return room / "target" / "release" / "program"
+    return room / "target" / profile / "program"
 
 
 def build(crate, source):

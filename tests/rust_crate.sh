@@ -41,6 +41,22 @@ readme_runs() {
     (cd "$project" && "$@" run --quiet) >"$room/printed" && [ "$(cat "$room/printed")" = 3327445792987248966 ]
 }
 
+# Runs the tests of rust/compat in a project whose dependency is the crate rapidhash, replaced by that package. Debian's
+# directory of crates is its registry.
+drops_in() {
+  local project=$room/drop_in
+  mkdir -p "$project/.cargo" "$project/src" && touch "$project/src/lib.rs" &&
+    printf '[source.crates-io]\nreplace-with = "debian"\n\n[source.debian]\ndirectory = "/usr/share/cargo/registry"\n' \
+      >"$project/.cargo/config.toml" &&
+    printf '%s\n' '[package]' 'name = "first"' 'version = "0.0.0"' 'edition = "2021"' '[dependencies]' \
+      'rapidhash = { version = "4.5.1", features = ["rng_06", "unsafe", "nightly", "getrandom_04"] }' \
+      'rand_core = { version = "0.6", default-features = false }' \
+      'hashbrown = { version = "0.12", default-features = false, features = ["raw"] }' 'indexmap = "1"' \
+      '[[test]]' 'name = "drop_in"' "path = \"$top/rust/compat/tests/drop_in.rs\"" \
+      '[patch.crates-io]' "rapidhash = { path = \"$top/rust/compat\" }" >"$project/Cargo.toml" &&
+    (cd "$project" && tests_pass cargo test --test drop_in)
+}
+
 cd "$top/rust" || exit 1
 try current "$top/bin/rust_crate" --check
 try generated marks_generated
@@ -52,6 +68,8 @@ for features in --all-features --no-default-features; do
   try "tests_${features#--}" tests_pass cargo test "$features" --tests
 done
 try examples tests_pass cargo test --doc
+try pedantic cargo clippy -- -D warnings -W clippy::pedantic
+if [ -d /usr/share/cargo/registry ]; then try drop_in drops_in; else echo 'skipped drop_in: no /usr/share/cargo/registry'; fi
 try no_dependency bash -c '[ "$(cargo tree | wc -l)" -eq 1 ]'
 try no_unsafe grep -x '#!\[forbid(unsafe_code)\]' src/lib.rs
 try package packages

@@ -63,7 +63,7 @@ fn generators_start_at_random() {
 #[test]
 #[should_panic(expected = "MINOR must be 0, 1 or 2")]
 fn a_minor_that_is_none() {
-    v2::rapidhash_v2_inline::<3, true, false, false>(b"", &v2::DEFAULT_RAPID_SECRETS);
+    let _ = v2::rapidhash_v2_inline::<3, true, false, false>(b"", &v2::DEFAULT_RAPID_SECRETS);
 }
 
 #[test]
@@ -77,13 +77,13 @@ fn a_minor_that_is_none_of_a_long_file() {
 #[test]
 #[should_panic(expected = "LANES must be 7, 5 or 3")]
 fn four_lanes() {
-    RapidStreamHasherLanes::<4, true, false>::new(&DEFAULT_RAPID_SECRETS);
+    let _ = RapidStreamHasherLanes::<4, true, false>::new(&DEFAULT_RAPID_SECRETS);
 }
 
 #[test]
 #[should_panic(expected = "the lanes must be 7, 5 or 3")]
 fn four_lanes_as_a_value() {
-    RapidStream::new(4, &DEFAULT_RAPID_SECRETS);
+    let _ = RapidStream::new(4, &DEFAULT_RAPID_SECRETS);
 }
 
 #[test]
@@ -101,5 +101,5 @@ fn a_second_of_nanoseconds() {
 #[test]
 #[should_panic]
 fn a_read_past_the_end() {
-    util::read_u64(&[0; 8], 1);
+    let _ = util::read_u64(&[0; 8], 1);
 }
