@@ -26,6 +26,9 @@
 #ifndef RAPIDHASH_C_H
 #define RAPIDHASH_C_H
 
+#if !defined(__cplusplus) && !defined(_MSC_VER) && (!defined(__STDC_VERSION__) || __STDC_VERSION__ < 199901L)
+#error "rapidhash_c.h needs C99 or C++11"
+#endif
 #include <stdbool.h>
 #include <stddef.h>
 #include <stdint.h>
@@ -257,7 +260,6 @@ static const struct rapidhash_secrets rapidhash_default_ = {UINT64_C(0x422765567
     UINT64_C(0x90ed1765281c388c)}};
 #define RAPIDHASH_C_V1_SEED UINT64_C(0x763305bbe7bea536)
 #define RAPIDHASH_C_BITS UINT64_C(0xaaaaaaaaaaaaaaaa)
-
 /* Returns the XOR of both halves of a product. With `guard`, the factors are XORed into it. */
 RAPIDHASH_FOLD uint64_t rapidhash_mix_(bool guard, uint64_t a, uint64_t b)
 {

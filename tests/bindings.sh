@@ -169,10 +169,12 @@ builds_from_the_header() {
     make_without_the_kit install PREFIX="$room/usr" && [ ! -e "$room/usr/bin" ]
 }
 
-# Compiles and runs the first program of docs/C.md with the header alone, as the page says.
+# Compiles and runs the first programs of docs/C.md and docs/CPP.md with the headers alone, as the pages say.
 first_program_runs() {
   blocks "$top/docs/C.md" c hello >"$room/bare/hello.c" && blocks "$top/docs/C.md" sh Iinclude >"$room/commands" &&
-    cd "$room/bare" && [ "$(bash -e "$room/commands")" = 3327445792987248966 ]
+    blocks "$top/docs/CPP.md" cpp hello >"$room/bare/hello.cpp" && cd "$room/bare" &&
+    [ "$(bash -e "$room/commands")" = 3327445792987248966 ] &&
+    c++ -O2 -Iinclude hello.cpp -o hello_cpp && [ "$(./hello_cpp)" = 3327445792987248966 ]
 }
 
 # Tests the library that cc compiles from the header: it replaces the proved one on other machines.
@@ -201,6 +203,7 @@ for compiler in gcc clang; do
     try_with "header_${standard}_$compiler" "$compiler" is_the_library "$compiler" "$standard"
   done
 done
+try header_c89 bash -c 'cc -std=c89 -fsyntax-only "$1" 2>&1 | grep -m 1 error: | grep "needs C99 or C++11"' - "$header"
 try header_without_int128 has_the_values cc -O2 -DRAPIDHASH_NO_INT128
 try header_with_assertions has_the_values cc -O3 -include assert.h -DRAPIDHASH_ASSERT=assert
 try_with header_with_sanitizers clang has_the_values clang -O1 -fsanitize=address,undefined -fno-sanitize-recover=all
