@@ -68,6 +68,20 @@ FORMS = "|".join((
     "use std : : marker : : Model ; ",
     "[+,] Drop ",
 ))
+# What only Rust has, as tokens, and what Rattle has in its place: lints, constant functions, and in files with these
+# other loops and reads. Each rule is applied until it matches no more.
+BODY = rf"(?:[^{{}}]|{GROUP})*"
+RUST = (
+    (r"# \[ must_use \] ", ""),
+    (rf"const_fn ! {{ ([^{{}}]*?)const fn ({BODY})}} ", r"\1fn \2"),
+    (rf"let mut (\w+) = 0 ; while \1 < (\w+) {{ ({BODY}?)\1 \+ = 1 ; }} ", r"for \1 in 0 . . \2 { \3} "),
+    (r"(\w+) \. split_at \( ([^()]*)\) \. 1 ", r"& \1 [ \2. . ] "),
+    (r"crate : : macros : : array \( (\w+) , (\w+) \) ", r"\1 [ \2 . . \2 + N ] . try_into ( ) . unwrap ( ) "),
+    (r"u64 : : from_le_bytes (\( \w+ \[ \w+ \. \. \w+ \+ )N ", r"u64 : : from_le_bytes \g<1>8 "),
+    (r"u32 : : from_le_bytes (\( \w+ \[ \w+ \. \. \w+ \+ )N ", r"u32 : : from_le_bytes \g<1>4 "),
+)
+# Preconditions, of which Rust's callers know only the panic.
+CHECKED = (r"In Rust, if (.*)\. Rattle's checker refuses such a call\.", r"If \1.")
 WORDS = re.compile(r'//[^\n]*|b?"(?:[^"\\]|\\.)*"|\'\\?.\'|\w+|\S', re.DOTALL)
 
 
@@ -81,15 +95,25 @@ def without(pattern, text):
     return re.sub(f"^(?:{pattern})".replace(" ", "\n"), "", text, flags=re.MULTILINE)
 
 
+def as_in_rattle(rust):
+    """Returns the tokens of a text of Rust, with those of Rattle where RUST has other ones."""
+    text = words_of(rust)
+    for pattern, new in RUST if "const_fn!" in rust else RUST[:1]:
+        pattern, new, before = re.compile(f"^{pattern}".replace(" ", "\n"), re.MULTILINE), new.replace(" ", "\n"), None
+        while text != before:
+            before, text = text, pattern.sub(new, text)
+    return text
+
+
 def difference(rattle, rust, left_out):
     """Returns the lines in which Rattle's text, without its ghost forms and the omitted items, differs from Rust's."""
-    theirs = without(FORMS, words_of(rattle))
+    theirs = without(FORMS, words_of(re.sub(*CHECKED, rattle)))
     for begin in left_out:
         words = re.escape(words_of(begin).removesuffix("\n"))
         rest = "[^;]*; " if begin.startswith("use") else rf"[^{{]*{GROUP}"
         theirs = without(rf"(?:///.* )*{words}\w* {rest}", theirs)
     # rustfmt decides whether a comma precedes a closing bracket.
-    texts = [without(r", (?=[]})>] )", text).splitlines() for text in (theirs, words_of(rust))]
+    texts = [without(r", (?=[]})>] )", text).splitlines() for text in (theirs, as_in_rattle(rust))]
     return unified_diff(*texts, "Rattle", "Rust", lineterm="")
 
 
