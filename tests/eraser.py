@@ -137,12 +137,27 @@ def erased(text):
         return refused
 
 
+def assertions():
+    """Yields each test of the crate with the numbers of its assertions in Rattle and in Rust."""
+    for crate, (folder, names) in rust_crate.TESTS.items():
+        for name, _, other in (name.partition(":") for name in names.split()):
+            text = (TOP / "crates" / crate / "src" / f"{name}.rt").read_text()
+            target = f"{folder}/{other or name}"
+            for begin in (begin for file, begins, _reason in rust_crate.LEFT_OUT if file == target for begin in begins):
+                end = "[^;]*;" if begin.startswith("use") else r".*?\n}\n"
+                text = re.sub(re.escape(begin) + end, "", text, count=1, flags=re.DOTALL)
+            rust = (TOP / "rust" / f"{target}.rs").read_text()
+            yield target, *(len(re.findall(r"\bassert(?:_eq|_ne)?!\(", it)) for it in (text, rust))
+
+
 for name, (old, new) in ERASED.items():
     compare(name, erased(old), new)
 for name, text in KEPT.items():
     compare(f"{name} is kept", erased(text), text)
 for name, text in REFUSED.items():
     tell(f"{name} is refused", *[f"{erased(text)!r}"] * (not isinstance(erased(text), Refused)))
+for name, wanted, found in assertions():
+    compare(f"{name}.rs has the assertions of its source", found, wanted)
 for name, rattle, rust, left_out in sources():
     tell(f"{name}.rs is {name}.rt without its contracts", *difference(rattle, rust, left_out))
 finish()
