@@ -3,7 +3,7 @@
 //! The code is that of a proved library, without its contracts. A checker has proved, for every
 //! input, that each hash is the value of a single definition. The README states what that covers.
 //!
-//! - [`v1`], [`v2`], and [`v3`] hold the portable hashes: of a slice, of pieces, and of a reader.
+//! - [`v1`], [`v2`], and [`v3`] hold the portable hashes of a slice and of a reader, and `v3` those of pieces too.
 //!   Their values never change and are the same on every machine.
 //! - `RapidHashMap` and `RapidHashSet` are std's map and set with the fast hasher.
 //! - [`fast`], [`quality`], and [`inner`] hold the hasher of maps and the states that build it.
