@@ -130,33 +130,18 @@ page: $(folder)
 	@rm -rf build/browser && mkdir build/browser
 	@cp examples/browser/*.* build/npm/*.mjs LICENSE-MIT LICENSE-APACHE NOTICE build/browser
 
-# The system's Python can build a wheel with its packages python3-setuptools and python3-wheel.
+# The system's Python can build a wheel with its packages python3-setuptools, python3-wheel and python3-dev.
 PYTHON = /usr/bin/python3
 wheels = build/wheels
-wheel = $(wheels)/yervound_rapidhash-1.0.0-py3-none-linux_x86_64.whl
-wheel: $(wheel)
+wheel: $(wheels)/made
 
-# Checks for a compiler and for the headers of a Python whose limited API has buffers.
-can_extend = printf '\#include <Python.h>\n\#if PY_VERSION_HEX < 0x030b0000\n\#error\n\#endif\n' | \
-  cc -x c -fsyntax-only - -I"$$($(PYTHON) -c 'import sysconfig; print(sysconfig.get_paths()["include"])')" 2>/dev/null
-
-# Lays out the directory of a wheel with an additional file and packs it: DIRECTORY, the file, its place
-define pack_wheel
-  rm -rf $(1) && mkdir -p $(1)/rapidhash && \
-  cp bindings/python/setup.py bindings/python/*.toml bindings/python/*.md bindings/python/*.[ch] $(1) && \
-  cp bindings/python/rapidhash/*.py* bindings/python/rapidhash/py.typed $(1)/rapidhash && \
-  cp include/rapidhash_c.h LICENSE-MIT LICENSE-APACHE NOTICE $(1) && cp $(2) $(1)/$(3) && \
-  CFLAGS='-Wall -Wextra -Werror' $(PYTHON) -m pip wheel --quiet --no-index --no-deps --no-build-isolation \
-    --wheel-dir $(wheels) ./$(1)
-endef
-
-$(wheel): $(shared) include/rapidhash_c.h LICENSE-MIT LICENSE-APACHE NOTICE \
+$(wheels)/made: include/rapidhash_c.h LICENSE-MIT LICENSE-APACHE NOTICE \
     $(wildcard bindings/python/*.* bindings/python/rapidhash/*.*)
 	@$(PYTHON) -c 'import setuptools, wheel' || { echo 'make: $(PYTHON) lacks setuptools or wheel' >&2; exit 2; }
-	@rm -rf $(wheels)
-	@if $(can_extend); then $(call pack_wheel,build/wheel_extension,$(archive),); else \
-	  echo 'make: no wheel with an extension, which needs cc and the headers of Python 3.11 or later' >&2; fi
-	@$(call pack_wheel,build/wheel,$(shared),rapidhash)
+	@rm -rf $(wheels) && mkdir -p $(wheels)
+	@$(PYTHON) -m pip wheel --quiet --no-index --no-deps --no-build-isolation --wheel-dir $(wheels) ./bindings/python
+	@cd bindings/python && $(PYTHON) -Bc 'import backend; backend.build_sdist("../../$(wheels)")' >../../build/sdist.log
+	@touch $@
 
 jar = build/yervound-rapidhash-1.0.0.jar
 jar: $(jar)
@@ -228,17 +213,17 @@ install:
 uninstall:
 	@bin/install --remove
 
-dist: all $(folder) $(wheel)
+dist: all $(folder) wheel
 	rm -rf build/$(name)
 	$(MAKE) -s install DESTDIR= PREFIX='$(CURDIR)/build/$(name)'
 	tar --exclude=__pycache__ --exclude=bindings/javascript --exclude=target --exclude=rust/tests -hcf - \
 	  bindings rust | tar -C build/$(name) -xf -
 	cp -r build/npm build/$(name)/bindings/javascript
-	install -D -m 644 -t build/$(name)/wheels $(wheels)/*.whl
+	install -D -m 644 -t build/$(name)/wheels $(wheels)/*.whl $(wheels)/*.tar.gz
 	install -m 644 LICENSE-MIT LICENSE-APACHE NOTICE docs/C.md docs/CPP.md docs/ALGORITHM.md build/$(name)
 	install -D -m 644 docs/images/lanes.svg build/$(name)/images/lanes.svg
 	install -m 644 share/dist.md build/$(name)/README.md
-	install -m 755 share/check_vectors.py build/$(name)
+	install -m 644 tests/c_library.c build/$(name)/check_vectors.c
 	python3 share/vectors.py crates/test_replay/data >build/$(name)/rapidhash_vectors.tsv
 	tar -C build -czf build/$(name).tar.gz $(name)
 	rm -rf build/$(name)
