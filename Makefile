@@ -12,7 +12,7 @@
 # make page        copies examples/browser and the npm package to build/browser, for any file server
 # make install     installs the built files, manual pages, and completions under PREFIX; uninstall removes them
 # make dist        packs everything that a user without the toolchain needs into a single archive in build/
-# make deb         packs the results of make and make sqlite as Debian packages in build/debian
+# make deb         packs the results of make, make sqlite and make postgresql as Debian packages in build/debian
 # make vendor      copies the library into another Rattle repository: make vendor INTO=FOLDER
 # make test-vendor runs the merge gate of such a repository, which proves everything from scratch
 # make clean       removes all build results
@@ -156,12 +156,11 @@ $(jar): LICENSE-MIT LICENSE-APACHE NOTICE bindings/java/pom.xml $(shell find bin
 extension = build/rapidhash.so
 sqlite: $(extension)
 
-$(extension): $(archive) bindings/sqlite/rapidhash.c include/rapidhash_c.h
+$(extension): bindings/sqlite/rapidhash.c include/rapidhash_c.h
 	@mkdir -p build
-	@cc -std=c99 -O2 -Wall -Wextra -Wpedantic -Werror -DRAPIDHASH_LINK -fPIC -fvisibility=hidden -shared -Iinclude \
-	  bindings/sqlite/rapidhash.c $(archive) -Wl,--exclude-libs,ALL,-z,relro,-z,now -o $@
+	@cc -std=c99 -O2 -Wall -Wextra -Wpedantic -Werror -fPIC -fvisibility=hidden -shared -Iinclude $< -Wl,-z,relro,-z,now -o $@
 
-postgresql: $(archive)
+postgresql:
 	@command -v pg_config >/dev/null || { echo 'make: pg_config, of PostgreSQL, is not on PATH' >&2; exit 2; }
 	@rm -rf build/postgresql && mkdir -p build && cp -r bindings/postgresql build
 	@MAKEFLAGS= $(MAKE) -s -C build/postgresql COPT=-Werror
@@ -228,7 +227,7 @@ dist: all $(folder) wheel
 	tar -C build -czf build/$(name).tar.gz $(name)
 	rm -rf build/$(name)
 
-deb: all $(extension)
+deb: all sqlite postgresql
 	@rm -rf build/debian && mkdir -p build/debian/source && cp -r share/debian build/debian/source
 	@cd build/debian/source && TOP='$(CURDIR)' dpkg-buildpackage -b -us -uc >../log 2>&1 || \
 	  { tail -n 20 ../log; echo 'make: the packages failed; full output: build/debian/log'; exit 2; } >&2

@@ -23,8 +23,8 @@ has_its_files() {
 
 # Checks that the extension needs the C library of the system alone, and exports nothing but its start.
 exports_its_start_alone() {
-  nm -D --defined-only "$room/files/rapidhash/_extension.abi3.so" | cut -d ' ' -f 3 | diff - <(echo PyInit__extension) &&
-    ! ldd "$room/files/rapidhash/_extension.abi3.so" | grep rapidhash_c
+  cd "$room/files/rapidhash" && nm -D --defined-only _extension.abi3.so | cut -d ' ' -f 3 |
+    diff - <(echo PyInit__extension) && ! ldd _extension.abi3.so | grep rapidhash_c
 }
 
 # Lays out the sources as in the repository, where a build must leave nothing, and the tests away from them.
@@ -43,7 +43,7 @@ leaves_nothing() {
 installs_from_source() {
   "$python" -m venv --system-site-packages "$room/compiled" &&
     "$room/compiled/bin/pip" install --no-build-isolation "$room/source/bindings/python" && leaves_nothing &&
-    cd / && [ "$("$room/compiled/bin/python" -c 'import rapidhash; print(rapidhash.v3(b"hello"))')" = 3327445792987248966 ]
+    cd / && "$room/compiled/bin/python" -c 'import rapidhash; print(rapidhash.v3(b"hello"))' | grep -x 3327445792987248966
 }
 
 # Checks that an installation fails, installs nothing and leaves nothing: WORD-IN-ITS-ERROR ARGUMENT..

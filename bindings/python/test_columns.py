@@ -93,7 +93,7 @@ class Out(unittest.TestCase):
             (lambda: rapidhash.each([b""], out=bytes(8)), BufferError, ""),
             (lambda: rapidhash.each_row(one, 8, out=one), ValueError, "out must not overlap data"),
             (lambda: rapidhash.each_slice(b"", two[:2], out=two[1:2]), ValueError, "out must not overlap offsets$"),
-            (lambda: rapidhash.each_slice(one, array.array("i", [0, 1]), out=one), ValueError, "out must not overlap "),
+            (lambda: rapidhash.each_slice(one, array.array("i", [0, 1]), out=one), ValueError, "out must not overlap"),
         ):
             with self.assertRaisesRegex(kind, f"^{error}"):
                 call()
