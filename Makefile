@@ -6,7 +6,7 @@
 # make fmt         formats the sources
 # make bench       repeats the measurements in bench/*.tsv, compared with the Rust crate that RAPIDHASH_CRATE names
 # make library     proves and builds the C library, static and shared
-# make wasm        builds the same library for WebAssembly, with 32-bit addresses
+# make wasm        builds the C header for WebAssembly
 # make npm, wheel, sqlite, and postgresql build the bindings, including the library: see docs/BINDINGS.md
 # make jar         builds the package for Java, which needs a JDK alone
 # make page        copies examples/browser and the npm package to build/browser, for any file server
@@ -101,26 +101,29 @@ $(shared): $(archive) share/librapidhash_c.map
 	  --as-needed $(addprefix -L,$(system)) -l:libc.so.6 -o $(shared)
 endif
 
-module = build/rapidhash_c.wasm
-folder = build/npm/module.mjs
+module = build/rapidhash.wasm
+folder = build/npm/rapidhash.cjs
 package = build/yervound-rapidhash-1.0.0.tgz
 wasm: $(module)
 npm: $(package)
 
-build/rapidhash_c_64.wasm: $(archive) bindings/javascript/build.sh
-	@bindings/javascript/build.sh
+# The linker is called by itself, because clang would run wasm-opt if it is installed.
+$(module): bindings/javascript/rapidhash.c bindings/javascript/string.h include/rapidhash_c.h
+	@for program in clang wasm-ld; do command -v $$program >/dev/null || \
+	  { echo "make: $$program, of clang and lld, is not on PATH" >&2; exit 2; }; done
+	@mkdir -p build
+	@clang --target=wasm32 -std=c99 -Os -Wall -Wextra -Werror -ffreestanding -mbulk-memory \
+	  -isystem bindings/javascript -Iinclude -c $< -o build/wasm.o
+	@wasm-ld --no-entry --strip-all --export=__heap_base -z stack-size=16384 build/wasm.o -o $@
 
-# The kit's module needs a memory with 64-bit addresses, which only newer engines have.
-$(module): build/rapidhash_c_64.wasm
-	@command -v wasm-opt >/dev/null || { echo 'make: wasm-opt, of the package binaryen, is not on PATH' >&2; exit 2; }
-	@wasm-opt --enable-memory64 --enable-bulk-memory --memory64-lowering -O3 --strip-debug $< -o $@
-
-# Lays out the directory of the package. Its last file contains the module as text.
+# Lays out the directory of the package. module.mjs contains the module as text, and rapidhash.cjs is for `require`.
 $(folder): $(module) $(wildcard bindings/javascript/*.*) LICENSE-MIT LICENSE-APACHE NOTICE
+	@command -v esbuild >/dev/null || { echo 'make: esbuild is not on PATH' >&2; exit 2; }
 	@rm -rf build/npm && mkdir build/npm
 	@cd bindings/javascript && cp *.mjs index.d.ts package.json README.md ../../build/npm
-	@cp LICENSE-MIT LICENSE-APACHE NOTICE build/npm
-	@{ printf 'export default "' && base64 -w 0 $(module) && echo '";'; } >$(folder)
+	@cp LICENSE-MIT LICENSE-APACHE NOTICE build/npm && cp bindings/javascript/index.d.ts build/npm/index.d.cts
+	@{ printf 'export default "' && base64 -w 0 $(module) && echo '";'; } >build/npm/module.mjs
+	@esbuild build/npm/rapidhash.mjs --bundle --platform=node --target=node18 --log-level=warning --outfile=$@
 
 $(package): $(folder)
 	@command -v npm >/dev/null || { echo 'make: npm is not on PATH' >&2; exit 2; }
@@ -158,7 +161,8 @@ sqlite: $(extension)
 
 $(extension): bindings/sqlite/rapidhash.c include/rapidhash_c.h
 	@mkdir -p build
-	@cc -std=c99 -O2 -Wall -Wextra -Wpedantic -Werror -fPIC -fvisibility=hidden -shared -Iinclude $< -Wl,-z,relro,-z,now -o $@
+	@cc -std=c99 -O2 -Wall -Wextra -Wpedantic -Werror -fPIC -fvisibility=hidden -shared -Iinclude $< \
+	  -Wl,-z,relro,-z,now -o $@
 
 postgresql:
 	@command -v pg_config >/dev/null || { echo 'make: pg_config, of PostgreSQL, is not on PATH' >&2; exit 2; }
