@@ -143,7 +143,8 @@ $(wheels)/made: include/rapidhash_c.h LICENSE-MIT LICENSE-APACHE NOTICE \
 	@$(PYTHON) -c 'import setuptools, wheel' || { echo 'make: $(PYTHON) lacks setuptools or wheel' >&2; exit 2; }
 	@rm -rf $(wheels) && mkdir -p $(wheels)
 	@$(PYTHON) -m pip wheel --quiet --no-index --no-deps --no-build-isolation --wheel-dir $(wheels) ./bindings/python
-	@cd bindings/python && $(PYTHON) -Bc 'import backend; backend.build_sdist("../../$(wheels)")' >../../build/sdist.log
+	@cd bindings/python && $(PYTHON) -Bc 'import backend; backend.build_sdist("../../$(wheels)")' \
+	  >../../build/sdist.log 2>&1 || { cat ../../build/sdist.log; exit 2; } >&2
 	@touch $@
 
 jar = build/yervound-rapidhash-1.0.0.jar

@@ -43,7 +43,7 @@ const rounded: number = library.v2_2(data);
 // @ts-expect-error hex requires a BigInt.
 hex(7);
 // @ts-expect-error A path cannot be read synchronously.
-loadSync("rapidhash_c.wasm");
+loadSync("rapidhash.wasm");
 // @ts-expect-error The properties are read-only.
 library.room = 7;
 
