@@ -188,12 +188,14 @@ test:
 	done
 
 # The bench and the arguments for each file of figures. A bench that fails leaves the figures unchanged.
-bench: bench/slices.tsv bench/speed.tsv bench/c.tsv bench/files.tsv bench/memory.tsv bench/tool.tsv bench/packages.tsv
+bench: bench/slices.tsv bench/speed.tsv bench/rust.tsv bench/c.tsv bench/java.tsv bench/files.tsv bench/memory.tsv bench/tool.tsv bench/packages.tsv
 	@bench/figures --write
 
 bench/slices.tsv: measured = slices default seeded
 bench/speed.tsv: measured = slices v3 plot
-bench/c.tsv: measured = slices c seed stream
+bench/rust.tsv: measured = rust
+bench/c.tsv: measured = c
+bench/java.tsv: measured = java
 bench/files.tsv: measured = files
 bench/memory.tsv: measured = memory
 bench/tool.tsv: measured = tool
@@ -243,7 +245,11 @@ vendor:
 clean:
 	rm -rf crates/*/out build
 
-# Not part of the gate, because it takes some additional minutes.
+# The next two are not part of the gate, because they take some additional minutes.
+.PHONY: test-edits
+test-edits:
+	@tests/must_fail.py
+
 .PHONY: test-vendor
 test-vendor:
 	@tests/vendor.sh ci

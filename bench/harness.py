@@ -32,17 +32,15 @@ name = "program"
 path = "{source}"
 
 [features]
-c = []
 further = []
-seed = []
 seeded = []
 yervound = []
 
 [dependencies]
 rapidhash = {{ package = "{package}", path = "{crate}" }}
 
-[profile.release]
-opt-level = 3
+[profile.lto]
+inherits = "release"
 lto = "fat"
 codegen-units = 1
 
@@ -65,17 +63,17 @@ def build_rattle(crate):
     return TOP / "crates" / crate / "out" / crate
 
 
-def build_rust(name, source, features=(), flags=""):
+def build_rust(name, source, features=(), profile="lto"):
     """Builds the program from a source with the crate of this name."""
-    room, crate = ROOM / "_".join([Path(source).stem, name, *features]), CRATES[name]
+    room, crate = ROOM / "_".join([Path(source).stem, name, *features, profile]), CRATES[name]
     room.mkdir(parents=True, exist_ok=True)
     package = re.search(r'^name = "(.*)"', (crate / "Cargo.toml").read_text(), re.MULTILINE)[1]
     manifest = MANIFEST.format(source=TOP / "bench" / source, package=package, crate=crate)
     (room / "Cargo.toml").write_text(manifest)
     features = [*features, *["yervound"] * (package != "rapidhash")]
-    words = ["cargo", "build", "--release", "--offline", "--quiet", "--features", ",".join(features)]
-    run(*words, folder=room, env=dict(os.environ, RUSTFLAGS=flags))
-    return room / "target" / "release" / "program"
+    words = ["cargo", "build", "--profile", profile, "--offline", "--quiet", "--features", ",".join(features)]
+    run(*words, folder=room)
+    return room / "target" / profile / "program"
 
 
 def build(crate, source):
@@ -190,6 +188,45 @@ def print_table(unit, best):
         for name in ("ours", "rust"):
             if group and len(rows) > 1 and all(name in times and "crate" in times for times in rows):
                 print(f"# {group}: mean of crate/{name} {mean_ratio(rows, name):.3f}")
+
+
+def alternate(programs, words, turns):
+    """Runs programs that print rows (group, name, nanoseconds) alternately, and returns the least times, keyed by the
+    build and the group, by the row, and by the library. The programs are keyed by build and library."""
+    best = {}
+    for _ in range(turns):
+        for (build, library), program in programs.items():
+            text = subprocess.run([program, *words], stdout=subprocess.PIPE, check=True, text=True).stdout
+            for group, name, nanos in (line.split("\t") for line in text.splitlines()):
+                times = best.setdefault((build, group), {}).setdefault(name, {})
+                times[library] = min(float(nanos), times.get(library, math.inf))
+    return best
+
+
+def mean(numbers):
+    """Returns the geometric mean."""
+    logarithms = [math.log(number) for number in numbers]
+    return math.exp(sum(logarithms) / len(logarithms))
+
+
+def print_rows(title, best, ours, others):
+    """Prints the rows of alternate: for each length the mean over its loops, and per group the mean of the ratios."""
+    commit = run("git", "rev-parse", "--short", "HEAD", folder=TOP)
+    print(f"# {title}, at commit {commit}.\n# {machine_and_date()}")
+    print("what", "unit", ours, *others, sep="\t")
+    for (build, group), rows in best.items():
+        loops = {}
+        for name, times in rows.items():
+            length = name.rpartition(" ")[0] if name.endswith((" sum", " store", " join", " chain")) else name
+            loops.setdefault(length, []).append(times)
+        for length, all_times in loops.items():
+            cells = [[times[it] for times in all_times if it in times] for it in (ours, *others)]
+            print(f"{group} {length}, {build}", "ns", *(f"{mean(cell):.2f}" if cell else "" for cell in cells), sep="\t")
+    for (build, group), rows in sorted(best.items()):
+        for other in others:
+            ratios = [times[other] / times[ours] for times in rows.values() if other in times]
+            if ratios:
+                print(f"# {group}, {build}: mean of {other}/{ours} {mean(ratios):.3f}")
 
 
 def read_figures(name):

@@ -1,8 +1,6 @@
 //! Does the work of `bench_memory` with a crate. Prints a number that depends on all of the work, and the time in
 //! nanoseconds. As in `bench_memory`, the timed functions are not inlined, so that adjacent code changes nothing.
 
-mod maps;
-
 use rapidhash::v3::{RapidSecrets, RapidStreamHasherV3, rapidhash_v3_seeded};
 use rapidhash::{fast, quality, rng::RapidRng};
 use std::hash::{BuildHasher, Hasher};
@@ -141,9 +139,6 @@ fn streams(size: &str, number: u64) -> (u64, Instant) {
 }
 
 fn work(form: &str, number: u64, place: u64) -> (u64, Instant) {
-    if let Some(measured) = maps::measured(form) {
-        return measured;
-    }
     if let Some(size) = form.strip_prefix("stream") {
         return streams(size, number);
     }

@@ -163,7 +163,7 @@ fn first_states() {
         black_box(fast::RandomState::new());
         start.elapsed()
     };
-    let times = (0..400).map(|_| std::thread::spawn(first).join().unwrap());
+    let times = (0..3000).map(|_| std::thread::spawn(first).join().unwrap());
     println!("thread\tfirst state\t{}", times.min().unwrap().as_nanos());
 }
 

@@ -1,6 +1,5 @@
-//! Does the work of the programs of `bench/slices` with a crate or the C library: `FORM LENGTH PLACE NUMBER PASSES
-//! REPEATS [call]`. With the feature `seeded`, the secrets are the program's own. With `seed`, each call derives them
-//! from a single seed word. With `c`, the hashes are those of the C library.
+//! Does the work of the programs of `bench/slices` with a crate: `FORM LENGTH PLACE NUMBER PASSES REPEATS [call]`. With
+//! the feature `seeded`, the secrets are the program's own.
 
 use rapidhash::rng::RapidRng;
 use rapidhash::{v1, v2, v3};
@@ -23,121 +22,30 @@ struct Secrets {
     three: v1::RapidSecrets,
     seven: v3::RapidSecrets,
     same_seven: v2::RapidSecrets,
-    word: u64,
 }
 
-/// The hashes of a crate.
-#[cfg(not(feature = "c"))]
-mod library {
-    use super::*;
-
-    #[inline(always)]
-    pub fn hash<const FORM: u8>(text: &[u8], secrets: &Secrets) -> u64 {
-        let (of_word, default) = (cfg!(feature = "seed"), !cfg!(any(feature = "seed", feature = "seeded")));
-        let one = if of_word { &v1::RapidSecrets::seed_cpp(secrets.word) } else { &secrets.three };
-        let two = if of_word { &v2::RapidSecrets::seed_cpp(secrets.word) } else { &secrets.same_seven };
-        let two = if default { &v2::DEFAULT_RAPID_SECRETS } else { two };
-        let seven = if of_word { &v3::RapidSecrets::seed_cpp(secrets.word) } else { &secrets.seven };
-        let seven = if default { &v3::DEFAULT_RAPID_SECRETS } else { seven };
-        match FORM {
-            V1 if default => v1::rapidhash_v1(text),
-            V1 => v1::rapidhash_v1_seeded(text, one),
-            V2_0 => v2::rapidhash_v2_inline::<0, true, false, false>(text, two),
-            V2_1 => v2::rapidhash_v2_inline::<1, true, false, false>(text, two),
-            V2_2 if default => v2::rapidhash_v2_2(text),
-            V2_2 => v2::rapidhash_v2_2_seeded(text, two),
-            V3 if default => v3::rapidhash_v3(text),
-            V3 => v3::rapidhash_v3_seeded(text, seven),
-            MICRO => v3::rapidhash_v3_micro_inline::<true, false>(text, seven),
-            _ => v3::rapidhash_v3_nano_inline::<true, false>(text, seven),
-        }
-    }
-
-    pub fn hash_in_pieces(message: &[u8], size: usize) -> u64 {
-        let mut hasher = v3::RapidStreamHasherV3::new(&v3::DEFAULT_RAPID_SECRETS);
-        for piece in message.chunks(size) {
-            hasher.write(piece);
-        }
-        hasher.finish()
-    }
-}
-
-/// The hashes of the C library.
-#[cfg(feature = "c")]
-mod library {
-    use super::Secrets;
-
-    type Hash = unsafe extern "C" fn(*const u8, usize) -> u64;
-    type SeedHash = unsafe extern "C" fn(*const u8, usize, u64) -> u64;
-
-    /// Declares the hashes in the order of the forms.
-    macro_rules! declare {
-        ($($hash:ident $with_seed:ident)*) => {
-            unsafe extern "C" {
-                $(fn $hash(bytes: *const u8, len: usize) -> u64;
-                fn $with_seed(bytes: *const u8, len: usize, seed: u64) -> u64;)*
-            }
-            const HASHES: [Hash; 7] = [$($hash),*];
-            const SEED_HASHES: [SeedHash; 7] = [$($with_seed),*];
-        };
-    }
-    declare! {
-        rapidhash_v1 rapidhash_v1_with_seed
-        rapidhash_v2_0 rapidhash_v2_0_with_seed
-        rapidhash_v2_1 rapidhash_v2_1_with_seed
-        rapidhash_v2_2 rapidhash_v2_2_with_seed
-        rapidhash_v3 rapidhash_v3_with_seed
-        rapidhash_v3_micro rapidhash_v3_micro_with_seed
-        rapidhash_v3_nano rapidhash_v3_nano_with_seed
-    }
-    unsafe extern "C" {
-        fn rapidhash_seed_secrets(seed: u64, secrets: *mut [u64; 8]);
-        fn rapidhash_stream_reset(stream: *mut Stream);
-        fn rapidhash_stream_write(stream: *mut Stream, bytes: *const u8, len: usize);
-        fn rapidhash_stream_finish(stream: *const Stream) -> u64;
-    }
-
-    /// A stream with the layout in the header.
-    #[repr(C)]
-    struct Stream {
-        secrets: *const [u64; 8],
-        lane: [u64; 7],
-        any: u8,
-        kept: [u8; 128],
-        len: usize,
-        lanes: usize,
-    }
-
-    #[inline(always)]
-    pub fn hash<const FORM: u8>(text: &[u8], secrets: &Secrets) -> u64 {
-        let (start, len) = (text.as_ptr(), text.len());
-        // SAFETY: a slice's pointer is not null, its bytes are readable, and nothing writes them.
-        match cfg!(feature = "seed") {
-            true => unsafe { SEED_HASHES[FORM as usize](start, len, secrets.word) },
-            false => unsafe { HASHES[FORM as usize](start, len) },
-        }
-    }
-
-    pub fn hash_in_pieces(message: &[u8], size: usize) -> u64 {
-        let mut secrets = [0; 8];
-        // SAFETY: the secrets and the stream have the layout in the header, and the stream starts as in the header.
-        // Each piece is a slice.
-        unsafe {
-            rapidhash_seed_secrets(0, &mut secrets);
-            let (lane, any, kept, len, lanes) = ([0; 7], 0, [0; 128], 0, 7);
-            let mut stream = Stream { secrets: &secrets, lane, any, kept, len, lanes };
-            rapidhash_stream_reset(&mut stream);
-            for piece in message.chunks(size) {
-                rapidhash_stream_write(&mut stream, piece.as_ptr(), piece.len());
-            }
-            rapidhash_stream_finish(&stream)
-        }
+#[inline(always)]
+fn hash<const FORM: u8>(text: &[u8], secrets: &Secrets) -> u64 {
+    let default = cfg!(not(feature = "seeded"));
+    let two = if default { &v2::DEFAULT_RAPID_SECRETS } else { &secrets.same_seven };
+    let seven = if default { &v3::DEFAULT_RAPID_SECRETS } else { &secrets.seven };
+    match FORM {
+        V1 if default => v1::rapidhash_v1(text),
+        V1 => v1::rapidhash_v1_seeded(text, &secrets.three),
+        V2_0 => v2::rapidhash_v2_inline::<0, true, false, false>(text, two),
+        V2_1 => v2::rapidhash_v2_inline::<1, true, false, false>(text, two),
+        V2_2 if default => v2::rapidhash_v2_2(text),
+        V2_2 => v2::rapidhash_v2_2_seeded(text, two),
+        V3 if default => v3::rapidhash_v3(text),
+        V3 => v3::rapidhash_v3_seeded(text, seven),
+        MICRO => v3::rapidhash_v3_micro_inline::<true, false>(text, seven),
+        _ => v3::rapidhash_v3_nano_inline::<true, false>(text, seven),
     }
 }
 
 #[inline(never)]
 fn call<const FORM: u8, const PLACE: u64>(text: &[u8], secrets: &Secrets) -> u64 {
-    library::hash::<FORM>(text, secrets) ^ PLACE
+    hash::<FORM>(text, secrets) ^ PLACE
 }
 
 #[inline(never)]
@@ -152,8 +60,7 @@ fn hash_all<const FORM: u8, const CALL: bool, const PLACE: u64>(
         for text in list {
             let hash = match CALL {
                 true => call::<FORM, PLACE>(text, secrets),
-                false if cfg!(feature = "c") => library::hash::<FORM>(text, secrets) ^ PLACE,
-                false => library::hash::<FORM>(text, secrets),
+                false => hash::<FORM>(text, secrets),
             };
             sum = (sum ^ hash).wrapping_mul(3);
         }
@@ -163,7 +70,6 @@ fn hash_all<const FORM: u8, const CALL: bool, const PLACE: u64>(
 
 /// The hashed texts, and the number of passes.
 struct Row<'x> {
-    bytes: &'x [u8],
     list: Vec<&'x [u8]>,
     secrets: Secrets,
     passes: u64,
@@ -181,9 +87,6 @@ impl Row<'_> {
             "v3" => self.by_form::<V3>(sum),
             "micro" => self.by_form::<MICRO>(sum),
             "nano" => self.by_form::<NANO>(sum),
-            "stream" => (0..self.passes).fold(sum, |sum, _| {
-                (sum ^ library::hash_in_pieces(self.bytes, self.list[0].len())).wrapping_mul(3)
-            }),
             _ => panic!("no form {form}"),
         }
     }
@@ -226,17 +129,14 @@ fn main() {
         three,
         seven: v3::RapidSecrets::seed(word),
         same_seven: v2::RapidSecrets::seed(word),
-        word,
     };
     let bytes: Vec<u8> = (0..1 << 17).map(|_| (rng.next() % 256) as u8).collect();
     let row = Row {
-        bytes: &bytes,
         list: texts(&bytes, &words[1], &mut rng),
         secrets,
         passes: words[4].parse().unwrap(),
         place: words[2].parse().unwrap(),
-        // A hash of the C library is already a call.
-        is_call: words.len() > 6 && cfg!(not(feature = "c")),
+        is_call: words.len() > 6,
     };
     let mut least = u128::MAX;
     for _ in 0..words[5].parse::<u64>().unwrap() {

@@ -1,6 +1,5 @@
 /* Does the work of the programs of bench/slices with XXH3's 64 bits: xxh3_slices FORM LENGTH PLACE NUMBER PASSES
- * REPEATS [call]. The form is ignored. Texts, places, loop, and sum are those of slices.rs. SEED is a seed word, if the
- * hash must have one. */
+ * REPEATS [call]. The form is ignored. Texts, places, loop, and sum are those of slices.rs. */
 #define _POSIX_C_SOURCE 200809L
 #define XXH_INLINE_ALL
 #include <inttypes.h>
@@ -55,12 +54,7 @@ static inline __attribute__((always_inline)) uint64_t fold(
 
 static inline __attribute__((always_inline)) uint64_t xxh3(struct text text)
 {
-#ifdef SEED
-    static volatile uint64_t seed = SEED;
-    return XXH3_64bits_withSeed(text.bytes, text.length, seed);
-#else
     return XXH3_64bits(text.bytes, text.length);
-#endif
 }
 
 /* The loop, once per place, after as many steps as the number of the place. */

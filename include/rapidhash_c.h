@@ -26,10 +26,16 @@
 #ifndef RAPIDHASH_C_H
 #define RAPIDHASH_C_H
 
+#if !defined(__cplusplus) && !defined(_MSC_VER) && (!defined(__STDC_VERSION__) || __STDC_VERSION__ < 199901L)
+#error "rapidhash_c.h needs C99 or C++11"
+#endif
 #include <stdbool.h>
 #include <stddef.h>
 #include <stdint.h>
 #include <string.h>
+#ifdef _MSC_VER
+#include <intrin.h>
+#endif
 
 /* The version of this header. The hashes are those of the Rust crate rapidhash 4.5.1. */
 #define RAPIDHASH_C_VERSION_MAJOR 1
@@ -176,7 +182,6 @@ static inline uint64_t rapidhash_from_canonical(const unsigned char *bytes)
 #define RAPIDHASH_FOLD static inline __attribute__((always_inline, unused))
 #define RAPIDHASH_APART static __attribute__((noinline, unused))
 #elif defined(_MSC_VER)
-#include <intrin.h>
 #define RAPIDHASH_FOLD static __forceinline
 #define RAPIDHASH_APART static __declspec(noinline) inline
 #else
@@ -255,7 +260,6 @@ static const struct rapidhash_secrets rapidhash_default_ = {UINT64_C(0x422765567
     UINT64_C(0x90ed1765281c388c)}};
 #define RAPIDHASH_C_V1_SEED UINT64_C(0x763305bbe7bea536)
 #define RAPIDHASH_C_BITS UINT64_C(0xaaaaaaaaaaaaaaaa)
-
 /* Returns the XOR of both halves of a product. With `guard`, the factors are XORed into it. */
 RAPIDHASH_FOLD uint64_t rapidhash_mix_(bool guard, uint64_t a, uint64_t b)
 {
@@ -303,6 +307,7 @@ RAPIDHASH_FOLD const uint8_t *rapidhash_rows_(
         rapidhash_row_(lanes, 2, guard, lane, p, s);
     for (; *n >= row + least; *n -= row, p += row)
         rapidhash_row_(lanes, 1, guard, lane, p, s);
+    RAPIDHASH_ASSERT(*n < row + least);
     return p;
 }
 
@@ -316,12 +321,10 @@ RAPIDHASH_FOLD uint64_t rapidhash_join_(int lanes, const uint64_t *lane)
 /* Sets the last two words of 1 to 16 bytes, in V1 of 1 to 3. V1, V2.0, and V2.1 join up to 3 bytes in one word. */
 RAPIDHASH_FOLD void rapidhash_words_(int shift, bool joined, const uint8_t *p, size_t n, uint64_t *a, uint64_t *b)
 {
-    if (n >= 8) {
-        *a = rapidhash_load8_(p);
-        *b = rapidhash_load8_(p + n - 8);
-    } else if (n >= 4) {
-        *a = rapidhash_load4_(p);
-        *b = rapidhash_load4_(p + n - 4);
+    RAPIDHASH_ASSERT(n <= 16);
+    if (n >= 4) {
+        *a = n >= 8 ? rapidhash_load8_(p) : rapidhash_load4_(p);
+        *b = n >= 8 ? rapidhash_load8_(p + n - 8) : rapidhash_load4_(p + n - 4);
     } else if (n > 0) {
         *a = (uint64_t)p[0] << shift | (joined ? (uint64_t)p[n / 2] << 32 : 0) | p[n - 1];
         *b = joined ? 0 : p[n / 2];
@@ -352,13 +355,12 @@ RAPIDHASH_APART uint64_t rapidhash_long_v1_(const uint8_t *p, size_t n, uint64_t
 
 RAPIDHASH_FOLD uint64_t rapidhash_v1_(const uint8_t *p, size_t n, uint64_t seed, const uint64_t *s)
 {
-    const size_t inset = n >= 8 ? 4 : 0;
     uint64_t a = 0, b = 0;
     seed ^= n;
     if (n > 16) return rapidhash_long_v1_(p, n, seed, s);
     if (n >= 4) {
         a = rapidhash_load4_(p) << 32 | rapidhash_load4_(p + n - 4);
-        b = rapidhash_load4_(p + inset) << 32 | rapidhash_load4_(p + n - 4 - inset);
+        b = n >= 8 ? rapidhash_load4_(p + 4) << 32 | rapidhash_load4_(p + n - 8) : a;
     } else {
         rapidhash_words_(56, true, p, n, &a, &b);
     }
@@ -410,7 +412,6 @@ RAPIDHASH_FOLD uint64_t rapidhash_tail_v3_(
                             RAPIDHASH_C_BITS, s[1] ^ t);
 }
 
-/* Defines the out-of-line functions of a form. */
 #define RAPIDHASH_C_LONG(form, lanes, guard) \
     RAPIDHASH_APART uint64_t rapidhash_rows_##form##_(const uint8_t *p, size_t n, uint64_t seed, const uint64_t *s) \
     { \
@@ -546,8 +547,7 @@ RAPIDHASH_C_FORM(rapidhash_v3_micro, 5, rapidhash_secrets, rapidhash_default_.se
 RAPIDHASH_C_FORM(rapidhash_v3_nano, 3, rapidhash_secrets, rapidhash_default_.seed, 2)
 RAPIDHASH_C_FORM(rapidhash_v3_protected, 70, rapidhash_secrets, rapidhash_default_.seed, 2)
 
-RAPIDHASH_API uint32_t rapidhash_c_version(void)
-{ return RAPIDHASH_C_VERSION_NUMBER; }
+RAPIDHASH_API uint32_t rapidhash_c_version(void) { return RAPIDHASH_C_VERSION_NUMBER; }
 RAPIDHASH_API void rapidhash_v1_make_secrets(uint64_t number, struct rapidhash_v1_secrets *secrets)
 { secrets->seed = rapidhash_chain_(number, 3, secrets->secrets); }
 RAPIDHASH_API void rapidhash_make_secrets(uint64_t number, struct rapidhash_secrets *secrets)

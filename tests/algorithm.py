@@ -7,10 +7,9 @@ import re
 from cases import TOP, compare, finish, tell
 
 PAGE = (TOP / "docs" / "ALGORITHM.md").read_text()
-# The vector files with their versions. Each has 584 lines, but that of the secrets has 480.
-FILES = {"v1_bug_off": "V1", "v1_bug_on": "V1", "v2_0": "V2.0", "v2_1": "V2.1", "v2_2": "V2.2", "v3": "V3",
-         "micro": "micro", "nano": "nano", "memory_core": "core", "secrets": ""}
 LANES = {"V3": 7, "micro": 5, "nano": 3}
+WIDTHS = {"u8": 8, "i8": 8, "u16": 16, "i16": 16, "u32": 32, "i32": 32, "u64": 64, "i64": 64, "usize": 64, "isize": 64,
+          "u128": 128, "i128": 128}
 AA = 0xAAAAAAAAAAAAAAAA
 S = [int(number, 16) for _, number in sorted(re.findall(r"\b(S\d) \| (0x\w{16})", PAGE))]
 
@@ -83,56 +82,163 @@ def hash_of(version, m, seed, s, avalanche=True, protected=False, bug=False):
     return mix(low ^ mixed_in[0], high ^ mixed_in[1], protected) if avalanche else low ^ high
 
 
-def premix(x, i):
-    x ^= mix(x ^ S[2], S[i])
+def repaired(x):
     for bits, bit in ((0xFFFF << 48, 63), (0xFFFF << 24, 31), (0xFFFF, 0)):
         x |= 0 if x & bits else 1 << bit
     return x
 
 
+def premix(x, i):
+    return repaired(x ^ mix(x ^ S[2], S[i]))
+
+
 def secrets_of(rule, number, is_v1):
     """Returns a seed and its secrets."""
+    count = 3 if is_v1 else 7
     if rule in ("cpp", "seed_cpp", "default"):
         x = int(number or 0xBDD89AA982704029 * is_v1)
-        return [x ^ (mix(x ^ S[0], S[1]) if is_v1 else mix(x ^ S[2], S[1])), *S[: 3 if is_v1 else 7]]
+        return [x ^ (mix(x ^ S[0], S[1]) if is_v1 else mix(x ^ S[2], S[1])), *S[:count]]
+    if rule == "bare":
+        seed, *places = number.split(",")
+        at = dict(map(int, place.split("=")) for place in places)
+        return [int(seed), *(at.get(k, 0) for k in range(count))]
     made = [premix(int(number), 0)]
-    for i in range(3 if is_v1 else 7):
+    for i in range(count):
         made.append(premix(made[-1], i))
-    return [premix(made[0], 6), *made[1:]] if rule == "seed then reseed" else made
+    return [premix(made[0], 2 if is_v1 else 6), *made[1:]] if rule == "seed then reseed" else made
+
+
+def made_secrets(r):
+    state, made = mix(r ^ S[2], S[1]), []
+    for i in range(7):
+        state = repaired(mix(state ^ S[0], r ^ S[i]))
+        made.append(state)
+    return made
+
+
+def seed_source(r, z):
+    """Returns the global seed of a random word, and four seeds of its source with a second word."""
+    start = mix(r ^ S[0], 0xBDD89AA982704029)
+    counter, seeds = mix((z + 1) % 2**64 ^ S[3], start ^ S[4]), [start]
+    for _ in range(4):
+        counter = (counter + S[0]) % 2**64
+        seeds.append(counter ^ mix(counter ^ S[2], z ^ S[1]))
+    return seeds
+
+
+def drawn(x, count, is_portable=True):
+    """Returns words of the generator and its last state."""
+    words = []
+    for _ in range(count):
+        x = (x + S[0]) % 2**64
+        words.append(mix(x, x ^ S[1] if is_portable else S[1]))
+    return [*words, x]
+
+
+def drawn_by_time(x, seconds, nanos):
+    y = mix(mix((seconds % 2**32 << 32 | nanos) ^ S[0], x ^ S[1]) ^ S[0], S[2])
+    return mix(y, y ^ S[1]), y
 
 
 def message(rule, n):
-    if rule == "square":
+    name, _, rest = rule.partition(":")
+    if name == "square":
         return bytes((i * i + 7 * i + n) % 251 for i in range(n))
-    x, drawn = int(rule.removeprefix("rng:")), b""
-    while len(drawn) < n:
-        x = (x + S[0]) % 2**64
-        drawn += mix(x, x ^ S[1]).to_bytes(8, "little")
-    return drawn[:n]
+    if name == "text":
+        return rest.replace("\\n", "\n").encode()
+    if name == "at":
+        at = dict(map(int, place.split("=")) for place in rest.split(",") if place)
+        return bytes(at.get(i, 0) for i in range(n))
+    return b"".join(word.to_bytes(8, "little") for word in drawn(int(rest), n // 8 + 1))[:n]
 
 
-def computed(version, case):
-    """Computes the value that a line of a file expects."""
-    if not version:
-        return " ".join(map(str, secrets_of(case["call"], case["number"], case["form"] == "v1")))
+def options_of(case):
+    return [case[option] == "1" for option in ("avalanche", "protected")]
+
+
+def hashed_items(case, items):
+    """Computes the in-memory hasher's value of a list of items, as in docs/ALGORITHM.md."""
+    (avalanche, protected), with_sponge = options_of(case), case.get("sponge") == "1"
+    rule, _, number = case["secrets"].partition(":")
+    seed, *s = secrets_of(rule, number, False)
+    block, end = 0, 0
+    for item in items:
+        kind, _, value = item.partition(":")
+        if kind == "bytes":
+            seed = hash_of("core", bytes.fromhex(value.replace("-", "")), seed, s, avalanche, protected)
+            continue
+        width, number = WIDTHS[kind], int(value) % 2 ** WIDTHS[kind]
+        if width == 128:
+            seed = mix(number % 2**64 ^ seed, number >> 64 ^ s[0], protected)
+        elif not with_sponge:
+            seed = mix(number ^ s[0], number ^ seed, protected)
+        else:
+            if end + width > 128:
+                seed, block, end = mix(block % 2**64 ^ seed, block >> 64 ^ s[0], protected), 0, 0
+            block, end = block | number << end, end + width
+    if end:
+        seed = mix(block % 2**64 ^ seed, block >> 64 ^ s[0], protected)
+    return mix(seed, S[1], protected) if avalanche else seed
+
+
+def hashed_slice(version, case, content):
     rule, _, number = case["secrets"].partition(":")
     seed, *secrets = secrets_of(rule, number, version == "V1")
-    options = [case.get(option) == "1" for option in ("avalanche", "protected", "v1_bug")]
-    found = hash_of(version, message(case["message"], int(case["length"])), seed, secrets, *options)
-    return str(mix(found, S[1], options[1]) if version == "core" and options[0] else found)
+    avalanche, protected = case.get("avalanche", "1") == "1", case["protected"] == "1"
+    return hash_of(version, content, seed, secrets, avalanche, protected, case.get("v1_bug") == "1")
 
 
-def differences(name, version):
-    text = (TOP / "crates" / "test_replay" / "data" / f"{name}.tsv").read_text()
-    head, *rows = [line.split("\t") for line in text.splitlines() if not line.startswith("#")]
+def hashed_pieces(version, case):
+    """Computes the hash at each f of a stream's operations, of the bytes since the start or the last r."""
+    content, written, hashes = message(case["message"], int(case["length"])), b"", []
+    for operation in case["operations"].split():
+        if operation == "f":
+            hashes.append(hashed_slice(version, case, written))
+        elif operation == "r":
+            written = b""
+        else:
+            written, content = written + content[: int(operation)], content[int(operation) :]
+    return hashes
+
+
+def computed(case):
+    """Computes the values that a line of a file expects. The columns show what it is a case of."""
+    version = {"v1": "V1", "v2": f"V2.{case.get('minor')}", "v3": "V3"}.get(case.get("form"), case.get("form"))
+    if "operations" in case:
+        return hashed_pieces({"5": "micro", "3": "nano"}.get(case.get("lanes"), "V3"), case)
+    if "call" in case:
+        return secrets_of(case["call"], case["number"], version == "V1")
+    if "items" in case:
+        return [hashed_items(case, case["items"].split() if case["items"] != "(none)" else [])]
+    if "length" in case:
+        content = message(case["message"], int(case["length"]))
+        return [hashed_slice(version, case, content) if version else hashed_items(case, ["bytes:" + content.hex()])]
+    numbers = {name: int(value) for name, value in case.items() if name != "expected"}
+    return {
+        "number": lambda number: secrets_of("seed then reseed", number, True),
+        "random_word": made_secrets,
+        "random_word second_word": seed_source,
+        "seed count": lambda seed, count: drawn(seed, count) + drawn(seed, count, False)[:-1],
+        "seed secs nanos": drawn_by_time,
+        "first second": lambda first, second: [(second - first) * pow(S[0], -1, 2**64) % 2**64],
+    }[" ".join(numbers)](*numbers.values())
+
+
+def differences(path):
+    """Yields the cases of a file whose values differ, or that the file has none."""
+    head, *rows = [line.split("\t") for line in path.read_text().splitlines() if not line.startswith("#")]
     cases = [dict(zip(head, row)) for row in rows]
-    yield from (f"{case}: {found}" for case in cases if (found := computed(version, case)) != case["expected"])
-    if len(cases) != (584 if version else 480):
-        yield f"{len(cases)} values"
+    yield from (f"{case}: {found}" for case in cases
+                if (found := " ".join(map(str, computed(case)))) != case["expected"])
+    if not cases:
+        yield "no cases"
 
 
-for name, version in FILES.items():
-    tell(name, *differences(name, version))
+DATA = TOP / "crates" / "test_replay" / "data"
+for path in sorted(DATA.glob("*.tsv")):
+    tell(path.stem, *differences(path))
+compare("files_on_the_page_of_the_data", set(re.findall(r"`(\w+)\.tsv`", (DATA / "README.md").read_text())),
+        {path.stem for path in DATA.glob("*.tsv")})
 rows = re.findall(r"^\| (\S+) \| ([^|\d]*)(?:(\d+) bytes)? \| (\d{15,}) \|$", PAGE, re.M)
 for version, rule, size, value in rows:
     text = b"something\n" if "something" in rule else message("square", int(size or 0))

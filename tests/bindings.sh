@@ -9,6 +9,7 @@
 header=$top/include/rapidhash_c.h
 archive=$top/crates/rapidhash_c/out/librapidhash_c.a
 shared=$top/build/librapidhash_c.so.1
+vectors=("$room/rapidhash_vectors.tsv" "$top/crates/test_replay/data/secrets.tsv")
 export GOCACHE=$room/go GOPROXY=off
 
 # Lays out the two files of a library in the temporary directory as if installed, with the vectors.
@@ -22,13 +23,13 @@ lay_out() {
 # COMPILER STANDARD
 is_the_library() {
   "$1" "-std=$2" -x "${2//[0-9]*/}" -O2 -pedantic -Wall -Wextra -Wconversion -Wshadow -Werror -I"$top/include" \
-    "$top/tests/c_library.c" -o "$room/c_library" && "$room/c_library" "$room/rapidhash_vectors.tsv"
+    "$top/tests/c_library.c" -o "$room/c_library" && "$room/c_library" "${vectors[@]}"
 }
 
 # Checks the code of the header as another compiler, machine, or option chooses it: COMPILER ARGUMENT..
 has_the_values() {
   "$@" -I"$top/include" "$top/tests/c_library.c" -o "$room/c_library" &&
-    "$room/c_library" "$room/rapidhash_vectors.tsv"
+    "$room/c_library" "${vectors[@]}"
 }
 
 # Prints the names that the header declares but does not define if a program links the library.
@@ -72,7 +73,7 @@ keeps_unwind_tables() {
 # Builds and runs a program of every call of the library, linked with an archive: COMPILER ARGUMENT..
 calls_from_c() {
   "$@" -DRAPIDHASH_LINK -O2 -Wall -Wextra -Werror -I"$top/include" "$top/tests/c_library.c" -x none "$archive" \
-    -o "$room/c_library" && "$room/c_library" "$room/rapidhash_vectors.tsv" &&
+    -o "$room/c_library" && "$room/c_library" "${vectors[@]}" &&
     nm --defined-only "$room/c_library" | grep ' T rapidhash_v3$'
 }
 
@@ -168,10 +169,19 @@ builds_from_the_header() {
     make_without_the_kit install PREFIX="$room/usr" && [ ! -e "$room/usr/bin" ]
 }
 
+# Compiles and runs the first programs of docs/C.md and docs/CPP.md with the headers alone, as the pages say.
+first_program_runs() {
+  blocks "$top/docs/C.md" c hello >"$room/bare/hello.c" && blocks "$top/docs/C.md" sh Iinclude >"$room/commands" &&
+    blocks "$top/docs/CPP.md" cpp hello >"$room/bare/hello.cpp" && cd "$room/bare" &&
+    [ "$(bash -e "$room/commands")" = 3327445792987248966 ] &&
+    c++ -O2 -Iinclude hello.cpp -o hello_cpp && [ "$(./hello_cpp)" = 3327445792987248966 ]
+}
+
 # Tests the library that cc compiles from the header: it replaces the proved one on other machines.
 test_library_of_the_header() {
   local archive=$room/usr/lib/librapidhash_c.a shared=$room/usr/lib/librapidhash_c.so.1
   try header_build builds_from_the_header
+  try header_first_program first_program_runs
   try header_names defines_the_header '' "$archive"
   try header_names_of_the_shared_library defines_the_header @@RAPIDHASH_1 -D "$shared"
   try header_soname bash -c 'readelf -dW "$1" | grep -F "SONAME" | grep -F "[librapidhash_c.so.1]"' - "$shared"
@@ -190,6 +200,7 @@ for compiler in gcc clang; do
     try_with "header_${standard}_$compiler" "$compiler" is_the_library "$compiler" "$standard"
   done
 done
+try header_c89 bash -c 'cc -std=c89 -fsyntax-only "$1" 2>&1 | grep -m 1 error: | grep "needs C99 or C++11"' - "$header"
 try header_without_int128 has_the_values cc -O2 -DRAPIDHASH_NO_INT128
 try header_with_assertions has_the_values cc -O3 -include assert.h -DRAPIDHASH_ASSERT=assert
 try_with header_with_sanitizers clang has_the_values clang -O1 -fsanitize=address,undefined -fno-sanitize-recover=all

@@ -1,6 +1,7 @@
-/* Calls every function of the C library and compares the results with those of the Rust crate rapidhash 4.5.1. An
- * argument names a file that share/vectors.py wrote, whose values are also compared. Prints each value that differs. The
- * last line counts the values, and the exit status is 1 if one differs. */
+/* Calls every function of the C library and compares the results with those of the Rust crate rapidhash 4.5.1. Two
+ * arguments name a file that share/vectors.py wrote and the file of secrets in crates/test_replay/data, whose values it
+ * also compares. Prints each value that differs. The last line counts the values, and the exit status is 1 if one
+ * differs. */
 #include <inttypes.h>
 #include <stdio.h>
 #include <stdlib.h>
@@ -34,7 +35,7 @@ struct form {
     uint64_t (*hash)(const void *, size_t);
     uint64_t (*with_seed)(const void *, size_t, uint64_t);
     uint64_t (*seeded)(const void *, size_t, const struct rapidhash_secrets *);
-    /* The hashes with the default secrets, with the seed word 1 (0 if no value is known), and with the secrets `own`. */
+    /* The hashes with the default secrets, with the seed word 1 (0 if not known), and with the secrets `own`. */
     uint64_t of_default, of_word, of_own;
 };
 
@@ -243,6 +244,39 @@ static void check_vectors(const char *path)
         fclose(file);
 }
 
+/* Compares the seed and secrets of each case of a file that the library has a call for. */
+static void check_file_of_secrets(const char *path)
+{
+    static char line[500], form[8], call[24];
+    uint64_t number, cases = 0;
+    FILE *const file = fopen(path, "r");
+
+    while (file != NULL && fgets(line, sizeof line, file) != NULL) {
+        struct rapidhash_v1_secrets of_v1;
+        struct rapidhash_secrets others;
+        char *text;
+        int i, read = 0;
+
+        if (sscanf(line, "%7[^\t]\t%23[^\t]\t%" SCNu64 "%n", form, call, &number, &read) != 3
+            || (strcmp(call, "seed") != 0 && strcmp(call, "seed_cpp") != 0))
+            continue;
+        if (strcmp(form, "v1") == 0) {
+            (strcmp(call, "seed") == 0 ? rapidhash_v1_make_secrets : rapidhash_v1_seed_secrets)(number, &of_v1);
+            others.seed = of_v1.seed;
+            memcpy(others.secrets, of_v1.secrets, sizeof of_v1.secrets);
+        } else {
+            (strcmp(call, "seed") == 0 ? rapidhash_make_secrets : rapidhash_seed_secrets)(number, &others);
+        }
+        text = line + read;
+        for (i = 0; i < (strcmp(form, "v1") == 0 ? 4 : 8); i++)
+            compare("secrets", line, i == 0 ? others.seed : others.secrets[i - 1], strtoull(text, &text, 10));
+        cases++;
+    }
+    compare(path, "cases", cases, 411);
+    if (file != NULL)
+        fclose(file);
+}
+
 int main(int count, char **words)
 {
     size_t i;
@@ -266,8 +300,10 @@ int main(int count, char **words)
     }
     check_copied_bytes();
     check_canonical();
-    if (count > 1)
+    if (count == 3) {
         check_vectors(words[1]);
+        check_file_of_secrets(words[2]);
+    }
     printf("%d passed, %d failed\n", passed, failed);
     return failed != 0;
 }

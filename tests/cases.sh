@@ -83,12 +83,13 @@ builds_by_pkg_config() {
     readelf -d "$room/c_library" | grep -q 'NEEDED.*librapidhash_c\.so\.1'
 }
 
-# Checks that C and C++ programs find an installed library with CMake and use it as shared library and archive: PREFIX
+# Checks that C and C++ programs find an installed library with CMake and use it as shared library, archive, and header:
+# PREFIX
 builds_by_cmake() {
   python3 "$top/share/vectors.py" "$top/crates/test_replay/data" >"$room/vectors" &&
     cmake -S "$top/tests/cmake" -B "$room/cmake" -D CMAKE_PREFIX_PATH="$1" -D VECTORS="$room/vectors" &&
     grep "^rapidhash_c_DIR:PATH=$1/" "$room/cmake/CMakeCache.txt" &&
-    cmake --build "$room/cmake" && (cd "$room/cmake" && ctest | tee /dev/stderr | grep '100%.* out of 4$')
+    cmake --build "$room/cmake" && (cd "$room/cmake" && ctest | tee /dev/stderr | grep '100%.* out of 6$')
 }
 
 # Prints the code blocks of a page that contain a word: PAGE LANGUAGE WORD

@@ -147,7 +147,7 @@ machine() {
 # Compares the values of the C header on a machine, with the compiler in `cc` and the emulator in `run`: [OPTION]
 has_the_values() {
   "${cc[@]}" -O2 ${1:+"$1"} -I"$top/include" "$top/tests/c_library.c" -o "$room/$name.c" &&
-    "${run[@]}" "$room/$name.c" "$room/vectors"
+    "${run[@]}" "$room/$name.c" "$room/vectors" "$top/crates/test_replay/data/secrets.tsv"
 }
 
 # Prints the checksum of the random messages on a machine: NAME

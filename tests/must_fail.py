@@ -1,10 +1,10 @@
 #!/usr/bin/env python3
-"""Applies the edits of tests/must_fail/CRATE/, many per check, and tests that the checker refuses each edited
-function at the goal that its edit names. The arguments are crates; without any, it tries all.
+"""Applies the edits of crates/CRATE/must-fail/, many per check, and tests that the checker refuses each edited
+function at the goal that its edit names. The arguments are crates; without any, it tries all. `rt ci` tries each edit
+too, but only looks whether it is refused.
 
-An edit has the format of the kit's must-fail edits and a further line: `refused: FUNCTION, GOAL`. Edits share a
-check only if none of their functions calls another, because the checker does not judge a function that calls a
-refused one."""
+The first line of an edit is `refused: FUNCTION, GOAL`, which `rt` ignores. Edits share a check only if none of their
+functions calls another, because the checker does not judge a function that calls a refused one."""
 
 import json
 import os
@@ -19,7 +19,7 @@ from cases import ROOM, TOP, finish, shell, tell
 
 class Edit:
     def __init__(self, file):
-        self.crate, self.name, self.changes = file.parent.name, file.stem, []
+        self.crate, self.name, self.changes = file.parent.parent.name, file.stem, []
         for key, text in (line.split(": ", 1) for line in file.read_text().splitlines()):
             match key:
                 case "refused":
@@ -128,10 +128,10 @@ def judge(number, edits):
     return found + (judge(number, hidden) if hidden else [])
 
 
-crates = sys.argv[1:] or sorted(folder.name for folder in TOP.glob("tests/must_fail/*"))
+crates = sys.argv[1:] or sorted(folder.parent.name for folder in TOP.glob("crates/*/must-fail"))
 lists = []
 for crate in crates:
-    lists += rounds(crate, [Edit(file) for file in sorted(TOP.glob(f"tests/must_fail/{crate}/*.edit"))])
+    lists += rounds(crate, [Edit(file) for file in sorted(TOP.glob(f"crates/{crate}/must-fail/*.edit"))])
 with ThreadPoolExecutor(os.cpu_count()) as pool:
     for found in pool.map(judge, range(len(lists)), lists):
         for edit, finding in found:

@@ -38,6 +38,20 @@ fn a_copy_of_a_stream_goes_on_alone() {
     assert!(format!("{:?}", Source::new(b"x".as_slice())).starts_with("Source"));
 }
 
+/// A single write is larger than every buffer inside, and its parts differ.
+#[test]
+fn a_large_write() {
+    let message: Vec<u8> = (0..200_003u32)
+        .map(|at| (at.wrapping_mul(at) >> 5) as u8)
+        .collect();
+    let mut stream = RapidStreamHasherV3::new(&DEFAULT_RAPID_SECRETS);
+    assert_eq!(Write::write(&mut stream, &message).unwrap(), message.len());
+    assert_eq!(stream.finish(), rapidhash_v3(&message));
+    let mut lanes = RapidStream::new(7, &DEFAULT_RAPID_SECRETS);
+    lanes.write_all(&message).unwrap();
+    assert_eq!(lanes.finish(), rapidhash_v3(&message));
+}
+
 #[test]
 fn maps_and_sets() {
     let mut map = RapidHashMap::default();
@@ -63,7 +77,7 @@ fn generators_start_at_random() {
 #[test]
 #[should_panic(expected = "MINOR must be 0, 1 or 2")]
 fn a_minor_that_is_none() {
-    v2::rapidhash_v2_inline::<3, true, false, false>(b"", &v2::DEFAULT_RAPID_SECRETS);
+    let _ = v2::rapidhash_v2_inline::<3, true, false, false>(b"", &v2::DEFAULT_RAPID_SECRETS);
 }
 
 #[test]
@@ -77,13 +91,13 @@ fn a_minor_that_is_none_of_a_long_file() {
 #[test]
 #[should_panic(expected = "LANES must be 7, 5 or 3")]
 fn four_lanes() {
-    RapidStreamHasherLanes::<4, true, false>::new(&DEFAULT_RAPID_SECRETS);
+    let _ = RapidStreamHasherLanes::<4, true, false>::new(&DEFAULT_RAPID_SECRETS);
 }
 
 #[test]
 #[should_panic(expected = "the lanes must be 7, 5 or 3")]
 fn four_lanes_as_a_value() {
-    RapidStream::new(4, &DEFAULT_RAPID_SECRETS);
+    let _ = RapidStream::new(4, &DEFAULT_RAPID_SECRETS);
 }
 
 #[test]
@@ -101,5 +115,5 @@ fn a_second_of_nanoseconds() {
 #[test]
 #[should_panic]
 fn a_read_past_the_end() {
-    util::read_u64(&[0; 8], 1);
+    let _ = util::read_u64(&[0; 8], 1);
 }

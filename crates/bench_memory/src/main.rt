@@ -1,20 +1,17 @@
-//! Times the generator, the stream hasher, the hasher of maps, and maps:
+//! Times the generator, the stream hasher, and the hasher of maps:
 //! `bench_memory FORM NUMBER PLACE`, for `bench/memory`. It prints a number that all its
 //! work goes into, and the nanoseconds that it took.
 #![tactic(auto)]
 
 mod draws;
 mod hashers;
-mod keys;
-mod nothing;
 mod streams;
-mod tables;
 
 use anyhow::{Context, Result};
 use std::env;
 use std::rt::Clock;
 use std::time::Instant;
-use tables::Taken;
+use streams::Taken;
 
 fn main(rt: HostRuntime) -> Result<()> {
     let words: Vec<String> = env::args(&rt)?.skip(1).collect(rt.alloc())?;
@@ -35,21 +32,6 @@ fn main(rt: HostRuntime) -> Result<()> {
 /// Does the work of a form. The number, and those in the form's name, come from the command line,
 /// so that the compiler does not know them.
 fn measured(rt: &(impl Clock + AllocGlobal), form: &str, number: u64, place: u64) -> Result<Taken> {
-    if let Some(table) = form.strip_prefix("std_") {
-        return tables::standard(rt, table);
-    }
-    if let Some(table) = form.strip_prefix("map_") {
-        return tables::rapid(rt, table);
-    }
-    if let Some(table) = form.strip_prefix("keys_") {
-        return tables::rapid_bytes(rt, table);
-    }
-    if let Some(table) = form.strip_prefix("drawn_") {
-        return tables::rapid_drawn(rt, table);
-    }
-    if let Some(table) = form.strip_prefix("none_") {
-        return tables::unhashed(rt, table);
-    }
     if let Some(size) = form.strip_prefix("stream") {
         return streams::measured(rt, size, number);
     }

@@ -1,12 +1,17 @@
 //! The stream hasher, by pieces of one size, and the hash of the same message in one call.
 
-use crate::tables::Taken;
 use anyhow::Result;
 use rapidhash::rng::RapidRng;
 use rapidhash::v3::{RapidSecrets, RapidStreamHasherV3, rapidhash_v3_seeded};
 use std::alloc::{AllocError, Allocator};
 use std::rt::Clock;
 use std::time::Instant;
+
+/// A number that all work went into, and the nanoseconds it took.
+pub struct Taken {
+    pub sum: u64,
+    pub nanos: u128,
+}
 
 /// How many bytes the message has.
 const BYTES: usize = 1 << 20;

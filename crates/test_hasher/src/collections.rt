@@ -32,6 +32,33 @@ fn test_hashset_new(rt: HostRuntime) -> Result<(), Fail> {
     Ok(())
 }
 
+/// The same over a map and a set with room for texts.
+#[test]
+fn test_hashmap_with_capacity(rt: HostRuntime) -> Result<(), Fail> {
+    let secrets = GlobalSecrets::new(1);
+    let mut source = SeedSource::new(&secrets, 2);
+    let state = fast::RandomState::new(&secrets, &mut source);
+    let mut map: RapidHashMap<&str, &str, _> = HashMapExt::with_capacity(rt.alloc(), 9, state)?;
+    assert!(rt; map.is_empty() && map.capacity() >= 9);
+    let _ = map.insert("key", "value")?;
+    assert!(rt; map.get("key") == Some(&"value"));
+    assert!(rt; map.get("na").is_none());
+    Ok(())
+}
+
+#[test]
+fn test_hashset_with_capacity(rt: HostRuntime) -> Result<(), Fail> {
+    let secrets = GlobalSecrets::new(1);
+    let mut source = SeedSource::new(&secrets, 2);
+    let state = fast::RandomState::new(&secrets, &mut source);
+    let mut set: RapidHashSet<&str, _> = HashSetExt::with_capacity(rt.alloc(), 9, state)?;
+    assert!(rt; set.is_empty() && set.capacity() >= 9);
+    let _ = set.insert("value")?;
+    assert!(rt; set.contains("value"));
+    assert!(rt; !set.contains("na"));
+    Ok(())
+}
+
 /// In heaps with room for 0, 1, 2 blocks of 16 bytes and so on each allocation fails in turn:
 /// `with_capacity` returns the error in every heap that is smaller than what the map or the set
 /// holds, and frees what it allocated.

@@ -25,7 +25,7 @@ pub const FILES: [(&str, usize); 24] = [
     ("nano.tsv", 584),
     ("rapidrng_time.tsv", 29),
     ("readers.tsv", 365),
-    ("secrets.tsv", 480),
+    ("secrets.tsv", 531),
     ("seed_source.tsv", 60),
     ("steps_to.tsv", 60),
     ("stream.tsv", 300),
@@ -44,7 +44,7 @@ pub const FILES: [(&str, usize); 24] = [
 ];
 
 /// The number of cases in all files together.
-pub const CASES: usize = 7419;
+pub const CASES: usize = 7470;
 
 /// The error states how the crate's value differs, or which part of the line cannot be read.
 pub type Case = Result<(), String>;

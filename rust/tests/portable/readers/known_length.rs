@@ -120,3 +120,27 @@ fn no_read_after_the_last_byte() {
         reads_of_single_bytes(form, &bytes);
     }
 }
+
+/// The hash of every length up to 1024 is that of the bytes in memory, however many bytes a read
+/// returns.
+fn lengths_agree(form: Form, bytes: &[u8]) {
+    for n in 0..1025usize {
+        let (message, _) = bytes.split_at(n.min(bytes.len()));
+        let outcome = form.outcome(CountingReader::new(bytes, n % 7 + 1), n as u64);
+        assert!(
+            outcome.returned == Ok(form.of_bytes(message)),
+            "{form:?} {n}"
+        );
+    }
+}
+
+#[test]
+fn every_length_up_to_1024() {
+    let mut bytes = [0; 1025];
+    for i in 0..1025usize {
+        bytes[i] = (i * i % 251) as u8;
+    }
+    for form in FORMS {
+        lengths_agree(form, &bytes);
+    }
+}

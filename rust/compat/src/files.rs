@@ -1,0 +1,71 @@
+//! V1 and V2 of a whole file. The proved calls take any reader and the number of its bytes.
+
+use crate::{v1, v2};
+use std::fs::File;
+use std::io::Result;
+
+/// Returns the V1 hash of the rest of a file, whose length its metadata provides.
+///
+/// # Errors
+///
+/// The system's own error, or `ErrorKind::UnexpectedEof` if the file has fewer bytes than its metadata says.
+pub fn rapidhash_v1_file(data: &mut File) -> Result<u64> {
+    rapidhash_v1_file_inline::<false>(data, &v1::DEFAULT_RAPID_SECRETS)
+}
+
+/// Returns the V1 hash of a file with the caller's seed and secrets.
+///
+/// # Errors
+///
+/// Those of [`rapidhash_v1_file`].
+pub fn rapidhash_v1_file_seeded(data: &mut File, secrets: &v1::RapidSecrets) -> Result<u64> {
+    rapidhash_v1_file_inline::<false>(data, secrets)
+}
+
+/// Returns the V1 hash of a file; `PROTECTED` mixes each product with its factors.
+///
+/// # Errors
+///
+/// Those of [`rapidhash_v1_file`].
+pub fn rapidhash_v1_file_inline<const PROTECTED: bool>(
+    data: &mut File,
+    secrets: &v1::RapidSecrets,
+) -> Result<u64> {
+    let len = data.metadata()?.len();
+    proved::v1::rapidhash_v1_file_inline::<File, PROTECTED>(data, len, secrets)
+}
+
+/// Returns the V2.2 hash of a file, whose length its metadata provides.
+///
+/// # Errors
+///
+/// Those of [`rapidhash_v1_file`].
+pub fn rapidhash_v2_2_file(data: &mut File) -> Result<u64> {
+    rapidhash_v2_file_inline::<2, false>(data, &v2::DEFAULT_RAPID_SECRETS)
+}
+
+/// Returns the V2.2 hash of a file with the caller's seed and secrets.
+///
+/// # Errors
+///
+/// Those of [`rapidhash_v1_file`].
+pub fn rapidhash_v2_2_file_seeded(data: &mut File, secrets: &v2::RapidSecrets) -> Result<u64> {
+    rapidhash_v2_file_inline::<2, false>(data, secrets)
+}
+
+/// Returns the hash of a file by V2 of a minor version; `PROTECTED` mixes each product with its factors.
+///
+/// # Errors
+///
+/// Those of [`rapidhash_v1_file`].
+///
+/// # Panics
+///
+/// If `MINOR` is above 2.
+pub fn rapidhash_v2_file_inline<const MINOR: u8, const PROTECTED: bool>(
+    data: &mut File,
+    secrets: &v2::RapidSecrets,
+) -> Result<u64> {
+    let len = data.metadata()?.len();
+    proved::v2::rapidhash_v2_file_inline::<File, MINOR, PROTECTED>(data, len, &secrets.proved())
+}
