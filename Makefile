@@ -6,13 +6,13 @@
 # make fmt         formats the sources
 # make bench       repeats the measurements in bench/*.tsv, compared with the Rust crate that RAPIDHASH_CRATE names
 # make library     proves and builds the C library, static and shared
-# make wasm        builds the same library for WebAssembly, with 32-bit addresses
+# make wasm        builds the C header for WebAssembly
 # make npm, wheel, sqlite, and postgresql build the bindings, including the library: see docs/BINDINGS.md
 # make jar         builds the package for Java, which needs a JDK alone
 # make page        copies examples/browser and the npm package to build/browser, for any file server
 # make install     installs the built files, manual pages, and completions under PREFIX; uninstall removes them
 # make dist        packs everything that a user without the toolchain needs into a single archive in build/
-# make deb         packs the results of make and make sqlite as Debian packages in build/debian
+# make deb         packs the results of make, make sqlite and make postgresql as Debian packages in build/debian
 # make vendor      copies the library into another Rattle repository: make vendor INTO=FOLDER
 # make test-vendor runs the merge gate of such a repository, which proves everything from scratch
 # make clean       removes all build results
@@ -101,26 +101,29 @@ $(shared): $(archive) share/librapidhash_c.map
 	  --as-needed $(addprefix -L,$(system)) -l:libc.so.6 -o $(shared)
 endif
 
-module = build/rapidhash_c.wasm
-folder = build/npm/module.mjs
+module = build/rapidhash.wasm
+folder = build/npm/rapidhash.cjs
 package = build/yervound-rapidhash-1.0.0.tgz
 wasm: $(module)
 npm: $(package)
 
-build/rapidhash_c_64.wasm: $(archive) bindings/javascript/build.sh
-	@bindings/javascript/build.sh
+# The linker is called by itself, because clang would run wasm-opt if it is installed.
+$(module): bindings/javascript/rapidhash.c bindings/javascript/string.h include/rapidhash_c.h
+	@for program in clang wasm-ld; do command -v $$program >/dev/null || \
+	  { echo "make: $$program, of clang and lld, is not on PATH" >&2; exit 2; }; done
+	@mkdir -p build
+	@clang --target=wasm32 -std=c99 -Os -Wall -Wextra -Werror -ffreestanding -mbulk-memory \
+	  -isystem bindings/javascript -Iinclude -c $< -o build/wasm.o
+	@wasm-ld --no-entry --strip-all --export=__heap_base -z stack-size=16384 build/wasm.o -o $@
 
-# The kit's module needs a memory with 64-bit addresses, which only newer engines have.
-$(module): build/rapidhash_c_64.wasm
-	@command -v wasm-opt >/dev/null || { echo 'make: wasm-opt, of the package binaryen, is not on PATH' >&2; exit 2; }
-	@wasm-opt --enable-memory64 --enable-bulk-memory --memory64-lowering -O3 --strip-debug $< -o $@
-
-# Lays out the directory of the package. Its last file contains the module as text.
+# Lays out the directory of the package. module.mjs contains the module as text, and rapidhash.cjs is for `require`.
 $(folder): $(module) $(wildcard bindings/javascript/*.*) LICENSE-MIT LICENSE-APACHE NOTICE
+	@command -v esbuild >/dev/null || { echo 'make: esbuild is not on PATH' >&2; exit 2; }
 	@rm -rf build/npm && mkdir build/npm
 	@cd bindings/javascript && cp *.mjs index.d.ts package.json README.md ../../build/npm
-	@cp LICENSE-MIT LICENSE-APACHE NOTICE build/npm
-	@{ printf 'export default "' && base64 -w 0 $(module) && echo '";'; } >$(folder)
+	@cp LICENSE-MIT LICENSE-APACHE NOTICE build/npm && cp bindings/javascript/index.d.ts build/npm/index.d.cts
+	@{ printf 'export default "' && base64 -w 0 $(module) && echo '";'; } >build/npm/module.mjs
+	@esbuild build/npm/rapidhash.mjs --bundle --platform=node --target=node18 --log-level=warning --outfile=$@
 
 $(package): $(folder)
 	@command -v npm >/dev/null || { echo 'make: npm is not on PATH' >&2; exit 2; }
@@ -130,33 +133,19 @@ page: $(folder)
 	@rm -rf build/browser && mkdir build/browser
 	@cp examples/browser/*.* build/npm/*.mjs LICENSE-MIT LICENSE-APACHE NOTICE build/browser
 
-# The system's Python can build a wheel with its packages python3-setuptools and python3-wheel.
+# The system's Python can build a wheel with its packages python3-setuptools, python3-wheel and python3-dev.
 PYTHON = /usr/bin/python3
 wheels = build/wheels
-wheel = $(wheels)/yervound_rapidhash-1.0.0-py3-none-linux_x86_64.whl
-wheel: $(wheel)
+wheel: $(wheels)/made
 
-# Checks for a compiler and for the headers of a Python whose limited API has buffers.
-can_extend = printf '\#include <Python.h>\n\#if PY_VERSION_HEX < 0x030b0000\n\#error\n\#endif\n' | \
-  cc -x c -fsyntax-only - -I"$$($(PYTHON) -c 'import sysconfig; print(sysconfig.get_paths()["include"])')" 2>/dev/null
-
-# Lays out the directory of a wheel with an additional file and packs it: DIRECTORY, the file, its place
-define pack_wheel
-  rm -rf $(1) && mkdir -p $(1)/rapidhash && \
-  cp bindings/python/setup.py bindings/python/*.toml bindings/python/*.md bindings/python/*.[ch] $(1) && \
-  cp bindings/python/rapidhash/*.py* bindings/python/rapidhash/py.typed $(1)/rapidhash && \
-  cp include/rapidhash_c.h LICENSE-MIT LICENSE-APACHE NOTICE $(1) && cp $(2) $(1)/$(3) && \
-  CFLAGS='-Wall -Wextra -Werror' $(PYTHON) -m pip wheel --quiet --no-index --no-deps --no-build-isolation \
-    --wheel-dir $(wheels) ./$(1)
-endef
-
-$(wheel): $(shared) include/rapidhash_c.h LICENSE-MIT LICENSE-APACHE NOTICE \
+$(wheels)/made: include/rapidhash_c.h LICENSE-MIT LICENSE-APACHE NOTICE \
     $(wildcard bindings/python/*.* bindings/python/rapidhash/*.*)
 	@$(PYTHON) -c 'import setuptools, wheel' || { echo 'make: $(PYTHON) lacks setuptools or wheel' >&2; exit 2; }
-	@rm -rf $(wheels)
-	@if $(can_extend); then $(call pack_wheel,build/wheel_extension,$(archive),); else \
-	  echo 'make: no wheel with an extension, which needs cc and the headers of Python 3.11 or later' >&2; fi
-	@$(call pack_wheel,build/wheel,$(shared),rapidhash)
+	@rm -rf $(wheels) && mkdir -p $(wheels)
+	@$(PYTHON) -m pip wheel --quiet --no-index --no-deps --no-build-isolation --wheel-dir $(wheels) ./bindings/python
+	@cd bindings/python && $(PYTHON) -Bc 'import backend; backend.build_sdist("../../$(wheels)")' \
+	  >../../build/sdist.log 2>&1 || { cat ../../build/sdist.log; exit 2; } >&2
+	@touch $@
 
 jar = build/yervound-rapidhash-1.0.0.jar
 jar: $(jar)
@@ -171,12 +160,12 @@ $(jar): LICENSE-MIT LICENSE-APACHE NOTICE bindings/java/pom.xml $(shell find bin
 extension = build/rapidhash.so
 sqlite: $(extension)
 
-$(extension): $(archive) bindings/sqlite/rapidhash.c include/rapidhash_c.h
+$(extension): bindings/sqlite/rapidhash.c include/rapidhash_c.h
 	@mkdir -p build
-	@cc -std=c99 -O2 -Wall -Wextra -Wpedantic -Werror -DRAPIDHASH_LINK -fPIC -fvisibility=hidden -shared -Iinclude \
-	  bindings/sqlite/rapidhash.c $(archive) -Wl,--exclude-libs,ALL,-z,relro,-z,now -o $@
+	@cc -std=c99 -O2 -Wall -Wextra -Wpedantic -Werror -fPIC -fvisibility=hidden -shared -Iinclude $< \
+	  -Wl,-z,relro,-z,now -o $@
 
-postgresql: $(archive)
+postgresql:
 	@command -v pg_config >/dev/null || { echo 'make: pg_config, of PostgreSQL, is not on PATH' >&2; exit 2; }
 	@rm -rf build/postgresql && mkdir -p build && cp -r bindings/postgresql build
 	@MAKEFLAGS= $(MAKE) -s -C build/postgresql COPT=-Werror
@@ -230,22 +219,22 @@ install:
 uninstall:
 	@bin/install --remove
 
-dist: all $(folder) $(wheel)
+dist: all $(folder) wheel
 	rm -rf build/$(name)
 	$(MAKE) -s install DESTDIR= PREFIX='$(CURDIR)/build/$(name)'
 	tar --exclude=__pycache__ --exclude=bindings/javascript --exclude=target --exclude=rust/tests -hcf - \
 	  bindings rust | tar -C build/$(name) -xf -
 	cp -r build/npm build/$(name)/bindings/javascript
-	install -D -m 644 -t build/$(name)/wheels $(wheels)/*.whl
+	install -D -m 644 -t build/$(name)/wheels $(wheels)/*.whl $(wheels)/*.tar.gz
 	install -m 644 LICENSE-MIT LICENSE-APACHE NOTICE docs/C.md docs/CPP.md docs/ALGORITHM.md build/$(name)
 	install -D -m 644 docs/images/lanes.svg build/$(name)/images/lanes.svg
 	install -m 644 share/dist.md build/$(name)/README.md
-	install -m 755 share/check_vectors.py build/$(name)
+	install -m 644 tests/c_library.c build/$(name)/check_vectors.c
 	python3 share/vectors.py crates/test_replay/data >build/$(name)/rapidhash_vectors.tsv
 	tar -C build -czf build/$(name).tar.gz $(name)
 	rm -rf build/$(name)
 
-deb: all $(extension)
+deb: all sqlite postgresql
 	@rm -rf build/debian && mkdir -p build/debian/source && cp -r share/debian build/debian/source
 	@cd build/debian/source && TOP='$(CURDIR)' dpkg-buildpackage -b -us -uc >../log 2>&1 || \
 	  { tail -n 20 ../log; echo 'make: the packages failed; full output: build/debian/log'; exit 2; } >&2

@@ -188,9 +188,6 @@ test_library_of_the_header() {
   try header_archive calls_from_c cc -std=c99
   try header_shared builds_by_pkg_config "$room/usr/lib"
   try_with header_cmake cmake builds_by_cmake "$room/usr"
-  mkdir "$room/python"
-  cp -r "$room/usr/lib" "$room/rapidhash_vectors.tsv" "$top/share/check_vectors.py" "$room/python"
-  try header_python env PYTHONPATH="$top/bindings/python" python3 -B "$room/python/check_vectors.py"
   try header_uninstall make_without_the_kit uninstall PREFIX="$room/usr"
   try header_nothing_left bash -c '[ -z "$(find "$1" ! -type d)" ]' - "$room/usr"
 }

@@ -300,10 +300,10 @@ int main(int count, char **words)
     }
     check_copied_bytes();
     check_canonical();
-    if (count == 3) {
+    if (count > 1)
         check_vectors(words[1]);
+    if (count > 2)
         check_file_of_secrets(words[2]);
-    }
     printf("%d passed, %d failed\n", passed, failed);
     return failed != 0;
 }

@@ -5,7 +5,7 @@
 packages=$top/build/debian
 root=$room/root
 library=$root/usr/lib/x86_64-linux-gnu
-names='librapidhash-c-dev librapidhash-c1 rapidhash-tools sqlite3-rapidhash'
+names='librapidhash-c-dev librapidhash-c1 postgresql-15-rapidhash rapidhash-tools sqlite3-rapidhash'
 
 # Checks that each build packs the same bytes at any time, and no other files.
 packs_the_same_bytes() {
@@ -29,12 +29,12 @@ needs_others() {
     touch "$root/var/lib/dpkg/status" && listed >"$room/bare" || return 1
   ! in_the_root --install "$packages"/*.deb 2>"$room/refused" &&
     sed -nE 's/^ ([^: ]*).* depends on (.* \(.?=) .*/\1: \2/p' "$room/refused" | sort | diff - <(printf '%s\n' \
-      'librapidhash-c-dev: librapidhash-c1 (=' 'librapidhash-c1: libc6 (>=' 'rapidhash-tools: libc6 (>=' \
-      'sqlite3-rapidhash: libc6 (>=')
+      'librapidhash-c-dev: librapidhash-c1 (=' 'librapidhash-c1: libc6 (>=' 'postgresql-15-rapidhash: libc6 (>=' \
+      'rapidhash-tools: libc6 (>=')
 }
 
 installs() {
-  dpkg --status libc6 >>"$root/var/lib/dpkg/status" && in_the_root --configure --pending &&
+  dpkg --status libc6 postgresql-15 >>"$root/var/lib/dpkg/status" && in_the_root --configure --pending &&
     cp -L /lib64/ld-linux-x86-64.so.2 "$root/lib64" && cp -L /lib/x86_64-linux-gnu/libc.so.6 "$library"
 }
 
@@ -54,6 +54,7 @@ crates/rapidhash_cli/out/rapidhash_cli bin/rapidhash
 crates/example_sums/out/example_sums bin/rapidsum
 build/librapidhash_c.so.1 lib/x86_64-linux-gnu/librapidhash_c.so.1
 build/rapidhash.so lib/sqlite3/rapidhash.so
+build/postgresql/rapidhash.so lib/postgresql/15/lib/rapidhash.so
 FILES
 }
 
@@ -62,6 +63,12 @@ links_by_pkg_config() {
   builds_by_pkg_config "$library" && cp "$room/c_library" "$root" && chroot "$root" /c_library &&
     cd "$packages/source" && dpkg-shlibdeps -O -Sdebian/librapidhash-c1 "$root/c_library" |
     tee /dev/stderr | grep 'librapidhash-c1 (>= 1\.0\.0)'
+}
+
+# Checks that the package has what CREATE EXTENSION reads. tests/postgresql.py runs the same library.
+has_the_extension_of_postgresql() {
+  cd "$root/usr/share/postgresql/15/extension" && ls rapidhash* | diff - <(printf '%s\n' rapidhash{--1.0.sql,.control}) &&
+    cmp rapidhash--1.0.sql "$top/bindings/postgresql/rapidhash--1.0.sql"
 }
 
 loads_into_sqlite() {
@@ -94,7 +101,7 @@ leaves_nothing() {
     rm "$library/libc.so.6" && listed | diff "$room/bare" -
 }
 
-for program in dpkg-buildpackage dh lintian cc cmake sqlite3; do
+for program in dpkg-buildpackage dh lintian cc cmake sqlite3 pg_config; do
   command -v "$program" >/dev/null || { echo "skipped packages: no $program" && finish; }
 done
 [ "$(id -u)" -eq 0 ] || { echo 'skipped packages: not run as root' && finish; }
@@ -107,6 +114,7 @@ try code keeps_the_code
 try pkg_config links_by_pkg_config
 try cmake builds_by_cmake "$root/usr"
 try sqlite loads_into_sqlite
+try postgresql has_the_extension_of_postgresql
 try manuals_and_completions has_manuals_and_completions
 try licences has_the_licences_of_debian
 try purge leaves_nothing

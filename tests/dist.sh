@@ -8,10 +8,16 @@ makes_the_archive() {
     mv "$room"/yervound-* "$room/unpacked" && has_the_licences "$room/unpacked"
 }
 
+# Compiles the check of the library and runs it with a vector file: FILE
+checks_vectors() {
+  cc -O2 -DRAPIDHASH_LINK -I"$room/unpacked/include" "$room/unpacked/check_vectors.c" \
+    "$room/unpacked/lib/librapidhash_c.a" -o "$room/check_vectors" && "$room/check_vectors" "$1"
+}
+
 # Checks that every case of the vector file agrees. Each of the eight calls has 72 cases with the default secrets and 72
 # with derived secrets, up to 8193 bytes.
 agrees_with_the_vectors() {
-  (cd / && python3 -B "$room/unpacked/check_vectors.py") &&
+  checks_vectors "$room/unpacked/rapidhash_vectors.tsv" &&
     awk -F '\t' '
       /^#/ || $4 == "hash" { next }
       { call = $1 ($2 == "default"); cases[call]++ }
@@ -20,11 +26,10 @@ agrees_with_the_vectors() {
     ' "$room/unpacked/rapidhash_vectors.tsv"
 }
 
-# Checks that check_vectors.py reports a wrong hash in the file.
+# Checks that the program reports a wrong hash in the file.
 tells_a_wrong_vector() {
-  cp -r "$room/unpacked" "$room/turned" &&
-    sed -i '$ s/$/0/' "$room/turned/rapidhash_vectors.tsv" &&
-    ! python3 -B "$room/turned/check_vectors.py"
+  sed '$ s/[0-8]$/9/; t; $ s/9$/8/' "$room/unpacked/rapidhash_vectors.tsv" >"$room/turned" &&
+    ! checks_vectors "$room/turned"
 }
 
 # Checks that a program finds the Rust crate in the unpacked archive.

@@ -10,20 +10,35 @@ export npm_config_offline=true npm_config_audit=false npm_config_update_notifier
 has_its_files() {
   local folder=$room/first/node_modules/yervound-rapidhash
   has_the_licences "$folder" && (cd "$folder" && LC_ALL=C ls) | diff - <(
-    printf '%s\n' LICENSE-APACHE LICENSE-MIT NOTICE README.md arguments.mjs index.d.ts library.mjs module.mjs \
-      package.json rapidhash.mjs stream.mjs
+    printf '%s\n' LICENSE-APACHE LICENSE-MIT NOTICE README.md arguments.mjs index.d.cts index.d.ts library.mjs \
+      module.mjs package.json rapidhash.cjs rapidhash.mjs stream.mjs
   )
 }
 
 # Lays out the tests beside the installed package, with the files that they read.
 lay_out() {
-  cp "$top"/bindings/javascript/test/* "$top/build/rapidhash_c.wasm" "$room/first" &&
+  cp "$top"/bindings/javascript/test/* "$top/build/rapidhash.wasm" "$room/first" &&
     python3 "$top/share/vectors.py" "$top/crates/test_replay/data" >"$room/first/rapidhash_vectors.tsv" &&
     seq 1 20000000 | head -c 100000000 >"$room/first/large"
 }
 
 runs_in_node() {
   cd "$room/first" && node --test "$1.mjs"
+}
+
+# Runs the tests over the file that `require` reads.
+runs_required() {
+  cp -r "$room/first" "$room/required" && cd "$room/required" &&
+    sed -i 's|"./rapidhash.mjs"|"./rapidhash.cjs"|' node_modules/yervound-rapidhash/package.json &&
+    rm node_modules/yervound-rapidhash/*.mjs && node --test known.mjs && node --test refused.mjs
+}
+
+# Bundles a program without a rule and runs the result, a script for browsers: COMMAND.., which writes bundle/main.js
+bundles() {
+  cd "$room/first" && rm -rf bundle && mkdir -p src &&
+    echo 'import { loadSync } from "yervound-rapidhash"; console.log(`${loadSync().v3("hello")}`)' >src/index.js &&
+    "$@" && ls bundle | diff - <(echo main.js) && ! grep -E 'require\("|node:' bundle/main.js &&
+    node bundle/main.js | grep -x 3327445792987248966
 }
 
 # Compiles with all checks of tsc: ARGUMENT..
@@ -64,6 +79,9 @@ try lay_out lay_out
 for name in known refused vectors node; do
   try "node_$name" runs_in_node "$name"
 done
+try node_require runs_required
+try_with esbuild esbuild bundles esbuild src/index.js --bundle --outfile=bundle/main.js
+try_with webpack webpack bundles webpack --mode production --output-path bundle
 try_with types tsc compiles --lib es2020,dom types.mts
 try_with types_alone tsc compiles --lib es2020 node_modules/yervound-rapidhash/index.d.ts
 # Each browser, if the program that drives it is installed.

@@ -10,15 +10,15 @@ import subprocess
 from pathlib import Path
 
 from cases import ROOM, TOP, blocks, compare, finish, shell, tell
-from sql import BINDINGS, HELLO, NOTHING, SEEDED, TEXT, TEXT_HASH
+from sql import BINDINGS, DIGITS, HELLO, NOTHING, SEEDED, TEXT, TEXT_HASH, VERSIONS
 from sql import every_vector, lines_with_results, signed, unpack
 
 PAGE = "bindings/postgresql/README.md"
 # The directory of its databases, which also contains its socket.
 DATA = ROOM / "data"
 NOBODY = "setpriv --reuid=65534 --regid=65534 --clear-groups " if os.geteuid() == 0 else ""
-FUNCTIONS = """SELECT count(*), bool_and(provolatile = 'i' AND proisstrict AND proparallel = 's')
-    FROM pg_proc WHERE proname LIKE 'rapidhash%'"""
+FUNCTIONS = """SELECT prokind, proisstrict, count(*), bool_and(provolatile = 'i' AND proparallel = 's')
+    FROM pg_proc WHERE proname LIKE 'rapidhash%' GROUP BY 1, 2 ORDER BY 1, 2"""
 STORED = """CREATE TABLE stored (word text); ALTER TABLE stored ALTER word SET STORAGE {0};
     INSERT INTO stored SELECT repeat('hello', {1}); SELECT rapidhash_v3(word) = rapidhash_v3(repeat('hello', {1})),
     pg_column_size(word) < octet_length(word) FROM stored; DROP TABLE stored"""
@@ -88,8 +88,10 @@ def types():
     compare("types", ask(f"SELECT rapidhash_v3('{TEXT}'), rapidhash_v3('{TEXT}'::text), rapidhash_v3(''), "
                          "rapidhash_v3(''::bytea), rapidhash_v3(42), rapidhash_v3((-42)::smallint)"),
             [f"{TEXT_HASH}|{TEXT_HASH}|{NOTHING}|{NOTHING}|5044168950324010207|2463112363380910024"])
-    compare("null", ask("SELECT rapidhash_v3(NULL::text), rapidhash_v3('a', NULL), rapidhash_v3_seeded(1, NULL)"),
-            ["||"])
+    compare("null", ask("SELECT rapidhash_v3(NULL::text), rapidhash_v3('a', NULL), rapidhash_v3_seeded(1, NULL), "
+                         "rapidhash_v3(NULL::text, 1), rapidhash_hex(NULL)"), ["||||"])
+    numbers = ", ".join(f"({number})" for number in DIGITS)
+    compare("hex", ask(f"SELECT rapidhash_hex(column1) FROM (VALUES {numbers}) numbers"), list(DIGITS.values()))
     for error in ("rapidhash_v3(1.5)", "rapidhash_v3(1.5::real)", "rapidhash_v3_seeded('a')"):
         compare(f"refuses {error}", [line.split("ERROR: ")[1].split("(")[0] for line in ask(f"SELECT {error}")[:1]],
                 [f" function {error.split('(')[0]}"])
@@ -97,14 +99,46 @@ def types():
         compare(f"storage {storage}", ask(STORED.format(storage, count)), [f"t|{is_compressed}"])
 
 
+def aggregates():
+    """Tests the aggregates on a hundred thousand rows, in an order different from the table's, and over windows."""
+    ask("CREATE TABLE many AS SELECT place, place % 3 AS part, 'user:' || place AS word "
+        "FROM generate_series(0, 99999) place ORDER BY reverse(place::text)")
+    whole = "string_agg(word, '' ORDER BY place)"
+    for version in VERSIONS[4:7]:
+        for seed in ("", ", 1", ", 4294967296", ", -1"):
+            agg = f"rapidhash_{version}_agg"
+            found = ask(f"SELECT part, {agg}(word{seed} ORDER BY place) = rapidhash_{version}({whole}{seed}), "
+                        f"{agg}(word::bytea{seed} ORDER BY place) = rapidhash_{version}({whole}{seed}) "
+                        "FROM many GROUP BY part ORDER BY part")
+            compare(f"{agg}{seed}", found, [f"{part}|t|t" for part in range(3)])
+            compare(f"{agg}{seed} of integers", ask(f"SELECT {agg}(n::bigint{seed} ORDER BY n DESC) = rapidhash_{version}("
+                f"'\\x01{'00' * 7}fe{'ff' * 7}'::bytea{seed}) FROM (VALUES (1), (-2)) v(n)"), ["t"])
+    values = "(VALUES (1, 'x', NULL), (2, 'hel', 0), (3, NULL, 0), (4, 'lo', 0)) v(place, word, seed)"
+    compare("nulls", ask(f"SELECT rapidhash_v3_agg(word, seed ORDER BY place), rapidhash_v3_agg(word) FILTER (WHERE "
+                         f"word IS NULL), rapidhash_v3_agg(word) FILTER (WHERE false) FROM {values}"), [f"{HELLO}||"])
+    for frame in ("", " ROWS 1 PRECEDING"):
+        query = f"""SELECT rapidhash_v3_agg(word) OVER rows = rapidhash_v3(string_agg(word, '') OVER rows)
+            FROM {values} WINDOW rows AS (ORDER BY place{frame})"""
+        compare(f"window{frame}", ask(query), ["t"] * 4)
+    # Each row is compressed, so its bytes are in memory that the server frees before the next row.
+    ask("CREATE TABLE compressed AS SELECT repeat('hello', 600) AS word FROM generate_series(1, 3)")
+    compare("compressed_rows", ask("SELECT rapidhash_v3_agg(word) = rapidhash_v3(repeat('hello', 1800)) "
+                                   "FROM compressed; DROP TABLE compressed"), ["t"])
+    found = ask("SELECT rapidhash_v3_nano_agg(1, place) FROM many")[:1]
+    compare("other_seed", [line.partition("ERROR:  ")[2] for line in found],
+            ["rapidhash_v3_nano_agg: the seed must be the same in every row"])
+    ask("DROP TABLE many")
+
+
 def rest():
-    compare("functions", ask(FUNCTIONS), ["72|t"])
+    # The calls and rapidhash_hex, the aggregates, and the functions that these are made of.
+    compare("functions", ask(FUNCTIONS), ["a|f|18|t", "f|f|19|t", "f|t|73|t"])
     compare("index", ask("CREATE TABLE words (word text); CREATE INDEX ON words (rapidhash_v3(word, 1))"), [])
     for query, wanted in lines_with_results(PAGE):
         compare(query, ask(query), [wanted])
-    [query] = re.findall(r"^SELECT .*string_agg.*;$", blocks(PAGE, "sql")[0], re.M)
+    [query] = re.findall(r"^SELECT .*_agg.*;$", blocks(PAGE, "sql")[0], re.M)
     compare("rows_in_order", ask(query), [str(HELLO)])
-    compare("dropped", ask(f"DROP TABLE words; DROP EXTENSION rapidhash; {FUNCTIONS}"), ["0|"])
+    compare("dropped", ask(f"DROP TABLE words; DROP EXTENSION rapidhash; {FUNCTIONS}"), [])
 
 
 def start(binaries, shared):
@@ -129,7 +163,7 @@ if not folders:
     finish()
 stop = start(*folders)
 try:
-    for step in (install, unpacked_archive, vectors, seed_words, types, rest):
+    for step in (install, unpacked_archive, vectors, seed_words, types, aggregates, rest):
         step()
 finally:
     shell(stop, "/")

@@ -1,70 +1,92 @@
 #!/usr/bin/env bash
-# Builds the Python wheels, installs each in a fresh environment without a network, and tests the installed copies. One
-# wheel uses ctypes, and the other has an extension, if a C compiler and the Python headers are installed. Missing
-# programs are named, and their cases are not counted. The last line counts the cases.
+# Builds the Python package from source, installs it in fresh environments without a network, and tests the installed
+# copy. RAPIDHASH_TEST_PYTHONS can name further interpreters with setuptools and wheel, which build and test the source
+# distribution. Missing programs are named, and their cases are not counted. The last line counts the cases.
 . "$(dirname "$0")/cases.sh"
 # The Python for which Debian has the packages that build wheels.
 python=/usr/bin/python3
-unset RAPIDHASH_LIBRARY PYTHONPATH
+unset PYTHONPATH
+export PIP_NO_INDEX=1 PIP_DISABLE_PIP_VERSION_CHECK=1 CFLAGS='-Wall -Wextra -Werror'
 
 # Runs the commands on the package's page in a fresh environment.
 installs_as_the_page_says() {
-  "$python" -m venv "$room/extension" &&
-    PATH=$room/extension/bin:$PATH works_as_its_page_says "$top/bindings/python/README.md"
+  "$python" -m venv "$room/fresh" && PATH=$room/fresh/bin:$PATH works_as_its_page_says "$top/bindings/python/README.md"
 }
 
-# Installs the wheel for every Python, which pip ignores if the other wheel is suitable.
-installs_over_ctypes() {
-  "$python" -m venv "$room/ctypes" &&
-    "$room/ctypes/bin/pip" install --quiet --no-index "$top"/build/wheels/*-py3-none-linux_x86_64.whl
-}
-
-# Checks that a wheel has these files, the licences of the repository, and no other files: TAG LIBRARY
+# Checks that the wheel has its files, the licences of the repository, and no other files.
 has_its_files() {
-  "$python" -m zipfile -e "$top"/build/wheels/*-"$1"-linux_x86_64.whl "$room/files_$1" && cd "$room/files_$1" &&
-    has_the_licences yervound_rapidhash-*.dist-info &&
+  "$python" -m zipfile -e "$top"/build/wheels/*-cp311-abi3-linux_x86_64.whl "$room/files" && cd "$room/files" &&
+    has_the_licences yervound_rapidhash-*.dist-info && grep -x 'Name: yervound-rapidhash' ./*.dist-info/METADATA &&
     ls | diff - <(printf '%s\n' rapidhash yervound_rapidhash-1.0.0.dist-info) &&
-    LC_ALL=C ls rapidhash | diff - <(printf '%s\n' __init__.py __init__.pyi _over_ctypes.py _secrets.py py.typed \
-      "$2" | LC_ALL=C sort)
+    LC_ALL=C ls rapidhash | diff - <(printf '%s\n' __init__.py __init__.pyi _extension.abi3.so _secrets.py py.typed)
 }
 
-# Lays out the tests away from the sources, so that they find only the installed copy.
+# Checks that the extension needs the C library of the system alone, and exports nothing but its start.
+exports_its_start_alone() {
+  cd "$room/files/rapidhash" && nm -D --defined-only _extension.abi3.so | cut -d ' ' -f 3 |
+    diff - <(echo PyInit__extension) && ! ldd _extension.abi3.so | grep rapidhash_c
+}
+
+# Lays out the sources as in the repository, where a build must leave nothing, and the tests away from them.
 lay_out() {
-  mkdir "$room/tests" && cp "$top"/bindings/python/test_*.py "$top/share/check_vectors.py" "$room/tests" &&
-    python3 "$top/share/vectors.py" "$top/crates/test_replay/data" >"$room/tests/rapidhash_vectors.tsv"
+  mkdir -p "$room/source/bindings" "$room/tests" && cd "$top" && cp -r include LICENSE-* NOTICE "$room/source" &&
+    git ls-files bindings/python | xargs cp --parents -t "$room/source" &&
+    (cd "$room/source" && find . | sort) >"$room/listed" && cp bindings/python/test_*.py "$room/tests" &&
+    python3 share/vectors.py crates/test_replay/data >"$room/tests/rapidhash_vectors.tsv"
 }
 
-# Runs a test file with an installed wheel: ENVIRONMENT FILE
-runs_over() {
-  cd "$room/tests" && RAPIDHASH_WHEEL=$1 "$room/$1/bin/python" -B "$2.py"
+leaves_nothing() {
+  (cd "$room/source" && find . | sort) | diff "$room/listed" -
 }
 
-# Checks that the extension's wheel uses ctypes if RAPIDHASH_LIBRARY names a library.
-takes_a_named_library() {
-  cd "$room/tests" && RAPIDHASH_LIBRARY=$top/build/librapidhash_c.so.1 RAPIDHASH_WHEEL=ctypes \
-    "$room/extension/bin/python" -B test_package.py
+# Installs from the directory, as pip install ./bindings/python does, with Debian's setuptools.
+installs_from_source() {
+  "$python" -m venv --system-site-packages "$room/compiled" &&
+    "$room/compiled/bin/pip" install --no-build-isolation "$room/source/bindings/python" && leaves_nothing &&
+    cd / && "$room/compiled/bin/python" -c 'import rapidhash; print(rapidhash.v3(b"hello"))' | grep -x 3327445792987248966
+}
+
+# Checks that an installation fails, installs nothing and leaves nothing: WORD-IN-ITS-ERROR ARGUMENT..
+fails_and_leaves_nothing() {
+  rm -rf "$room/empty" && "$python" -m venv "${@:2:1}" "$room/empty" &&
+    ! "$room/empty/bin/pip" install "${@:3}" "$room/source/bindings/python" >"$room/refused" 2>&1 &&
+    grep -e "$1" "$room/refused" && leaves_nothing &&
+    (cd / && ! "$room/empty/bin/python" -c 'import rapidhash' 2>/dev/null)
+}
+
+without_a_compiler() {
+  CC=$room/no-compiler fails_and_leaves_nothing "$room/no-compiler" --system-site-packages --no-build-isolation
+}
+
+without_the_header() {
+  mv "$room/source/include" "$room" && sed -i '/include/d' "$room/listed" &&
+    fails_and_leaves_nothing 'include/rapidhash_c.h' --system-site-packages --no-build-isolation
+}
+
+# Builds the source distribution with another interpreter and runs all tests: PYTHON
+works_with() {
+  local folder name
+  folder=$(mktemp -d -p "$room") &&
+    "$1" -m pip wheel --no-deps --no-build-isolation -w "$folder" "$top"/build/wheels/*.tar.gz &&
+    "$1" -m zipfile -e "$folder"/yervound_rapidhash-*.whl "$folder" && cd "$room/tests" &&
+    for name in test_{rapidhash,package,buffers,columns,vectors}.py; do
+      PYTHONPATH=$folder "$1" -B "$name" || return 1
+    done
+}
+
+# Runs a test file with the installed wheel: FILE
+runs_installed() {
+  cd "$room/tests" && "$room/fresh/bin/python" -B "$1.py"
 }
 
 accepts_the_types() {
   cd "$room/tests" && mypy --strict --no-error-summary --cache-dir "$room/mypy" \
-    --python-executable "$room/ctypes/bin/python" test_types.py
+    --python-executable "$room/fresh/bin/python" test_types.py
 }
 
-# Checks that the types match the package, except for the ctypes module, which has none: ENVIRONMENT
-types_are_those_of() {
-  local folder=$room/types_$1
-  mkdir "$folder" && cp -r "$room/$1"/lib/python3*/site-packages/rapidhash "$folder" && cd "$folder" &&
-    MYPYPATH=$folder PYTHONPATH=$folder "$python" -m mypy.stubtest rapidhash \
-      --allowlist <(echo 'rapidhash\._over_ctypes.*')
-}
-
-# Runs the cases of an installed wheel: ENVIRONMENT
-test_wheel() {
-  local name
-  for name in test_rapidhash test_package test_buffers check_vectors; do
-    try "$1_$name" runs_over "$1" "$name"
-  done
-  try_with "$1_types" mypy types_are_those_of "$1"
+# Checks that the types match the package.
+types_are_those_of_the_package() {
+  cd "$room/files" && MYPYPATH=$room/files PYTHONPATH=$room/files "$python" -m mypy.stubtest rapidhash
 }
 
 if [ ! -x "$python" ] || ! "$python" -c 'import ensurepip, setuptools, wheel' 2>/dev/null; then
@@ -72,17 +94,21 @@ if [ ! -x "$python" ] || ! "$python" -c 'import ensurepip, setuptools, wheel' 2>
   finish
 fi
 try install installs_as_the_page_says
-try install_over_ctypes installs_over_ctypes
+try files has_its_files
+try exports exports_its_start_alone
 try lay_out lay_out
-try files_over_ctypes has_its_files py3-none librapidhash_c.so.1
-test_wheel ctypes
+for name in rapidhash package buffers columns vectors; do
+  try "$name" runs_installed "test_$name"
+done
 try_with types mypy accepts_the_types
-if compgen -G "$top/build/wheels/*-abi3-*.whl" >/dev/null; then
-  try files_of_extension has_its_files cp311-abi3 _extension.abi3.so
-  test_wheel extension
-  try named_library takes_a_named_library
-else
-  printf 'skipped extension: make built no wheel with one\n'
-fi
+try_with types_of_the_package mypy types_are_those_of_the_package
+try from_source installs_from_source
+try no_compiler without_a_compiler
+# Without a network, pip cannot get setuptools.
+try no_setuptools fails_and_leaves_nothing setuptools --symlinks
+try no_header without_the_header
+for other in ${RAPIDHASH_TEST_PYTHONS:-}; do
+  try "$other" works_with "$other"
+done
 
 finish

@@ -8,6 +8,8 @@ HELLO = 3327445792987248966
 NOTHING = 232177599295442350
 TEXT, TEXT_HASH = "héllo €😀", 7424989580978448810
 VERSIONS = ("v1", "v2_0", "v2_1", "v2_2", "v3", "v3_micro", "v3_nano", "v3_protected")
+# The digits of a hash as an SQL integer: those of HELLO, and of words with leading zeros and with the highest bit.
+DIGITS = {HELLO: "2e2d7651b45f7946", 0: "0" * 16, 2**32: "0000000100000000", -1: "f" * 16, -2**62: "c" + "0" * 15}
 # A seed word as an SQL integer, a message of this number of bytes from 0 on, and the hashes of these versions.
 SEEDED = (
     (1, 60, VERSIONS[:4], (16595489079910452471, 10726147324944781525, 10166538060445963011, 10905583924937672291)),
@@ -22,10 +24,9 @@ BINDINGS = (TOP / "docs/BINDINGS.md").read_text()
 
 
 def unpack(folder, binding):
-    """Lays out the library in a directory with the source of a binding, as in the archive. Returns the command that the
+    """Lays out the header in a directory with the source of a binding, as in the archive. Returns the command that the
     archive's page has for it."""
-    shell(f"make -s install PREFIX='{folder}' && mkdir '{folder}/bindings' && "
-          f"cp -r bindings/{binding} '{folder}/bindings'")
+    shell(f"mkdir -p '{folder}' && cp -r --parents include bindings/{binding} '{folder}'")
     return re.search(rf"^\| `bindings/{binding}` .*`((?:cc|make) .*)`", (TOP / "share/dist.md").read_text(), re.M)[1]
 
 

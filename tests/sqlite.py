@@ -7,7 +7,7 @@ import shutil
 import sqlite3
 
 from cases import ROOM, TOP, blocks, compare, finish, shell, tell
-from sql import BINDINGS, HELLO, NOTHING, SEEDED, TEXT, TEXT_HASH, VERSIONS
+from sql import BINDINGS, DIGITS, HELLO, NOTHING, SEEDED, TEXT, TEXT_HASH, VERSIONS
 from sql import every_vector, lines_with_results, signed, unpack
 
 PAGE = "bindings/sqlite/README.md"
@@ -15,37 +15,32 @@ STREAMS = VERSIONS[4:7]
 REAL = "a REAL cannot be hashed: cast it to TEXT, BLOB or INTEGER"
 ERRORS = {
     "rapidhash_v3(1.5)": f"rapidhash_v3: {REAL}",
-    "rapidhash_v2_0(NULL, 'a')": "rapidhash_v2_0: the seed has to be an INTEGER",
-    "rapidhash_v1(1, NULL)": "rapidhash_v1: the seed has to be an INTEGER",
-    "rapidhash_v3_nano(1, x'00')": "rapidhash_v3_nano: the seed has to be an INTEGER",
-    "rapidhash_v3_seeded(1, 2.0)": "rapidhash_v3_seeded: the number has to be an INTEGER",
+    "rapidhash_v2_0(NULL, 'a')": "rapidhash_v2_0: the seed must be an INTEGER",
+    "rapidhash_v3_nano(1, x'00')": "rapidhash_v3_nano: the seed must be an INTEGER",
+    "rapidhash_v3_seeded(1, 2.0)": "rapidhash_v3_seeded: the number must be an INTEGER",
+    "rapidhash_hex('1')": "rapidhash_hex: the hash must be an INTEGER",
     "rapidhash_v3_agg(1.5)": f"rapidhash_v3_agg: {REAL}",
-    "rapidhash_v3_micro_agg(NULL, '1')": "rapidhash_v3_micro_agg: the seed has to be an INTEGER",
-    "rapidhash_v3_nano_agg(1, place) FROM many": "rapidhash_v3_nano_agg: the seed has to be the same in every row",
+    "rapidhash_v3_micro_agg(NULL, '1')": "rapidhash_v3_micro_agg: the seed must be an INTEGER",
+    "rapidhash_v3_nano_agg(1, place) FROM many": "rapidhash_v3_nano_agg: the seed must be the same in every row",
     "rapidhash_v3_agg(1) OVER (ROWS 1 PRECEDING) FROM many":
-        "rapidhash_v3_agg: the window has to begin with UNBOUNDED PRECEDING",
+        "rapidhash_v3_agg: the window must begin with UNBOUNDED PRECEDING",
     "rapidhash_v3()": "wrong number of arguments to function rapidhash_v3()",
     "rapidhash_v3_seeded(1)": "wrong number of arguments to function rapidhash_v3_seeded()",
     "rapidhash_v3_agg(1, 2, 3)": "wrong number of arguments to function rapidhash_v3_agg()",
 }
 MEMORY = """cc -std=c99 -g -Wall -Wextra -Werror -fsanitize=address,undefined -fno-sanitize-recover=all -Iinclude \
-    bindings/sqlite/*.c crates/rapidhash_c/out/librapidhash_c.a -lsqlite3 -o "$ROOM/test_memory"
+    bindings/sqlite/*.c -lsqlite3 -o "$ROOM/test_memory"
 "$ROOM/test_memory" """
 
 
 def commands():
-    """Runs the three commands in an empty directory, that for an installed library, and that on the archive's page."""
-    first, second = blocks(PAGE, "sh")
-    installed = {"PKG_CONFIG_PATH": f"{ROOM}/lib/pkgconfig", "LD_LIBRARY_PATH": f"{ROOM}/lib"}
-    for name in ("first", "second"):
-        (ROOM / name).mkdir()
-    *build, load = first.splitlines()
-    status, printed = shell(first, ROOM / "first")
-    found = (first in BINDINGS, len(build), status, printed.splitlines()[-1:])
-    compare("three_commands", found, (True, 2, 0, [str(HELLO)]))
+    """Runs the commands in an empty directory, that on the archive's page, and make without the toolchain."""
+    [page] = blocks(PAGE, "sh")
+    (ROOM / "first").mkdir()
+    compare("page", (page in BINDINGS, page.count("\n"), shell(page, ROOM / "first")), (True, 2, (0, f"{HELLO}\n")))
     command = unpack(ROOM, "sqlite")
-    compare("installed_library", shell(second + load, ROOM / "second", **installed), (0, f"{HELLO}\n"))
-    compare("unpacked_archive", shell(f"{command}\n{load}", ROOM), (0, f"{HELLO}\n"))
+    compare("unpacked_archive", shell(f"{command}\n{page.splitlines()[1]}", ROOM), (0, f"{HELLO}\n"))
+    compare("make_without_the_toolchain", shell("make -s -B sqlite", PATH="/usr/bin:/bin"), (0, ""))
 
 
 def opened(encoding="UTF-8"):
@@ -103,9 +98,12 @@ def types(database, name):
     found = ask(database, f"""SELECT rapidhash_v3('hello'), rapidhash_v3('{TEXT}'), rapidhash_v3_agg('{TEXT}'),
         rapidhash_v3(''), rapidhash_v3(x''), rapidhash_v3(zeroblob(3)) = rapidhash_v3(x'000000'),
         rapidhash_v3(?) = rapidhash_v3(x'610062'), rapidhash_v3(42), rapidhash_v3(-42),
-        rapidhash_v3(CAST(42 AS TEXT)) = rapidhash_v3(x'3432'), rapidhash_v3(NULL), rapidhash_v3(NULL, 1)""", "a\0b")
+        rapidhash_v3(CAST(42 AS TEXT)) = rapidhash_v3(x'3432'), rapidhash_v3(NULL), rapidhash_v3(NULL, 1),
+        rapidhash_v3('a', NULL), rapidhash_v1_seeded(1, NULL), rapidhash_hex(NULL)""", "a\0b")
     compare(name, found, [(HELLO, TEXT_HASH, TEXT_HASH, NOTHING, NOTHING, 1, 1, 5044168950324010207,
-                           2463112363380910024, 1, None, None)])
+                           2463112363380910024, 1, None, None, None, None, None)])
+    found = [ask(database, "SELECT rapidhash_hex(?)", number) for number in DIGITS]
+    compare(f"{name}_hex", found, [[(digits,)] for digits in DIGITS.values()])
 
 
 def errors(database):
@@ -135,6 +133,8 @@ def aggregates(database):
     values = "(VALUES ('a', 'hello'), ('b', NULL), ('b', 'hello'), ('c', NULL))"
     query = f"SELECT rapidhash_v3_agg(column2) FROM {values} GROUP BY column1"
     compare("groups_with_nulls", ask(database, query), [(HELLO,), (HELLO,), (None,)])
+    query = "SELECT rapidhash_v3_agg(column1, column2) FROM (VALUES ('x', NULL), ('hel', 0), (NULL, 0), ('lo', 0))"
+    compare("rows_without_a_seed", ask(database, query), [(HELLO,)])
     compare("no_rows", ask(database, "SELECT rapidhash_v3_agg(1), rapidhash_v3_agg(1, 2) FROM many WHERE 0"),
             [(None, None)])
 

@@ -1,14 +1,60 @@
-// The arguments of the calls: messages, integers, and { seed } or { secrets }.
+// The arguments of the calls: messages, integers, and { seed } or { secrets }. The internal slots of an object decide
+// what it is, so properties, prototypes and other realms make no difference.
 
 const encoder = new TextEncoder();
+const { getOwnPropertyDescriptor, getPrototypeOf } = Object;
+const typed = getPrototypeOf(Uint8Array.prototype);
+
+/** Returns a method or getter as a function whose first argument is the object. */
+const free = (method) => Function.prototype.call.bind(method);
+const getter = (prototype, name) => free(getOwnPropertyDescriptor(prototype, name).get);
+
+/** Returns the name of a typed array's class, and undefined for anything else. */
+export const kindOf = getter(typed, Symbol.toStringTag);
+/** Returns the length of a typed array in bytes: 0 if it is detached or outside its buffer. */
+export const sizeOf = getter(typed, "byteLength");
+const bufferOf = getter(typed, "buffer");
+const offsetOf = getter(typed, "byteOffset");
+const keysOf = free(typed.keys);
+const view = DataView.prototype;
+const [viewBuffer, viewOffset, viewSize] = ["buffer", "byteOffset", "byteLength"].map((name) => getter(view, name));
+const bufferSize = getter(ArrayBuffer.prototype, "byteLength");
+
+function isBuffer(data) {
+  try {
+    return bufferSize(data) >= 0;
+  } catch {
+    return false;
+  }
+}
+
+/** Returns the bytes of a typed array, a view or a buffer, or undefined for anything else. */
+function viewOf(data) {
+  const kind = kindOf(data);
+  // The iterator of a typed array refuses one that is detached or outside its buffer.
+  if (kind !== undefined && sizeOf(data) === 0) keysOf(data);
+  if (kind === "Uint8Array") return data;
+  if (kind !== undefined) return new Uint8Array(bufferOf(data), offsetOf(data), sizeOf(data));
+  if (ArrayBuffer.isView(data)) return new Uint8Array(viewBuffer(data), viewOffset(data), viewSize(data));
+  return isBuffer(data) ? new Uint8Array(data) : undefined;
+}
 
 /** Returns the UTF-8 of a string, or the bytes of an ArrayBuffer or of a view of one. */
 export function bytesOf(data) {
-  if (data instanceof Uint8Array) return data;
   if (typeof data === "string") return encoder.encode(data);
-  if (data instanceof ArrayBuffer) return new Uint8Array(data);
-  if (ArrayBuffer.isView(data)) return new Uint8Array(data.buffer, data.byteOffset, data.byteLength);
-  throw new TypeError("expected a string, an ArrayBuffer or a view of one");
+  let bytes;
+  try {
+    bytes = viewOf(data);
+  } catch {
+    throw new TypeError("the buffer is detached, or too short for its view");
+  }
+  if (bytes === undefined) throw new TypeError("expected a string, an ArrayBuffer or a view of one");
+  return bytes;
+}
+
+/** Returns a part of a Uint8Array without its own methods, which may have been replaced. */
+export function part(bytes, from, to) {
+  return new Uint8Array(bufferOf(bytes), offsetOf(bytes) + from, Math.min(to, sizeOf(bytes)) - from);
 }
 
 /** Writes a string as UTF-8 to an array that has room for it. Returns the number of bytes. */
@@ -30,22 +76,33 @@ export function word(name, number) {
 /** Returns whether a value is an object as { } creates it, in this window or another. */
 function isPlain(value) {
   if (typeof value !== "object" || value === null) return false;
-  const prototype = Object.getPrototypeOf(value);
-  return prototype === null || Object.getPrototypeOf(prototype) === null;
+  const prototype = getPrototypeOf(value);
+  return prototype === null || getPrototypeOf(prototype) === null;
 }
 
-/** Returns the seed or the secrets of a call, if any. Refuses options that would otherwise be ignored. */
-export function choose(options = {}) {
+/** Returns the seed or the secrets of a call, if any. Reads own properties alone, and refuses unknown ones. */
+export function choose(options) {
+  if (options === undefined) return { seed: undefined, secrets: undefined };
   if (!isPlain(options)) throw new TypeError("options must be an object: { seed } or { secrets }");
-  for (const name of Object.keys(options))
+  const own = { __proto__: null, seed: undefined, secrets: undefined };
+  for (const name of Reflect.ownKeys(options)) {
     if (name !== "seed" && name !== "secrets")
-      throw new TypeError(`unknown option '${name}': expected seed or secrets`);
-  const { seed, secrets } = options;
+      throw new TypeError(`unknown option '${String(name)}': expected seed or secrets`);
+    own[name] = options[name];
+  }
+  const { seed, secrets } = own;
   if (seed !== undefined && secrets !== undefined)
     throw new TypeError("pass either seed or secrets, not both");
-  if (secrets !== undefined && !(secrets instanceof BigUint64Array))
+  if (secrets !== undefined && kindOf(secrets) !== "BigUint64Array")
     throw new TypeError("secrets must be a BigUint64Array, the seed first");
   return { seed: seed === undefined ? undefined : word("seed", seed), secrets };
+}
+
+/** Returns whether a digest must be hexadecimal digits. */
+export function isHex(encoding) {
+  if (encoding !== undefined && encoding !== "hex")
+    throw new TypeError("the encoding of a digest must be 'hex', or undefined for a BigInt");
+  return encoding === "hex";
 }
 
 /** Returns the pieces of a web stream or a Node stream. Some engines have no iterator for web streams. */

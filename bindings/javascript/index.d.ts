@@ -9,9 +9,6 @@ export type Options =
   | { readonly seed?: bigint | number; readonly secrets?: undefined }
   | { readonly seed?: undefined; readonly secrets?: BigUint64Array };
 
-/** The options of the version that takes no seed. */
-export type SecretsOption = { readonly seed?: undefined; readonly secrets?: BigUint64Array };
-
 /** A web stream, if it is not an async iterable. */
 export interface WebStream {
   getReader(): {
@@ -31,10 +28,16 @@ export interface Hasher {
   updateFrom(source: Pieces): Promise<this>;
   /** Returns the hash of the message so far. More pieces may follow. */
   digest(): bigint;
+  /** Returns the same hash as 16 lower-case hexadecimal digits. */
+  digest(encoding: "hex"): string;
   /** Empties the message but keeps the secrets. Returns the hasher. */
   reset(): this;
   /** Returns an independent hasher with the same message so far. */
   clone(): this;
+  /** Returns the state as bytes, which `load` of a hasher of this class accepts. They include the secrets. */
+  save(): Uint8Array;
+  /** Replaces the state, with its secrets, by a saved one. Returns the hasher. */
+  load(saved: ArrayBuffer | ArrayBufferView): this;
 }
 
 /** The functions. A hash is from 0 to 2^64 - 1, the same on every machine. */
@@ -46,7 +49,16 @@ export interface Rapidhash {
   v3(data: Message, options?: Options): bigint;
   v3Micro(data: Message, options?: Options): bigint;
   v3Nano(data: Message, options?: Options): bigint;
-  v3Protected(data: Message, options?: SecretsOption): bigint;
+  v3Protected(data: Message, options?: Options): bigint;
+  /** These return the same hash as 16 lower-case hexadecimal digits. */
+  v1Hex(data: Message, options?: Options): string;
+  v2_0Hex(data: Message, options?: Options): string;
+  v2_1Hex(data: Message, options?: Options): string;
+  v2_2Hex(data: Message, options?: Options): string;
+  v3Hex(data: Message, options?: Options): string;
+  v3MicroHex(data: Message, options?: Options): string;
+  v3NanoHex(data: Message, options?: Options): string;
+  v3ProtectedHex(data: Message, options?: Options): string;
   /** Makes a seed and secrets from a number, for every version except V1. If others choose input, use a random one. */
   makeSecrets(number: bigint | number): BigUint64Array;
   /** Returns the default secrets with a seed derived from a word, for every version except V1. */
@@ -60,13 +72,14 @@ export interface Rapidhash {
   readonly room: number;
 }
 
-/** Loads the module inside the package, or another from its bytes, its path, or its URL. */
-export function load(
-  source?: ArrayBuffer | ArrayBufferView | string | { readonly href: string },
-): Promise<Rapidhash>;
+/** A module: its bytes, or a WebAssembly.Module, whose type the library of the engine declares. */
+export type Source = ArrayBuffer | ArrayBufferView | object;
 
-/** Loads the module inside the package, or the bytes of another, synchronously. */
-export function loadSync(bytes?: ArrayBuffer | ArrayBufferView): Rapidhash;
+/** Loads the module inside the package, or another source of it. */
+export function load(source?: Source): Promise<Rapidhash>;
+
+/** Loads the module inside the package, or another source of it, synchronously. */
+export function loadSync(source?: Source): Rapidhash;
 
 /** Returns a hash as 16 lower-case hexadecimal digits. */
 export function hex(hash: bigint): string;

@@ -1,45 +1,57 @@
-// The module's exports and its memory. After the module's own part, the memory has secrets, a stream,
-// and the bytes of a single call. It grows to the longest message of V1, V2, or protected V3 and keeps
-// that size.
-import { bytesOf, encodeInto, word } from "./arguments.mjs";
+// The module's exports and its memory. After the module's own part, the memory has the default secrets, the secrets of
+// a call, the state of a stream after its secrets, and the bytes of a single call. It grows to the longest message of
+// V1, V2, or protected V3 and keeps that size.
+import { bytesOf, encodeInto, kindOf, sizeOf, word } from "./arguments.mjs";
 
 const page = 65536;
 /** The maximum size in bytes of a memory with 32-bit addresses. */
 const most = 2 ** 32;
 /** V3, micro, and nano hash a longer message in pieces of this many bytes. */
 export const piece = 2 * page;
-export const streamSize = 216;
-/** Up to this many bytes, a loop is faster than set() or encodeInto(). */
-const few = 32;
+/** The secrets of a stream and the stream. */
+export const stateSize = 64 + 208;
+/** Up to this many bytes, a loop is faster than set(), and up to this many letters faster than encodeInto(). */
+const few = 8;
+const fewLetters = 20;
+/** The version of the C header that the module is compiled from. */
+const version = 100;
+/** The default secrets of V1 are those of this seed word, and the others those of 0. */
+const wordOfV1 = 0xbdd89aa982704029n;
+const forms = ["v1", "v2_0", "v2_1", "v2_2", "v3", "v3_micro", "v3_nano", "v3_protected"];
+const needed = ["memory", "__heap_base", "version", "high", "start", "write", "reset", "finish", "finish_low",
+  "make_secrets", "seed_secrets", "make_secrets_v1", "seed_secrets_v1",
+  ...forms, ...forms.map((name) => `${name}_low`)];
 
-// An export takes 64-bit integers, and creating a BigInt is slower than looking one up.
-const small = Array.from({ length: 257 }, (_, at) => BigInt(at));
-
-/** Returns a length or a pointer as an export takes it. */
-function integer(number) {
-  return number < small.length ? small[number] : BigInt(number);
-}
+/** The codes of the hexadecimal digits. toString(16) is slow above 31 bits. */
+const codes = Array.from("0123456789abcdef", (digit) => digit.charCodeAt(0));
 
 export class Library {
-  constructor(exports) {
+  /** The stream whose state is in the memory, if any. */
+  owner;
+
+  constructor({ exports }) {
+    if (!needed.every((name) => name in exports) || exports.version() !== version)
+      throw new TypeError("the module is not that of this version of yervound-rapidhash");
     this.exports = exports;
-    this.atSecrets = (Number(exports.__heap_base.value) + 15) & ~15;
-    this.atStream = this.atSecrets + 64;
-    this.atBytes = this.atStream + 224;
+    this.atDefault = (exports.__heap_base.value + 15) & ~15;
+    this.atDefaultV1 = this.atDefault + 64;
+    this.atSecrets = this.atDefaultV1 + 32;
+    this.atState = this.atSecrets + 64;
+    this.atBytes = this.atState + stateSize;
     this.room = most - this.atBytes;
-    this.pointers = {
-      secrets: BigInt(this.atSecrets), stream: BigInt(this.atStream), bytes: BigInt(this.atBytes),
-    };
     this.look();
     this.fit(piece);
+    exports.seed_secrets(0n, this.atDefault);
+    exports.seed_secrets_v1(wordOfV1, this.atDefaultV1);
   }
 
   /** Creates the views of the memory, which become invalid when it grows. */
   look() {
     const { buffer } = this.exports.memory;
     this.secrets = new BigUint64Array(buffer, this.atSecrets, 8);
-    this.stream = new Uint8Array(buffer, this.atStream, streamSize);
+    this.state = new Uint8Array(buffer, this.atState, stateSize);
     this.bytes = new Uint8Array(buffer, this.atBytes);
+    this.words = new Int32Array(buffer, this.atBytes, fewLetters / 4);
   }
 
   /** Makes room for the bytes of a message. */
@@ -55,23 +67,24 @@ export class Library {
     this.look();
   }
 
-  /** Writes a string as UTF-8 to the memory. Returns the number of bytes. */
+  /** Writes a string as UTF-8 to the memory, which has room for it. Returns the number of bytes. */
   putText(text) {
-    const { bytes } = this;
-    if (text.length > few) return encodeInto(text, bytes);
-    for (let at = 0; at < text.length; at++) {
-      const unit = text.charCodeAt(at);
-      if (unit > 127) return encodeInto(text, bytes);
-      bytes[at] = unit;
+    const { bytes, words } = this;
+    const { length } = text;
+    if (length > fewLetters) return encodeInto(text, bytes);
+    let [at, all] = [0, 0];
+    for (; at + 4 <= length; at += 4) {
+      const [a, b] = [text.charCodeAt(at), text.charCodeAt(at + 1)];
+      const [c, d] = [text.charCodeAt(at + 2), text.charCodeAt(at + 3)];
+      words[at >> 2] = a | b << 8 | c << 16 | d << 24;
+      all |= a | b | c | d;
     }
-    return text.length;
+    for (; at < length; at++) all |= bytes[at] = text.charCodeAt(at);
+    return all > 127 ? encodeInto(text, bytes) : length;
   }
 
-  /** Copies a message into the memory. Returns its length for an export. A string must be short: its
-   * UTF-8 has at most three bytes per code unit. */
-  put(message) {
-    if (typeof message === "string") return integer(this.putText(message));
-    const { length } = message;
+  /** Copies `length` bytes, all of a Uint8Array, into the memory. Returns the length. */
+  putBytes(message, length) {
     if (length <= few) {
       const { bytes } = this;
       for (let at = 0; at < length; at++) bytes[at] = message[at];
@@ -79,25 +92,52 @@ export class Library {
       this.fit(length);
       this.bytes.set(message);
     }
-    return integer(length);
+    return length;
   }
 
-  /** Copies secrets into the memory. Returns a pointer to them. */
-  give(secrets, count) {
-    if (secrets.length !== count)
+  /** Copies a message of `messageOf` into the memory. Returns its length in bytes. */
+  put(message) {
+    return typeof message === "string" ? this.putText(message) : this.putBytes(message, sizeOf(message));
+  }
+
+  /** Writes the secrets of a call, those of a seed or the caller's own, to the memory. */
+  give({ seed, secrets }, count) {
+    const { exports, atSecrets } = this;
+    if (secrets === undefined) {
+      if (count === 4) exports.seed_secrets_v1(seed ?? wordOfV1, atSecrets);
+      else exports.seed_secrets(seed ?? 0n, atSecrets);
+      return atSecrets;
+    }
+    if (sizeOf(secrets) !== 8 * count)
       throw new TypeError(`secrets must have ${count} words for this version, the seed first`);
     this.secrets.set(secrets);
-    return this.pointers.secrets;
+    return atSecrets;
   }
 
   /** Returns the secrets that the export `name` makes from a number. */
   take(name, count, number) {
-    this.exports[name](word("number", number), this.pointers.secrets);
+    this.exports[name](word("number", number), this.atSecrets);
     return this.secrets.slice(0, count);
+  }
+
+  /** Returns the digits of a hash, of which an export returned the lower half. */
+  digits(low) {
+    const high = this.exports.high();
+    return String.fromCharCode(
+      codes[high >>> 28], codes[high >> 24 & 15], codes[high >> 20 & 15], codes[high >> 16 & 15],
+      codes[high >> 12 & 15], codes[high >> 8 & 15], codes[high >> 4 & 15], codes[high & 15],
+      codes[low >>> 28], codes[low >> 24 & 15], codes[low >> 20 & 15], codes[low >> 16 & 15],
+      codes[low >> 12 & 15], codes[low >> 8 & 15], codes[low >> 4 & 15], codes[low & 15]);
   }
 }
 
 /** Returns a message for `put`: a short string unchanged, and anything else as bytes. */
 export function messageOf(data) {
-  return typeof data === "string" && 3 * data.length <= piece ? data : bytesOf(data);
+  if (typeof data === "string" && 3 * data.length <= piece) return data;
+  return kindOf(data) === "Uint8Array" && sizeOf(data) > 0 ? data : bytesOf(data);
+}
+
+/** Returns whether a message must be hashed in pieces. */
+export function isLong(message) {
+  return typeof message !== "string" && sizeOf(message) > piece;
 }

@@ -1,36 +1,51 @@
-// The rapidhash family of hashes, over the C library that `make wasm` builds for WebAssembly:
+// The rapidhash family of hashes, over the C header compiled for WebAssembly:
 //
 //     import { loadSync } from "yervound-rapidhash";
 //     const hash = loadSync().v3("hello");
 //
 // A hash is a BigInt below 2n ** 64n, the same on every machine. README.md describes every call.
-import { choose, word } from "./arguments.mjs";
-import { Library, messageOf, piece } from "./library.mjs";
+import { bytesOf, choose, kindOf, sizeOf, word } from "./arguments.mjs";
+import { isLong, Library, messageOf, piece } from "./library.mjs";
 import { Stream } from "./stream.mjs";
 import code from "./module.mjs";
 
-/** Returns the module inside the package. */
+/** Returns the bytes of the module inside the package. */
 function inside() {
   return Uint8Array.from(atob(code), (letter) => letter.charCodeAt(0));
 }
 
-/** Returns the argument of WebAssembly.instantiate: bytes unchanged, and the contents of a path or a URL. */
-async function read(source) {
-  if (source === undefined) return inside();
-  if (source instanceof ArrayBuffer || ArrayBuffer.isView(source)) return source;
-  if (!globalThis.process?.versions?.node) return (await fetch(source)).arrayBuffer();
-  return (await import("node:fs/promises")).readFile(source);
+/** Returns whether a value is a compiled module, even of another realm. */
+function isModule(source) {
+  try {
+    return WebAssembly.Module.exports(source) !== undefined;
+  } catch {
+    return false;
+  }
 }
 
-/** Resolves to the calls, over the module inside the package or another from its bytes, path, or URL. */
-export async function load(source) {
-  const { instance } = await WebAssembly.instantiate(await read(source));
-  return calls(new Library(instance.exports));
+/** Refuses a string, which is a message for other calls. */
+function codeOf(source) {
+  if (typeof source === "string") throw new TypeError("expected the bytes of a module, or a WebAssembly.Module");
+  return bytesOf(source);
 }
 
-/** Returns the calls synchronously, over the module inside the package or the bytes of another. */
-export function loadSync(bytes = inside()) {
-  return calls(new Library(new WebAssembly.Instance(new WebAssembly.Module(bytes)).exports));
+/** Refuses a module that needs imports, which that of the package does not. */
+function checked(module) {
+  if (WebAssembly.Module.imports(module).length > 0)
+    throw new TypeError("the module is not that of this version of yervound-rapidhash");
+  return module;
+}
+
+/** Resolves to the calls, over the module inside the package, the bytes of another, or a WebAssembly.Module. */
+export async function load(source = inside()) {
+  const module = isModule(source) ? source : await WebAssembly.compile(codeOf(source));
+  return calls(new Library(await WebAssembly.instantiate(checked(module))));
+}
+
+/** Returns the calls synchronously, over the module inside the package or another. */
+export function loadSync(source = inside()) {
+  const module = isModule(source) ? source : new WebAssembly.Module(codeOf(source));
+  return calls(new Library(new WebAssembly.Instance(checked(module))));
 }
 
 /** Returns a hash as 16 lower-case hexadecimal digits. */
@@ -38,59 +53,66 @@ export function hex(hash) {
   return word("hash", hash).toString(16).padStart(16, "0");
 }
 
-const none = {};
-
-/** Returns the call of a version with `count` words of secrets. It hashes a message longer than a piece
- * with a stream of `lanes` lanes, if the version has one. */
+/** Returns the two calls of a version with `count` words of secrets: for a BigInt and for hexadecimal digits. They hash
+ * a message longer than a piece with a stream of `lanes` lanes, if the version has one. */
 function form(library, name, count, lanes) {
-  const { bytes } = library.pointers;
-  const plain = library.exports[name];
-  const withSeed = library.exports[`${name}_with_seed`];
-  const seeded = library.exports[`${name}_seeded`];
-  const general = (data, options) => {
-    const { seed, secrets } = options === undefined ? none : choose(options);
-    if (seed !== undefined && !withSeed) throw new TypeError(`${name} does not take seed; pass secrets`);
+  const { atBytes } = library;
+  const { [name]: whole, [`${name}_low`]: low } = library.exports;
+  const standard = count === 4 ? library.atDefaultV1 : library.atDefault;
+  const general = (data, options, encoding) => {
+    if (options === undefined && typeof data === "string" && 3 * data.length <= piece && !encoding)
+      return BigInt.asUintN(64, whole(atBytes, library.putText(data), standard));
+    const choice = options === undefined ? undefined : choose(options);
     const message = messageOf(data);
-    if (lanes && message.length > piece)
-      return new Stream(library, lanes, { seed, secrets }).update(message).digest();
+    if (lanes && isLong(message)) return new Stream(library, lanes, choice).update(message).digest(encoding);
+    const secrets = choice === undefined ? standard : library.give(choice, count);
     const length = library.put(message);
-    if (secrets) return BigInt.asUintN(64, seeded(bytes, length, library.give(secrets, count)));
-    if (seed !== undefined) return BigInt.asUintN(64, withSeed(bytes, length, seed));
-    return BigInt.asUintN(64, plain(bytes, length));
+    if (encoding) return library.digits(low(atBytes, length, secrets));
+    return BigInt.asUintN(64, whole(atBytes, length, secrets));
   };
   // Separate and small, so that the engine inlines it into its callers.
-  return (data, options) => {
-    if (options === undefined && data instanceof Uint8Array && data.length <= piece)
-      return BigInt.asUintN(64, plain(bytes, library.put(data)));
+  const hash = (data, options) => {
+    if (options === undefined && kindOf(data) === "Uint8Array") {
+      const length = sizeOf(data);
+      if (length > 0 && length <= piece)
+        return BigInt.asUintN(64, whole(atBytes, library.putBytes(data, length), standard));
+    }
     return general(data, options);
+  };
+  return [hash, (data, options) => general(data, options, "hex")];
+}
+
+/** Returns the class of the hashers with `lanes` lanes. */
+function hashers(library, lanes) {
+  return class extends Stream {
+    constructor(options) {
+      super(library, lanes, options);
+    }
   };
 }
 
 /** Returns the result of load: each call takes data and, optionally, { seed } or { secrets }. `room` is
  * the maximum length in bytes of a message for V1, V2, and protected V3, if the engine has the memory. */
 function calls(library) {
-  const stream = (lanes) => class extends Stream {
-    constructor(options) {
-      super(library, lanes, options);
-    }
-  };
   const secrets = (name, count) => (number) => library.take(name, count, number);
+  const [v1, v1Hex] = form(library, "v1", 4);
+  const [v2_0, v2_0Hex] = form(library, "v2_0", 8);
+  const [v2_1, v2_1Hex] = form(library, "v2_1", 8);
+  const [v2_2, v2_2Hex] = form(library, "v2_2", 8);
+  const [v3, v3Hex] = form(library, "v3", 8, 7);
+  const [v3Micro, v3MicroHex] = form(library, "v3_micro", 8, 5);
+  const [v3Nano, v3NanoHex] = form(library, "v3_nano", 8, 3);
+  const [v3Protected, v3ProtectedHex] = form(library, "v3_protected", 8);
   return {
-    v1: form(library, "rapidhash_v1", 4),
-    v2_0: form(library, "rapidhash_v2_0", 8),
-    v2_1: form(library, "rapidhash_v2_1", 8),
-    v2_2: form(library, "rapidhash_v2_2", 8),
-    v3: form(library, "rapidhash_v3", 8, 7),
-    v3Micro: form(library, "rapidhash_v3_micro", 8, 5),
-    v3Nano: form(library, "rapidhash_v3_nano", 8, 3),
-    v3Protected: form(library, "rapidhash_v3_protected", 8),
-    makeSecrets: secrets("rapidhash_make_secrets", 8),
-    seedSecrets: secrets("rapidhash_seed_secrets", 8),
-    makeSecretsV1: secrets("rapidhash_v1_make_secrets", 4),
-    seedSecretsV1: secrets("rapidhash_v1_seed_secrets", 4),
-    V3: stream(7),
-    V3Micro: stream(5),
-    V3Nano: stream(3),
+    v1, v2_0, v2_1, v2_2, v3, v3Micro, v3Nano, v3Protected,
+    v1Hex, v2_0Hex, v2_1Hex, v2_2Hex, v3Hex, v3MicroHex, v3NanoHex, v3ProtectedHex,
+    makeSecrets: secrets("make_secrets", 8),
+    seedSecrets: secrets("seed_secrets", 8),
+    makeSecretsV1: secrets("make_secrets_v1", 4),
+    seedSecretsV1: secrets("seed_secrets_v1", 4),
+    V3: hashers(library, 7),
+    V3Micro: hashers(library, 5),
+    V3Nano: hashers(library, 3),
     room: library.room,
   };
 }

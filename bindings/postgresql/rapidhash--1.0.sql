@@ -1,22 +1,39 @@
 \echo Use "CREATE EXTENSION rapidhash" to load this file. \quit
 
--- Creates each version for bytea, text, and bigint: by default, with a seed, and with secrets made from a number.
+CREATE FUNCTION rapidhash_hex(hash bigint) RETURNS text
+    AS 'MODULE_PATHNAME', 'sql_hex' LANGUAGE C IMMUTABLE STRICT PARALLEL SAFE;
+
+CREATE FUNCTION rapidhash_agg_finish(internal) RETURNS bigint
+    AS 'MODULE_PATHNAME', 'finish_agg' LANGUAGE C IMMUTABLE PARALLEL SAFE;
+
+-- Creates each version for bytea, text, and bigint: by default, with a seed, and with secrets made from a number. Those
+-- that can be streamed are also aggregates.
 DO $body$
 DECLARE
     version text;
     type text;
     kind text;
-    attributes text := 'RETURNS bigint AS ''MODULE_PATHNAME'', %L LANGUAGE C IMMUTABLE STRICT PARALLEL SAFE';
+    seed text;
+    attributes text := 'AS ''MODULE_PATHNAME'', %L LANGUAGE C IMMUTABLE PARALLEL SAFE';
+    returning_hash text := ' RETURNS bigint STRICT ' || attributes;
 BEGIN
     FOREACH version IN ARRAY ARRAY['v1', 'v2_0', 'v2_1', 'v2_2', 'v3', 'v3_micro', 'v3_nano', 'v3_protected'] LOOP
         FOREACH type IN ARRAY ARRAY['bytea', 'text', 'bigint'] LOOP
             kind := CASE type WHEN 'bigint' THEN 'integer' ELSE 'bytes' END;
-            EXECUTE format('CREATE FUNCTION rapidhash_%s(%s) ' || attributes,
+            EXECUTE format('CREATE FUNCTION rapidhash_%s(%s)' || returning_hash,
                            version, type, format('sql_%s_%s', version, kind));
-            EXECUTE format('CREATE FUNCTION rapidhash_%s(%s, seed bigint) ' || attributes,
+            EXECUTE format('CREATE FUNCTION rapidhash_%s(%s, seed bigint)' || returning_hash,
                            version, type, format('sql_%s_with_seed_%s', version, kind));
-            EXECUTE format('CREATE FUNCTION rapidhash_%s_seeded(%s, number bigint) ' || attributes,
+            EXECUTE format('CREATE FUNCTION rapidhash_%s_seeded(%s, number bigint)' || returning_hash,
                            version, type, format('sql_%s_seeded_%s', version, kind));
+            CONTINUE WHEN version NOT IN ('v3', 'v3_micro', 'v3_nano');
+            FOREACH seed IN ARRAY ARRAY['', ', seed bigint'] LOOP
+                EXECUTE format('CREATE FUNCTION rapidhash_%s_agg_row(internal, %s%s) RETURNS internal ' || attributes,
+                               version, type, seed, format('add_%s_%s', version, kind));
+                EXECUTE format('CREATE AGGREGATE rapidhash_%s_agg(%s%s) (SFUNC = rapidhash_%1$s_agg_row, '
+                               'STYPE = internal, FINALFUNC = rapidhash_agg_finish, PARALLEL = SAFE)',
+                               version, type, seed);
+            END LOOP;
         END LOOP;
     END LOOP;
 END

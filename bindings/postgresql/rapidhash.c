@@ -2,7 +2,9 @@
 #include <postgres.h>
 
 #include <fmgr.h>
+#include <inttypes.h>
 #include <rapidhash_c.h>
+#include <utils/builtins.h>
 
 PG_MODULE_MAGIC;
 
@@ -23,14 +25,18 @@ static Datum hash_bytes(FunctionCallInfo fcinfo, hash_by_word *hash)
     PG_RETURN_INT64((int64)result);
 }
 
-/* Returns the hash of the 8 bytes of an integer, least significant first. */
-static Datum hash_integer(FunctionCallInfo fcinfo, hash_by_word *hash)
+/* Writes the 8 bytes of an integer, least significant first. */
+static void bytes_of(uint64_t number, unsigned char *bytes)
 {
-    uint64_t number = (uint64_t)PG_GETARG_INT64(0);
-    unsigned char bytes[8];
     int at;
     for (at = 0; at < 8; at++)
         bytes[at] = (unsigned char)(number >> 8 * at);
+}
+
+static Datum hash_integer(FunctionCallInfo fcinfo, hash_by_word *hash)
+{
+    unsigned char bytes[8];
+    bytes_of((uint64_t)PG_GETARG_INT64(0), bytes);
     PG_RETURN_INT64((int64)hash(bytes, sizeof bytes, second_argument(fcinfo)));
 }
 
@@ -47,7 +53,7 @@ static Datum hash_integer(FunctionCallInfo fcinfo, hash_by_word *hash)
     }
 
 /* Defines the calls of a version: by default, with a seed word, and with secrets from a number, of V1 or others. */
-#define VERSION(version, prefix, with_seed) \
+#define VERSION(version, prefix) \
     static uint64_t default_##version(const void *bytes, size_t len, uint64_t none) \
     { \
         (void)none; \
@@ -60,21 +66,98 @@ static Datum hash_integer(FunctionCallInfo fcinfo, hash_by_word *hash)
         return rapidhash_##version##_seeded(bytes, len, &secrets); \
     } \
     CALLS(sql_##version, default_##version) \
-    CALLS(sql_##version##_with_seed, with_seed) \
+    CALLS(sql_##version##_with_seed, rapidhash_##version##_with_seed) \
     CALLS(sql_##version##_seeded, seeded_##version)
 
-static uint64_t protected_with_seed(const void *bytes, size_t len, uint64_t seed)
+VERSION(v1, v1_)
+VERSION(v2_0, )
+VERSION(v2_1, )
+VERSION(v2_2, )
+VERSION(v3, )
+VERSION(v3_micro, )
+VERSION(v3_nano, )
+VERSION(v3_protected, )
+
+PG_FUNCTION_INFO_V1(sql_hex);
+
+/* Returns a hash as 16 hexadecimal digits. */
+Datum sql_hex(PG_FUNCTION_ARGS)
 {
-    struct rapidhash_secrets secrets;
-    rapidhash_seed_secrets(seed, &secrets);
-    return rapidhash_v3_protected_seeded(bytes, len, &secrets);
+    PG_RETURN_TEXT_P(cstring_to_text(psprintf("%016" PRIx64, (uint64_t)PG_GETARG_INT64(0))));
 }
 
-VERSION(v1, v1_, rapidhash_v1_with_seed)
-VERSION(v2_0, , rapidhash_v2_0_with_seed)
-VERSION(v2_1, , rapidhash_v2_1_with_seed)
-VERSION(v2_2, , rapidhash_v2_2_with_seed)
-VERSION(v3, , rapidhash_v3_with_seed)
-VERSION(v3_micro, , rapidhash_v3_micro_with_seed)
-VERSION(v3_nano, , rapidhash_v3_nano_with_seed)
-VERSION(v3_protected, , protected_with_seed)
+/* The state of an aggregate between rows. The server does not move it, so the stream may point into it. */
+struct running {
+    uint64_t seed;
+    struct rapidhash_secrets secrets;
+    struct rapidhash_stream stream;
+};
+
+typedef void start(struct rapidhash_stream *stream, const struct rapidhash_secrets *secrets);
+
+/* Returns the state, which the first row with a value creates, or NULL if no row had one. */
+static struct running *state_of(FunctionCallInfo fcinfo, start *start, const char *name)
+{
+    struct running *running = PG_ARGISNULL(0) ? NULL : (struct running *)PG_GETARG_POINTER(0);
+    const uint64_t seed = PG_NARGS() > 2 ? (uint64_t)PG_GETARG_INT64(2) : 0;
+    MemoryContext context;
+    if (!AggCheckCallContext(fcinfo, &context))
+        ereport(ERROR, (errcode(ERRCODE_FEATURE_NOT_SUPPORTED), errmsg("%s can only be called as an aggregate", name)));
+    if (running == NULL) {
+        running = MemoryContextAlloc(context, sizeof *running);
+        running->seed = seed;
+        rapidhash_seed_secrets(seed, &running->secrets);
+        start(&running->stream, &running->secrets);
+    } else if (running->seed != seed) {
+        ereport(ERROR, (errcode(ERRCODE_INVALID_PARAMETER_VALUE),
+                        errmsg("%s: the seed must be the same in every row", name)));
+    }
+    return running;
+}
+
+/* Adds a row to an aggregate. A row with a NULL argument adds nothing. */
+static Datum add_row(FunctionCallInfo fcinfo, start *start, const char *name, int is_integer)
+{
+    struct running *running;
+    if (PG_ARGISNULL(1) || (PG_NARGS() > 2 && PG_ARGISNULL(2))) {
+        if (PG_ARGISNULL(0))
+            PG_RETURN_NULL();
+        PG_RETURN_DATUM(PG_GETARG_DATUM(0));
+    }
+    running = state_of(fcinfo, start, name);
+    if (is_integer) {
+        unsigned char bytes[8];
+        bytes_of((uint64_t)PG_GETARG_INT64(1), bytes);
+        rapidhash_stream_write(&running->stream, bytes, sizeof bytes);
+    } else {
+        struct varlena *piece = PG_DETOAST_DATUM_PACKED(PG_GETARG_DATUM(1));
+        rapidhash_stream_write(&running->stream, VARDATA_ANY(piece), VARSIZE_ANY_EXHDR(piece));
+        PG_FREE_IF_COPY(piece, 1);
+    }
+    PG_RETURN_POINTER(running);
+}
+
+#define STREAM(version) \
+    PG_FUNCTION_INFO_V1(add_##version##_bytes); \
+    Datum add_##version##_bytes(PG_FUNCTION_ARGS) \
+    { \
+        return add_row(fcinfo, rapidhash_##version##_start, "rapidhash_" #version "_agg", 0); \
+    } \
+    PG_FUNCTION_INFO_V1(add_##version##_integer); \
+    Datum add_##version##_integer(PG_FUNCTION_ARGS) \
+    { \
+        return add_row(fcinfo, rapidhash_##version##_start, "rapidhash_" #version "_agg", 1); \
+    }
+STREAM(v3)
+STREAM(v3_micro)
+STREAM(v3_nano)
+
+PG_FUNCTION_INFO_V1(finish_agg);
+
+/* Returns the hash of the rows so far. It does not change the state, so a window can add further rows. */
+Datum finish_agg(PG_FUNCTION_ARGS)
+{
+    if (PG_ARGISNULL(0))
+        PG_RETURN_NULL();
+    PG_RETURN_INT64((int64)rapidhash_stream_finish(&((struct running *)PG_GETARG_POINTER(0))->stream));
+}

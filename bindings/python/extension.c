@@ -1,221 +1,198 @@
-/* The hashes as an extension for CPython 3.11 and later, over the C library. Messages are hashed without a copy. */
+/* The extension module: one call per version, the calls that make secrets, and the functions over several messages. */
 #include "extension.h"
 
-/* The two classes of secrets in the module rapidhash._secrets. */
-struct classes {
-    PyObject *secrets;
-    PyObject *secrets_v1;
-};
-
-/* The library's functions for a form. `with_seed` may be NULL. */
-struct form {
-    uint64_t (*plain)(const void *bytes, size_t len);
-    uint64_t (*with_seed)(const void *bytes, size_t len, uint64_t seed);
-    uint64_t (*seeded)(const void *bytes, size_t len, const void *secrets);
-    int is_v1;
-};
-
-/* The seed or the secrets of a call. `secrets` may be NULL, and `seed` is valid only if has_seed is not 0. */
-struct start {
-    const void *secrets;
-    uint64_t seed;
-    int has_seed;
-};
-
-static PyObject *refuse(const char *why)
-{
-    PyErr_SetString(PyExc_TypeError, why);
-    return NULL;
-}
-
-/* Returns the bytes of secrets, or NULL with an error set. */
-static const void *words_of(PyObject *secrets, PyObject *class, Py_ssize_t size)
-{
-    if (!PyObject_TypeCheck(secrets, (PyTypeObject *)class) || PyBytes_Size(secrets) != size)
-        return refuse("secrets must come from make_secrets for this version");
-    return PyBytes_AsString(secrets);
-}
-
-/* Reads a word from a Python integer. Returns 0, or -1 with an error set. */
-static int read_word(PyObject *number, uint64_t *word)
-{
-    PyObject *index = PyNumber_Index(number);
-    if (index == NULL)
-        return -1;
-    *word = PyLong_AsUnsignedLongLong(index);
-    Py_DECREF(index);
-    if (*word != UINT64_MAX || !PyErr_Occurred())
-        return 0;
-    if (PyErr_ExceptionMatches(PyExc_OverflowError))
-        PyErr_SetString(PyExc_OverflowError, "seed or number must be from 0 to 2**64 - 1");
-    return -1;
-}
-
-/* Sorts arguments into data, seed, and secrets, each NULL if it is missing. Returns 0, or -1 with an error set. */
-static int sort(PyObject *const *args, Py_ssize_t count, PyObject *names, PyObject *sorted[3])
+/* Sorts the arguments of a call into data, seed, and secrets, each NULL if it is missing. Returns 0, or -1 with an
+ * error set. */
+static int sort(
+    const struct form *form, PyObject *const *args, Py_ssize_t count, PyObject *names, PyObject *sorted[3])
 {
     static const char *const known[3] = {"data", "seed", "secrets"};
     Py_ssize_t at, named = names == NULL ? 0 : PyTuple_Size(names);
     if (count > 3)
-        return refuse("expected at most three arguments: data, seed, secrets"), -1;
+        return PyErr_Format(PyExc_TypeError, "%s() takes at most three arguments: data, seed, secrets", form->name), -1;
     for (at = 0; at < count; at++)
         sorted[at] = args[at];
     for (at = 0; at < named; at++) {
+        PyObject *name = PyTuple_GetItem(names, at);
         int which = 0;
-        while (which < 3 && PyUnicode_CompareWithASCIIString(PyTuple_GetItem(names, at), known[which]) != 0)
+        while (which < 3 && PyUnicode_CompareWithASCIIString(name, known[which]) != 0)
             which++;
-        if (which == 3 || sorted[which] != NULL)
-            return refuse("an argument has an unknown name or is passed twice"), -1;
+        if (which == 3 || sorted[which] != NULL) {
+            PyErr_Format(PyExc_TypeError, which == 3 ? "%s() has no argument %R: expected data, seed, or secrets"
+                                                     : "%s() got the argument %R twice", form->name, name);
+            return -1;
+        }
         sorted[which] = args[count + at];
     }
-    return sorted[0] == NULL ? refuse("missing argument: data"), -1 : 0;
-}
-
-/* Reads the seed or the secrets of a call. Returns 0, or -1 with an error set. */
-static int read_start(const struct form *form, PyObject *module, PyObject *const sorted[3], struct start *start)
-{
-    const struct classes *classes = PyModule_GetState(module);
-    int has_seed = sorted[1] != NULL && sorted[1] != Py_None;
-    if (sorted[2] != NULL && sorted[2] != Py_None) {
-        if (has_seed)
-            return refuse("pass either seed or secrets, not both"), -1;
-        start->secrets = form->is_v1 ? words_of(sorted[2], classes->secrets_v1, sizeof(struct rapidhash_v1_secrets))
-                                     : words_of(sorted[2], classes->secrets, sizeof(struct rapidhash_secrets));
-        return start->secrets == NULL ? -1 : 0;
-    }
-    if (!has_seed)
+    if (sorted[0] != NULL)
         return 0;
-    if (form->with_seed == NULL)
-        return refuse("v3_protected does not take seed; pass secrets"), -1;
-    start->has_seed = 1;
-    return read_word(sorted[1], &start->seed);
+    PyErr_Format(PyExc_TypeError, "%s() is missing its argument data", form->name);
+    return -1;
 }
 
-static uint64_t hash_of(const struct form *form, const struct start *start, const Py_buffer *bytes)
+static uint64_t hash_of(const struct form *form, const struct start *start, const struct message *message)
 {
     if (start->secrets != NULL)
-        return form->seeded(bytes->buf, (size_t)bytes->len, start->secrets);
+        return form->seeded(message->bytes, message->len, start->secrets);
     if (start->has_seed)
-        return form->with_seed(bytes->buf, (size_t)bytes->len, start->seed);
-    return form->plain(bytes->buf, (size_t)bytes->len);
+        return form->with_seed(message->bytes, message->len, start->seed);
+    return form->plain(message->bytes, message->len);
 }
 
-static PyObject *hash(
-    const struct form *form, PyObject *module, PyObject *const *args, Py_ssize_t count, PyObject *names)
+/* Hashes the message of a call. Returns 0, or -1 with an error set. */
+static int hash(const struct form *form, PyObject *module, PyObject *const *args, Py_ssize_t count, PyObject *names,
+                uint64_t *value)
 {
-    PyObject *sorted[3] = {NULL, NULL, NULL}, *result = NULL;
-    struct start start = {NULL, 0, 0};
-    Py_buffer bytes;
-    uint64_t value;
-    if (sort(args, count, names, sorted) < 0 || PyObject_GetBuffer(sorted[0], &bytes, PyBUF_SIMPLE) < 0)
-        return NULL;
-    if (read_start(form, module, sorted, &start) == 0) {
-        if (bytes.len > LONG) {
-            Py_BEGIN_ALLOW_THREADS
-            value = hash_of(form, &start, &bytes);
-            Py_END_ALLOW_THREADS
-        } else {
-            value = hash_of(form, &start, &bytes);
-        }
-        result = PyLong_FromUnsignedLongLong(value);
+    PyObject *sorted[3] = {NULL, NULL, NULL};
+    struct start start;
+    struct message message;
+    if (sort(form, args, count, names, sorted) < 0 || read_start(module, form, sorted[1], sorted[2], &start) < 0 ||
+        read_message(sorted[0], "data", &message) < 0)
+        return -1;
+    if (message.len > LONG) {
+        Py_BEGIN_ALLOW_THREADS
+        *value = hash_of(form, &start, &message);
+        Py_END_ALLOW_THREADS
+    } else {
+        *value = hash_of(form, &start, &message);
     }
-    PyBuffer_Release(&bytes);
-    return result;
+    release_message(&message);
+    return 0;
 }
 
-/* Defines the call of a form, from its name, its function for a seed word, and whether it is V1. */
-#define FORM(name, with_seed, is_v1) \
-    static uint64_t seeded_##name(const void *bytes, size_t len, const void *secrets) \
+/* Returns a hash as 16 hexadecimal digits. */
+static PyObject *digits_of(uint64_t hash)
+{
+    char digits[16];
+    int at;
+    for (at = 15; at >= 0; at--, hash >>= 4)
+        digits[at] = "0123456789abcdef"[hash & 15];
+    return PyUnicode_FromStringAndSize(digits, sizeof digits);
+}
+
+/* Defines a version and its two calls. */
+#define FORM(version, is_v1) \
+    static uint64_t seeded_##version(const void *bytes, size_t len, const void *secrets) \
+    { return rapidhash_##version##_seeded(bytes, len, secrets); } \
+    static const struct form form_##version = { \
+        #version, rapidhash_##version, rapidhash_##version##_with_seed, seeded_##version, is_v1}; \
+    static PyObject *call_##version(PyObject *module, PyObject *const *args, Py_ssize_t count, PyObject *names) \
     { \
-        return rapidhash_##name##_seeded(bytes, len, secrets); \
+        uint64_t value; \
+        if (hash(&form_##version, module, args, count, names, &value) < 0) return NULL; \
+        return PyLong_FromUnsignedLongLong(value); \
     } \
-    static PyObject *call_##name(PyObject *module, PyObject *const *args, Py_ssize_t count, PyObject *names) \
+    static PyObject *hex_##version(PyObject *module, PyObject *const *args, Py_ssize_t count, PyObject *names) \
     { \
-        static const struct form form = {rapidhash_##name, with_seed, seeded_##name, is_v1}; \
-        return hash(&form, module, args, count, names); \
+        uint64_t value; \
+        return hash(&form_##version, module, args, count, names, &value) < 0 ? NULL : digits_of(value); \
     }
+FORM(v1, 1)
+FORM(v2_0, 0)
+FORM(v2_1, 0)
+FORM(v2_2, 0)
+FORM(v3, 0)
+FORM(v3_micro, 0)
+FORM(v3_nano, 0)
+FORM(v3_protected, 0)
 
-FORM(v1, rapidhash_v1_with_seed, 1)
-FORM(v2_0, rapidhash_v2_0_with_seed, 0)
-FORM(v2_1, rapidhash_v2_1_with_seed, 0)
-FORM(v2_2, rapidhash_v2_2_with_seed, 0)
-FORM(v3, rapidhash_v3_with_seed, 0)
-FORM(v3_micro, rapidhash_v3_micro_with_seed, 0)
-FORM(v3_nano, rapidhash_v3_nano_with_seed, 0)
-FORM(v3_protected, NULL, 0)
+const struct form *form_of(PyObject *version)
+{
+    static const struct form *const forms[] = {&form_v1, &form_v2_0, &form_v2_1, &form_v2_2, &form_v3,
+                                               &form_v3_micro, &form_v3_nano, &form_v3_protected};
+    size_t at;
+    for (at = 0; PyUnicode_Check(version) && at < sizeof forms / sizeof *forms; at++)
+        if (PyUnicode_CompareWithASCIIString(version, forms[at]->name) == 0)
+            return forms[at];
+    PyErr_Format(PyUnicode_Check(version) ? PyExc_ValueError : PyExc_TypeError,
+                 "version must be the name of a hash, such as 'v3', not %R", version);
+    return NULL;
+}
 
-/* Defines a call that derives secrets from a word: its name, the library's function, and the struct to fill. */
-#define MAKER(name, function, type) \
+/* Defines a call that derives secrets from the word `argument`: its name, the header's function, the struct to fill. */
+#define MAKER(name, argument, function, type) \
     static PyObject *name(PyObject *module, PyObject *number) \
     { \
         uint64_t word; \
         struct type words; \
         (void)module; \
-        if (read_word(number, &word) < 0) \
-            return NULL; \
+        if (read_word(number, argument, &word) < 0) return NULL; \
         function(word, &words); \
         return PyBytes_FromStringAndSize((const char *)&words, sizeof words); \
     }
+MAKER(made, "number", rapidhash_make_secrets, rapidhash_secrets)
+MAKER(made_v1, "number", rapidhash_v1_make_secrets, rapidhash_v1_secrets)
+MAKER(seeded, "seed", rapidhash_seed_secrets, rapidhash_secrets)
 
-MAKER(made, rapidhash_make_secrets, rapidhash_secrets)
-MAKER(made_v1, rapidhash_v1_make_secrets, rapidhash_v1_secrets)
-MAKER(seeded, rapidhash_seed_secrets, rapidhash_secrets)
-
+#define FAST(function) (PyCFunction)(void (*)(void))function
 #define CALL(name) \
-    {#name, (PyCFunction)(void (*)(void))call_##name, METH_FASTCALL | METH_KEYWORDS, \
+    {#name, FAST(call_##name), METH_FASTCALL | METH_KEYWORDS, \
      PyDoc_STR(#name "($module, data, seed=None, secrets=None)\n--\n\nReturns the " #name " hash of `data`.\n\n" \
-               "Pass `seed`, a word for the default secrets, or `secrets` from make_secrets. A seed word is no\n" \
-               "defence against chosen input. Raises BufferError if `data` is not contiguous, OverflowError for\n" \
-               "a seed outside 0 to 2**64 - 1, and TypeError if both are passed.")}
+               "A str is hashed as its UTF-8. Pass `seed`, a word for the default secrets, or `secrets` from\n" \
+               "make_secrets. A seed word does not protect against chosen input. Raises BufferError if `data` is\n" \
+               "not contiguous, OverflowError for a seed outside 0 to 2**64 - 1, UnicodeEncodeError for half a\n" \
+               "surrogate pair, and TypeError if both are passed.")}, \
+    {#name "_hexdigest", FAST(hex_##name), METH_FASTCALL | METH_KEYWORDS, \
+     PyDoc_STR(#name "_hexdigest($module, data, seed=None, secrets=None)\n--\n\n" \
+               "Returns the same hash as " #name ", as 16 hexadecimal digits.")}
 
 static PyMethodDef calls[] = {
     CALL(v1), CALL(v2_0), CALL(v2_1), CALL(v2_2), CALL(v3), CALL(v3_micro), CALL(v3_nano), CALL(v3_protected),
     {"made", made, METH_O, NULL}, {"made_v1", made_v1, METH_O, NULL}, {"seeded", seeded, METH_O, NULL},
-    {NULL, NULL, 0, NULL}};
+    {"each", FAST(each), METH_FASTCALL, NULL}, {"each_row", FAST(each_row), METH_FASTCALL, NULL},
+    {"each_slice", FAST(each_slice), METH_FASTCALL, NULL}, {NULL, NULL, 0, NULL}};
 
+/* The module's state: the classes of secrets, that of V1 second. Each interpreter has its own. */
 static int fill(PyObject *module)
 {
-    struct classes *classes = PyModule_GetState(module);
-    PyObject *stream, *secrets = PyImport_ImportModule("rapidhash._secrets");
+    PyObject **classes = PyModule_GetState(module), *stream, *secrets = PyImport_ImportModule("rapidhash._secrets");
+    int status;
     if (secrets == NULL)
         return -1;
-    classes->secrets = PyObject_GetAttrString(secrets, "Secrets");
-    classes->secrets_v1 = PyObject_GetAttrString(secrets, "SecretsV1");
+    classes[0] = PyObject_GetAttrString(secrets, "Secrets");
+    classes[1] = PyObject_GetAttrString(secrets, "SecretsV1");
     Py_DECREF(secrets);
-    if (classes->secrets == NULL || classes->secrets_v1 == NULL)
+    if (classes[0] == NULL || classes[1] == NULL)
         return -1;
-    stream = PyType_FromModuleAndSpec(module, &rapidhash_stream_spec, NULL);
+    stream = PyType_FromSpec(&rapidhash_stream_spec);
     if (stream == NULL)
         return -1;
-    if (PyModule_AddType(module, (PyTypeObject *)stream) < 0)
-        return Py_DECREF(stream), -1;
+    status = PyObject_SetAttrString(module, "Stream", stream);
     Py_DECREF(stream);
-    return 0;
+    return status;
 }
 
 static int visit_classes(PyObject *module, visitproc visit, void *arg)
 {
-    struct classes *classes = PyModule_GetState(module);
-    Py_VISIT(classes->secrets);
-    Py_VISIT(classes->secrets_v1);
+    PyObject **classes = PyModule_GetState(module);
+    Py_VISIT(classes[0]);
+    Py_VISIT(classes[1]);
     return 0;
 }
 
 static int clear_classes(PyObject *module)
 {
-    struct classes *classes = PyModule_GetState(module);
-    Py_CLEAR(classes->secrets);
-    Py_CLEAR(classes->secrets_v1);
+    PyObject **classes = PyModule_GetState(module);
+    Py_CLEAR(classes[0]);
+    Py_CLEAR(classes[1]);
     return 0;
 }
 
-static PyModuleDef_Slot slots[] = {{Py_mod_exec, (void *)fill}, {0, NULL}};
+/* The slots that only later versions know: slot 3 allows each interpreter a lock of its own from 3.12 on, and slot 4
+ * tells a free-threaded build from 3.13 on that the module needs no global lock. */
+static PyModuleDef_Slot slots[] = {{Py_mod_exec, (void *)fill}, {0, NULL}, {0, NULL}, {0, NULL}};
 
 static struct PyModuleDef definition = {
-    PyModuleDef_HEAD_INIT, "_extension", PyDoc_STR("The hashes, compiled."), sizeof(struct classes), calls, slots,
+    PyModuleDef_HEAD_INIT, "_extension", PyDoc_STR("The hashes, compiled."), 2 * sizeof(PyObject *), calls, slots,
     visit_classes, clear_classes, NULL};
 
 PyMODINIT_FUNC PyInit__extension(void)
 {
+#if PY_VERSION_HEX >= 0x030b0000
+    if (Py_Version >= 0x030c0000)
+        slots[1].slot = 3, slots[1].value = (void *)2;
+    if (Py_Version >= 0x030d0000)
+        slots[2].slot = 4, slots[2].value = (void *)1;
+#endif
     return PyModuleDef_Init(&definition);
 }

@@ -1,16 +1,60 @@
-/* The declarations that both files of the extension share. The limited API includes buffers from CPython 3.11 on. */
+/* What the files of the extension share: forms, arguments, and the functions over several messages. */
 #ifndef RAPIDHASH_EXTENSION_H
 #define RAPIDHASH_EXTENSION_H
 
 #define PY_SSIZE_T_CLEAN
-#define Py_LIMITED_API 0x030b0000
 #include <Python.h>
 #include <rapidhash_c.h>
 
-/* Other threads can run while a message longer than this many bytes is hashed. */
+/* Other threads can run while more than this many bytes are hashed. */
 #define LONG 65536
+
+/* Keeps these names apart from those of other libraries in the process. */
+#ifdef __GNUC__
+#pragma GCC visibility push(hidden)
+#endif
+
+/* The header's functions for a version. */
+struct form {
+    const char *name;
+    uint64_t (*plain)(const void *bytes, size_t len);
+    uint64_t (*with_seed)(const void *bytes, size_t len, uint64_t seed);
+    uint64_t (*seeded)(const void *bytes, size_t len, const void *secrets);
+    int is_v1;
+};
+
+/* The seed or the secrets of a call. `secrets` may be NULL, and `seed` is valid only if has_seed is not 0. */
+struct start {
+    const void *secrets;
+    uint64_t seed;
+    int has_seed;
+};
+
+/* A message that its object keeps readable until release_message. */
+struct message {
+    const void *bytes;
+    size_t len;
+    Py_buffer buffer;
+};
+
+/* Each of these functions returns 0, or -1 with an error set that names the argument. */
+int read_word(PyObject *number, const char *name, uint64_t *word);
+int read_message(PyObject *data, const char *name, struct message *message);
+int read_start(PyObject *module, const struct form *form, PyObject *seed, PyObject *secrets, struct start *start);
+
+void release_message(struct message *message);
+
+/* Returns the form of a version's name, or NULL with an error set. */
+const struct form *form_of(PyObject *version);
+
+PyObject *each(PyObject *module, PyObject *const *args, Py_ssize_t count);
+PyObject *each_row(PyObject *module, PyObject *const *args, Py_ssize_t count);
+PyObject *each_slice(PyObject *module, PyObject *const *args, Py_ssize_t count);
 
 /* The base class of the hashers. */
 extern PyType_Spec rapidhash_stream_spec;
 
+#ifdef __GNUC__
+#pragma GCC visibility pop
+#endif
 #endif

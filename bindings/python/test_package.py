@@ -1,16 +1,13 @@
-"""Tests calls, secrets, and hashers with an installed copy of the package. tests/python.sh runs this for each wheel
-and names the wheel in RAPIDHASH_WHEEL."""
+"""Tests calls, secrets, and hashers with an installed copy of the package."""
 
 import contextlib
 import copy
 import importlib.metadata
 import inspect
-import os
 import pickle
 import subprocess
 import sys
 import tracemalloc
-import types
 import unittest
 
 import rapidhash
@@ -40,9 +37,9 @@ print(hasher.intdigest() == alone.intdigest())
 """
 
 
-def run(program, **variables):
+def run(program):
     """Runs a program in its own process. Returns its exit status and its output."""
-    done = subprocess.run([sys.executable, "-B", "-c", program], env={**os.environ, **variables}, text=True,
+    done = subprocess.run([sys.executable, "-B", "-c", program], text=True,
                           stdout=subprocess.PIPE, stderr=subprocess.STDOUT)
     return done.returncode, done.stdout
 
@@ -61,18 +58,18 @@ class Package(unittest.TestCase):
     def test_version(self):
         self.assertEqual(rapidhash.__version__, importlib.metadata.version("yervound-rapidhash"))
 
-    def test_the_calls_are_those_of_the_wheel(self):
-        of_extension = isinstance(rapidhash.v3, types.BuiltinFunctionType)
-        self.assertEqual(of_extension, os.environ["RAPIDHASH_WHEEL"] == "extension")
-
-    def test_a_library_can_be_named(self):
-        status, printed = run("import rapidhash", RAPIDHASH_LIBRARY="/nowhere/librapidhash_c.so.1")
-        self.assertEqual(status, 1)
-        self.assertIn("OSError: /nowhere/librapidhash_c.so.1", printed)
-
     def test_all_names_are_there(self):
         for name in rapidhash.__all__:
             self.assertTrue(getattr(rapidhash, name).__doc__, name)
+
+    @unittest.skipIf(sys.version_info < (3, 12), "interpreters with a lock of their own came with 3.12")
+    def test_interpreters_with_a_lock_of_their_own(self):
+        interpreters = "_interpreters" if sys.version_info >= (3, 13) else "_xxsubinterpreters"
+        self.assertEqual(run(f"import {interpreters} as own, rapidhash\n"
+                             "for _ in range(2): own.run_string(own.create(), 'import rapidhash; "
+                             "print(rapidhash.V3(secrets=rapidhash.make_secrets(1)).intdigest())')\n"
+                             "print(rapidhash.V3(secrets=rapidhash.make_secrets(1)).intdigest())"),
+                         (0, f"{rapidhash.v3(b'', secrets=rapidhash.make_secrets(1))}\n" * 3))
 
 
 class Calls(unittest.TestCase):
@@ -103,21 +100,47 @@ class Calls(unittest.TestCase):
 
         calls = [
             lambda: rapidhash.v3(), lambda: rapidhash.v3(data, 1, None, 4), lambda: rapidhash.v3(data, sed=1),
-            lambda: rapidhash.v3(data, data=data), lambda: rapidhash.v3_protected(data, seed=1),
+            lambda: rapidhash.v3(data, data=data), lambda: rapidhash.v3_protected(data, seed="1"),
             lambda: rapidhash.v3(data, seed=1.5), lambda: rapidhash.v3(data, seed="1"), lambda: rapidhash.v3(None),
             lambda: rapidhash.v3(data, secrets=bytes(64)), lambda: rapidhash.v3(data, secrets=made_v1),
             lambda: rapidhash.v1(data, secrets=made), lambda: rapidhash.V3(data, secrets=made_v1),
             lambda: rapidhash.V3(data, seed=1, secrets=made), lambda: rapidhash.V3(data, secrets=bytes(64)),
-            lambda: rapidhash.v3(data, secrets=bytes.__new__(rapidhash.Secrets)), lambda: rapidhash.V3().update("text"),
+            lambda: rapidhash.v3(data, secrets=bytes.__new__(rapidhash.Secrets)), lambda: rapidhash.V3().update(7),
             lambda: rapidhash.make_secrets("1"), lambda: rapidhash.v3(data, secrets=bytes.__new__(Long)),
         ]
         for at, call in enumerate(calls):
             with self.subTest(at), self.assertRaises(TypeError):
                 call()
-        for seed in (-1, 2**64):
-            with self.assertRaises(OverflowError):
-                rapidhash.v3(data, seed=seed)
+        for seed in (-1, 2**64, 2**64 + 1, -2**64):
+            for call in (rapidhash.v3, rapidhash.V3, rapidhash.v1_hexdigest):
+                with self.assertRaisesRegex(OverflowError, r"^seed must be from 0 to 2\*\*64 - 1$"):
+                    call(data, seed=seed)
         data.append(120)  # A bytearray refuses this while its buffer is exported.
+
+    def test_errors_name_the_argument(self):
+        made_v1 = rapidhash.make_secrets(1, version=1)
+        for call, error in (
+            (lambda: rapidhash.v3(b"", sed=1), r"v3\(\) has no argument 'sed': expected data, seed, or secrets"),
+            (lambda: rapidhash.v1(b"", data=b""), r"v1\(\) got the argument 'data' twice"),
+            (lambda: rapidhash.v2_0(), r"v2_0\(\) is missing its argument data"),
+            (lambda: rapidhash.v3(1), "data must be bytes, another buffer, or a str, not <class 'int'>"),
+            (lambda: rapidhash.v3(None), "data must be bytes, another buffer, or a str, not <class 'NoneType'>"),
+            (lambda: rapidhash.v3(b"", seed=1.5), "seed must be an integer, not <class 'float'>"),
+            (lambda: rapidhash.V3(b"", seed="1"), "seed must be an integer, not <class 'str'>"),
+            (lambda: rapidhash.make_secrets("1"), "number must be an integer, not <class 'str'>"),
+            (lambda: rapidhash.make_secrets(1, "1"), "version must be an integer, not <class 'str'>"),
+            (lambda: rapidhash.make_secrets(1, None), "version must be an integer, not <class 'NoneType'>"),
+            (lambda: rapidhash.v3(b"", secrets=made_v1), r"secrets of v3 must come from make_secrets\(number\), and"),
+            (lambda: rapidhash.v1(b"", secrets=b""), r"secrets of v1 must come from make_secrets\(number, version=1\)"),
+            (lambda: rapidhash.V3(secrets=b""), r"secrets of V3 must come from make_secrets\(number\), and"),
+        ):
+            with self.assertRaisesRegex(TypeError, f"^{error}"):
+                call()
+        for version in (0, 4, 99, -1):
+            with self.assertRaisesRegex(ValueError, f"^version must be 1, 2 or 3, not {version}$"):
+                rapidhash.make_secrets(5, version)
+        with self.assertRaisesRegex(OverflowError, "^number must be from 0"):
+            rapidhash.make_secrets(2**64)
 
 
 class Secrets(unittest.TestCase):
@@ -160,6 +183,17 @@ class Hashers(unittest.TestCase):
         self.assertEqual(other.update(DATA).intdigest(), WITH_SEED_1)
         self.assertEqual(len(taken), 100)
 
+    def test_a_copy_has_all_attributes(self):
+        class Named(rapidhash.V3):
+            pass
+
+        first = Named(DATA, seed=2**63)
+        first.title = "one"
+        for other in (first.copy(), copy.copy(first)):
+            self.assertEqual((other.title, other.seed, other.digest()), ("one", 2**63, first.digest()))
+        made = rapidhash.V3(secrets=rapidhash.make_secrets(1))
+        self.assertEqual((rapidhash.V3().seed, made.seed, rapidhash.V3(seed=Power(4)).copy().seed), (0, None, 16))
+
     def test_a_class_over_one(self):
         class Named(rapidhash.V3):
             def __init__(self, title, count):
@@ -190,7 +224,7 @@ class Hashers(unittest.TestCase):
             for _ in range(count):
                 hasher = rapidhash.V3(DATA, secrets=rapidhash.make_secrets(2**63)).copy()
                 with contextlib.suppress(TypeError):
-                    hasher.update("text")
+                    hasher.update(7)
                 rapidhash.v3(DATA, seed=Power(63))
             return tracemalloc.get_traced_memory()[0], sys.getrefcount(rapidhash.V3)
 

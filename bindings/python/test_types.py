@@ -13,13 +13,20 @@ words: tuple[int, ...] = (made.seed, *made_v1.secrets)
 
 total: int = rapidhash.v3(b"") + rapidhash.v3(bytearray(), 7) + rapidhash.v3(memoryview(b""), secrets=made)
 total += rapidhash.v1(array("Q", words), secrets=made_v1) + rapidhash.v3_protected(b"", secrets=made)
-rapidhash.v3("text")  # type: ignore[arg-type]
+rapidhash.v3(7)  # type: ignore[arg-type]
 rapidhash.v3(b"", seed=1.5)  # type: ignore[arg-type]
 rapidhash.v1(b"", secrets=made)  # type: ignore[arg-type]
-rapidhash.v3_protected(b"", seed=1)  # type: ignore[arg-type]
+rapidhash.make_secrets(1, 99)  # type: ignore[call-overload]
 made.seed = 1  # type: ignore[misc]
 
 hasher: V3Micro = V3Micro(b"", seed=1).update(b"").copy()
+column: array[int] = rapidhash.each(["text", b""], "v1", seed=7)
+column = rapidhash.each_row(b"", 8, out=column)
+room: bytearray = rapidhash.each_slice(b"", array("i"), secrets=made, out=bytearray())
+rapidhash.each([7])  # type: ignore[list-item]
+rapidhash.each([], "v4")  # type: ignore[call-overload]
+digits: str = rapidhash.v3_hexdigest("text", seed=1) + rapidhash.v1_hexdigest(b"", secrets=made_v1)
+
 text: str = hasher.hexdigest() + hasher.name + rapidhash.__version__
 size: int = hasher.intdigest() + hasher.block_size + V3.digest_size
 V3(secrets=made_v1)  # type: ignore[arg-type]

@@ -47,12 +47,15 @@ static void refuse(sqlite3_context *context, const char *name, const char *why)
     sqlite3_free(text);
 }
 
-/* Reads an integer as the word with the same 64 bits. Returns 0 with an error set if the value is not an integer. */
+/* Reads an integer as the word with the same 64 bits. Returns 0 if there is none: without a result for NULL, or with an
+ * error set. */
 static int read_word(sqlite3_context *context, const char *name, const char *what, sqlite3_value *value, uint64_t *word)
 {
     char why[64];
+    if (sqlite3_value_type(value) == SQLITE_NULL)
+        return 0;
     if (sqlite3_value_type(value) != SQLITE_INTEGER) {
-        sqlite3_snprintf(sizeof why, why, "the %s has to be an INTEGER", what);
+        sqlite3_snprintf(sizeof why, why, "the %s must be an INTEGER", what);
         refuse(context, name, why);
         return 0;
     }
@@ -111,6 +114,18 @@ static void call(sqlite3_context *context, int count, sqlite3_value **values)
         sqlite3_result_int64(context, (sqlite3_int64)function->hash(message.bytes, message.len, word));
 }
 
+/* Returns a hash as 16 hexadecimal digits. */
+static void digits_of(sqlite3_context *context, int count, sqlite3_value **values)
+{
+    char digits[17];
+    uint64_t hash;
+    (void)count;
+    if (!read_word(context, "rapidhash_hex", "hash", values[0], &hash))
+        return;
+    sqlite3_snprintf(sizeof digits, digits, "%016llx", hash);
+    sqlite3_result_text(context, digits, 16, SQLITE_TRANSIENT);
+}
+
 /* Adds a row to an aggregate. */
 static void step(sqlite3_context *context, int count, sqlite3_value **values)
 {
@@ -133,7 +148,7 @@ static void step(sqlite3_context *context, int count, sqlite3_value **values)
         running->seed = seed;
         running->is_started = 1;
     } else if (running->seed != seed) {
-        refuse(context, aggregate->name, "the seed has to be the same in every row");
+        refuse(context, aggregate->name, "the seed must be the same in every row");
         return;
     }
     rapidhash_stream_write(&running->stream, message.bytes, message.len);
@@ -153,7 +168,7 @@ static void lose(sqlite3_context *context, int count, sqlite3_value **values)
     const struct aggregate *aggregate = sqlite3_user_data(context);
     (void)count;
     (void)values;
-    refuse(context, aggregate->name, "the window has to begin with UNBOUNDED PRECEDING");
+    refuse(context, aggregate->name, "the window must begin with UNBOUNDED PRECEDING");
 }
 
 /* Defines the hash of a version by default, and with secrets made from a number. V1 has its own type of secrets. */
@@ -179,26 +194,14 @@ HASHES(v3_micro, )
 HASHES(v3_nano, )
 HASHES(v3_protected, )
 
-static uint64_t protected_with_seed(const void *bytes, size_t len, uint64_t seed)
-{
-    struct rapidhash_secrets secrets;
-    rapidhash_seed_secrets(seed, &secrets);
-    return rapidhash_v3_protected_seeded(bytes, len, &secrets);
-}
-
-#define FUNCTIONS(version, with_seed) \
-    {"rapidhash_" #version, NULL, default_##version}, {"rapidhash_" #version, "seed", with_seed}, \
+#define FUNCTIONS(version) \
+    {"rapidhash_" #version, NULL, default_##version}, \
+    {"rapidhash_" #version, "seed", rapidhash_##version##_with_seed}, \
     {"rapidhash_" #version "_seeded", "number", seeded_##version}
 
 static const struct function functions[] = {
-    FUNCTIONS(v1, rapidhash_v1_with_seed),
-    FUNCTIONS(v2_0, rapidhash_v2_0_with_seed),
-    FUNCTIONS(v2_1, rapidhash_v2_1_with_seed),
-    FUNCTIONS(v2_2, rapidhash_v2_2_with_seed),
-    FUNCTIONS(v3, rapidhash_v3_with_seed),
-    FUNCTIONS(v3_micro, rapidhash_v3_micro_with_seed),
-    FUNCTIONS(v3_nano, rapidhash_v3_nano_with_seed),
-    FUNCTIONS(v3_protected, protected_with_seed),
+    FUNCTIONS(v1), FUNCTIONS(v2_0), FUNCTIONS(v2_1), FUNCTIONS(v2_2),
+    FUNCTIONS(v3), FUNCTIONS(v3_micro), FUNCTIONS(v3_nano), FUNCTIONS(v3_protected),
 };
 
 static const struct aggregate aggregates[] = {
@@ -216,12 +219,13 @@ __attribute__((visibility("default")))
 int sqlite3_rapidhash_init(sqlite3 *database, char **error, const sqlite3_api_routines *api)
 {
     size_t at;
-    int status = SQLITE_OK;
+    int status;
     SQLITE_EXTENSION_INIT2(api)
     if (sqlite3_libversion_number() < OLDEST_SQLITE) {
         *error = sqlite3_mprintf("rapidhash needs SQLite 3.25 or later, and this is %s", sqlite3_libversion());
         return SQLITE_ERROR;
     }
+    status = sqlite3_create_function_v2(database, "rapidhash_hex", 1, FLAGS, NULL, digits_of, NULL, NULL, NULL);
     for (at = 0; at < COUNT(functions) && status == SQLITE_OK; at++)
         status = sqlite3_create_function_v2(database, functions[at].name, functions[at].word == NULL ? 1 : 2, FLAGS,
             (void *)&functions[at], call, NULL, NULL, NULL);

@@ -37,6 +37,9 @@ test("seed words", () => {
   assert.equal(v3(data, { seed }), 8806718467852582029n);
   assert.equal(v3Micro(data, { seed }), 13208658450986943527n);
   assert.equal(v3Nano(data, { seed }), 1125117906108554434n);
+  assert.equal(v3Protected(data, { seed }), 7525003891474917990n);
+  assert.equal(v1(short, { seed: 2n ** 64n - 1n }), 4523117913705637297n);
+  assert.equal(v3(data, { seed: 2n ** 64n - 1n }), 17432585756072271274n);
   assert.equal(v3(data, { secrets: library.seedSecrets(1) }), 8806718467852582029n);
   assert.equal(v1(short, { secrets: library.seedSecretsV1(1) }), 16595489079910452471n);
 });
@@ -157,6 +160,44 @@ test("hexadecimal digits", () => {
   assert.equal(hex(v3("hello")), "2e2d7651b45f7946");
   for (const [hash, name] of [[-1n, "RangeError"], [2n ** 64n, "RangeError"], ["1", "TypeError"]])
     assert.throws(() => hex(hash), { name, message: /^hash must be/ });
+});
+
+test("a hash as digits, without a BigInt", () => {
+  assert.equal(library.v3Hex("hello"), "2e2d7651b45f7946");
+  assert.equal(library.v3Hex(""), "0338dc4be2cecdae");
+  const versions = Object.keys(library).filter((name) => name.endsWith("Hex")).map((name) => name.slice(0, -3));
+  assert.equal(versions.length, 8);
+  const long = new Uint8Array(piece + 1).fill(7);
+  for (const version of versions)
+    for (const options of [undefined, {}, ...[0n, 1n, 2n ** 32n, 2n ** 63n, 2n ** 64n - 1n].map((seed) => ({ seed }))])
+      for (const message of [data, "text", long])
+        assert.equal(library[`${version}Hex`](message, options), hex(library[version](message, options)));
+  for (const Stream of [V3, V3Micro, V3Nano]) {
+    const hasher = new Stream({ seed: 7 }).update(long);
+    assert.equal(hasher.digest("hex"), hex(hasher.digest()));
+  }
+});
+
+test("seeds differ above 32 bits", () => {
+  const seeds = [0n, 1n, 2n ** 32n, 2n ** 32n + 1n, 2n ** 63n, 2n ** 64n - 1n];
+  for (const call of [v1, v2_0, v2_1, v2_2, v3, v3Micro, v3Nano, v3Protected])
+    assert.equal(new Set(seeds.map((seed) => call(data, { seed }))).size, seeds.length);
+  for (const seed of seeds) assert.equal(new V3({ seed }).update(data).digest(), v3(data, { seed }));
+});
+
+test("a saved state", async () => {
+  const other = await load();
+  for (const name of ["V3", "V3Micro", "V3Nano"])
+    for (const length of [0, 1, 48, 49, 120]) {
+      const first = new library[name]({ secrets: own }).update(data.subarray(0, length));
+      const saved = first.save();
+      const rest = data.subarray(length);
+      const hash = new library[name]({ secrets: own }).update(data).digest();
+      for (const loaded of [new library[name]().load(saved), new other[name]({ seed: 9 }).load(saved.slice().buffer)])
+        assert.equal(loaded.update(rest).digest(), hash);
+      assert.equal(first.update(rest).digest(), hash);
+      assert.deepEqual(new library[name]({ secrets: own }).update(data.subarray(0, length)).save(), saved);
+    }
 });
 
 test("streams of the web", async () => {

@@ -1,12 +1,13 @@
-// Tests the package with features of Node only: its streams, files as the source of a module, and a message
-// that is too large for the memory. The file `large` in this directory is the output of
+// Tests the package with features of Node only: its streams, other realms, `require`, and a message that is
+// too large for the memory. The file `large` in this directory is the output of
 // `seq 1 20000000 | head -c 100000000`, and its hashes are those of the Rust crate.
 import assert from "node:assert/strict";
 import { createReadStream } from "node:fs";
 import { readFile } from "node:fs/promises";
+import { createRequire } from "node:module";
 import { Readable } from "node:stream";
 import { test } from "node:test";
-import { fileURLToPath } from "node:url";
+import { runInNewContext } from "node:vm";
 
 import { load, loadSync } from "yervound-rapidhash";
 
@@ -40,13 +41,33 @@ test("each version of a large file", async () => {
   assert.equal(library.v2_2(message.latin1Slice()), 4230584181448816188n);
 });
 
-test("a module by its bytes, its path and its URL", async () => {
-  const url = new URL("rapidhash_c.wasm", import.meta.url);
-  const path = fileURLToPath(url);
-  const bytes = await readFile(url);
-  for (const other of [await load(bytes), await load(path), await load(url), loadSync(bytes)])
+test("a module by its bytes, and compiled", async () => {
+  const bytes = await readFile(new URL("rapidhash.wasm", import.meta.url));
+  assert.ok(bytes.length <= 40000);
+  const module = new WebAssembly.Module(bytes);
+  for (const other of [await load(bytes), await load(module), loadSync(bytes), loadSync(module)])
     assert.equal(other.v3("hello"), 3327445792987248966n);
-  await assert.rejects(load(`${path}.missing`), { code: "ENOENT" });
+});
+
+test("objects of another realm", () => {
+  const { bytes, view, buffer, secrets, options, floats } = runInNewContext(`
+    const bytes = Uint8Array.from({ length: 120 }, (_, at) => at);
+    const secrets = BigUint64Array.of(1n, 2n, 3n, 5n, 7n, 11n, 13n, 17n);
+    ({ bytes, secrets, buffer: bytes.buffer, view: new DataView(bytes.buffer), floats: new Float64Array(bytes.buffer),
+       options: { seed: 1n } })`);
+  for (const message of [bytes, view, buffer, floats]) {
+    assert.equal(library.v3(message), 7088138960297660729n);
+    assert.equal(library.v3(message, options), 8806718467852582029n);
+    assert.equal(library.v3(message, { secrets }), 13105958653737073913n);
+    assert.equal(new V3({ secrets }).update(message).digest(), 13105958653737073913n);
+  }
+});
+
+test("require", () => {
+  const require = createRequire(import.meta.url);
+  assert.match(require.resolve("yervound-rapidhash"), /rapidhash\.cjs$/);
+  const { hex, loadSync } = require("yervound-rapidhash");
+  assert.equal(hex(loadSync().v3("hello")), "2e2d7651b45f7946");
 });
 
 test("a message for which there is no memory", () => {

@@ -2,7 +2,7 @@
 import assert from "node:assert/strict";
 import { test } from "node:test";
 
-import { loadSync } from "yervound-rapidhash";
+import { load, loadSync } from "yervound-rapidhash";
 
 const library = loadSync();
 const { v1, v2_0, v2_1, v2_2, v3, v3Micro, v3Nano, v3Protected, V3 } = library;
@@ -51,8 +51,104 @@ test("refused counts", () => {
     assert.throws(() => call(data, { secrets: own.slice(0, 4) }), { name: "TypeError", message: message(8) });
   assert.throws(() => new V3({ secrets: own.slice(0, 4) }), { name: "TypeError", message: message(8) });
   assert.throws(() => v1(data, { secrets: own }), { name: "TypeError", message: message(4) });
-  assert.throws(() => v3Protected(data, { seed: 1n }),
-    { name: "TypeError", message: "rapidhash_v3_protected does not take seed; pass secrets" });
+});
+
+// Runs a call while each plain object inherits a seed and secrets.
+function withInherited(call) {
+  Object.prototype.seed = 7;
+  Object.prototype.secrets = own;
+  try {
+    return call();
+  } finally {
+    delete Object.prototype.seed;
+    delete Object.prototype.secrets;
+  }
+}
+
+test("inherited options are none", () => {
+  const [hash, ofText] = [v3(data), v3("text")];
+  for (const options of [undefined, {}, { seed: undefined }]) {
+    assert.equal(withInherited(() => v3(data, options)), hash);
+    assert.equal(withInherited(() => v3("text", options)), ofText);
+    assert.equal(withInherited(() => new V3(options).update(data).digest()), hash);
+  }
+  const hidden = Object.defineProperty({}, "seed", { value: 1, enumerable: false });
+  assert.equal(v3(data, hidden), 8806718467852582029n);
+  assert.throws(() => v3(data, { [Symbol("seed")]: 1 }),
+    { name: "TypeError", message: /^unknown option 'Symbol\(seed\)'/ });
+});
+
+// A view whose properties and prototype say something else than its bytes.
+function disguised(array) {
+  for (const name of ["length", "byteLength", "byteOffset", "buffer", "subarray", "slice", Symbol.toStringTag])
+    Object.defineProperty(array, name, { value: 3 });
+  return Object.setPrototypeOf(array, null);
+}
+
+test("properties and prototypes make no difference", () => {
+  const long = Uint8Array.from({ length: 300000 }, (_, at) => at % 251);
+  for (const bytes of [data, long, new Uint8Array(0), data.subarray(3, 8)])
+    for (const call of [v1, v3, v3Protected, (message) => new V3().update(message).digest()]) {
+      assert.equal(call(disguised(bytes.slice())), call(bytes));
+      assert.equal(call(disguised(new DataView(bytes.slice().buffer))), call(bytes));
+      assert.equal(call(disguised(bytes.slice().buffer)), call(bytes));
+    }
+  assert.equal(v3(disguised(Float64Array.of(1, 2, 3))), v3(Float64Array.of(1, 2, 3)));
+  assert.equal(v3(data, { secrets: disguised(own.slice()) }), v3(data, { secrets: own }));
+  const fakes = [{ __proto__: Uint8Array.prototype }, { __proto__: DataView.prototype },
+    { [Symbol.toStringTag]: "Uint8Array" }];
+  for (const fake of fakes)
+    assert.throws(() => v3(fake), { name: "TypeError", message: /^expected a string/ });
+});
+
+test("detached and resized buffers", () => {
+  const refused = { name: "TypeError", message: "the buffer is detached, or too short for its view" };
+  const views = (buffer) => [buffer, new Uint8Array(buffer), new Float64Array(buffer, 8), new DataView(buffer)];
+  const calls = [v1, v3, library.v3Hex, (message) => new V3().update(message)];
+  const kept = views(new ArrayBuffer(64));
+  structuredClone(kept[0], { transfer: [kept[0]] });
+  for (const view of kept) for (const call of calls) assert.throws(() => call(view), refused);
+  const secrets = own.slice();
+  structuredClone(secrets.buffer, { transfer: [secrets.buffer] });
+  assert.throws(() => v3(data, { secrets }), { name: "TypeError", message: /^secrets must have 8 words/ });
+  if (!("resize" in ArrayBuffer.prototype)) return;
+  const buffer = new ArrayBuffer(64, { maxByteLength: 128 });
+  const [fixed, fixedView] = [new Uint8Array(buffer, 8, 40), new DataView(buffer, 8, 40)];
+  const tracking = new Uint8Array(buffer);
+  buffer.resize(100);
+  for (const call of [v1, v3]) assert.equal(call(tracking), call(new Uint8Array(100)));
+  buffer.resize(16);
+  for (const view of [fixed, fixedView]) for (const call of calls) assert.throws(() => call(view), refused);
+  for (const call of [v1, v3]) assert.equal(call(tracking), call(new Uint8Array(16)));
+  buffer.resize(0);
+  assert.equal(v3(tracking), 232177599295442350n);
+});
+
+test("refused encodings, modules and states", async () => {
+  for (const encoding of ["hexadecimal", "base64", 16, null, true])
+    assert.throws(() => new V3().digest(encoding),
+      { name: "TypeError", message: /^the encoding of a digest must be 'hex'/ });
+  // Modules without a section, and with an import.
+  const others = [[], [1, 4, 1, 0x60, 0, 0, 2, 7, 1, 1, 0x61, 1, 0x62, 0, 0]];
+  for (const sections of others) {
+    const bytes = Uint8Array.of(0, 0x61, 0x73, 0x6d, 1, 0, 0, 0, ...sections);
+    const wanted = { name: "TypeError", message: "the module is not that of this version of yervound-rapidhash" };
+    for (const source of [bytes, new WebAssembly.Module(bytes)]) {
+      assert.throws(() => loadSync(source), wanted);
+      await assert.rejects(load(source), wanted);
+    }
+  }
+  const wanted = { name: "TypeError", message: /^expected the bytes of a module/ };
+  assert.throws(() => loadSync("rapidhash.wasm"), wanted);
+  await assert.rejects(load("rapidhash.wasm"), wanted);
+  const saved = new V3({ secrets: own }).update(data).save();
+  const state = { name: "TypeError", message: "expected the bytes that save() of a hasher of this class returned" };
+  for (let at = 0; at < saved.length; at++)
+    assert.throws(() => new V3().load(saved.map((byte, place) => place === at ? byte ^ 1 : byte)), state);
+  for (const part of [saved.subarray(1), saved.subarray(0, -1), new Uint8Array(0), new Uint8Array(saved.length)])
+    assert.throws(() => new V3().load(part), state);
+  assert.throws(() => new library.V3Nano().load(saved), state);
+  assert.throws(() => new V3().load("text"), state);
 });
 
 test("refused messages", () => {

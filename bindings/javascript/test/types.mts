@@ -2,13 +2,14 @@
 import { hex, load, loadSync, type Hasher, type Message, type Options, type Rapidhash } from "yervound-rapidhash";
 
 const library: Rapidhash = loadSync();
-const later: Promise<Rapidhash> = load(new URL("https://example.invalid/rapidhash_c.wasm"));
+const later: Promise<Rapidhash> = load(new WebAssembly.Module(new Uint8Array(8)));
 const data = new Uint8Array(3);
 const messages: Message[] = ["text", data, data.buffer, new DataView(data.buffer), new Float64Array(2)];
 const options: Options[] = [{}, { seed: 1 }, { seed: 1n }, { secrets: library.makeSecrets(1n) }];
 const hash: bigint = library.v3("text", { seed: 7n }) ^ library.v1(data) ^ library.v2_0(data);
-const text: string = hex(hash);
+const text: string = hex(hash) + library.v3Hex("text", { seed: 7n });
 const hasher: Hasher = new library.V3(options[1]).update(data).clone().reset();
+const digits: string = hasher.load(hasher.save()).digest("hex");
 
 async function pieces(): Promise<bigint> {
   async function* parts() {
@@ -27,8 +28,8 @@ library.v3(data, 7n);
 library.v3(data, { sed: 7n });
 // @ts-expect-error Both a seed and secrets.
 library.v3(data, { seed: 7n, secrets: library.seedSecrets(7) });
-// @ts-expect-error Protected V3 takes no seed.
-library.v3Protected(data, { seed: 7n });
+// @ts-expect-error An encoding that a digest does not have.
+hasher.digest("base64");
 // @ts-expect-error The secrets of V1 are a BigUint64Array too, not an array of BigInts.
 library.v1(data, { secrets: [1n, 2n, 3n, 4n] });
 // @ts-expect-error A number is not a message.
@@ -42,8 +43,8 @@ const rounded: number = library.v2_2(data);
 // @ts-expect-error hex requires a BigInt.
 hex(7);
 // @ts-expect-error A path cannot be read synchronously.
-loadSync("rapidhash_c.wasm");
+loadSync("rapidhash.wasm");
 // @ts-expect-error The properties are read-only.
 library.room = 7;
 
-export { pieces, rounded, text };
+export { digits, pieces, rounded, text };

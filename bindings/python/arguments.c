@@ -1,0 +1,81 @@
+/* The arguments of all calls: words, messages, and the seed or the secrets. */
+#include "extension.h"
+
+int read_word(PyObject *number, const char *name, uint64_t *word)
+{
+    PyObject *index;
+    if (!PyIndex_Check(number)) {
+        PyErr_Format(PyExc_TypeError, "%s must be an integer, not %R", name, Py_TYPE(number));
+        return -1;
+    }
+    index = PyNumber_Index(number);
+    if (index == NULL)
+        return -1;
+    *word = PyLong_AsUnsignedLongLong(index);
+    Py_DECREF(index);
+    if (*word != UINT64_MAX || !PyErr_Occurred())
+        return 0;
+    if (PyErr_ExceptionMatches(PyExc_OverflowError))
+        PyErr_Format(PyExc_OverflowError, "%s must be from 0 to 2**64 - 1", name);
+    return -1;
+}
+
+/* A str is immutable and keeps its UTF-8. The contents of bytes need no buffer, but a subclass may have its own. */
+int read_message(PyObject *data, const char *name, struct message *message)
+{
+    Py_ssize_t len;
+    char *bytes;
+    message->buffer.obj = NULL;
+    if (PyBytes_CheckExact(data)) {
+        PyBytes_AsStringAndSize(data, &bytes, &len);
+        message->bytes = bytes;
+    } else if (PyUnicode_Check(data)) {
+        message->bytes = PyUnicode_AsUTF8AndSize(data, &len);
+        if (message->bytes == NULL)
+            return -1;
+    } else if (PyObject_CheckBuffer(data)) {
+        if (PyObject_GetBuffer(data, &message->buffer, PyBUF_SIMPLE) < 0)
+            return -1;
+        message->bytes = message->buffer.buf;
+        len = message->buffer.len;
+    } else {
+        PyErr_Format(PyExc_TypeError, "%s must be bytes, another buffer, or a str, not %R", name, Py_TYPE(data));
+        return -1;
+    }
+    message->len = (size_t)len;
+    return 0;
+}
+
+void release_message(struct message *message)
+{
+    if (message->buffer.obj != NULL)
+        PyBuffer_Release(&message->buffer);
+}
+
+/* Returns whether secrets have the class and the size of those for a form, or -1 with an error set. */
+static int are_secrets(PyObject *module, const struct form *form, PyObject *secrets)
+{
+    PyObject **classes = PyModule_GetState(module), *class = classes[form->is_v1];
+    const size_t size = form->is_v1 ? sizeof(struct rapidhash_v1_secrets) : sizeof(struct rapidhash_secrets);
+    const int is = PyObject_IsInstance(secrets, class);
+    return is > 0 ? PyBytes_Check(secrets) && (size_t)PyBytes_Size(secrets) == size : is;
+}
+
+int read_start(PyObject *module, const struct form *form, PyObject *seed, PyObject *secrets, struct start *start)
+{
+    int are;
+    start->secrets = NULL;
+    start->has_seed = seed != NULL && seed != Py_None;
+    if (secrets == NULL || secrets == Py_None)
+        return start->has_seed ? read_word(seed, "seed", &start->seed) : 0;
+    if (start->has_seed) {
+        PyErr_SetString(PyExc_TypeError, "pass either seed or secrets, not both");
+        return -1;
+    }
+    are = are_secrets(module, form, secrets);
+    if (are == 0)
+        PyErr_Format(PyExc_TypeError, "secrets of %s must come from make_secrets(number%s), and these are %R",
+                     form->name, form->is_v1 ? ", version=1" : "", Py_TYPE(secrets));
+    start->secrets = are > 0 ? PyBytes_AsString(secrets) : NULL;
+    return are > 0 ? 0 : -1;
+}
