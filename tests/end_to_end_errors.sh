@@ -3,7 +3,7 @@
 # line counts the cases.
 . "$(dirname "$0")/tool_room.sh"
 # The program itself, because a limit on memory would also stop the launcher's shell.
-program=$top/crates/rapidhash_cli/out/rapidhash_cli
+program=${RAPIDHASH_TOOL:-$top/crates/rapidhash_cli/out/rapidhash_cli}
 exec </dev/null
 
 # Refused arguments.

@@ -2,7 +2,7 @@
 # results of a run. The numbers are those of the Rust crate.
 # shellcheck shell=bash
 . "$(dirname "$0")/cases.sh"
-tool=$top/bin/rapidhash
+tool=${RAPIDHASH_TOOL:-$top/bin/rapidhash}
 cd "$room" || exit 1
 
 # Checks that the tool prints a hash and nothing else: NAME HASH ARGUMENT..
