@@ -199,13 +199,14 @@ test:
 	done
 
 # The bench and the arguments for each file of figures. A bench that fails leaves the figures unchanged.
-bench: bench/slices.tsv bench/speed.tsv bench/rust.tsv bench/c.tsv bench/files.tsv bench/memory.tsv bench/tool.tsv bench/packages.tsv
+bench: bench/slices.tsv bench/speed.tsv bench/rust.tsv bench/c.tsv bench/java.tsv bench/files.tsv bench/memory.tsv bench/tool.tsv bench/packages.tsv
 	@bench/figures --write
 
 bench/slices.tsv: measured = slices default seeded
 bench/speed.tsv: measured = slices v3 plot
 bench/rust.tsv: measured = rust
 bench/c.tsv: measured = c
+bench/java.tsv: measured = java
 bench/files.tsv: measured = files
 bench/memory.tsv: measured = memory
 bench/tool.tsv: measured = tool

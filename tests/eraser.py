@@ -68,6 +68,20 @@ FORMS = "|".join((
     "use std : : marker : : Model ; ",
     "[+,] Drop ",
 ))
+# What only Rust has, as tokens, and what Rattle has in its place: lints, constant functions, and in files with these
+# other loops and reads. Each rule is applied until it matches no more.
+BODY = rf"(?:[^{{}}]|{GROUP})*"
+RUST = (
+    (r"# \[ must_use \] ", ""),
+    (rf"const_fn ! {{ ([^{{}}]*?)const fn ({BODY})}} ", r"\1fn \2"),
+    (rf"let mut (\w+) = 0 ; while \1 < (\w+) {{ ({BODY}?)\1 \+ = 1 ; }} ", r"for \1 in 0 . . \2 { \3} "),
+    (r"(\w+) \. split_at \( ([^()]*)\) \. 1 ", r"& \1 [ \2. . ] "),
+    (r"crate : : macros : : array \( (\w+) , (\w+) \) ", r"\1 [ \2 . . \2 + N ] . try_into ( ) . unwrap ( ) "),
+    (r"u64 : : from_le_bytes (\( \w+ \[ \w+ \. \. \w+ \+ )N ", r"u64 : : from_le_bytes \g<1>8 "),
+    (r"u32 : : from_le_bytes (\( \w+ \[ \w+ \. \. \w+ \+ )N ", r"u32 : : from_le_bytes \g<1>4 "),
+)
+# Preconditions, of which Rust's callers know only the panic.
+CHECKED = (r"In Rust, if (.*)\. Rattle's checker refuses such a call\.", r"If \1.")
 WORDS = re.compile(r'//[^\n]*|b?"(?:[^"\\]|\\.)*"|\'\\?.\'|\w+|\S', re.DOTALL)
 
 
@@ -81,15 +95,25 @@ def without(pattern, text):
     return re.sub(f"^(?:{pattern})".replace(" ", "\n"), "", text, flags=re.MULTILINE)
 
 
+def as_in_rattle(rust):
+    """Returns the tokens of a text of Rust, with those of Rattle where RUST has other ones."""
+    text = words_of(rust)
+    for pattern, new in RUST if "const_fn!" in rust else RUST[:1]:
+        pattern, new, before = re.compile(f"^{pattern}".replace(" ", "\n"), re.MULTILINE), new.replace(" ", "\n"), None
+        while text != before:
+            before, text = text, pattern.sub(new, text)
+    return text
+
+
 def difference(rattle, rust, left_out):
     """Returns the lines in which Rattle's text, without its ghost forms and the omitted items, differs from Rust's."""
-    theirs = without(FORMS, words_of(rattle))
+    theirs = without(FORMS, words_of(re.sub(*CHECKED, rattle)))
     for begin in left_out:
         words = re.escape(words_of(begin).removesuffix("\n"))
         rest = "[^;]*; " if begin.startswith("use") else rf"[^{{]*{GROUP}"
         theirs = without(rf"(?:///.* )*{words}\w* {rest}", theirs)
     # rustfmt decides whether a comma precedes a closing bracket.
-    texts = [without(r", (?=[]})>] )", text).splitlines() for text in (theirs, words_of(rust))]
+    texts = [without(r", (?=[]})>] )", text).splitlines() for text in (theirs, as_in_rattle(rust))]
     return unified_diff(*texts, "Rattle", "Rust", lineterm="")
 
 
@@ -110,12 +134,27 @@ def erased(text):
         return refused
 
 
+def assertions():
+    """Yields each test of the crate with the numbers of its assertions in Rattle and in Rust."""
+    for crate, (folder, names) in rust_crate.TESTS.items():
+        for name, _, other in (name.partition(":") for name in names.split()):
+            text = (TOP / "crates" / crate / "src" / f"{name}.rt").read_text()
+            target = f"{folder}/{other or name}"
+            for begin in (begin for file, begins, _reason in rust_crate.LEFT_OUT if file == target for begin in begins):
+                end = "[^;]*;" if begin.startswith("use") else r".*?\n}\n"
+                text = re.sub(re.escape(begin) + end, "", text, count=1, flags=re.DOTALL)
+            rust = (TOP / "rust" / f"{target}.rs").read_text()
+            yield target, *(len(re.findall(r"\bassert(?:_eq|_ne)?!\(", it)) for it in (text, rust))
+
+
 for name, (old, new) in ERASED.items():
     compare(name, erased(old), new)
 for name, text in KEPT.items():
     compare(f"{name} is kept", erased(text), text)
 for name, text in REFUSED.items():
     tell(f"{name} is refused", *[f"{erased(text)!r}"] * (not isinstance(erased(text), Refused)))
+for name, wanted, found in assertions():
+    compare(f"{name}.rs has the assertions of its source", found, wanted)
 for name, rattle, rust, left_out in sources():
     tell(f"{name}.rs is {name}.rt without its contracts", *difference(rattle, rust, left_out))
 finish()

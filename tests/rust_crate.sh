@@ -41,6 +41,25 @@ readme_runs() {
     (cd "$project" && "$@" run --quiet) >"$room/printed" && [ "$(cat "$room/printed")" = 3327445792987248966 ]
 }
 
+# Links the crate without its default feature into a library with its own handler of panics: a library that uses std has
+# two of them and does not compile.
+needs_core_alone() {
+  local project=$room/bare
+  mkdir -p "$project/src" && printf '%s\n' '[package]' 'name = "bare"' 'version = "0.0.0"' 'edition = "2021"' '[lib]' \
+    'crate-type = ["staticlib"]' '[dependencies]' \
+    "yervound-rapidhash = { path = \"$top/rust\", default-features = false }" \
+    '[profile.dev]' 'panic = "abort"' >"$project/Cargo.toml" &&
+    printf '%s\n' '#![no_std]' '#[panic_handler]' 'fn stop(_: &core::panic::PanicInfo) -> ! { loop {} }' \
+      '#[no_mangle]' 'pub extern "C" fn hello() -> u64 { rapidhash::v3::rapidhash_v3(b"hello") }' >"$project/src/lib.rs" &&
+    (cd "$project" && cargo build)
+}
+
+# Checks what the registry and lawyers read of the manifests: MANIFEST
+has_the_metadata() {
+  grep -qx 'license = "MIT OR Apache-2.0"' "$1" && grep -qx 'rust-version = "1\.[0-9]*"' "$1" &&
+    [ "$(sed -n 's/^categories = //p' Cargo.toml)" = '["algorithms", "data-structures", "no-std"]' ]
+}
+
 # Runs the tests of rust/compat in a project whose dependency is the crate rapidhash, replaced by that package. Debian's
 # directory of crates is its registry.
 drops_in() {
@@ -67,6 +86,9 @@ for features in --all-features --no-default-features; do
   try "documentation_${features#--}" env RUSTDOCFLAGS='-D warnings' cargo doc --no-deps "$features"
   try "tests_${features#--}" tests_pass cargo test "$features" --tests
 done
+try tests_in_release tests_pass cargo test --release --tests
+try core_alone needs_core_alone
+for manifest in Cargo.toml compat/Cargo.toml; do try "metadata_of_$manifest" has_the_metadata "$manifest"; done
 try examples tests_pass cargo test --doc
 try pedantic cargo clippy -- -D warnings -W clippy::pedantic
 if [ -d /usr/share/cargo/registry ]; then try drop_in drops_in; else echo 'skipped drop_in: no /usr/share/cargo/registry'; fi

@@ -1,0 +1,46 @@
+#!/usr/bin/env bash
+# Tests what counts the cases: tests/cases.sh, tests/cases.py, and .ci/run. Each must report a failure as one. The last
+# line counts the cases.
+. "$(dirname "$0")/cases.sh"
+
+# Runs a script over tests/cases.sh, which must end with this line and status: STATUS LAST-LINE SCRIPT
+ends() {
+  local status
+  mkdir -p "$room/tests" && cp "$top/tests/cases.sh" "$top/tests/cases.py" "$room/tests" &&
+    printf '%s\n' "$3" >"$room/tests/script" && "${4:-bash}" "$room/tests/script" >"$room/said" 2>&1
+  status=$?
+  [ "$status" = "$1" ] && [ "$(tail -n 1 "$room/said")" = "$2" ]
+}
+
+# Builds a repository whose gate runs this script in the place of tests/pages.py, and others that pass: SCRIPT CASES
+gate_with() {
+  local copy=$room/gate name
+  rm -rf "$copy" && mkdir -p "$copy/.ci" "$copy/tests" "$copy/bin" && cp "$top/.ci/run" "$copy/.ci" &&
+    echo "$2" >"$copy/.ci/cases" &&
+    for name in .ci/setup .ci/style bin/rt bin/make $(grep -oE 'tests/[a-z_]+\.(sh|py)' "$top/.ci/run") \
+      tests/example_{bloom,dedupe,perfect,shards,sums}.sh; do
+      printf '#!/bin/sh\necho "1 passed, 0 failed"\n' >"$copy/$name" && chmod +x "$copy/$name" || return 1
+    done &&
+    printf '#!/bin/sh\n%s\n' "$1" >"$copy/tests/pages.py" &&
+    (cd "$copy" && PATH="$copy/bin:$PATH" RAPIDHASH_TEST_MACHINES='' bash .ci/run >"$room/said" 2>&1)
+}
+
+# Checks that the gate fails with this script, and that its last line counts a failure: SCRIPT CASES
+gate_fails() {
+  ! gate_with "$1" "$2" && tail -n 1 "$room/said" | grep -qE '^[0-9]+ passed, [1-9][0-9]* failed$'
+}
+
+start='. "$(dirname "$0")/cases.sh"'
+try a_failing_case ends 1 '1 passed, 1 failed' "$start; try good true; try bad false; finish"
+try a_skipped_case ends 0 '1 passed, 0 failed' "$start; try good true; try_with absent no_such_program true; finish"
+try a_wrong_output ends 1 '0 passed, 1 failed' "$start; cd \"\$room\"; runs bad 0 '' '' echo more; finish"
+try a_wrong_status ends 1 '0 passed, 1 failed' "$start; cd \"\$room\"; runs bad 0 '' '' sh -c 'exit 3'; finish"
+long='import cases; cases.compare("bad", [1] * 100 + [2], [1] * 100 + [3]); cases.finish()'
+try long_values_that_differ ends 1 '0 passed, 1 failed' "$long" python3
+try a_gate_that_passes gate_with 'echo "1 passed, 0 failed"' 20
+try a_gate_with_a_failure gate_fails 'echo "3 passed, 1 failed"' 20
+try a_gate_with_a_bad_status gate_fails 'echo "3 passed, 0 failed"; exit 1' 20
+try a_gate_with_a_script_that_dies gate_fails 'kill $$' 20
+try a_gate_with_too_few_cases gate_fails 'echo "1 passed, 0 failed"' 99
+
+finish
