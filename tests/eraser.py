@@ -32,6 +32,7 @@ ERASED = {
     "an implementation of Model": ("impl<A> Model for B<A> { ghost view = { x }; } fn f() {}", " fn f() {}"),
     "the import of Model": ("use std::marker::Model;\nuse a;", "\nuse a;"),
     "Drop as a bound": ("fn f<R: Read + Drop>(r: R) {}", "fn f<R: Read>(r: R) {}"),
+    "Drop as the only bound": ("impl<T: Drop> From<T> for P {}", "impl<T> From<T> for P {}"),
     "Drop in a derive": ("#[derive(Debug, Drop)] struct A;", "#[derive(Debug)] struct A;"),
 }
 KEPT = {
@@ -66,7 +67,7 @@ FORMS = "|".join((
     r"# (?:! )?\[ tactic [^]]*\] ",
     rf"impl (?:< [^{{]*?> )?Model (?:< [^{{]*?> )?for [^{{]*{GROUP}",
     "use std : : marker : : Model ; ",
-    "[+,] Drop ",
+    "[+,:] Drop ",
 ))
 # What only Rust has, as tokens, and what Rattle has in its place: lints, constant functions, and in files with these
 # other loops and reads. Each rule is applied until it matches no more.

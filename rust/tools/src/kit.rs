@@ -2,7 +2,7 @@
 //! report a failure. `hex`, `itoa`, and `clap` have the functions of those names that the programs call.
 
 pub mod alloc;
-
+pub mod clap;
 pub mod env;
 pub mod hex;
 
@@ -124,6 +124,25 @@ impl Write for Stderr {
     fn flush(&mut self) -> io::Result<()> {
         io::stderr().flush()
     }
+}
+
+/// Returns the path of a name.
+///
+/// # Errors
+///
+/// If the name is not UTF-8, but not on Unix.
+#[cfg(unix)]
+pub fn path_of(name: &[u8]) -> io::Result<&Path> {
+    Ok(Path::new(
+        <std::ffi::OsStr as std::os::unix::ffi::OsStrExt>::from_bytes(name),
+    ))
+}
+
+/// As above.
+#[cfg(not(unix))]
+pub fn path_of(name: &[u8]) -> io::Result<&Path> {
+    let refused = |_| io::Error::new(ErrorKind::InvalidInput, "the name is not UTF-8");
+    std::str::from_utf8(name).map(Path::new).map_err(refused)
 }
 
 /// Adds all that a reader has left to a vector.
