@@ -13,7 +13,7 @@
 # make page        copies examples/browser and the npm package to build/browser, for any file server
 # make install     installs the built files, manual pages, and completions under PREFIX; uninstall removes them
 # make dist        packs everything that a user without the toolchain needs into a single archive in build/
-# make deb         packs the results of make and make sqlite as Debian packages in build/debian
+# make deb         builds the Debian source package and its packages in build/debian, by Debian's tools alone
 # make vendor      copies the library into another Rattle repository: make vendor INTO=FOLDER
 # make test-vendor runs the merge gate of such a repository, which proves everything from scratch
 # make clean       removes all build results
@@ -88,7 +88,7 @@ ifeq ($(kit),)
 # Says so once, before the first product.
 unproved = $(if $(said),:,$(eval said := yes)echo 'make: there is no rt: building by $(if \
   $(tools),cc and cargo,cc alone without the tools), which is not the proved build' >&2)
-CFLAGS = -O2
+CFLAGS ?= -O2
 build/header/rapidhash_c.o: share/rapidhash_c.c include/rapidhash_c.h
 	@$(unproved)
 	@mkdir -p build/header
@@ -105,7 +105,9 @@ build/cargo/release/rapid%: $(wildcard rust/*.toml rust/build.rs rust/tools/Carg
     $(shell find rust/src rust/tools/src -name '*.rs' 2>/dev/null)
 	@command -v cargo >/dev/null || { echo 'make: neither rt, of the Rattle kit, nor cargo is on PATH' >&2; exit 2; }
 	@$(unproved)
-	@cd rust/tools && CARGO_TARGET_DIR='$(CURDIR)/build/cargo' cargo build --release --offline --quiet --bin rapid$*
+	@cd rust/tools && CARGO_TARGET_DIR='$(CURDIR)/build/cargo' CARGO_PROFILE_RELEASE_LTO=fat \
+	  CARGO_PROFILE_RELEASE_CODEGEN_UNITS=1 CARGO_PROFILE_RELEASE_PANIC=abort \
+	  cargo build --release --offline --quiet --bin rapid$*
 	@touch $@
 else
 $(shared): $(archive) share/librapidhash_c.map
@@ -265,9 +267,11 @@ dist: all $(folder) $(wheel)
 	tar -C build -czf build/$(name).tar.gz $(name)
 	rm -rf build/$(name)
 
-deb: all $(extension)
-	@rm -rf build/debian && mkdir -p build/debian/source && cp -r share/debian build/debian/source
-	@cd build/debian/source && TOP='$(CURDIR)' dpkg-buildpackage -b -us -uc >../log 2>&1 || \
+# The source package has the files that git lists; Debian's own tools build it.
+deb:
+	@rm -rf build/debian && mkdir -p build/debian/source
+	@git ls-files -z | xargs -0 cp --parents -t build/debian/source && cp -r share/debian build/debian/source
+	@cd build/debian/source && dpkg-buildpackage -us -uc >../log 2>&1 || \
 	  { tail -n 20 ../log; echo 'make: the packages failed; full output: build/debian/log'; exit 2; } >&2
 
 vendor:

@@ -46,6 +46,7 @@ case_missing_file() { "$sum" first nothing 'second name'; }
 case_folder() { mkdir folder && "$sum" folder first; }
 case_words_behind_two_hyphens() { cp first -- -first && "$sum" -- -first; }
 case_full_disk() { "$sum" first >/dev/full; }
+case_full_disk_without_newlines() { "$sum" -z first >/dev/full; }
 case_binary() { "$sum" -b first 'second name' $'line\nback\\return\r'; }
 case_last_of_binary_and_text() { "$sum" -t -b first && "$sum" -b -t first; }
 case_tag() { "$sum" --tag first 'second name' $'line\nback\\return\r'; }
