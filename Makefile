@@ -1,6 +1,7 @@
 # make             proves and builds the tools and the C library, if they are missing or out of date. Without the
-#                  toolchain, cc alone builds the C library from its header
+#                  toolchain, cc builds the C library from its header, and cargo the tools
 # make check       proves everything and runs all tests: must pass before a push
+# make check-source runs the tests that need no proof, without the toolchain
 # make quick       formats the sources, writes the Rust crate, checks the pages, and proves the changed code
 # make test        proves and runs the tests of all crates, and runs the programs end to end
 # make fmt         formats the sources
@@ -12,7 +13,7 @@
 # make page        copies examples/browser and the npm package to build/browser, for any file server
 # make install     installs the built files, manual pages, and completions under PREFIX; uninstall removes them
 # make dist        packs everything that a user without the toolchain needs into a single archive in build/
-# make deb         packs the results of make, make sqlite and make postgresql as Debian packages in build/debian
+# make deb         builds the Debian source package and its packages in build/debian, by Debian's tools alone
 # make vendor      copies the library into another Rattle repository: make vendor INTO=FOLDER
 # make test-vendor runs the merge gate of such a repository, which proves everything from scratch
 # make clean       removes all build results
@@ -25,14 +26,18 @@ DATADIR = $(PREFIX)/share
 DESTDIR =
 
 soname = librapidhash_c.so.1
-# Without the toolchain, and without a library that it has built, the library is the header compiled by cc.
-kit := $(or $(shell command -v rt),$(wildcard crates/rapidhash_c/out/librapidhash_c.a))
+kit_archive = crates/rapidhash_c/out/librapidhash_c.a
+kit_tools = crates/rapidhash_cli/out/rapidhash_cli crates/example_sums/out/example_sums
+# Without the toolchain, and without products of it, cc compiles the library's header, and cargo builds the tools.
+kit := $(or $(shell command -v rt),$(wildcard $(kit_archive) $(kit_tools)))
 ifneq ($(kit),)
-archive = crates/rapidhash_c/out/librapidhash_c.a
+archive = $(kit_archive)
 shared = build/$(soname)
+tools = $(kit_tools)
 else
 archive = build/header/librapidhash_c.a
 shared = build/header/$(soname)
+tools = $(if $(shell command -v cargo),build/cargo/release/rapidhash build/cargo/release/rapidsum)
 endif
 name = yervound-1.0-x86_64-linux
 
@@ -40,15 +45,15 @@ name = yervound-1.0-x86_64-linux
 linker = $(dir $(shell rt doc))toolchain/bin/ld.lld
 system = /lib/x86_64-linux-gnu /lib64 /usr/lib
 
-.PHONY: all tool sums library wasm npm page wheel jar sqlite postgresql deb check quick test fmt bench install uninstall \
-  clean dist vendor rapidhash_c rapidhash_cli example_sums example_bloom example_perfect example_shards example_dedupe
+.PHONY: all tool sums library wasm npm page wheel jar sqlite postgresql deb check check-source quick test fmt bench \
+  install uninstall clean dist vendor rapidhash_c rapidhash_cli example_sums example_bloom example_perfect example_shards example_dedupe
 .DELETE_ON_ERROR:
 MAKEFLAGS += --no-builtin-rules
 
-all: $(if $(kit),tool sums) library
+all: $(tools) library
 
-tool: rapidhash_cli
-sums: example_sums
+tool: $(or $(firstword $(tools)),build/cargo/release/rapidhash)
+sums: $(or $(lastword $(tools)),build/cargo/release/rapidsum)
 library: $(archive) $(shared)
 
 # A product is out of date if a source file or source directory is newer than the start of its build. So an edit during
@@ -80,9 +85,12 @@ $(eval $(call program,example_shards,red,$(both)))
 $(eval $(call program,example_dedupe,args,$(both)))
 
 ifeq ($(kit),)
-CFLAGS = -O2
+# Says so once, before the first product.
+unproved = $(if $(said),:,$(eval said := yes)echo 'make: there is no rt: building by $(if \
+  $(tools),cc and cargo,cc alone without the tools), which is not the proved build' >&2)
+CFLAGS ?= -O2
 build/header/rapidhash_c.o: share/rapidhash_c.c include/rapidhash_c.h
-	@echo 'make: there is no rt: building the C library from its header with $(CC), which is not the proved build' >&2
+	@$(unproved)
 	@mkdir -p build/header
 	@$(CC) -std=c99 -fPIC $(CPPFLAGS) $(CFLAGS) -Iinclude -c $< -o $@
 
@@ -92,6 +100,15 @@ $(archive): build/header/rapidhash_c.o
 
 $(shared): build/header/rapidhash_c.o share/librapidhash_c.map
 	@$(CC) -shared $(LDFLAGS) -Wl,-soname,$(soname),--version-script,share/librapidhash_c.map,-z,relro,-z,now $< -o $@
+
+build/cargo/release/rapid%: $(wildcard rust/*.toml rust/build.rs rust/tools/Cargo.toml) \
+    $(shell find rust/src rust/tools/src -name '*.rs' 2>/dev/null)
+	@command -v cargo >/dev/null || { echo 'make: neither rt, of the Rattle kit, nor cargo is on PATH' >&2; exit 2; }
+	@$(unproved)
+	@cd rust/tools && CARGO_TARGET_DIR='$(CURDIR)/build/cargo' CARGO_PROFILE_RELEASE_LTO=fat \
+	  CARGO_PROFILE_RELEASE_CODEGEN_UNITS=1 CARGO_PROFILE_RELEASE_PANIC=abort \
+	  cargo build --release --offline --quiet --bin rapid$*
+	@touch $@
 else
 $(shared): $(archive) share/librapidhash_c.map
 	@command -v rt >/dev/null || { echo 'make: rt, whose kit has the linker, is not on PATH' >&2; exit 2; }
@@ -171,7 +188,12 @@ postgresql:
 	@MAKEFLAGS= $(MAKE) -s -C build/postgresql COPT=-Werror
 
 check:
+	@command -v rt >/dev/null || { echo 'make: make check proves everything with rt, the command of the Rattle kit,' \
+	  'which is not on PATH; make check-source tests all that needs no proof' >&2; exit 2; }
 	@bash .ci/run
+
+check-source:
+	@bash .ci/run source
 
 fmt:
 	@for crate in crates/*; do (cd $$crate && rt fmt) || exit 1; done
@@ -210,7 +232,7 @@ folders = PREFIX BINDIR LIBDIR INCLUDEDIR DATADIR DESTDIR
 $(foreach name,$(folders),$(eval install uninstall: export $(name) := $$($(name))))
 install: export ARCHIVE = $(archive)
 install: export SHARED = $(shared)
-install: export TOOLS = $(if $(kit),rapidhash rapidsum)
+install: export TOOLS = $(tools)
 
 install:
 	@$(MAKE) -q all || { echo 'make install: something is missing or out of date: run make first' >&2; exit 2; }
@@ -234,9 +256,11 @@ dist: all $(folder) wheel
 	tar -C build -czf build/$(name).tar.gz $(name)
 	rm -rf build/$(name)
 
-deb: all sqlite postgresql
-	@rm -rf build/debian && mkdir -p build/debian/source && cp -r share/debian build/debian/source
-	@cd build/debian/source && TOP='$(CURDIR)' dpkg-buildpackage -b -us -uc >../log 2>&1 || \
+# The source package has the files that git lists; Debian's own tools build it.
+deb:
+	@rm -rf build/debian && mkdir -p build/debian/source
+	@git ls-files -z | xargs -0 cp --parents -t build/debian/source && cp -r share/debian build/debian/source
+	@cd build/debian/source && dpkg-buildpackage -us -uc >../log 2>&1 || \
 	  { tail -n 20 ../log; echo 'make: the packages failed; full output: build/debian/log'; exit 2; } >&2
 
 vendor:

@@ -18,7 +18,7 @@ FORMS = re.compile("|".join(rf"\s*{form}" for form in (
     r"#!?\[tactic\b[^]]*\]",
     rf"\bimpl\b[^{{;]*\bModel\b[^{{;]*{GROUP}",
     r"\buse\s+std::marker::Model;",
-    r"[+,]\s*Drop\b",
+    r"(?:[+,]|(?<=\w):)\s*Drop\b",
 )))
 # The words that must not remain.
 GHOST = {"ghost", "requires", "ensures", "tactic", "Model", "Drop"}

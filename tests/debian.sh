@@ -7,10 +7,11 @@ root=$room/root
 library=$root/usr/lib/x86_64-linux-gnu
 names='librapidhash-c-dev librapidhash-c1 postgresql-15-rapidhash rapidhash-tools sqlite3-rapidhash'
 
-# Checks that each build packs the same bytes at any time, and no other files.
+# Checks that the source package, unpacked elsewhere, builds the same bytes with Debian's tools alone, and no other files.
 packs_the_same_bytes() {
-  make -s -C "$top" deb && cd "$packages" && sha256sum ./*.deb >"$room/sums" && make -s -C "$top" deb &&
-    cd "$packages" && sha256sum --check "$room/sums" &&
+  make -s -C "$top" deb && cd "$packages" && sha256sum ./*.deb >"$room/sums" && mkdir "$room/elsewhere" &&
+    cp ./*.dsc ./*.tar.xz "$room/elsewhere" && cd "$room/elsewhere" && dpkg-source -x ./*.dsc bare &&
+    (cd bare && env -i PATH=/usr/bin:/bin dpkg-buildpackage -b -us -uc) && sha256sum --check "$room/sums" &&
     diff <(printf '%s_1.0.0_amd64.deb\n' $names) <(printf '%s\n' *.deb)
 }
 
@@ -30,12 +31,12 @@ needs_others() {
   ! in_the_root --install "$packages"/*.deb 2>"$room/refused" &&
     sed -nE 's/^ ([^: ]*).* depends on (.* \(.?=) .*/\1: \2/p' "$room/refused" | sort | diff - <(printf '%s\n' \
       'librapidhash-c-dev: librapidhash-c1 (=' 'librapidhash-c1: libc6 (>=' 'postgresql-15-rapidhash: libc6 (>=' \
-      'rapidhash-tools: libc6 (>=')
+      'rapidhash-tools: libc6 (>=' 'rapidhash-tools: libgcc-s1 (>=' 'sqlite3-rapidhash: libc6 (>=')
 }
 
 installs() {
-  dpkg --status libc6 postgresql-15 >>"$root/var/lib/dpkg/status" && in_the_root --configure --pending &&
-    cp -L /lib64/ld-linux-x86-64.so.2 "$root/lib64" && cp -L /lib/x86_64-linux-gnu/libc.so.6 "$library"
+  dpkg --status libc6 libgcc-s1 postgresql-15 >>"$root/var/lib/dpkg/status" && in_the_root --configure --pending &&
+    cp -L /lib64/ld-linux-x86-64.so.2 "$root/lib64" && cp -L /lib/x86_64-linux-gnu/lib{c.so.6,gcc_s.so.1} "$library"
 }
 
 prints_the_known_hashes() {
@@ -48,13 +49,13 @@ keeps_the_code() {
   local built packed
   code() { readelf -x .text -x .rodata "$1" | grep '^  0x'; }
   while read -r built packed; do
-    code "$top/$built" >"$room/code" && code "$root/usr/$packed" | diff "$room/code" - || return 1
+    code "$packages/source/build/$built" >"$room/code" && code "$root/usr/$packed" | diff "$room/code" - || return 1
   done <<'FILES'
-crates/rapidhash_cli/out/rapidhash_cli bin/rapidhash
-crates/example_sums/out/example_sums bin/rapidsum
-build/librapidhash_c.so.1 lib/x86_64-linux-gnu/librapidhash_c.so.1
-build/rapidhash.so lib/sqlite3/rapidhash.so
-build/postgresql/rapidhash.so lib/postgresql/15/lib/rapidhash.so
+cargo/release/rapidhash bin/rapidhash
+cargo/release/rapidsum bin/rapidsum
+header/librapidhash_c.so.1 lib/x86_64-linux-gnu/librapidhash_c.so.1
+rapidhash.so lib/sqlite3/rapidhash.so
+postgresql/rapidhash.so lib/postgresql/15/lib/rapidhash.so
 FILES
 }
 
@@ -98,10 +99,10 @@ has_the_licences_of_debian() {
 
 leaves_nothing() {
   in_the_root --purge $names && (cd "$root" && rm file c_library lib64/ld-linux-x86-64.so.2) &&
-    rm "$library/libc.so.6" && listed | diff "$room/bare" -
+    rm "$library"/lib{c.so.6,gcc_s.so.1} && listed | diff "$room/bare" -
 }
 
-for program in dpkg-buildpackage dh lintian cc cmake sqlite3 pg_config; do
+for program in dpkg-buildpackage dh lintian cc /usr/bin/cargo cmake sqlite3 pg_config; do
   command -v "$program" >/dev/null || { echo "skipped packages: no $program" && finish; }
 done
 [ "$(id -u)" -eq 0 ] || { echo 'skipped packages: not run as root' && finish; }

@@ -3,7 +3,7 @@
 # line counts the cases.
 . "$(dirname "$0")/tool_room.sh"
 # The program itself, because a limit on memory would also stop the launcher's shell.
-program=$top/crates/rapidhash_cli/out/rapidhash_cli
+program=${RAPIDHASH_TOOL:-$top/crates/rapidhash_cli/out/rapidhash_cli}
 exec </dev/null
 
 # Refused arguments.
@@ -21,7 +21,7 @@ fault folder "$file_fault" "$top"
 if [ "$(stat -c %s /sys/kernel/uevent_seqnum 2>/dev/null)" = 4096 ]; then
   fault file_of_sys "$file_fault" --v1 /sys/kernel/uevent_seqnum
 fi
-fault closed_input "$stdin_fault" --v1 <&-
+by_the_kit fault closed_input "$stdin_fault" --v1 <&-
 runs v1_in_little_memory 1 '' "$memory_fault" in_kibibytes 8000 "$program" --v1 <ten_million
 runs v2_in_little_memory 1 '' "$memory_fault" in_kibibytes 8000 "$program" --v2.2 <ten_million
 runs file_by_v1_in_little_memory 0 "$("$tool" --v1 ten_million)"$'\n' '' in_kibibytes 8000 "$program" --v1 ten_million
@@ -29,13 +29,13 @@ runs v3_in_little_memory 0 $'17274253787457370873\n' '' in_kibibytes 8000 "$prog
 # Arguments that do not fit into memory.
 word=-$(head -c 120000 /dev/zero | tr '\0' x)
 words=("$word" "$word" "$word" "$word" "$word" "$word")
-runs no_room_for_the_words 1 '' "$memory_fault" prlimit --as=4500000 "$program" "${words[@]}" "${words[@]}"
+by_the_kit runs no_room_for_the_words 1 '' "$memory_fault" prlimit --as=4500000 "$program" "${words[@]}" "${words[@]}"
 
 # Failures of writes. The runtime ignores SIGPIPE, so the tool reports that the reader is gone, whatever the shell does
 # with that signal.
 runs full_output 1 '' "$write_fault" to_a_full_disk "$tool" --v1 <something
 runs full_output_of_a_file 1 '' "$write_fault" to_a_full_disk "$tool" large
-runs closed_output 1 '' "$write_fault" to_no_output "$tool" --v1 <something
+by_the_kit runs closed_output 1 '' "$write_fault" to_no_output "$tool" --v1 <something
 runs reader_gone 1 '' "$write_fault" to_a_closed_pipe "$tool" --v1 <something
 # If standard error also refuses the text, the exit status still reports the failure.
 # shellcheck disable=SC2317

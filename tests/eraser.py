@@ -32,6 +32,7 @@ ERASED = {
     "an implementation of Model": ("impl<A> Model for B<A> { ghost view = { x }; } fn f() {}", " fn f() {}"),
     "the import of Model": ("use std::marker::Model;\nuse a;", "\nuse a;"),
     "Drop as a bound": ("fn f<R: Read + Drop>(r: R) {}", "fn f<R: Read>(r: R) {}"),
+    "Drop as the only bound": ("impl<T: Drop> From<T> for P {}", "impl<T> From<T> for P {}"),
     "Drop in a derive": ("#[derive(Debug, Drop)] struct A;", "#[derive(Debug)] struct A;"),
 }
 KEPT = {
@@ -66,7 +67,7 @@ FORMS = "|".join((
     r"# (?:! )?\[ tactic [^]]*\] ",
     rf"impl (?:< [^{{]*?> )?Model (?:< [^{{]*?> )?for [^{{]*{GROUP}",
     "use std : : marker : : Model ; ",
-    "[+,] Drop ",
+    "[+,:] Drop ",
 ))
 # What only Rust has, as tokens, and what Rattle has in its place: lints, constant functions, and in files with these
 # other loops and reads. Each rule is applied until it matches no more.
@@ -118,16 +119,13 @@ def difference(rattle, rust, left_out):
 
 
 def sources():
-    """Yields each source of the crate: its name, Rattle's text with the table's rows, Rust's, and the omitted items."""
-    for crate, (folder, names) in rust_crate.SOURCES.items():
-        for name in names.split():
-            rattle = (TOP / "crates" / crate / "src" / f"{name}.rt").read_text()
-            for files, old, new, _reason in rust_crate.REPLACED:
-                rattle = rattle.replace(old, new) if files == "*" or name in files.split() else rattle
-            head, _, rust = (TOP / "rust" / folder / f"{name}.rs").read_text().partition("\n\n")
-            left_out = (some for file, some, _reason in rust_crate.LEFT_OUT if file == f"{folder}/{name}")
-            begins = [begin for some in left_out for begin in some]
-            yield name, rattle, rust if head.startswith("// Made by bin/rust_crate from") else head, begins
+    """Yields each source of the crate and the programs: the name of its file in rust/, Rattle's text with the table's
+    rows, Rust's, and the omitted items."""
+    for crate, name, target in rust_crate.sources(rust_crate.SOURCES, rust_crate.TOOLS):
+        head, _, rust = (TOP / "rust" / f"{target}.rs").read_text().partition("\n\n")
+        begins = [begin for file, some, _reason in rust_crate.LEFT_OUT if file == target for begin in some]
+        is_made = head.startswith("// Made by bin/rust_crate from")
+        yield f"{crate}/{name}", rust_crate.read(crate, name, target), rust if is_made else head, begins
 
 
 def erased(text):

@@ -1,11 +1,11 @@
 # The common start of the example programs' tests: a copy of the built program in a temporary directory, functions that
-# run it, and shared cases. `name` is the program, which has the script's name.
+# run it, and shared cases. `name` is the program, which has the script's name. BUILT names another build of it.
 # shellcheck shell=bash
 . "$(dirname "$0")/cases.sh"
 name=$(basename "$0" .sh)
-prepare_by make -s -C "$top" "$name"
+[ -n "${BUILT-}" ] || prepare_by make -s -C "$top" "$name"
 program=$room/$name
-cp "$top/crates/$name/out/$name" "$program" && mkdir "$room/at" && cd "$room/at" || exit 1
+cp "${BUILT:-$top/crates/$name/out/$name}" "$program" && mkdir "$room/at" && cd "$room/at" || exit 1
 
 # Checks that a command succeeds and prints the contents of the file wanted: NAME COMMAND..
 prints() {

@@ -46,6 +46,7 @@ case_missing_file() { "$sum" first nothing 'second name'; }
 case_folder() { mkdir folder && "$sum" folder first; }
 case_words_behind_two_hyphens() { cp first -- -first && "$sum" -- -first; }
 case_full_disk() { "$sum" first >/dev/full; }
+case_full_disk_without_newlines() { "$sum" -z first >/dev/full; }
 case_binary() { "$sum" -b first 'second name' $'line\nback\\return\r'; }
 case_last_of_binary_and_text() { "$sum" -t -b first && "$sum" -b -t first; }
 case_tag() { "$sum" --tag first 'second name' $'line\nback\\return\r'; }
@@ -153,13 +154,43 @@ says check_without_the_seed 'did NOT match' "$program" -c list
 printf 'RAPIDHASH-V9 (first) = a1266b469390773a\n' >list
 says unknown_version_in_a_list 'no properly formatted' "$program" -c list
 
-# An argument that is not UTF-8 is refused. Such a name in a list counts as a file that cannot be read.
-says name_that_is_not_utf_8 UTF-8 "$program" $'x\xff'
-printf 'a1266b469390773a  x\xff\n' >list
-says name_in_a_list_that_is_not_utf_8 UTF-8 "$program" -c list
-grep -q 'FAILED open or read' out
-tell the_name_cannot_be_read $?
-says closed_pipe 'write error' to_a_closed_pipe "$program" first first
+# Names that are not UTF-8, and one with a character that stands for such a byte. By cargo, all are hashed. By the kit,
+# those are named in an error, the other is hashed, and such a name in a list counts as a file that cannot be read.
+names=($'x\xff' $'\xe9t\xe9' $'\xf4\x8f\xbf\xbf')
+for name in "${names[@]}"; do cp first "$name"; done
+printf 'a1266b469390773a  %s\n' "${names[@]}" >wanted
+"$program" "${names[@]}" >list 2>"$room/log"
+status=$?
+if [ -n "${BUILT-}" ]; then
+  [ "$status" -eq 0 ] && cmp wanted list && "$program" -c --status list
+  tell names_that_are_not_utf_8 $?
+else
+  [ "$status" -eq 1 ] && tail -n 1 wanted | cmp - list &&
+    printf 'rapidsum: %s: the name is not UTF-8\n' "${names[@]:0:2}" | cmp - "$room/log"
+  tell names_that_are_not_utf_8 $?
+  says name_in_a_list_that_is_not_utf_8 UTF-8 "$program" -c wanted
+  [ "$(grep -c 'FAILED open or read$' out)" -eq 2 ]
+  tell the_name_cannot_be_read $?
+fi
+
+# Compares what this build and the kit's print for all pairs of these words.
+as_by_the_kit() {
+  local one two words=(--tag -c --text -bt --zero -a --seed=2 --seed --algorithm=v9 --quiet -w first - -- --chek -x --help
+    -V --tag=5 --see -é '' v2.1 -az --=)
+  mkdir kit && cp "$kit" "kit/${program##*/}" || return 1
+  for one in "${words[@]}"; do
+    for two in "${words[@]}"; do
+      "$program" "$one" "$two" >ours 2>&1 <first; echo $? >>ours
+      "kit/${program##*/}" "$one" "$two" >theirs 2>&1 <first; echo $? >>theirs
+      diff theirs ours || return 1
+    done
+  done
+}
+kit=$top/crates/example_sums/out/example_sums
+if [ -n "${BUILT-}" ] && [ -x "$kit" ]; then try pairs_of_words as_by_the_kit; fi
+
+# As SIGPIPE does in sha256sum.
+runs closed_pipe 141 '' '' to_a_closed_pipe "$program" first first
 for words in '--tag -c' '--tag --text' '--zero -c' '--binary -c' '--text -c' '-a v9' '--seed=-1' '--seed 1 --seed 2'; do
   # shellcheck disable=SC2086
   says "refuses ${words// /_}" "for more information, try '--help'" "$program" $words first

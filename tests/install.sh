@@ -156,6 +156,19 @@ wants_a_build_first() {
 products=(crates/rapidhash_cli/out/rapidhash_cli crates/example_sums/out/example_sums
   crates/rapidhash_c/out/librapidhash_c.a build/librapidhash_c.so.1)
 
+# Checks that a copy of the sources without the kit says so once, builds the same files by cc and cargo, and installs
+# them, and that make check stops before it installs anything.
+serves_without_the_kit() {
+  local place=$room/without sources=$room/sources
+  mkdir "$sources" && git ls-files -z | xargs -0 cp --parents -t "$sources" && export PATH=$path &&
+    ! make -s -C "$sources" check >"$room/check" 2>&1 && grep -q 'make check-source' "$room/check" &&
+    [ "$(make -s -j3 -C "$sources" 2>&1)" = \
+      'make: there is no rt: building by cc and cargo, which is not the proved build' ] &&
+    [ -z "$(make -s -C "$sources" 2>&1)" ] && make -s -C "$sources" install PREFIX="$place" &&
+    diff <(listed "$prefix") <(listed "$place") && prints_the_known_hash "$place" && builds_by_pkg_config "$place/lib" &&
+    prefix=$place prints_and_checks_a_sum && [ "$(echo something | "$sources/bin/rapidhash" --v1)" = 15965596575264898037 ]
+}
+
 # Checks that the script itself refuses the characters that the pkg-config file cannot contain. make would expand some.
 refuses_characters() {
   local character said
@@ -204,6 +217,7 @@ try folders_of_a_packager serves_a_packager
 try headers_elsewhere serves_headers_elsewhere
 try nothing_built wants_a_build_first
 try characters_of_folders refuses_characters
+try_with without_the_kit cargo eval '(serves_without_the_kit)'
 try uninstall make -s -C "$top" uninstall PREFIX="$prefix"
 try nothing_left is_empty "$prefix"
 

@@ -33,9 +33,10 @@ new_repository() {
 # Runs the launcher and compares its exit status, its output, the number of builds so far, and a pattern for its
 # messages: NAME STATUS OUT BUILDS ERR ARGUMENT..
 tool=repo/bin/rapidhash
+programs=$room/kit:$PATH
 calls() {
   local status
-  echo input | PATH=$room/kit:$PATH "$tool" "${@:6}" >out 2>"$room/log"
+  echo input | PATH=$programs "$tool" "${@:6}" >out 2>"$room/log"
   status=$?
   # shellcheck disable=SC2053
   [ "$status" = "$2" ] && [ "$(cat out)" = "$3" ] && [ "$(grep -c . starts)" -eq "$4" ] &&
@@ -89,10 +90,29 @@ calls failed_build_with_no_cause 2 '' 2 "$told"*'no room on the device'*'make: t
 echo >during
 calls call_after_a_failed_build 7 $'first\ninput' 3 "$told"
 new_repository ''
-mkdir few && ln -s "$(command -v make)" "$(command -v sh)" /usr/bin/{dirname,readlink,find} few
+mkdir few && ln -s "$(command -v make)" "$(command -v sh)" /usr/bin/{dirname,readlink,find,mkdir,touch,cat,chmod} few
 PATH=$room/few repo/bin/rapidhash >out 2>"$room/log"
 [ $? -eq 2 ] && [ ! -s out ] && [ ! -e starts ] &&
-  grep -qx 'make: rt, the command of the Rattle kit, is not on PATH' "$room/log"
-tell no_rt $?
+  grep -qx 'make: neither rt, of the Rattle kit, nor cargo is on PATH' "$room/log"
+tell no_rt_and_no_cargo $?
+
+# Without rt, a substitute for cargo builds, until the kit has built.
+mkdir -p repo/rust/{src,tools/src} && echo one >repo/rust/src/lib.rs && touch -d 2020-01-01 repo/rust/src/lib.rs
+cat >few/cargo <<'CARGO'
+#!/bin/sh
+echo run >>../../../starts
+mkdir -p "$CARGO_TARGET_DIR/release"
+printf '#!/bin/sh\necho cargo %s "$@"\n' "$(cat ../src/lib.rs)" >"$CARGO_TARGET_DIR/release/rapidhash"
+chmod +x "$CARGO_TARGET_DIR/release/rapidhash"
+CARGO
+chmod +x few/cargo
+of_cargo='make: there is no rt: building by cc and cargo, which is not the proved build'
+programs=$room/few
+calls first_call_by_cargo 0 'cargo one a' 1 "$of_cargo" a
+calls second_call_by_cargo 0 'cargo one' 1 ''
+echo two >repo/rust/src/lib.rs
+calls edited_source_by_cargo 0 'cargo two' 2 "$of_cargo"
+programs=$room/kit:$PATH
+calls the_kit_instead_of_cargo 7 $'first\ninput' 3 "$told"
 
 finish

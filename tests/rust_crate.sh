@@ -19,8 +19,8 @@ tests_pass() {
 
 # Checks that the files that bin/rust_crate writes are those that git marks as generated.
 marks_generated() {
-  grep -rl '^// Made by bin/rust_crate' src tests | sort >"$room/made" && [ -s "$room/made" ] &&
-    find src tests -name '*.rs' | git check-attr --stdin linguist-generated |
+  grep -rl '^// Made by bin/rust_crate' src tests tools/src | sort >"$room/made" && [ -s "$room/made" ] &&
+    find src tests tools/src -name '*.rs' | git check-attr --stdin linguist-generated |
     sed -n 's/: linguist-generated: set$//p' | sort | diff "$room/made" -
 }
 

@@ -1,8 +1,8 @@
 # The common start of the tool's tests: a temporary directory, the tool, its messages, and functions that compare the
-# results of a run. The numbers are those of the Rust crate.
+# results of a run. The numbers are those of the Rust crate. RAPIDHASH_TOOL names another build of the tool.
 # shellcheck shell=bash
 . "$(dirname "$0")/cases.sh"
-tool=$top/bin/rapidhash
+tool=${RAPIDHASH_TOOL:-$top/bin/rapidhash}
 cd "$room" || exit 1
 
 # Checks that the tool prints a hash and nothing else: NAME HASH ARGUMENT..
@@ -13,6 +13,12 @@ hashes() {
 # Checks that the tool writes only a message and exits with status 1: NAME MESSAGE ARGUMENT..
 fault() {
   runs "$1" 1 '' "$2" "$tool" "${@:3}"
+}
+
+# Runs a case that only the kit's build passes. Rust's runtime opens /dev/null for a closed stream, and copies the
+# arguments before the program can report that their memory is refused: CASE..
+by_the_kit() {
+  if [ -n "${RAPIDHASH_TOOL-}" ]; then printf "left out %s: Rust's runtime\n" "$2"; else "$@"; fi
 }
 
 # shellcheck disable=SC2034

@@ -2,6 +2,7 @@
 #![tactic(auto)]
 
 mod algorithm;
+mod arguments;
 mod check;
 mod console;
 mod disk;
@@ -17,21 +18,18 @@ mod sum;
 mod tag;
 mod words;
 
+use arguments::{strings_of, texts_of};
 use problem::Problem;
-use std::env;
-use std::io::{Error, ErrorKind};
 use std::process::ExitCode;
 use words::command;
 
-// All arguments, the program's name first.
-fn gather(rt: &HostRuntime) -> Result<Vec<String>, Problem> {
-    let words = env::args(rt).map_err(Problem::Words)?;
-    Ok(words.collect(rt.alloc())?)
-}
+// The status that a shell gives to a program that the signal SIGPIPE ended.
+const BROKEN_PIPE: u8 = 141;
 
 // Does what the arguments ask for. Returns whether all files could be read and all checks passed.
 fn run(rt: &HostRuntime) -> Result<bool, Problem> {
-    let words = gather(rt)?;
+    let texts = texts_of(rt, rt.alloc())?;
+    let words = strings_of(rt.alloc(), texts.as_slice())?;
     let matches = match command(rt.alloc())?.try_get_matches_from(words.as_slice()) {
         Ok(matches) => matches,
         Err(error) => {
@@ -46,6 +44,7 @@ fn main(rt: HostRuntime) -> ExitCode {
     match run(&rt) {
         Ok(true) => ExitCode::SUCCESS,
         Ok(false) => ExitCode::FAILURE,
+        Err(problem) if problem.is_broken_pipe() => ExitCode::from(BROKEN_PIPE),
         Err(problem) => {
             // If standard error cannot be written, the status still reports the failure.
             let _ = eprintln!(rt; "rapidsum: {problem}");

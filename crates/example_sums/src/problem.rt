@@ -9,12 +9,19 @@ use std::{fmt, io};
 pub enum Problem {
     /// An allocation failed.
     Memory,
-    /// The arguments are not UTF-8, or could not be read.
-    Words(io::Error),
+    /// An argument is too long.
+    Long,
     /// A file could not be opened or read.
     Read(io::Error),
     /// A line could not be written.
     Write(io::Error),
+}
+
+impl Problem {
+    /// Whether nobody reads what a line was written to.
+    pub fn is_broken_pipe(&self) -> bool {
+        matches!(self, Problem::Write(error) if error.kind() == ErrorKind::BrokenPipe)
+    }
 }
 
 impl From<AllocError> for Problem {
@@ -33,10 +40,7 @@ impl fmt::Display for Problem {
     fn fmt<W: fmt::Write>(&self, f: &mut fmt::Formatter<W>) -> fmt::Result {
         match self {
             Problem::Memory => write!(f, "out of memory"),
-            Problem::Words(error) if error.kind() == ErrorKind::InvalidData => {
-                write!(f, "an argument is not UTF-8")
-            }
-            Problem::Words(error) => write!(f, "cannot read arguments: {error}"),
+            Problem::Long => write!(f, "an argument is too long"),
             Problem::Read(error) => write!(f, "{error}"),
             Problem::Write(error) => write!(f, "write error: {error}"),
         }

@@ -1,6 +1,7 @@
 //! What a call of the program does.
 
 use crate::algorithm::Algorithm;
+use crate::arguments::bytes_of;
 use crate::check::{Verdict, check_entries};
 use crate::console::Console;
 use crate::disk::Disk;
@@ -25,11 +26,11 @@ pub fn run_files(rt: &HostRuntime, matches: &ArgMatches<'_>) -> Result<bool, Pro
     let mut passed = true;
     let names = matches.get_strs("FILE").unwrap_or(&["-"]);
     for name in names {
-        let name = name.as_bytes();
+        let name = bytes_of(rt.alloc(), name)?;
         let done = if checks {
-            check_list(&mut console, name, algorithm)
+            check_list(&mut console, name.as_slice(), algorithm)
         } else {
-            print_sum(&console, name, algorithm, style)
+            print_sum(&console, name.as_slice(), algorithm, style)
         };
         passed = done? && passed;
     }

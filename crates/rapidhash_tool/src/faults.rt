@@ -41,8 +41,9 @@ impl CliFault {
         ensures { result.now ≡ text_of self.now }
     {
         match self {
-            CliFault::Versions =>
-                "You must specify a single rapidhash version to use. See --help for more.",
+            CliFault::Versions => {
+                "You must specify a single rapidhash version to use. See --help for more."
+            }
             CliFault::Open => "Could not open file.",
             CliFault::Stdin => "Could not read from stdin.",
             CliFault::Memory => "Out of memory.",

@@ -74,12 +74,9 @@ impl RapidhashVersion {
         let mut reader = reader;
         let hash = match *self {
             RapidhashVersion::V1 { protected } => hash_v1_file(protected, &mut reader, len),
-            RapidhashVersion::V2 { protected, version } => hash_v2_file(
-                version,
-                protected,
-                &mut reader,
-                len,
-            ),
+            RapidhashVersion::V2 { protected, version } => {
+                hash_v2_file(version, protected, &mut reader, len)
+            }
             RapidhashVersion::V3 { protected } => hash_v3::<R, 7>(protected, reader),
             RapidhashVersion::V3Micro { protected } => hash_v3::<R, 5>(protected, reader),
             RapidhashVersion::V3Nano { protected } => hash_v3::<R, 3>(protected, reader),

@@ -1,0 +1,33 @@
+// Made by bin/rust_crate from crates/example_sums/src/store.rt: change that file.
+
+//! Where files come from, and the hash of one.
+
+use crate::algorithm::Algorithm;
+use rapidhash_tool::kit::alloc::Allocator;
+use std::io;
+use std::io::Read;
+
+/// Where files come from: a disk, or a test.
+pub trait Store {
+    /// An open file.
+    type Reader: Read;
+
+    // The bytes of the file of a name, if they are known.
+
+    /// Opens the file of a name.
+    fn open(&self, name: &[u8]) -> io::Result<Self::Reader>;
+}
+
+/// Returns the hash of the file that has a name.
+///
+/// # Errors
+///
+/// If the file cannot be opened, a read fails, or an allocation for V1 or V2 fails.
+pub fn hash_named<S: Store, A: Allocator>(
+    alloc: A,
+    store: &S,
+    name: &[u8],
+    algorithm: Algorithm,
+) -> io::Result<u64> {
+    algorithm.hash(alloc, store.open(name)?)
+}
