@@ -2,7 +2,7 @@
 
 //! The arguments as text for the parser, and the bytes that such a text stands for.
 //!
-//! An argument that is not UTF-8 has a character for each byte from 0x80 on: U+10FF00 plus the byte.
+//! An argument that is not UTF-8 has a character for each byte from 0x80 on: U+10FF00 plus that.
 //! So has one with such a character of its own. Every other argument stands for itself.
 
 use rapidhash_tool::kit::Vec;
