@@ -166,7 +166,8 @@ make_without_the_kit() {
 builds_from_the_header() {
   make_without_the_kit >"$room/said" 2>&1 && [ "$(grep -c 'not the proved build' "$room/said")" = 1 ] &&
     [ "$(wc -l <"$room/said")" = 1 ] && [ -z "$(make_without_the_kit 2>&1)" ] &&
-    make_without_the_kit install PREFIX="$room/usr" && [ ! -e "$room/usr/bin" ]
+    make_without_the_kit install PREFIX="$room/usr" &&
+    [ "$(printf hello | "$room/usr/bin/rapidhash")" = 3327445792987248966 ]
 }
 
 # Compiles and runs the first programs of docs/C.md and docs/CPP.md with the headers alone, as the pages say.
