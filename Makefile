@@ -46,7 +46,8 @@ linker = $(dir $(shell rt doc))toolchain/bin/ld.lld
 system = /lib/x86_64-linux-gnu /lib64 /usr/lib
 
 .PHONY: all tool sums library wasm npm page wheel jar sqlite postgresql deb check check-source quick test fmt bench \
-  install uninstall clean dist vendor rapidhash_c rapidhash_cli example_sums example_bloom example_perfect example_shards example_dedupe
+  install uninstall clean dist vendor rapidhash_c rapidhash_cli example_sums example_bloom example_perfect \
+  example_shards example_dedupe
 .DELETE_ON_ERROR:
 MAKEFLAGS += --no-builtin-rules
 
@@ -86,8 +87,8 @@ $(eval $(call program,example_dedupe,args,$(both)))
 
 ifeq ($(kit),)
 # Says so once, before the first product.
-unproved = $(if $(said),:,$(eval said := yes)echo 'make: there is no rt: building by $(if \
-  $(tools),cc and cargo,cc alone without the tools), which is not the proved build' >&2)
+unproved = $(if $(said),:,$(eval said := yes)echo 'make: rt is not on PATH: building with $(if \
+  $(tools),cc and cargo,cc the library alone), which is not the proved build' >&2)
 CFLAGS ?= -O2
 build/header/rapidhash_c.o: share/rapidhash_c.c include/rapidhash_c.h
 	@$(unproved)
@@ -210,7 +211,7 @@ test:
 	done
 
 # The bench and the arguments for each file of figures. A bench that fails leaves the figures unchanged.
-bench: bench/slices.tsv bench/speed.tsv bench/rust.tsv bench/c.tsv bench/java.tsv bench/files.tsv bench/memory.tsv bench/tool.tsv bench/packages.tsv
+bench: $(patsubst %,bench/%.tsv,slices speed rust c java files memory tool packages)
 	@bench/figures --write
 
 bench/slices.tsv: measured = slices default seeded

@@ -156,14 +156,14 @@ wants_a_build_first() {
 products=(crates/rapidhash_cli/out/rapidhash_cli crates/example_sums/out/example_sums
   crates/rapidhash_c/out/librapidhash_c.a build/librapidhash_c.so.1)
 
-# Checks that a copy of the sources without the kit says so once, builds the same files by cc and cargo, and installs
-# them, and that make check stops before it installs anything.
+# Checks that make without the kit prints one line, builds the same files by cc and cargo, and installs them, and that
+# make check stops before it installs anything.
 serves_without_the_kit() {
   local place=$room/without sources=$room/sources
   mkdir "$sources" && git ls-files -z | xargs -0 cp --parents -t "$sources" && export PATH=$path &&
     ! make -s -C "$sources" check >"$room/check" 2>&1 && grep -q 'make check-source' "$room/check" &&
     [ "$(make -s -j3 -C "$sources" 2>&1)" = \
-      'make: there is no rt: building by cc and cargo, which is not the proved build' ] &&
+      'make: rt is not on PATH: building with cc and cargo, which is not the proved build' ] &&
     [ -z "$(make -s -C "$sources" 2>&1)" ] && make -s -C "$sources" install PREFIX="$place" &&
     diff <(listed "$prefix") <(listed "$place") && prints_the_known_hash "$place" && builds_by_pkg_config "$place/lib" &&
     prefix=$place prints_and_checks_a_sum && [ "$(echo something | "$sources/bin/rapidhash" --v1)" = 15965596575264898037 ]

@@ -106,7 +106,7 @@ printf '#!/bin/sh\necho cargo %s "$@"\n' "$(cat ../src/lib.rs)" >"$CARGO_TARGET_
 chmod +x "$CARGO_TARGET_DIR/release/rapidhash"
 CARGO
 chmod +x few/cargo
-of_cargo='make: there is no rt: building by cc and cargo, which is not the proved build'
+of_cargo='make: rt is not on PATH: building with cc and cargo, which is not the proved build'
 programs=$room/few
 calls first_call_by_cargo 0 'cargo one a' 1 "$of_cargo" a
 calls second_call_by_cargo 0 'cargo one' 1 ''
