@@ -151,6 +151,11 @@ class Processors:
         return result
 
 
+def print_heading(title):
+    """Prints a title, the commit, the machine, and the date."""
+    print(f"# {title}, at commit {run('git', 'rev-parse', '--short', 'HEAD', folder=TOP)}.\n# {machine_and_date()}")
+
+
 def measure(title, unit, rows, work, turns):
     """Prints the minimum times of all turns. For each of the ROWS, in each turn, WORK returns a name and the times per
     library. So a slow moment of the machine affects a row in few of its turns."""
@@ -161,7 +166,7 @@ def measure(title, unit, rows, work, turns):
             what, times = processors.measure(work, *row)
             least = best.setdefault(what, {})
             least.update({name: min(time, least.get(name, time)) for name, time in times.items()})
-    print(f"# {title}, the least of {turns} turns.\n# {machine_and_date()}")
+    print_heading(f"{title}, the least of {turns} turns")
     print(f"# {processors.disturbed} of {processors.measured} measurements were on a processor that was not quiet.")
     print_table(unit, best)
 
@@ -211,8 +216,7 @@ def mean(numbers):
 
 def print_rows(title, best, ours, others):
     """Prints the rows of alternate: for each length the mean over its loops, and per group the mean of the ratios."""
-    commit = run("git", "rev-parse", "--short", "HEAD", folder=TOP)
-    print(f"# {title}, at commit {commit}.\n# {machine_and_date()}")
+    print_heading(title)
     print("what", "unit", ours, *others, sep="\t")
     for (build, group), rows in best.items():
         loops = {}
