@@ -154,8 +154,8 @@ says check_without_the_seed 'did NOT match' "$program" -c list
 printf 'RAPIDHASH-V9 (first) = a1266b469390773a\n' >list
 says unknown_version_in_a_list 'no properly formatted' "$program" -c list
 
-# Names that are not UTF-8, and one with a character that stands for such a byte. By cargo, all are hashed. By the kit,
-# those are named in an error, the other is hashed, and such a name in a list counts as a file that cannot be read.
+# Names that are not UTF-8, and one with a character that encodes such a byte. Cargo's build hashes all files. The kit's
+# reports the former and hashes the last, and such a name in a list counts as a file that cannot be read.
 names=($'x\xff' $'\xe9t\xe9' $'\xf4\x8f\xbf\xbf')
 for name in "${names[@]}"; do cp first "$name"; done
 printf 'a1266b469390773a  %s\n' "${names[@]}" >wanted

@@ -1,6 +1,6 @@
 #!/usr/bin/env bash
-# Tests what counts the cases: tests/cases.sh, tests/cases.py, and .ci/run. Each must report a failure as one. The last
-# line counts the cases.
+# Tests the counters of cases: tests/cases.sh, tests/cases.py, and .ci/run. Each must report every failure. The last line
+# counts the cases.
 . "$(dirname "$0")/cases.sh"
 
 # Runs a script over tests/cases.sh, which must end with this line and status: STATUS LAST-LINE SCRIPT
@@ -12,7 +12,7 @@ ends() {
   [ "$status" = "$1" ] && [ "$(tail -n 1 "$room/said")" = "$2" ]
 }
 
-# Builds a repository whose gate runs this script in the place of tests/pages.py, and others that pass: SCRIPT CASES
+# Builds a repository whose gate runs this script instead of tests/pages.py, and others that pass: SCRIPT CASES
 gate_with() {
   local copy=$room/gate name
   rm -rf "$copy" && mkdir -p "$copy/.ci" "$copy/tests" "$copy/bin" && cp "$top/.ci/run" "$copy/.ci" &&

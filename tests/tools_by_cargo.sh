@@ -1,6 +1,5 @@
 #!/usr/bin/env bash
-# Builds the tools by cargo and runs the kit's cases over them. The lints of both programs and of what stands for the
-# kit's library are cases too. The last line counts the cases.
+# Builds the tools by cargo, checks their lints, and runs the kit's cases over them. The last line counts the cases.
 . "$(dirname "$0")/cases.sh"
 export CARGO_NET_OFFLINE=true
 tools=$top/build/cargo/release

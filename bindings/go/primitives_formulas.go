@@ -5,7 +5,7 @@ package rapidhash
 import "encoding/binary"
 
 // In this build the loads and the product are random functions of a key. Two programs that then return the same hash
-// of a random message compute the same formula, but for a chance of about 2^-64. internal/formulas runs it.
+// of a random message compute the same formula, except with probability 2^-64. internal/formulas runs it.
 
 // FormulasKey is the key of the random functions.
 var FormulasKey uint64

@@ -27,11 +27,11 @@ var (
 	defaults   = [7]uint64{s0, s1, s2, 0x4d5a2da51de1aa47, 0xa0761d6478bd642f, 0xe7037ed1a0b428db, 0x90ed1765281c388c}
 )
 
-// seedOf and seedOfV1 return the seed that a seed word stands for.
+// seedOf and seedOfV1 return the seed of a seed word.
 func seedOf(word uint64) uint64   { return word ^ mix(word^s2, s1) }
 func seedOfV1(word uint64) uint64 { return word ^ mix(word^s0, s1) }
 
-// SeedSecrets returns the default secrets with the seed that a seed word stands for, as V3WithSeed uses them.
+// SeedSecrets returns the default secrets with the seed of a seed word, as V3WithSeed uses them.
 func SeedSecrets(word uint64) *Secrets { return &Secrets{seedOf(word), defaults} }
 
 // SeedSecretsV1 is SeedSecrets for V1.

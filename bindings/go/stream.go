@@ -72,7 +72,7 @@ func (stream *Stream) Write(data []byte) (int, error) {
 	return len(data), nil
 }
 
-// fold appends a piece for which there is no room. It keeps the last 1 to 16 * count bytes, and the 16 before them.
+// fold appends a piece that exceeds the room left. It keeps the last 1 to 16 * count bytes, and the 16 before them.
 func (stream *Stream) fold(data []byte) {
 	kept, secrets := stream.kept[:foldedSize+16*stream.count], stream.secrets.Secrets[:stream.count]
 	end := copy(kept[foldedSize+stream.size:], data)

@@ -1,7 +1,7 @@
 /* The hashes of many messages in one call, written to an array of unsigned 64-bit integers. */
 #include "extension.h"
 
-/* Where the hashes go, and the secrets of all messages. `own` has the secrets that a seed stands for. */
+/* Where the hashes go, and the secrets of all messages. `own` has the secrets of a seed. */
 struct column {
     uint64_t (*hash)(const void *bytes, size_t len, const void *secrets);
     const void *secrets;

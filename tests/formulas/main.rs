@@ -3,7 +3,7 @@
 //!
 //! All control flow of a hash depends on the length alone, so the hash of n bytes is a formula over loads, products,
 //! XOR, OR, and shifts. The definition and the subject are built with the same random functions as loads and product.
-//! If two formulas differ, their values differ for random bytes, seeds, secrets, and functions, but for a chance of
+//! If two formulas differ, their values differ for random bytes, seeds, secrets, and functions, except with probability
 //! 2^-64. Up to 16 bytes, formulas also shift and join bits, and each is compared 64 times.
 //!
 //! The subject reads the buffer that holds all messages, then records of 20 little-endian words until the input ends:

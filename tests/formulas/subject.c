@@ -1,4 +1,4 @@
-/* Hashes what tests/formulas/main.rs asks for, with the C header over random loads and a random product. */
+/* Computes the hashes that tests/formulas/main.rs requests, by the C header over random loads and a random product. */
 #include <stdio.h>
 #include <stdlib.h>
 

@@ -1,4 +1,4 @@
-//! Hashes what tests/formulas/main.rs asks for, with the Rust crate over random reads and a random product.
+//! Computes the hashes that tests/formulas/main.rs requests, by the Rust crate over random reads and a random product.
 
 use rapidhash::{util, v1, v2, v3};
 use std::io::{stdin, stdout, BufWriter, Read, Write};

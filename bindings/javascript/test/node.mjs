@@ -70,7 +70,7 @@ test("require", () => {
   assert.equal(hex(loadSync().v3("hello")), "2e2d7651b45f7946");
 });
 
-test("a message for which there is no memory", () => {
+test("a message too large for the memory", () => {
   const { v1, v3Protected, v3, room } = loadSync();
   assert.ok(room > 4e9 && room < 2 ** 32);
   const long = new Uint8Array(room + 1);

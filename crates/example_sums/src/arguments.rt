@@ -1,26 +1,26 @@
-//! The arguments as text for the parser, and the bytes that such a text stands for.
+//! The arguments as text for the parser, and the bytes of an argument from its text.
 //!
-//! An argument that is not UTF-8 has a character for each byte from 0x80 on: U+10FF00 plus that.
-//! So has one with such a character of its own. Every other argument stands for itself.
+//! The text of an argument in UTF-8 is the argument itself. Otherwise, and if it already contains a
+//! character from U+10FF80 on, each byte from 0x80 on becomes the character U+10FF00 plus the byte.
 
 use crate::problem::Problem;
 use std::alloc::{AllocError, Allocator};
 use std::env::{Env, FillError};
 use std::str;
 
-/// The first character that stands for a byte.
+/// The first character that encodes a byte.
 const FIRST: char = '\u{10ff80}';
 /// The longest argument of a Linux with pages of 4 KiB.
 const LONGEST: usize = 131072;
 
-fn stands_for_itself(word: &[u8]) -> bool {
+fn is_its_own_text(word: &[u8]) -> bool {
     matches!(str::from_utf8(word), Ok(text) if text.chars().all(|c| c < FIRST))
 }
 
 // The text of an argument, in UTF-8.
 fn text_of<A: Allocator>(alloc: A, word: &[u8]) -> Result<Vec<u8, A>, AllocError> {
     let mut text = Vec::new(alloc);
-    if stands_for_itself(word) {
+    if is_its_own_text(word) {
         text.extend_from_slice(word)?;
         return Ok(text);
     }
@@ -34,7 +34,7 @@ fn text_of<A: Allocator>(alloc: A, word: &[u8]) -> Result<Vec<u8, A>, AllocError
     Ok(text)
 }
 
-/// Returns the bytes of the argument that a text stands for.
+/// Returns the bytes of the argument with a text.
 ///
 /// # Errors
 ///

@@ -18,7 +18,7 @@ pub enum Problem {
 }
 
 impl Problem {
-    /// Whether nobody reads what a line was written to.
+    /// Returns whether a line was written to a pipe that its reader has closed.
     pub fn is_broken_pipe(&self) -> bool {
         matches!(self, Problem::Write(error) if error.kind() == ErrorKind::BrokenPipe)
     }

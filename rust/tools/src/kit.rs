@@ -1,5 +1,5 @@
-//! What the proved programs ask of their runtime and Rust's `std` lacks: the system as a value, and allocations that
-//! report a failure. `hex`, `itoa`, and `clap` have the functions of those names that the programs call.
+//! The parts of the kit's library that Rust's `std` lacks: the system as a value, and allocations that report a failure.
+//! `hex`, `itoa`, and `clap` have the functions of these crates that the programs call.
 
 pub mod alloc;
 pub mod clap;
@@ -85,7 +85,7 @@ impl HostRuntime {
     }
 }
 
-/// Standard output. Each write reaches the system, since nobody hears of the failure of a later one.
+/// Standard output. Each write reaches the system at once, so that its failure is reported.
 pub struct Stdout;
 
 impl Write for Stdout {
@@ -105,7 +105,7 @@ impl Write for Stdout {
 pub struct Stderr;
 
 impl Stderr {
-    /// Returns whether it is a terminal. `std` tells only from Rust 1.70 on, so this asks Linux.
+    /// Returns whether it is a terminal. `std` has this only from Rust 1.70 on, so the name of the device decides, on Linux.
     pub fn is_terminal(&self) -> bool {
         let is_one = |path: &Path| {
             ["/dev/pts", "/dev/tty", "/dev/console"]

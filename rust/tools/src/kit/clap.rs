@@ -1,4 +1,5 @@
-//! A parser of command lines with the interface and the texts of the crate `clap`, as far as rapidsum has use for it.
+//! A parser of command lines with the interface and the messages of the crate `clap`, for the features that rapidsum
+//! uses.
 
 mod matches;
 mod parse;
@@ -10,20 +11,20 @@ use std::io::{self, Write};
 
 pub use matches::ArgMatches;
 
-/// What a use of an argument does.
+/// The effect of an argument.
 #[derive(Clone, Copy, PartialEq, Eq)]
 pub enum ArgAction {
-    /// It keeps a value.
+    /// Stores a value.
     Set,
-    /// It sets a flag.
+    /// Sets a flag.
     SetTrue,
-    /// It prints the help.
+    /// Prints the help.
     Help,
-    /// It prints the version.
+    /// Prints the version.
     Version,
 }
 
-/// The values that an argument takes.
+/// The values that an argument accepts.
 #[derive(Clone, Copy)]
 pub enum ValueParser<'a> {
     /// Any text.
@@ -94,28 +95,28 @@ impl<'a> Arg<'a> {
         value_name: &'a str = |name| name;
         /// Sets the line of the help.
         help: &'a str = |help| help;
-        /// Sets what a use does.
+        /// Sets the effect.
         action: ArgAction = |action| action;
     }
 
-    /// Sets the values that it takes.
+    /// Sets the accepted values.
     pub fn value_parser(self, parser: impl Into<ValueParser<'a>>) -> Self {
         let parser = parser.into();
         Arg { parser, ..self }
     }
 
-    /// Sets the value without a use.
+    /// Sets the value of an argument that is not on the command line.
     pub fn default_value(self, value: &'a str) -> Self {
         let default = Some(value);
         Arg { default, ..self }
     }
 
-    /// Lets it take several values. Only an argument without a name does.
+    /// Accepts several values, as an argument without a name always does.
     pub fn num_args(self, _count: std::ops::RangeFrom<usize>) -> Self {
         self
     }
 
-    /// Lets the later of two arguments count.
+    /// Makes the later of two arguments override the earlier.
     pub fn overrides_with(mut self, id: &'a str) -> Result<Self, AllocError> {
         self.overrides.push(id);
         Ok(self)
@@ -203,7 +204,7 @@ impl Error {
         }
     }
 
-    /// Returns 2 for a mistake, and else 0.
+    /// Returns 2 for a mistake, otherwise 0.
     pub fn exit_code(&self) -> i32 {
         if self.is_mistake { 2 } else { 0 }
     }

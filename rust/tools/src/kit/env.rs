@@ -53,7 +53,7 @@ pub(super) fn bytes_of(word: OsString) -> std::vec::Vec<u8> {
     std::os::unix::ffi::OsStringExt::into_vec(word)
 }
 
-// Elsewhere names are Unicode, but for a few that no program can print.
+// Elsewhere names are Unicode, except a few that no program can print.
 #[cfg(not(unix))]
 pub(super) fn bytes_of(word: OsString) -> std::vec::Vec<u8> {
     word.to_string_lossy().into_owned().into_bytes()

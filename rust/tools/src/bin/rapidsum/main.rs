@@ -26,7 +26,7 @@ use problem::Problem;
 use std::process::ExitCode;
 use words::command;
 
-// The status that a shell gives to a program that the signal SIGPIPE ended.
+// The status that a shell reports for a program ended by the signal SIGPIPE.
 const BROKEN_PIPE: u8 = 141;
 
 // Does what the arguments ask for. Returns whether all files could be read and all checks passed.

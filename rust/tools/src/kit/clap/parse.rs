@@ -1,10 +1,10 @@
-//! The parse of the words.
+//! The parser.
 
 use super::matches::ArgMatches;
 use super::{Arg, ArgAction, Command, Error, ValueParser};
 use crate::kit::alloc::Global;
 
-// Some arguments and one more, without those that it replaces.
+// The arguments so far and one more, without those that it replaces.
 pub(super) fn beside<'m, 'a>(used: &[&'m Arg<'a>], arg: &'m Arg<'a>) -> Vec<&'m Arg<'a>> {
     let mut all: Vec<&Arg<'_>> = used
         .iter()
@@ -17,7 +17,7 @@ pub(super) fn beside<'m, 'a>(used: &[&'m Arg<'a>], arg: &'m Arg<'a>) -> Vec<&'m 
     all
 }
 
-// A parse: the command, what it has found, and the option whose value may be the next word.
+// The state: the command, the matches so far, and the option whose value may be the next word.
 struct Parse<'c, 'a> {
     command: &'c Command<'a>,
     matches: ArgMatches<'a>,
@@ -25,11 +25,11 @@ struct Parse<'c, 'a> {
 }
 
 impl<'a> Command<'a> {
-    /// Returns the matches of the words, of which the first is the program's name.
+    /// Parses the words, the program's name first.
     ///
     /// # Errors
     ///
-    /// If the words have a mistake, or ask for the help or the version.
+    /// If the words contain a mistake, or request the help or the version.
     pub fn try_get_matches_from(mut self, words: &'a [&'a str]) -> Result<ArgMatches<'a>, Error> {
         let program = words
             .first()
@@ -66,7 +66,7 @@ impl<'a> Command<'a> {
             .find(|other| arg.requires == Some(other.id))
     }
 
-    // Some arguments after those that they require, but for the ones left out.
+    // The arguments in use after a missing one that they require, unless it is in `out`.
     fn with_required<'m>(&'m self, used: &[&'m Arg<'a>], out: &[&Arg<'a>]) -> Vec<&'m Arg<'a>> {
         let has = |args: &[&Arg<'_>], arg: &Arg<'_>| args.iter().any(|other| other.id == arg.id);
         let required = used.iter().find_map(|arg| self.required_by(arg));
@@ -138,7 +138,7 @@ impl<'a> Parse<'_, 'a> {
         Ok(())
     }
 
-    // An option, with the value that its word has.
+    // An option, with the value in the same word.
     fn option(&mut self, arg: Arg<'a>, value: Option<&'a str>, title: &str) -> Result<(), Error> {
         if let (false, Some(value)) = (arg.takes_value(), value) {
             let found: Vec<&Arg<'_>> = self.matches.found.iter().map(|(arg, _)| arg).collect();

@@ -1,11 +1,11 @@
-//! The texts of errors, of the usage, and of the help.
+//! The messages of errors, the usage, and the help.
 
 use super::parse::beside;
 use super::{Arg, Command, Error, ValueParser};
 use std::fmt::Display;
 
 impl Arg<'_> {
-    // The argument as texts name it.
+    // The argument's name in messages.
     fn shown(&self) -> String {
         match self.long {
             Some(long) if self.takes_value() => format!("--{long} <{}>", self.value_name),
@@ -14,7 +14,7 @@ impl Arg<'_> {
         }
     }
 
-    // What the help has in front of the line of an argument.
+    // The first column of an argument's line in the help.
     fn heading(&self) -> String {
         match self.short {
             _ if self.is_positional() => self.shown(),
@@ -219,7 +219,7 @@ fn most_similar<'n, T>(word: &str, names: impl Iterator<Item = (T, &'n str)>) ->
     best.1
 }
 
-// The similarity of Jaro: the share of characters that are near each other in both words, less those in another order.
+// The similarity of Jaro: the share of characters that both words have near the same place, minus those in another order.
 fn jaro(first: &str, second: &str) -> f64 {
     let (first, second): (Vec<char>, Vec<char>) =
         (first.chars().collect(), second.chars().collect());

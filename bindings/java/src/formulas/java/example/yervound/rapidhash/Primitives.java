@@ -4,7 +4,7 @@ import java.nio.ByteBuffer;
 
 /**
  * Loads and a product that are random functions of a key. Two programs that then return the same hash of a random
- * message compute the same formula, but for a chance of about 2^-64. This class replaces the one of the package.
+ * message compute the same formula, except with probability 2^-64. This class replaces the package's.
  */
 final class Primitives {
     static long key;

@@ -84,7 +84,7 @@ public enum Rapidhash {
 
     abstract long of(Object data, int at, int n, long seed, Secrets s);
 
-    /** Returns the seed that a seed word stands for. */
+    /** Returns the seed of a seed word. */
     long seedOf(long word) {
         return Secrets.seedOf(word);
     }

@@ -92,7 +92,7 @@ public final class RapidhashStream implements Checksum {
         }
     }
 
-    /** Appends a piece for which there is no room. Keeps the last 1 to 16 * count bytes, and the 16 before them. */
+    /** Appends a piece that exceeds the room left. Keeps the last 1 to 16 * count bytes, and the 16 before them. */
     private void fold(Object data, int at, int n) {
         int room = kept.length - end;
         copy(data, at, end, room);

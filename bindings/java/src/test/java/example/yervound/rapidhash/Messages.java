@@ -46,7 +46,7 @@ final class Messages {
         return versions;
     }
 
-    /** Returns the version's secrets that a seed word stands for. */
+    /** Returns the version's secrets for a seed word. */
     static Secrets ofSeed(Rapidhash version, long seed) {
         return version == Rapidhash.V1 ? Secrets.ofSeedV1(seed) : Secrets.ofSeed(seed);
     }
