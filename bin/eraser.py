@@ -1,8 +1,8 @@
 """Removes the contracts from Rattle source, so that only Rust remains.
 
 It removes only ghost forms: `requires` and `ensures` clauses, ghost items, fields, and imports, `tactic` attributes,
-`impl Model` blocks, `Drop` as a derive or a bound, and modules of tests beside the code. It keeps every other token and every comment, but refuses
-source that it does not know."""
+`impl Model` blocks, `Drop` as a derive or a bound, and modules of tests beside the code. It keeps every other token and
+every comment, but refuses source that it does not know."""
 
 import re
 
