@@ -203,11 +203,11 @@ head -c 67108864 /dev/zero | tr '\0' 'x' >large
 says memory_refused memory in_kibibytes 32768 "$program" -c large
 try large_file in_kibibytes 32768 "$program" large
 
-# Only a terminal shows the progress of a large file.
-truncate -s 300000000 sparse
+# Only a terminal shows the progress of a large file, whose length exceeds 32 bits.
+truncate -s 4294967301 sparse
 script -qec "$program sparse" log </dev/null >/dev/null 2>&1
-grep -q '128 MiB.*256 MiB' log && grep -qP '\r\x1b\[Kc266dafd0143ba3a  sparse' log
+grep -q '128 MiB.*256 MiB' log && grep -qP '\r\x1b\[K7c0d86c7f881bfdc  sparse' log
 tell progress_on_a_terminal_is_erased $?
-answers no_progress_elsewhere 'c266dafd0143ba3a  sparse\n' '' "$program" sparse
+answers no_progress_elsewhere '7c0d86c7f881bfdc  sparse\n' '' "$program" sparse
 
 finish
