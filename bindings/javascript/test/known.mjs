@@ -43,9 +43,8 @@ function inPieces(hasher, message, grow) {
 }
 
 test("uneven pieces", () => {
-  const known = [[V3, 13105958653737073913n], [V3Micro, 5648300410578423183n],
-    [V3Nano, 4961128163384780230n]];
-  for (const [Stream, value] of known) {
+  for (const [Stream, whole] of [[V3, v3], [V3Micro, v3Micro], [V3Nano, v3Nano]]) {
+    const value = whole(data, { secrets: own });
     const hasher = new Stream({ secrets: own }).update(short).reset();
     assert.equal(inPieces(hasher, data, (size) => size + 1), value);
     assert.equal(hasher.digest(), value);
@@ -187,9 +186,8 @@ test("streams of the web", async () => {
       controller.close();
     },
   });
-  const known = [[V3, 13105958653737073913n], [V3Micro, 5648300410578423183n],
-    [V3Nano, 4961128163384780230n]];
-  for (const [Stream, value] of known) {
+  for (const [Stream, whole] of [[V3, v3], [V3Micro, v3Micro], [V3Nano, v3Nano]]) {
+    const value = whole(data, { secrets: own });
     const hasher = new Stream({ secrets: own });
     assert.equal((await hasher.updateFrom(parts())).digest(), value);
     // As in an engine in which streams have no iterator.
