@@ -37,7 +37,7 @@ static void compare(const std::string &name, std::uint64_t value, std::uint64_t 
 static const std::uint64_t hash_of_hello = 3327445792987248966U;
 static const rapidhash::secrets own = {1, {2, 3, 5, 7, 11, 13, 17}};
 
-/* Returns the bytes 0 to 119, whose hashes tests/c_library.c also has. */
+/* Returns the bytes 0 to 119. */
 static std::vector<unsigned char> counted()
 {
     std::vector<unsigned char> message(120);
