@@ -143,7 +143,7 @@ test_go() {
   try go_licences has_the_licences "$top/bindings/go"
   try go_layout in_go bash -c '[ -z "$(gofmt -l .)" ]'
   try go in_go env CGO_ENABLED=0 go test -count 1 .
-  try go_race in_go go test -count 1 -race .
+  try go_race in_go go test -count 1 -short -race .
   try go_fuzz in_go go test -run - -fuzz FuzzPieces -fuzztime 20000x .
   try go_386 in_go env GOARCH=386 go test -count 1 .
   try_with go_arm64 qemu-aarch64 in_go env GOARCH=arm64 go test -count 1 -exec qemu-aarch64 .
