@@ -59,10 +59,9 @@ try a_gate_with_a_bad_status gate_fails 'echo "3 passed, 0 failed"; exit 1' 20
 try a_gate_with_a_script_that_dies gate_fails 'kill $$' 20
 try a_gate_with_too_few_cases gate_fails 'echo "1 passed, 0 failed"' 99
 # shellcheck disable=SC2016
-try a_refused_edit edit_ends '1 passed, 0 failed' 'not proved: `goal`'
-# shellcheck disable=SC2016
-try an_edit_refused_elsewhere edit_ends '0 passed, 1 failed' 'not proved: `other`'
-try a_proved_edit edit_ends '0 passed, 1 failed' proved
+for said in '1 passed, 0 failed|not proved: `goal`' '0 passed, 1 failed|not proved: `other`' '0 passed, 1 failed|proved: `goal`'; do
+  try "an_edit_of_which_it_says_${said#*|}" edit_ends "${said%|*}" "${said#*|}"
+done
 
 printf '%s passed, %s failed\n' "$passed" "$failed"
 [ "$failed" -eq 0 ]
