@@ -242,13 +242,14 @@ install:
 uninstall:
 	@bin/install --remove
 
-dist: all $(folder) wheel
+dist: all $(folder) wheel jar
 	rm -rf build/$(name)
 	$(MAKE) -s install DESTDIR= PREFIX='$(CURDIR)/build/$(name)'
 	tar --exclude=__pycache__ --exclude=bindings/javascript --exclude=target --exclude=rust/tests -hcf - \
 	  bindings rust | tar -C build/$(name) -xf -
 	cp -r build/npm build/$(name)/bindings/javascript
 	install -D -m 644 -t build/$(name)/wheels $(wheels)/*.whl $(wheels)/*.tar.gz
+	install -m 644 $(jar) build/$(name)/bindings/java
 	install -m 644 LICENSE-MIT LICENSE-APACHE NOTICE docs/C.md docs/CPP.md docs/ALGORITHM.md build/$(name)
 	install -D -m 644 docs/images/lanes.svg build/$(name)/images/lanes.svg
 	install -m 644 share/dist.md build/$(name)/README.md

@@ -1,8 +1,8 @@
 """Removes the contracts from Rattle source, so that only Rust remains.
 
 It removes only ghost forms: `requires` and `ensures` clauses, ghost items, fields, and imports, `tactic` attributes,
-`impl Model` blocks, and `Drop` as a derive or a bound. It keeps every other token and every comment, but refuses
-source that it does not know."""
+`impl Model` blocks, `Drop` as a derive or a bound, and modules of tests beside the code. It keeps every other token and
+every comment, but refuses source that it does not know."""
 
 import re
 
@@ -18,6 +18,7 @@ FORMS = re.compile("|".join(rf"\s*{form}" for form in (
     r"#!?\[tactic\b[^]]*\]",
     rf"\bimpl\b[^{{;]*\bModel\b[^{{;]*{GROUP}",
     r"\buse\s+std::marker::Model;",
+    r"#\[cfg\(test\)\]\s*mod\s+tests;",
     r"(?:[+,]|(?<=\w):)\s*Drop\b",
 )))
 # The words that must not remain.

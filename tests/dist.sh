@@ -60,7 +60,23 @@ installs_a_wheel() {
     [ "$(environment/bin/python -c 'import rapidhash; print(rapidhash.v3(b"hello"))')" = 3327445792987248966 ]
 }
 
+# Checks that the archive has what it names in place of each target of make that a page of it runs.
+has_what_make_builds() {
+  local target path
+  cd "$room/unpacked" || return
+  grep -rhoE --include='*.md' '\bmake (-C "\$YERVOUND" )?(install|wheel|npm|jar|postgresql|library|sqlite|page)\b' . |
+    sed 's/.* //' | sort -u >"$room/targets"
+  [ "$(wc -l <"$room/targets")" -ge 5 ] || return
+  while read -r target; do
+    for path in $(grep "^| \`make $target\` | " README.md | cut -d '|' -f 3 | grep -oE '`[^`]+`' | tr -d '`'); do
+      [ -e "$path" ] && : >"$room/$target.found" || return
+    done
+    [ -e "$room/$target.found" ] || { echo "make $target"; return 1; }
+  done <"$room/targets"
+}
+
 try archive makes_the_archive
+try results_of_make has_what_make_builds
 try program prints_the_known_hash "$room/unpacked"
 try vectors agrees_with_the_vectors
 try wrong_vector tells_a_wrong_vector

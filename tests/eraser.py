@@ -31,6 +31,7 @@ ERASED = {
     "a tactic of a file": ("//! A.\n#![tactic(auto)]\nmod a;", "//! A.\nmod a;"),
     "an implementation of Model": ("impl<A> Model for B<A> { ghost view = { x }; } fn f() {}", " fn f() {}"),
     "the import of Model": ("use std::marker::Model;\nuse a;", "\nuse a;"),
+    "a module of tests": ("fn f() {}\n\n#[cfg(test)]\nmod tests;\n", "fn f() {}\n"),
     "Drop as a bound": ("fn f<R: Read + Drop>(r: R) {}", "fn f<R: Read>(r: R) {}"),
     "Drop as the only bound": ("impl<T: Drop> From<T> for P {}", "impl<T> From<T> for P {}"),
     "Drop in a derive": ("#[derive(Debug, Drop)] struct A;", "#[derive(Debug)] struct A;"),
@@ -67,6 +68,7 @@ FORMS = "|".join((
     r"# (?:! )?\[ tactic [^]]*\] ",
     rf"impl (?:< [^{{]*?> )?Model (?:< [^{{]*?> )?for [^{{]*{GROUP}",
     "use std : : marker : : Model ; ",
+    r"# \[ cfg \( test \) \] mod tests ; ",
     "[+,:] Drop ",
 ))
 # What only Rust has, as tokens, and what Rattle has in its place: lints, constant functions, and in files with these

@@ -215,6 +215,23 @@ says memory_refused memory in_kibibytes 32768 "$program" -c large
 try large_file in_kibibytes 32768 "$program" large
 try reads_in_pieces reads_in 1025 large "$program" large
 
+# A file above 4 GiB, read in pieces by all versions. The values are the Rust crate's.
+truncate -s 4294967301 sparse
+while read -r version hash; do
+  answers "large_file_by_$version" "$hash  sparse\n" '' in_kibibytes 32768 "$program" -a "$version" sparse
+done <<'VALUES'
+v1 46bf5aab7e2f6ab2
+v2.0 7e49682204c90431
+v2.1 7e49682204c90431
+v2.2 7e49682204c90431
+v3 7c0d86c7f881bfdc
+v3-micro 262c44b87d43134e
+v3-nano 6199e94d31d7c7aa
+VALUES
+while printf x >>sparse; do :; done &
+says file_that_grows 'sparse: the file grew while it was read' "$program" -a v1 sparse
+kill $!
+
 # Only a terminal shows the progress of a large file.
 truncate -s 300000000 sparse
 script -qec "$program sparse" log </dev/null >/dev/null 2>&1

@@ -65,7 +65,7 @@ pub trait Report {
 }
 
 // The verdict of a line, and the error of a file that could not be opened or read.
-fn judge<S: Store, A: Allocator, B: Allocator>(
+fn judge<S: Store, A: Allocator, B: Allocator + Copy>(
     alloc: B,
     store: &S,
     entry: &Entry<A>,

@@ -49,6 +49,18 @@ impl<'a> Store for Disk<'a> {
             shown: 0,
         })
     }
+
+    fn length(&self, reader: &OpenFile<'a>) -> Option<u64> {
+        let Input::File(file) = &reader.input else {
+            return None;
+        };
+        let metadata = file.metadata().ok()?;
+        if metadata.is_file() {
+            Some(metadata.len())
+        } else {
+            None
+        }
+    }
 }
 
 #[derive(Drop)]

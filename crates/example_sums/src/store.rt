@@ -19,14 +19,18 @@ pub trait Store {
     /// Opens the file of a name.
     fn open(&self, name: &[u8]) -> io::Result<Self::Reader>
         ensures { IfOk result (λ reader. Self.Reader.remaining reader ≡ told self.now name.now) };
+
+    /// Returns the number of bytes of an open file, if it is known before they are read.
+    fn length(&self, reader: &Self::Reader) -> Option<u64>;
 }
 
 /// Returns the hash of the file that has a name.
 ///
 /// # Errors
 ///
-/// If the file cannot be opened, a read fails, or an allocation for V1 or V2 fails.
-pub fn hash_named<S: Store, A: Allocator>(
+/// If the file cannot be opened, a read fails, or an allocation for V1 or V2 fails. V1 and V2 refuse
+/// a file that has more or fewer bytes than its length.
+pub fn hash_named<S: Store, A: Allocator + Copy>(
     alloc: A,
     store: &S,
     name: &[u8],
@@ -35,5 +39,7 @@ pub fn hash_named<S: Store, A: Allocator>(
     ensures { IfOk result (λ hash. IfSome (S.told store.now name.now) (λ bytes.
         hash ≡ hash_of algorithm bytes)) }
 {
-    algorithm.hash(alloc, store.open(name)?)
+    let reader = store.open(name)?;
+    let length = store.length(&reader);
+    algorithm.hash(alloc, reader, length)
 }

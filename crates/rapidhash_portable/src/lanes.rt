@@ -206,3 +206,6 @@ pub(crate) fn join_mixed<'x, const COMPACT: bool, const PROTECTED: bool>(
     let rest = fold_rows::<7, 3, 0, COMPACT, PROTECTED>(lanes, wide, secrets);
     (join::<7, 7>(lanes), rest)
 }
+
+#[cfg(test)]
+mod tests;

@@ -161,3 +161,6 @@ impl<'a> Parts<'a> {
         self.len = 0;
     }
 }
+
+#[cfg(test)]
+mod tests;

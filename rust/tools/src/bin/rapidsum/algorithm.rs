@@ -4,16 +4,20 @@
 
 use rapidhash_tool::kit::Vec;
 use rapidhash_tool::kit::kernel::{MIXED, PLAIN, UNROLLED};
-use rapidhash::v1::rapidhash_v1_seeded;
-use rapidhash::v2::rapidhash_v2_inline;
+use rapidhash::v1::{rapidhash_v1_file_seeded, rapidhash_v1_seeded};
+use rapidhash::v2::{rapidhash_v2_file_inline, rapidhash_v2_inline};
 use rapidhash::v3::rapidhash_v3_file_lanes;
 use rapidhash::{v1, v3};
 use rapidhash_tool::kit::alloc::Allocator;
 use std::io;
-use std::io::Read;
+use std::io::{Error, ErrorKind, Read};
 
 /// How many bytes are read from a file at once, into a buffer on the stack.
 const PIECE: usize = 65536;
+
+/// V1 and V2 read longer files of a known length in pieces. A file of the system may have fewer
+/// bytes than its length, but has no such length.
+const WHOLE: u64 = 65536;
 
 /// A version of the hash.
 #[derive(Clone, Copy)]
@@ -35,16 +39,23 @@ pub struct Algorithm {
 }
 
 impl Algorithm {
-    /// Returns the hash of all bytes of a reader. V1 and V2 keep them in memory.
-    pub fn hash<A: Allocator, R: Read>(self, alloc: A, reader: R) -> io::Result<u64> {
+    /// Returns the hash of all bytes of a reader. V1 and V2 keep at most 64 KiB of them in memory if
+    /// the length is known, and else all.
+    pub fn hash<A: Allocator + Copy, R: Read>(
+        self,
+        alloc: A,
+        reader: R,
+        length: Option<u64>,
+    ) -> io::Result<u64> {
+        let seed = self.seed;
         match self.version {
-            Version::V1 => Ok(hash_v1(self.seed, read_whole(alloc, reader)?.as_slice())),
-            Version::V2Minor0 => hash_v2::<0, A, R>(alloc, reader, self.seed),
-            Version::V2Minor1 => hash_v2::<1, A, R>(alloc, reader, self.seed),
-            Version::V2Minor2 => hash_v2::<2, A, R>(alloc, reader, self.seed),
-            Version::V3 => hash_v3::<7, R>(reader, self.seed),
-            Version::V3Micro => hash_v3::<5, R>(reader, self.seed),
-            Version::V3Nano => hash_v3::<3, R>(reader, self.seed),
+            Version::V1 => hash_v1(alloc, reader, length, seed),
+            Version::V2Minor0 => hash_v2::<0, A, R>(alloc, reader, length, seed),
+            Version::V2Minor1 => hash_v2::<1, A, R>(alloc, reader, length, seed),
+            Version::V2Minor2 => hash_v2::<2, A, R>(alloc, reader, length, seed),
+            Version::V3 => hash_v3::<7, R>(reader, seed),
+            Version::V3Micro => hash_v3::<5, R>(reader, seed),
+            Version::V3Nano => hash_v3::<3, R>(reader, seed),
         }
     }
 }
@@ -57,10 +68,40 @@ fn read_whole<A: Allocator, R: Read>(alloc: A, reader: R) -> io::Result<Vec<u8, 
     Ok(whole)
 }
 
-fn hash_v1(seed: Option<u64>, bytes: &[u8]) -> u64 {
+// Refuses a reader that has bytes left.
+fn expect_end<A: Allocator, R: Read>(alloc: A, reader: R) -> io::Result<()> {
+    if read_whole(alloc, reader.take(1))?.is_empty() {
+        return Ok(());
+    }
+    let message = "the file grew while it was read";
+    Err(Error::new(ErrorKind::InvalidData, message))
+}
+
+// The seed and secrets of V1.
+fn secrets_of_v1(seed: Option<u64>) -> v1::RapidSecrets {
     match seed {
-        None => rapidhash_v1_seeded(bytes, v1::RapidSecrets::default_ref()),
-        Some(word) => rapidhash_v1_seeded(bytes, &v1::RapidSecrets::seed_cpp(word)),
+        None => *v1::RapidSecrets::default_ref(),
+        Some(word) => v1::RapidSecrets::seed_cpp(word),
+    }
+}
+
+fn hash_v1<A: Allocator + Copy, R: Read>(
+    alloc: A,
+    reader: R,
+    length: Option<u64>,
+    seed: Option<u64>,
+) -> io::Result<u64> {
+    let (mut reader, secrets) = (reader, secrets_of_v1(seed));
+    match length {
+        Some(length) if length > WHOLE => {
+            let hash = rapidhash_v1_file_seeded(&mut reader, length, &secrets)?;
+            expect_end(alloc, reader)?;
+            Ok(hash)
+        }
+        _ => Ok(rapidhash_v1_seeded(
+            read_whole(alloc, reader)?.as_slice(),
+            &secrets,
+        )),
     }
 }
 
@@ -72,17 +113,27 @@ fn secrets_of(seed: Option<u64>) -> v3::RapidSecrets {
     }
 }
 
-fn hash_v2<const MINOR: u8, A: Allocator, R: Read>(
+fn hash_v2<const MINOR: u8, A: Allocator + Copy, R: Read>(
     alloc: A,
     reader: R,
+    length: Option<u64>,
     seed: Option<u64>,
 ) -> io::Result<u64> {
-    let bytes = read_whole(alloc, reader)?;
-    let secrets = secrets_of(seed);
-    Ok(rapidhash_v2_inline::<MINOR, MIXED, UNROLLED, PLAIN>(
-        bytes.as_slice(),
-        &secrets,
-    ))
+    let (mut reader, secrets) = (reader, secrets_of(seed));
+    match length {
+        Some(length) if length > WHOLE => {
+            let hash = rapidhash_v2_file_inline::<R, MINOR, PLAIN>(&mut reader, length, &secrets)?;
+            expect_end(alloc, reader)?;
+            Ok(hash)
+        }
+        _ => {
+            let bytes = read_whole(alloc, reader)?;
+            let bytes = bytes.as_slice();
+            Ok(rapidhash_v2_inline::<MINOR, MIXED, UNROLLED, PLAIN>(
+                bytes, &secrets,
+            ))
+        }
+    }
 }
 
 fn hash_v3<const LANES: usize, R: Read>(reader: R, seed: Option<u64>) -> io::Result<u64> {

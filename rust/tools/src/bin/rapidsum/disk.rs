@@ -44,6 +44,20 @@ impl<'a> Store for Disk<'a> {
             shown: 0,
         })
     }
+
+    fn length(&self, reader: &OpenFile<'a>) -> Option<u64> {
+        let file = if let Input::File(file) = &reader.input {
+            file
+        } else {
+            return None;
+        };
+        let metadata = file.metadata().ok()?;
+        if metadata.is_file() {
+            Some(metadata.len())
+        } else {
+            None
+        }
+    }
 }
 
 enum Input {
