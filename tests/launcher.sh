@@ -89,6 +89,31 @@ echo 'echo "no room on the device"; exit 1' >during
 calls failed_build_with_no_cause 2 '' 2 "$told"*'no room on the device'*'make: the build failed;'*
 echo >during
 calls call_after_a_failed_build 7 $'first\ninput' 3 "$told"
+echo 'echo "error: two"; exit 1' >during && echo second >repo/crates/rapidhash_portable/src/lib.rt
+calls failed_build_over_a_program 2 '' 4 "$told"$'\nerror: two'*
+echo >during
+MAKEFLAGS=nk calls call_from_a_make_that_builds_nothing 7 $'second\ninput' 5 "$told"
+
+# Prints a crate and those of the repository that it uses, directly or not: CRATE
+used_by() {
+  local used
+  echo "$1"
+  for used in $(sed -nE "s/^$1( staticlib)?: //p" "$top/crates.txt"); do [ ! -d "$top/crates/$used" ] || used_by "$used"; done
+}
+
+# Checks that an edit of any crate that a product is built from makes it out of date.
+each_edit_counts() {
+  local crate used product
+  for crate in rapidhash_c rapidhash_cli example_{sums,bloom,perfect,shards,dedupe}; do
+    product=crates/$crate/out/$crate && [ "$crate" != rapidhash_c ] || product=${product%/*}/librapidhash_c.a
+    for used in $(used_by "$crate"); do
+      mkdir -p "repo/crates/$used/src" "repo/${product%/*}" && touch -d 2020-01-01 "repo/crates/$used/src/lib.rt" &&
+        touch "repo/$product" && make -q -C repo "$product" && touch -d +1hour "repo/crates/$used/src/lib.rt" &&
+        ! make -q -C repo "$product" && touch -d 2020-01-01 "repo/crates/$used/src/lib.rt" || { echo "$used" && return 1; }
+    done
+  done
+}
+try edits_of_libraries each_edit_counts
 new_repository ''
 mkdir few && ln -s "$(command -v make)" "$(command -v sh)" /usr/bin/{dirname,readlink,find,mkdir,touch,cat,chmod} few
 PATH=$room/few repo/bin/rapidhash >out 2>"$room/log"
