@@ -5,9 +5,9 @@
 
 # What a developer's builds have left in the directories must not be packed.
 makes_the_archive() {
-  local left=("$top"/{rust/target,rust/tools/target,bindings/python/__pycache__}/left)
+  local left=("$top"/{rust/target,rust/tools/target}/left)
   for file in "${left[@]}"; do install -D /dev/null "$file"; done
-  make -s -C "$top" dist </dev/null && rm "${left[@]}" && tar -C "$room" -xzf "$top"/build/yervound-*.tar.gz &&
+  make -s -C "$top" dist </dev/null && rm -f "${left[@]}" && tar -C "$room" -xzf "$top"/build/yervound-*.tar.gz &&
     mv "$room"/yervound-* "$room/unpacked" && [ -z "$(find "$room/unpacked" -name left)" ] && has_the_licences "$room/unpacked"
 }
 

@@ -32,22 +32,6 @@ MEMORY = """cc -std=c99 -g -Wall -Wextra -Werror -fsanitize=address,undefined -f
     bindings/sqlite/*.c -lsqlite3 -o "$ROOM/test_memory"
 "$ROOM/test_memory" """
 
-# An extension's first call, by a SQLite that has no window functions.
-OLD = """
-#define SQLITE_CORE 1
-#include <sqlite3ext.h>
-#include <stdio.h>
-int sqlite3_rapidhash_init(sqlite3 *, char **, const sqlite3_api_routines *);
-static int number(void) { return 3024999; }
-static const char *text(void) { return "3.24.9"; }
-int main(void) {
-    static const sqlite3_api_routines api = {.libversion_number = number, .libversion = text, .mprintf = sqlite3_mprintf};
-    char *error = "none";
-    int status = sqlite3_rapidhash_init(NULL, &error, &api);
-    return puts(error) < 0 || status != SQLITE_ERROR;
-}
-"""
-
 
 def commands():
     """Runs the commands in an empty directory, that on the archive's page, and make without the toolchain."""
@@ -131,12 +115,6 @@ def errors(database):
         compare(f"refuses {query}", found, wanted)
 
 
-def old_sqlite():
-    (ROOM / "old.c").write_text(OLD)
-    build = "cc -Iinclude -x c bindings/sqlite/rapidhash.c $ROOM/old.c -lsqlite3 -o $ROOM/old && $ROOM/old"
-    compare("old_sqlite", shell(build), (0, "rapidhash needs SQLite 3.25 or later, and this is 3.24.9\n"))
-
-
 def aggregates(database):
     """Tests the aggregates on a hundred thousand rows, in an order different from the table's."""
     rows = [(place, place % 3, f"user:{place}") for place in range(100_000)]
@@ -195,7 +173,6 @@ types(opened("UTF-16le"), "types_in_utf_16le")
 types(opened("UTF-16be"), "types_in_utf_16be")
 aggregates(loaded)
 errors(loaded)
-old_sqlite()
 schema(loaded)
 page(loaded)
 compare("failing_memory", shell(MEMORY), (0, "every failed allocation ended in SQLITE_NOMEM\n"))
