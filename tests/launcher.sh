@@ -97,20 +97,17 @@ MAKEFLAGS=nk calls call_from_a_make_that_builds_nothing 7 $'second\ninput' 5 "$t
 # Prints a crate and those of the repository that it uses, directly or not: CRATE
 used_by() {
   local used
-  echo "$1"
   for used in $(sed -nE "s/^$1( staticlib)?: //p" "$top/crates.txt"); do [ ! -d "$top/crates/$used" ] || used_by "$used"; done
+  echo "$1"
 }
 
-# Checks that an edit of any crate that a product is built from makes it out of date.
+# Checks that make builds each product again after an edit of any crate that it uses.
 each_edit_counts() {
-  local crate used product
+  local crate
+  make -pq -C "$top" >rules 2>/dev/null
   for crate in rapidhash_c rapidhash_cli example_{sums,bloom,perfect,shards,dedupe}; do
-    product=crates/$crate/out/$crate && [ "$crate" != rapidhash_c ] || product=${product%/*}/librapidhash_c.a
-    for used in $(used_by "$crate"); do
-      mkdir -p "repo/crates/$used/src" "repo/${product%/*}" && touch -d 2020-01-01 "repo/crates/$used/src/lib.rt" &&
-        touch "repo/$product" && make -q -C repo "$product" && touch -d +1hour "repo/crates/$used/src/lib.rt" &&
-        ! make -q -C repo "$product" && touch -d 2020-01-01 "repo/crates/$used/src/lib.rt" || { echo "$used" && return 1; }
-    done
+    diff <(used_by "$crate" | sort -u) \
+      <(grep -oE "^crates/$crate/out/[^.]*(\.a)?: .*" rules | grep -oE '[ ]crates/[^/]*/src ' | cut -d / -f 2 | sort -u) || return 1
   done
 }
 try edits_of_libraries each_edit_counts
