@@ -2,8 +2,9 @@
 # Runs the tests of the Rust crate on other machines, also with a million random messages: under qemu, and in Node as
 # WebAssembly, which has no threads, and for which Rust ignores the tests that panic. Debian's cargo builds them with
 # rustc 1.63, the oldest compiler that the crate supports. The C header, compiled for each machine and for powerpc, which
-# is big-endian with 32 bits, must have the values of all vectors, with a 128-bit product and without. A machine that
-# lacks a program is skipped and counted. The last line counts the cases.
+# is big-endian with 32 bits, must have the values of all vectors, with a 128-bit product and without. Cargo builds the
+# programs too, except for WebAssembly. A machine that lacks a program is skipped and counted. The last line counts the
+# cases.
 #
 # The other Debian packages are unpacked in build/machines, or in the directory that RAPIDHASH_MACHINES names, which
 # later runs reuse. They are not installed.
@@ -142,6 +143,16 @@ machine() {
   [ "$target" != - ] && cd "$top/rust" || return 0
   try "${name}_tests" with_old /usr/bin/cargo test --release "${tests[@]}"
   MESSAGES=million try "${name}_messages" with_old /usr/bin/cargo test --release --test vectors random
+  [ "$name" = wasm32 ] || try "${name}_tools" has_the_tools
+}
+
+# Builds the programs for a machine, and hashes a file and checks a list with them.
+has_the_tools() {
+  local built=$CARGO_TARGET_DIR/$target/release
+  (cd "$top/rust/tools" && with_old /usr/bin/cargo build --release) && mkdir "$room/$name.at" && cd "$room/$name.at" &&
+    echo something >file && echo 'a1266b469390773a  file' >list &&
+    [ "$("${run[@]}" "$built/rapidhash" --v1 file)" = 15965596575264898037 ] &&
+    "${run[@]}" "$built/rapidsum" file | diff list - && "${run[@]}" "$built/rapidsum" --check list
 }
 
 # Compares the values of the C header on a machine, with the compiler in `cc` and the emulator in `run`: [OPTION]

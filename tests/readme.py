@@ -1,8 +1,8 @@
 #!/usr/bin/env python3
 """Runs the examples in README.md: each command of its shell blocks, and its two programs in a new repository with a
 copy of the library. An unknown command or block is a failure, so everything in README.md is tested. The program of
-docs/RATTLE.md also runs there. The values are those of the Rust crate. With the arguments --repository FOLDER, it only
-writes that repository, for tests/vendor.sh."""
+docs/RATTLE.md also runs there. The numbers in docs/PROVED.md are those that the checker prints. The values are those of
+the Rust crate. With the arguments --repository FOLDER, it only writes that repository, for tests/vendor.sh."""
 
 import os
 import re
@@ -83,6 +83,20 @@ def run_shell_blocks():
             tell(command, *[printed[-600:]] * (status != 0 or said is not None and printed.strip() != said[1]))
 
 
+def check_statements():
+    """Compares what docs/PROVED.md states of a single proof, of the axioms, and of the definition's size."""
+    page = (TOP / "docs/PROVED.md").read_text()
+    command, _, wanted = blocks("docs/PROVED.md", "sh")[0].strip().partition("  # ")
+    compare(command, shell(command)[1].strip(), wanted)
+    rows = re.findall(r"^\| `(\w+)`: [^|]* \| (none|\d+) \|$", page, re.M)
+    logs = {crate: (TOP / "build" / f"{crate}.log").read_text() for crate, _ in rows}
+    counts = [re.findall(r"^logic=proved functions=\d+ (?:axioms=(\d+) )?target=", log, re.M) for log in logs.values()]
+    compare("axioms", [(crate, count[-1] or "none") for crate, count in zip(logs, counts)], rows)
+    files = re.findall(r"`(\w+)`", re.search(r"The whole definition is in seven .*? lines: (.*?);", page, re.S)[1])
+    lines = [(TOP / "crates/rapidhash_portable/specs" / f"{name}.antt").read_text().count("\n") for name in files]
+    compare("the lines of the definition", f"{sum(lines)} lines", re.search(r"seven .*?(\d+ lines)", page, re.S)[1])
+
+
 def parted(text):
     """Returns the import lines, and the other lines with the indentation of a function."""
     lines = text.splitlines()
@@ -136,6 +150,7 @@ if sys.argv[1:2] == ["--repository"]:
     write_repository(Path(sys.argv[2]))
 else:
     run_shell_blocks()
+    check_statements()
     run_programs()
     run_tutorial()
 finish()

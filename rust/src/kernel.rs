@@ -1,8 +1,7 @@
 // Made by bin/rust_crate from crates/rapidhash_portable/src/kernel.rt: change that file.
 
 //! The hashes of a slice over the arguments of the definition: bytes, a seed and secrets.
-//! Each form is one function `hash`. It is public because the C library calls it, and the language
-//! has no visibility for just one other crate; `rapidhash` does not re-export it.
+//! Each form is one function `hash`. It is private.
 //!
 //! Each is one close of at most 16 bytes and one tail, inlined into the caller, and the rows out of
 //! line: larger bodies are not inlined in programs with the default profile of cargo.

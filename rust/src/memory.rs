@@ -1,8 +1,7 @@
 // Made by bin/rust_crate from crates/rapidhash_portable/src/memory.rt: change that file.
 
 //! The core of the in-memory hasher: one value of a byte list, a seed and secrets, over the same
-//! lanes and tails as the portable hashes. It is public because the crate `rapidhash` needs it, and
-//! the language has no visibility for just one other crate; `rapidhash` does not re-export it.
+//! lanes and tails as the portable hashes. It is private.
 
 use crate::lanes::{mixed_lanes, wide_lanes};
 use crate::tail::{close, fold_tail};

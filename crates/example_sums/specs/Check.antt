@@ -1,5 +1,8 @@
 -- What a check reports.
-use Rattle.std.specs.Prelude.{ℕ, ◌≡◌, ◌≢◌, ⊤, Bool, true, false, List, [], ◌∷◌, Option, None, Some, IfSome}
+use Rattle.std.specs.Prelude.{ℕ, ◌≡◌, ◌≢◌, ⊤, Bool, true, false, List, [], ◌∷◌, Option, None, Some, IfSome, Result, Ok, Err}
+use Rattle.std.specs.IoError.{error_kind}
+use Rattle.std.specs.declared.io.Error.{Error}
+use Rattle.std.specs.declared.io.ErrorKind.{ErrorKind}
 use Rattle.example_sums.specs.Algorithm.{hash_of}
 use Rattle.example_sums.specs.declared.algorithm.Algorithm.{Algorithm}
 use Rattle.example_sums.specs.declared.entry.Entry.{Entry}
@@ -10,6 +13,25 @@ use Rattle.example_sums.specs.declared.check.Verdict.TheVariants.{Different, Mis
 abbrev pub algorithm_of : Algorithm → Option Algorithm → Algorithm
 algorithm_of given None = given
 algorithm_of given (Some own) = own
+
+-- whether a verdict follows from what was found: a hash, or the error of a file that could not be opened or read
+abbrev pub Follows : Verdict → Bool → ℕ → Result ℕ Error → Type 0
+Follows Same ignore_missing hash (Ok found) = found ≡ hash
+Follows Same ignore_missing hash (Err error) = ⊥
+Follows Different ignore_missing hash (Ok found) = found ≢ hash
+Follows Different ignore_missing hash (Err error) = ⊥
+Follows Missing ignore_missing hash (Ok found) = ⊥
+Follows Missing ignore_missing hash (Err error) = (ignore_missing ≡ true) × (error_kind error ≡ ErrorKind.NotFound)
+Follows Unreadable ignore_missing hash (Ok found) = ⊥
+Follows Unreadable ignore_missing hash (Err error) = ignore_missing ≡ true → error_kind error ≢ ErrorKind.NotFound
+
+-- the error to show beside a verdict
+abbrev pub shown_error : Verdict → Result ℕ Error → Option Error
+shown_error Unreadable (Err error) = Some error
+shown_error Unreadable (Ok found) = None
+shown_error Same found = None
+shown_error Different found = None
+shown_error Missing found = None
 
 -- whether a verdict is right of a line that says a hash, where the bytes of its file are known: the same hash, or another one
 abbrev pub IsRight : Verdict → Bool → Algorithm → Option (List ℕ) → ℕ → Type 0

@@ -2,7 +2,7 @@
 
 ghost use Rattle.std.specs.Prelude.{◌≡◌, IfOk};
 ghost use Rattle.std.specs.List.{list_all};
-ghost use Rattle.example_sums.specs.Check.{EachIsRight, IsRightOf, passes};
+ghost use Rattle.example_sums.specs.Check.{EachIsRight, Follows, IsRightOf, passes, shown_error};
 
 use crate::algorithm::Algorithm;
 use crate::entry::Entry;
@@ -64,6 +64,25 @@ pub trait Report {
     ) -> Result<(), Problem>;
 }
 
+// The verdict of a line with this hash, from what was found, and the error to show.
+fn verdict_of(
+    found: io::Result<u64>,
+    hash: u64,
+    ignore_missing: bool,
+) -> (Verdict, Option<io::Error>)
+    ensures verdict { Follows result.0 ignore_missing hash found }
+    ensures error { result.1 ≡ shown_error result.0 found }
+{
+    match found {
+        Ok(found) if found == hash => (Verdict::Same, None),
+        Ok(_) => (Verdict::Different, None),
+        Err(error) if ignore_missing && error.kind() == ErrorKind::NotFound => {
+            (Verdict::Missing, None)
+        }
+        Err(error) => (Verdict::Unreadable, Some(error)),
+    }
+}
+
 // The verdict of a line, and the error of a file that could not be opened or read.
 fn judge<S: Store, A: Allocator, B: Allocator + Copy>(
     alloc: B,
@@ -78,14 +97,8 @@ fn judge<S: Store, A: Allocator, B: Allocator + Copy>(
         Some(own) => own,
         None => given,
     };
-    match hash_named(alloc, store, entry.name.as_slice(), algorithm) {
-        Ok(hash) if hash == entry.hash => (Verdict::Same, None),
-        Ok(_) => (Verdict::Different, None),
-        Err(error) if ignore_missing && error.kind() == ErrorKind::NotFound => {
-            (Verdict::Missing, None)
-        }
-        Err(error) => (Verdict::Unreadable, Some(error)),
-    }
+    let found = hash_named(alloc, store, entry.name.as_slice(), algorithm);
+    verdict_of(found, entry.hash, ignore_missing)
 }
 
 /// Hashes the file of each line and returns the verdicts. A line that names no version has that of

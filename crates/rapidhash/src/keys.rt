@@ -11,8 +11,8 @@ use std::hash::{Hash, Hasher};
 
 /// A key of bytes, which it passes to the hasher in one write.
 ///
-/// By std's contract a `&[u8]` or a `Vec<u8>` writes its length and then each byte in a call of its
-/// own, which costs a hash step. This key writes all its bytes at once. It holds anything
+/// By the contract of Rattle's std a `&[u8]` or a `Vec<u8>` writes its length and then each byte in
+/// a call of its own, which costs a hash step. This key writes all its bytes at once. It holds anything
 /// that lends bytes: `&[u8]`, `Vec<u8>`, `bytes::Bytes`, `[u8; N]` or `&str`. Two keys are equal if
 /// their bytes are.
 ///

@@ -1,5 +1,5 @@
-//! Secrets derived from a number, and the default secrets with a seed derived from one seed word,
-//! as in the C++ library.
+//! Secrets derived from a number, and the default secrets with a seed derived from one seed word.
+//! According to the Rust crate rapidhash, the C++ library derives it in the same way.
 
 ghost use Rattle.std.specs.Prelude.{◌≡◌, ◌∷◌, All};
 ghost use Rattle.rapidhash_portable.specs.Secrets.{IsGood, cpp_seeded, default_secrets, default_secrets_v1, seeded, seeded_secrets};

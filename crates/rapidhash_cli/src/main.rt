@@ -2,10 +2,13 @@
 //! on standard error, with status 1. All rules are in `rapidhash_tool`.
 #![tactic(auto)]
 
+ghost use Rattle.std.specs.Prelude.{◌≡◌, Err, IfErr, IfOk, Ok};
+ghost use Rattle.std.specs.Fs.{metadata_len};
+
 use rapidhash_tool::{CliFault, Plan, RapidhashVersion, plan, run_file, run_help, run_stdin};
 use std::env;
-use std::fs::File;
-use std::io::{ErrorKind, Write};
+use std::fs::{File, Metadata};
+use std::io::{Error, ErrorKind, Write};
 use std::process::ExitCode;
 
 // All arguments, the program's name first. If one is not UTF-8, `env::args` fails and returns none.
@@ -28,8 +31,17 @@ fn length(version: &RapidhashVersion, file: &File) -> Result<u64, CliFault> {
     if !version.needs_length() {
         return Ok(0);
     }
-    let metadata = file.metadata().map_err(|_| CliFault::File)?;
-    Ok(metadata.len())
+    length_of(file.metadata())
+}
+
+fn length_of(metadata: Result<Metadata, Error>) -> Result<u64, CliFault>
+    ensures known { IfOk metadata (λ found. result ≡ Ok (metadata_len found)) }
+    ensures unknown { IfErr metadata (λ _. result ≡ Err CliFault.File) }
+{
+    match metadata {
+        Ok(found) => Ok(found.len()),
+        Err(_) => Err(CliFault::File),
+    }
 }
 
 fn hash_named(rt: &HostRuntime, version: &RapidhashVersion, path: &str) -> Result<(), CliFault> {

@@ -71,7 +71,8 @@ impl RapidSecrets {
         }
     }
 
-    /// Returns the default secrets with a seed made from a number as the C++ library makes it.
+    /// Returns the default secrets with a seed derived from a number. According to the Rust crate
+    /// rapidhash, the C++ library derives it in the same way.
     /// Anyone who knows the default secrets can find messages with the same hash for every seed: if
     /// that matters, see [`RapidSecrets::seed`].
     pub const fn seed_cpp(seed: u64) -> Self

@@ -8,8 +8,8 @@ use rapidhash_tool::kit::HostRuntime;
 use rapidhash_tool::kit::Vec;
 use rapidhash_tool::{CliFault, Plan, RapidhashVersion, plan, run_file, run_help, run_stdin};
 use rapidhash_tool::kit::env;
-use std::fs::File;
-use std::io::{ErrorKind, Write};
+use std::fs::{File, Metadata};
+use std::io::{Error, ErrorKind, Write};
 use std::process::ExitCode;
 
 // All arguments, the program's name first. If one is not UTF-8, `env::args` fails and returns none.
@@ -34,8 +34,14 @@ fn length(version: &RapidhashVersion, file: &File) -> Result<u64, CliFault> {
     if !version.needs_length() {
         return Ok(0);
     }
-    let metadata = file.metadata().map_err(|_| CliFault::File)?;
-    Ok(metadata.len())
+    length_of(file.metadata())
+}
+
+fn length_of(metadata: Result<Metadata, Error>) -> Result<u64, CliFault> {
+    match metadata {
+        Ok(found) => Ok(found.len()),
+        Err(_) => Err(CliFault::File),
+    }
 }
 
 fn hash_named(rt: &HostRuntime, version: &RapidhashVersion, path: &str) -> Result<(), CliFault> {

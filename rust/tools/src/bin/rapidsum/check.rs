@@ -60,6 +60,22 @@ pub trait Report {
     ) -> Result<(), Problem>;
 }
 
+// The verdict of a line with this hash, from what was found, and the error to show.
+fn verdict_of(
+    found: io::Result<u64>,
+    hash: u64,
+    ignore_missing: bool,
+) -> (Verdict, Option<io::Error>) {
+    match found {
+        Ok(found) if found == hash => (Verdict::Same, None),
+        Ok(_) => (Verdict::Different, None),
+        Err(error) if ignore_missing && error.kind() == ErrorKind::NotFound => {
+            (Verdict::Missing, None)
+        }
+        Err(error) => (Verdict::Unreadable, Some(error)),
+    }
+}
+
 // The verdict of a line, and the error of a file that could not be opened or read.
 fn judge<S: Store, A: Allocator, B: Allocator + Copy>(
     alloc: B,
@@ -72,14 +88,8 @@ fn judge<S: Store, A: Allocator, B: Allocator + Copy>(
         Some(own) => own,
         None => given,
     };
-    match hash_named(alloc, store, entry.name.as_slice(), algorithm) {
-        Ok(hash) if hash == entry.hash => (Verdict::Same, None),
-        Ok(_) => (Verdict::Different, None),
-        Err(error) if ignore_missing && error.kind() == ErrorKind::NotFound => {
-            (Verdict::Missing, None)
-        }
-        Err(error) => (Verdict::Unreadable, Some(error)),
-    }
+    let found = hash_named(alloc, store, entry.name.as_slice(), algorithm);
+    verdict_of(found, entry.hash, ignore_missing)
 }
 
 /// Hashes the file of each line and returns the verdicts. A line that names no version has that of
