@@ -124,6 +124,30 @@ random_messages() {
   build_rust && beside_rust cc -O2 -DMESSAGES=10000000 -DRAPIDHASH_LINK && "$room/beside_rust"
 }
 
+# Prints the instructions of a hash of 16, 100, and 4,096 bytes: EXPRESSION SEED
+instructions() {
+  local length
+  printf '%s\n' '#include <stdlib.h>' '#include "rapidhash_c.h"' 'struct rapidhash_secrets secrets;' \
+    'uint64_t rust_hash(uint32_t, const void *, size_t, const struct rapidhash_secrets *);' \
+    "__attribute__((noinline)) uint64_t counted(const void *bytes, size_t length) { return $1; }" \
+    "int main(int count, char **words) { rapidhash_seed_secrets($2, &secrets); " \
+    'return counted(calloc(4096, 1), atoi(words[count - 1])) == 7; }' >"$room/counted.c" &&
+    cc -O2 -DRAPIDHASH_LINK "-I$top/include" "$room"/{counted.c,librust.a} "$archive" -lpthread -ldl -lm -o "$room/counted" &&
+    for length in 16 100 4096; do
+      valgrind --tool=callgrind --callgrind-out-file=/dev/null --toggle-collect=counted "$room/counted" "$length" 2>&1
+    done | sed -n 's/.*Collected : //p' | xargs
+}
+
+# Compares the instructions of the archive with stored counts. In Rust, the compact code of an odd seed has others.
+counts_instructions() {
+  local name form counts call
+  build_rust && while read -r name form counts; do
+    call="rust_hash($form, bytes, length, &secrets)"
+    diff <(instructions "rapidhash_$name(bytes, length)" 0) - <<<"$counts" &&
+      [ "$(instructions "$call" 0)" != "$([ "$form" = 5 ] || [ "$form" = 3 ] || instructions "$call" 1)" ] || return 1
+  done <<<$'v2_2 22 31 110 2090\nv3 7 35 121 2074\nv3_micro 5 35 112 1960\nv3_nano 3 35 102 2011\nv3_protected 70 40 141 3008'
+}
+
 # Compares the header's hashes of a million inputs from libFuzzer, or of as many as fit into RAPIDHASH_FUZZ_SECONDS.
 fuzz() {
   local runs=-runs=1000000
@@ -226,6 +250,7 @@ done
 try manual_and_header manual_has_the_header
 try example_of_the_manual manual_example_runs
 try_with random_messages rustc random_messages
+try_with instructions rustc counts_instructions
 try_with fuzz clang fuzz
 
 if command -v go >/dev/null; then test_go; else echo 'skipped go: no go'; fi

@@ -115,6 +115,11 @@ to_no_output() { "$@" >&-; }
 to_a_closed_pipe() { perl -e 'pipe R, W; close R; open STDOUT, ">&", W; exec @ARGV' "$@"; }
 in_kibibytes() (ulimit -v "$1" && exec "${@:2}")
 
+# Runs a command in which calls of the system with a file fail, as strace's option inject says: FAILURE FILE COMMAND..
+failing() { strace -qqo /dev/null -P "$PWD/$2" -e "inject=$1" "${@:3}"; }
+# Checks that a command reads a file in at most this many calls: CALLS FILE COMMAND..
+reads_in() { strace -qqo "$room/calls" -P "$PWD/$2" -e trace=read "${@:3}" && [ "$(wc -l <"$room/calls")" -le "$1" ]; }
+
 # Prints the counts and exits with status 1 if a case failed.
 finish() {
   printf '%s passed, %s failed\n' "$passed" "$failed"

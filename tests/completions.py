@@ -3,6 +3,7 @@
 completed line or the offers. A shell that is not installed has no cases."""
 
 import os
+import re
 import shutil
 
 import pexpect
@@ -74,6 +75,11 @@ def ask_fish():
         compare(f"fish: {name}", [row.partition("\t")[0] for row in printed.splitlines()], wanted)
 
 
+# Each lists the versions that the program knows.
+[names] = re.findall(r"NAMES: .*= \[(.*)\]", (TOP / "crates/example_sums/src/words.rt").read_text())
+for file in sorted(SHARE.glob("rapidsum.*")):
+    found = re.findall(r"\bv\d[\w.-]*\b", file.read_text().replace("\\-", "-"))
+    compare(f"versions of {file.name}", set(found), set(re.findall('"(.*?)"', names)))
 for made in ("only", "-dash"):
     (ROOM / made).touch()
 (ROOM / "functions").mkdir()

@@ -3,9 +3,12 @@
 # The last line counts the cases.
 . "$(dirname "$0")/cases.sh"
 
+# What a developer's builds have left in the directories must not be packed.
 makes_the_archive() {
-  make -s -C "$top" dist </dev/null && tar -C "$room" -xzf "$top"/build/yervound-*.tar.gz &&
-    mv "$room"/yervound-* "$room/unpacked" && has_the_licences "$room/unpacked"
+  local left=("$top"/{rust/target,rust/tools/target}/left)
+  for file in "${left[@]}"; do install -D /dev/null "$file"; done
+  make -s -C "$top" dist </dev/null && rm -f "${left[@]}" && tar -C "$room" -xzf "$top"/build/yervound-*.tar.gz &&
+    mv "$room"/yervound-* "$room/unpacked" && [ -z "$(find "$room/unpacked" -name left)" ] && has_the_licences "$room/unpacked"
 }
 
 # Compiles the check of the library and runs it with a vector file: FILE

@@ -11,6 +11,7 @@ fault two_versions "$versions_fault" --v1 --v3
 fault two_versions_and_a_file "$versions_fault" missing --v3-micro --v3-nano
 fault missing_file "$open_fault" missing
 fault empty_name "$open_fault" ''
+fault name_of_300_bytes "$open_fault" "$(printf %300s)"
 fault name_of_other_bytes "$open_fault" $'\xff'
 
 # Failures of reads and memory: a directory cannot be read, and the limit is below the input's length.
@@ -21,6 +22,15 @@ fault folder "$file_fault" "$top"
 if [ "$(stat -c %s /sys/kernel/uevent_seqnum 2>/dev/null)" = 4096 ]; then
   fault file_of_sys "$file_fault" --v1 /sys/kernel/uevent_seqnum
 fi
+for version in --v1 --v2.2 --v3; do
+  runs "later_read$version" 1 '' "$file_fault" failing read:error=EIO:when=2 ten_million "$program" "$version" ten_million
+  runs "later_read_of_input$version" 1 '' "$stdin_fault" failing read:error=EIO:when=2 ten_million "$program" "$version" \
+    <ten_million
+  try "reads$version" reads_in 154 ten_million "$program" "$version" ten_million
+  try "reads_of_input$version" reads_in 154 ten_million "$program" "$version" <ten_million
+  [ "$version" = --v3 ] ||
+    runs "no_metadata$version" 1 '' "$file_fault" failing statx,fstat:error=EIO ten_million "$program" "$version" ten_million
+done
 by_the_kit fault closed_input "$stdin_fault" --v1 <&-
 runs v1_in_little_memory 1 '' "$memory_fault" in_kibibytes 8000 "$program" --v1 <ten_million
 runs v2_in_little_memory 1 '' "$memory_fault" in_kibibytes 8000 "$program" --v2.2 <ten_million
@@ -37,6 +47,7 @@ runs full_output 1 '' "$write_fault" to_a_full_disk "$tool" --v1 <something
 runs full_output_of_a_file 1 '' "$write_fault" to_a_full_disk "$tool" large
 by_the_kit runs closed_output 1 '' "$write_fault" to_no_output "$tool" --v1 <something
 runs reader_gone 1 '' "$write_fault" to_a_closed_pipe "$tool" --v1 <something
+runs rest_of_a_short_write 0 "${known_by_v3:5}"$'\n' '' failing write:retval=5:when=1 out "$program" something
 # If standard error also refuses the text, the exit status still reports the failure.
 # shellcheck disable=SC2317
 to_a_full_error() { "$@" 2>/dev/full; }

@@ -130,6 +130,11 @@ def sources():
         yield f"{crate}/{name}", rust_crate.read(crate, name, target), rust if is_made else head, begins
 
 
+def numbers(text):
+    """Returns the long numbers in a text, which a row or a pattern of bin/rust_crate could mistype."""
+    return set(re.findall(r"\b\d\w{3,}", text))
+
+
 def erased(text):
     try:
         return erase(text)
@@ -159,5 +164,6 @@ for name, text in REFUSED.items():
 for name, wanted, found in assertions():
     compare(f"{name}.rs has the assertions of its source", found, wanted)
 for name, rattle, rust, left_out in sources():
-    tell(f"{name}.rs is {name}.rt without its contracts", *difference(rattle, rust, left_out))
+    strange = numbers(rust) - numbers((TOP / "crates" / f"{name.replace('/', '/src/', 1)}.rt").read_text())
+    tell(f"{name}.rs is {name}.rt without its contracts", *difference(rattle, rust, left_out), *sorted(strange))
 finish()

@@ -40,17 +40,6 @@ for rate in 1 4294967296 many ''; do
   # shellcheck disable=SC2086
   fault "a_rate_of_${rate:-nothing}" 2 '--one-in requires a number from 2 to 4294967295' "$program" --one-in $rate
 done
-# Standard input is the master of a terminal. It has a line and then fails, because the other end is closed.
-printf 'maybe pear\n' >wanted
-python3 -c '
-import os, pty, subprocess, sys, tty
-master, slave = pty.openpty()
-tty.setraw(slave)
-os.write(slave, b"pear\n")
-os.close(slave)
-sys.exit(subprocess.run(sys.argv[1:], stdin=master).returncode)' "$program" fruit >out 2>"$room/log"
-[ $? -eq 1 ] && cmp out wanted && grep -q 'could not read standard input: Input/output error (os error 5)$' "$room/log"
-tell a_read_fails_later $?
 fault unknown_option 2 "unknown option '--rate'" "$program" --rate 5 fruit
 refuses_lists
 

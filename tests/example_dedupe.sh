@@ -72,6 +72,14 @@ touch odd/$'bad\xff'
   [ "$(cat "$room/log")" = 'example_dedupe: odd: contains a file name that is not valid UTF-8' ]
 tell a_name_below_that_is_not_utf_8 $?
 rm odd/$'bad\xff'
+# The first and the last read of a file that is hashed, and of two that are compared.
+for read in 'other 1' 'other 6' 'copy 7' 'copy 10'; do
+  failing "read:error=EIO:when=${read#* }" "odd/${read% *}" "$program" odd >out 2>"$room/log"
+  [ $? -eq 1 ] && grep -qxE 'example_dedupe: odd/(other|copy|zeros): Input/output error \(os error 5\)' "$room/log" &&
+    if [[ $read = copy* ]]; then [ ! -s out ]; else cmp out wanted; fi
+  tell "failed_read_of_$read" $?
+done
+try reads_of_a_file reads_in 10 odd/copy "$program" odd
 mkdir odd/locked && cp odd/zeros odd/equal && chmod 000 odd/equal odd/other odd/locked
 "${as_user[@]}" "$program" odd >out 2>"$room/log"
 [ $? -eq 1 ] && cmp -s out wanted && cmp -s "$room/log" <(

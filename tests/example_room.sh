@@ -35,6 +35,12 @@ fault() {
 fails_to_read() {
   fault folder_as_input 1 'could not read standard input: Is a directory (os error 21)' "$@" </
   fault no_input 1 'could not read standard input: Bad file descriptor (os error 9)' "$@" <&-
+  # A later read fails. The lines before it are answered.
+  printf 'pear\n\nplum' >asked && "$@" <asked | head -n 2 >wanted
+  failing read:error=EIO:when=2 asked "$@" <asked >out 2>"$room/log"
+  [ $? -eq 1 ] && [ "$(cat "$room/log")" = "$name: could not read standard input: Input/output error (os error 5)" ] &&
+    cmp out wanted
+  tell a_read_fails_later $?
 }
 fails_to_write() {
   fault full_disk 1 'could not write standard output: No space left on device (os error 28)' to_a_full_disk "$@"
@@ -48,6 +54,10 @@ refuses_lists() {
   fault name_that_is_not_utf_8 1 'could not read the arguments as UTF-8: invalid data' "$program" $'\377'
   fault missing_list 1 'could not read missing: No such file or directory (os error 2)' "$program" missing
   fault list_that_is_a_folder 1 "could not read $room: Is a directory (os error 21)" "$program" "$room"
+  fault list_of_which_a_read_fails 1 'could not read odd: Input/output error (os error 5)' \
+    failing read:error=EIO:when=2 odd "$program" odd
+  try reads_of_a_list reads_in 20 odd "$program" odd
+  try reads_of_the_input reads_in 20 odd "$program" fruit <odd
   fails_to_read "$program" fruit
   fails_to_write "$program" odd <odd
   head -c 100000000 /dev/zero >large

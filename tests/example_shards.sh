@@ -39,6 +39,7 @@ fault a_node_that_is_not_there 2 "--without: no such node 'green'" "$program" re
 fault no_node_after_without 2 '--without requires a node name' "$program" red --without
 fault the_only_node_goes 2 'missing NODE argument' "$program" red --without red
 fault name_that_is_not_utf_8 2 'an argument is not UTF-8' "$program" $'\xff'
+try reads_of_the_input reads_in 8 lines "$program" red <lines
 fails_to_read "$program" red
 fails_to_write "$program" red <lines
 fault full_disk_at_the_counts 1 'could not write standard output: No space left on device (os error 28)' \

@@ -44,9 +44,15 @@ case_sums() { "$sum" first 'second name' $'line\nback\\return\r'; }
 case_sums_of_standard_input() { "$sum" <first && "$sum" - first <first; }
 case_missing_file() { "$sum" first nothing 'second name'; }
 case_folder() { mkdir folder && "$sum" folder first; }
+case_folder_as_input() { "$sum" - first <.; }
+case_name_of_300_bytes() { "$sum" "$(printf %300s)" first; }
+case_read_fails_later() { failing read:error=EIO:when=2 first "$sum" first 'second name'; }
+case_read_of_input_fails_later() { failing read:error=EIO:when=2 first "$sum" - 'second name' <first; }
 case_words_behind_two_hyphens() { cp first -- -first && "$sum" -- -first; }
 case_full_disk() { "$sum" first >/dev/full; }
 case_full_disk_without_newlines() { "$sum" -z first >/dev/full; }
+case_full_disk_after_a_missing_file() { "$sum" nothing first >/dev/full; }
+case_no_output() { "$sum" first >&-; }
 case_binary() { "$sum" -b first 'second name' $'line\nback\\return\r'; }
 case_last_of_binary_and_text() { "$sum" -t -b first && "$sum" -b -t first; }
 case_tag() { "$sum" --tag first 'second name' $'line\nback\\return\r'; }
@@ -73,6 +79,8 @@ case_check_by_status_where_all_are_missing() {
   list && mv list .list && rm -- * && "$sum" -c --status --ignore-missing .list
 }
 case_check_of_a_folder() { list && rm first && mkdir first && "$sum" -c list; }
+case_check_of_a_folder_without_missing_files() { list && rm first && mkdir first && "$sum" -c --ignore-missing list; }
+case_check_where_a_read_fails_later() { list && failing read:error=EIO:when=2 first "$sum" -c --ignore-missing list; }
 case_check_of_no_list() { "$sum" -c nothing; }
 case_check_of_an_empty_list() { "$sum" -c /dev/null; }
 case_check_of_malformed_lines() { list && printf 'garbage\n0123\n' >>list && "$sum" -c list; }
@@ -192,6 +200,9 @@ for words in '--tag -c' '--tag --text' '--zero -c' '--binary -c' '--text -c' '-a
   # shellcheck disable=SC2086
   says "refuses ${words// /_}" "for more information, try '--help'" "$program" $words first
 done
+says list_that_is_a_folder '.: Is a directory' "$program" -c .
+says list_of_which_a_read_fails 'list: Input/output error' failing read:error=EIO:when=2 list "$program" -c list
+runs rest_of_a_short_write 0 $'b469390773a  first\n' '' failing write:retval=5:when=1 out "$program" first
 says option_without_check --check "$program" --quiet first
 says unknown_option unknown "$program" --unknown
 
@@ -199,6 +210,7 @@ says unknown_option unknown "$program" --unknown
 head -c 67108864 /dev/zero | tr '\0' 'x' >large
 says memory_refused memory in_kibibytes 32768 "$program" -c large
 try large_file in_kibibytes 32768 "$program" large
+try reads_in_pieces reads_in 1025 large "$program" large
 
 # A file above 4 GiB, read in pieces by all versions. The values are the Rust crate's.
 truncate -s 4294967301 sparse

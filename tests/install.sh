@@ -169,6 +169,13 @@ serves_without_the_kit() {
     prefix=$place prints_and_checks_a_sum && [ "$(echo something | "$sources/bin/rapidhash" --v1)" = 15965596575264898037 ]
 }
 
+# Checks that a second installation replaces each file, so that a running program keeps the one that it has mapped.
+replaces_files() {
+  cp -rl "$prefix" "$room/kept" && find "$room/kept" -type f -exec sed -i '$a old' {} + &&
+    rm -rf "$prefix" && cp -rl "$room/kept" "$prefix" && installs PREFIX="$prefix" &&
+    [ -z "$(find "$room/kept" -type f -print0 | xargs -0 grep -axL old)" ] && ! grep -raxl old "$prefix"
+}
+
 # Checks that the script itself refuses the characters that the pkg-config file cannot contain. make would expand some.
 refuses_characters() {
   local character said
@@ -198,6 +205,7 @@ try moved_folder serves_a_moved_folder
 try_with cmake cmake links_both_by_cmake
 try licences has_the_licences "$prefix/share/doc/rapidhash"
 try modes has_the_modes
+try files_in_use replaces_files
 try manual is_a_clean_manual rapidhash.1
 try manual_of_sums is_a_clean_manual rapidsum.1
 try manual_of_the_library is_a_clean_manual rapidhash_c.3

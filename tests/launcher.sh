@@ -89,6 +89,28 @@ echo 'echo "no room on the device"; exit 1' >during
 calls failed_build_with_no_cause 2 '' 2 "$told"*'no room on the device'*'make: the build failed;'*
 echo >during
 calls call_after_a_failed_build 7 $'first\ninput' 3 "$told"
+echo 'echo "error: two"; exit 1' >during && echo second >repo/crates/rapidhash_portable/src/lib.rt
+calls failed_build_over_a_program 2 '' 4 "$told"$'\nerror: two'*
+echo >during
+MAKEFLAGS=nk calls call_from_a_make_that_builds_nothing 7 $'second\ninput' 5 "$told"
+
+# Prints a crate and those of the repository that it uses, directly or not: CRATE
+used_by() {
+  local used
+  for used in $(sed -nE "s/^$1( staticlib)?: //p" "$top/crates.txt"); do [ ! -d "$top/crates/$used" ] || used_by "$used"; done
+  echo "$1"
+}
+
+# Checks that make builds each product again after an edit of any crate that it uses.
+each_edit_counts() {
+  local crate
+  make -pq -C "$top" >rules 2>/dev/null
+  for crate in rapidhash_c rapidhash_cli example_{sums,bloom,perfect,shards,dedupe}; do
+    diff <(used_by "$crate" | sort -u) \
+      <(grep -oE "^crates/$crate/out/[^.]*(\.a)?: .*" rules | grep -oE '[ ]crates/[^/]*/src ' | cut -d / -f 2 | sort -u) || return 1
+  done
+}
+try edits_of_libraries each_edit_counts
 new_repository ''
 mkdir few && ln -s "$(command -v make)" "$(command -v sh)" /usr/bin/{dirname,readlink,find,mkdir,touch,cat,chmod} few
 PATH=$room/few repo/bin/rapidhash >out 2>"$room/log"

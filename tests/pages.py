@@ -4,12 +4,14 @@ those of the files. Pages and lines must keep their limits, and texts generated 
 
 import contextlib
 import io
+import os
 import re
 import runpy
 import sys
+import textwrap
 from xml.etree import ElementTree
 
-from cases import TOP, blocks, finish, shell, tell
+from cases import ROOM, TOP, blocks, finish, shell, tell
 
 MADE = TOP / "docs" / "api"
 PAGES = sorted([*TOP.glob("*.md"), *TOP.glob("docs/*.md"), *MADE.glob("*.md"), *TOP.glob("*/NOTES.md"),
@@ -98,6 +100,17 @@ def made_by(script):
     return said.splitlines() or [f"{script} ended with status {status}"] if status else []
 
 
+def preconditions():
+    """Checks that the pages of the calls have each precondition of the items that they show."""
+    shown = "".join(page.read_text() for page in MADE.glob("*.md"))
+    for file in TOP.glob("crates/rapidhash*/src/**/*.rt"):
+        for item in re.findall(r"^( *pub (?:const )?fn .*?\n)( *requires.*?)^ *(?:ensures|\{)", file.read_text(), re.M | re.S):
+            head = f"```rust\n{textwrap.dedent(item[0])}```\n\n"
+            told = re.findall("`([^`]*)`", shown.partition(head)[2].partition("\n")[0])
+            if head in shown and len(told) != item[1].count("requires") or not all(need in item[1] for need in told):
+                yield f"{file.name}: the page has {told} for {head}"
+
+
 def pictures():
     """Checks that each picture is well-formed, has a title, and has colours for dark pages."""
     for file in TOP.glob("docs/images/*.svg"):
@@ -109,21 +122,42 @@ def pictures():
             yield f"{file.name}: {error}"
 
 
-def ratios():
-    """Checks that the benches and the tables of figures have 1.50 if the crate takes 3 and ours takes 2."""
+def program(name, *lines):
+    """Writes a program that prints the next of these lines at each call, at last always the same, and returns its path."""
+    (ROOM / f"{name}.lines").write_text("".join(f"{line}\n" for line in lines))
+    (ROOM / name).write_text('#!/bin/sh\nhead -n 1 "$0.lines"\n[ $(wc -l <"$0.lines") = 1 ] || sed -i 1d "$0.lines"\n')
+    (ROOM / name).chmod(0o755)
+    return ROOM / name
+
+
+def benches():
+    """Checks that the benches and the tables of figures have 1.50 if the crate takes 3 and ours takes 2 in its fastest
+    turn, that they count disturbed measurements, and that they refuse programs with different values."""
     sys.path.insert(0, str(TOP / "bench"))
-    harness, made = (runpy.run_path(TOP / "bench" / name) for name in ("harness.py", "figures"))
-    times = {"ours": 2, "rust": 4, "crate": 3}
+    import harness
+    made, numbers = runpy.run_path(str(TOP / "bench" / "figures")), os.sched_getaffinity(0)
+    harness.ROOM, harness.TRIES, harness.run, harness.print_heading = ROOM, 1, print, lambda _: None
+    program("quiet", *[1] * (9 * len(numbers) + 1), 9)
+    times, programs = {"ours": 2, "rust": 4, "crate": 3}, {}
+    for row in ("v3 1", "v3 2"):
+        programs[row] = {name: [program(name + row, *(f"7 {least + more}" for more in (1, 0, 2)))] for name, least in times.items()}
+    programs["v3 1"]["ours"].append(program("slow", "7 9"))
+    loops = {("lto", name): program(name, f"v3\t1 sum\t{least}", f"v3\t1 sum\t{least + 1}") for name, least in times.items()}
     with contextlib.redirect_stdout(io.StringIO()) as printed:
-        harness["print_table"]("ms", {"v3 1": times, "v3 2": times})
-        harness["print_rows"]("T", {("lto", "v3"): {"1 sum": times, "1 store": times}}, "ours", ["crate"])
-    found = re.findall(r"crate/(\w+ [\d.]+)", printed.getvalue())
-    found += [made["cell"](times, "ours", "crate"), made["means"]({"v3 1": times}, r"\d", "ours")]
-    if found != ["ours 1.500", "rust 0.750", "ours 1.500", "2.00 (1.50)", {"v3": 1.5}]:
-        yield f"the ratios are {found}"
+        harness.measure("T", "ms", [*zip(programs)], lambda row: (row, harness.take(programs[row], [], 1)), 3)
+        harness.print_rows("T", harness.alternate(loops, [], 2), "ours", ["crate"])
+        with contextlib.suppress(SystemExit):
+            harness.take({"ours": [program("a", "7 1")], "crate": [program("b", "8 1")]}, [], 1)
+            print("different values are accepted")
+    os.sched_setaffinity(0, numbers)
+    found = re.findall(r"\bcrate/.*|^v3.*|^# \d of \d|^diff.*", printed.getvalue(), re.M)
+    found += [made["cell"](times, "ours", "crate"), made["means"]({"v3 1": times}, r"\d", "ours")["v3"]]
+    if found != ["# 5 of 6", *(f"v3 {row}\tms\t2.00\t4.00\t3.00" for row in "12"), "crate/ours 1.500", "crate/rust 0.750",
+                 "v3 1, lto\tns\t2.00\t3.00", "crate/ours 1.500", "2.00 (1.50)", 1.5]:
+        yield f"the benches print {found}"
 
 
-for check in (links, paths, limits, names, vectors, statements, ratios, pictures):
+for check in (links, paths, limits, names, vectors, statements, preconditions, benches, pictures):
     tell(check.__name__, *check())
 for made, maker in (("calls", "bin/api"), ("version", "bin/version"), ("figures", "bench/figures")):
     tell(made, *made_by(maker))

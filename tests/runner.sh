@@ -1,7 +1,12 @@
 #!/usr/bin/env bash
-# Tests the counters of cases: tests/cases.sh, tests/cases.py, and .ci/run. Each must report every failure. The last line
-# counts the cases.
+# Tests the counters of cases: tests/cases.sh, tests/cases.py, tests/must_fail.py, and .ci/run. Each must report every
+# failure. The last line counts the cases.
 . "$(dirname "$0")/cases.sh"
+
+# Counts a case without the tested counters: NAME COMMAND..
+try() {
+  if "${@:2}" >/dev/null 2>&1; then echo "ok $1" && : $((passed += 1)); else echo "FAILED $1" && : $((failed += 1)); fi
+}
 
 # Runs a script over tests/cases.sh, which must end with this line and status: STATUS LAST-LINE SCRIPT
 ends() {
@@ -10,6 +15,17 @@ ends() {
     printf '%s\n' "$3" >"$room/tests/script" && "${4:-bash}" "$room/tests/script" >"$room/said" 2>&1
   status=$?
   [ "$status" = "$1" ] && [ "$(tail -n 1 "$room/said")" = "$2" ]
+}
+
+# Runs tests/must_fail.py over an edit, which must end with this line if the checker says this of it: LAST-LINE SAID
+edit_ends() {
+  local copy=$room/edits
+  rm -rf "$copy" && mkdir -p "$copy"/{crates/one/{must-fail,src},tests,bin} && touch "$copy"/{crates.txt,HANDLES} &&
+    cp "$top"/tests/{cases,must_fail}.py "$copy/tests" && echo 'fn f() { 1 }' >"$copy/crates/one/src/lib.rt" &&
+    printf '%s\n' 'refused: f, goal' 'file: src/lib.rt' 'old: { 1 }' 'new: { 2 }' >"$copy/crates/one/must-fail/a.edit" &&
+    printf '#!/bin/sh\ngrep -q "{ 2 }" src/lib.rt && echo "fn one::f: $SAID"\n' >"$copy/bin/rt" && chmod +x "$copy/bin/rt" &&
+    SAID=$2 PATH="$copy/bin:$PATH" python3 "$copy/tests/must_fail.py" >"$room/said"
+  [ $? -eq "${1:10:1}" ] && [ "$(tail -n 1 "$room/said")" = "$1" ]
 }
 
 # Builds a repository whose gate runs this script instead of tests/pages.py, and others that pass: SCRIPT CASES
@@ -42,5 +58,10 @@ try a_gate_with_a_failure gate_fails 'echo "3 passed, 1 failed"' 20
 try a_gate_with_a_bad_status gate_fails 'echo "3 passed, 0 failed"; exit 1' 20
 try a_gate_with_a_script_that_dies gate_fails 'kill $$' 20
 try a_gate_with_too_few_cases gate_fails 'echo "1 passed, 0 failed"' 99
+# shellcheck disable=SC2016
+for said in '1 passed, 0 failed|not proved: `goal`' '0 passed, 1 failed|not proved: `other`' '0 passed, 1 failed|proved: `goal`'; do
+  try "an_edit_of_which_it_says_${said#*|}" edit_ends "${said%|*}" "${said#*|}"
+done
 
-finish
+printf '%s passed, %s failed\n' "$passed" "$failed"
+[ "$failed" -eq 0 ]

@@ -53,6 +53,8 @@ vendored() {
 }
 
 says_that_it_has_changes() {
+  touch "$library/crates/rapidhash/src/new.rt" && "$vendor" "$room/a folder" && vendored ', with changes' &&
+    rm "$library/crates/rapidhash/src/new.rt" || return 1
   echo '// changed' >>"$library/crates/rapidhash/src/lib.rt"
   "$vendor" "$room/a folder" && vendored ', with changes' && is_copy "$room/a folder"
 }

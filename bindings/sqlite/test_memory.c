@@ -1,12 +1,12 @@
 /* Makes each allocation of SQLite fail in turn, while the extension is loaded and while a query runs. The query's
- * status must then be SQLITE_NOMEM, or its result must be the same as with enough memory. tests/sqlite.py builds this
- * program with sanitizers. */
-#include <sqlite3.h>
+ * status must then be SQLITE_NOMEM, or its result must be the same as with enough memory. A SQLite without window
+ * functions must be refused. tests/sqlite.py builds this program with sanitizers. */
+#define SQLITE_CORE 1
+#include <sqlite3ext.h>
 #include <stdio.h>
 #include <stdlib.h>
 #include <string.h>
 
-struct sqlite3_api_routines;
 int sqlite3_rapidhash_init(sqlite3 *database, char **error, const struct sqlite3_api_routines *api);
 
 static const char *const queries[] = {
@@ -93,6 +93,31 @@ static int check(const char *query)
     return at > 10;
 }
 
+static int number_of_3_24(void)
+{
+    return 3024999;
+}
+
+static const char *name_of_3_24(void)
+{
+    return "3.24";
+}
+
+/* Loads the extension into a SQLite without window functions. Returns 0 if it is not refused by its name. */
+static int check_old(void)
+{
+    sqlite3_api_routines old = *routines;
+    char *error = NULL;
+    int status;
+    old.libversion_number = number_of_3_24;
+    old.libversion = name_of_3_24;
+    old.create_window_function = NULL;
+    status = sqlite3_rapidhash_init(NULL, &error, &old);
+    status = status == SQLITE_ERROR && strcmp(error, "rapidhash needs SQLite 3.25 or later, and this is 3.24") == 0;
+    sqlite3_free(error);
+    return status;
+}
+
 int main(void)
 {
     sqlite3_mem_methods failing;
@@ -107,6 +132,10 @@ int main(void)
     for (at = 0; at < sizeof queries / sizeof *queries; at++)
         if (!check(queries[at]))
             return 1;
+    if (!check_old()) {
+        puts("SQLite 3.24 is not refused");
+        return 1;
+    }
     puts("every failed allocation ended in SQLITE_NOMEM");
     return 0;
 }

@@ -65,8 +65,23 @@ fn maps_and_sets() {
     assert!(
         set.capacity() >= 10 && set.insert("value".to_owned()) && !set.insert("value".to_owned())
     );
+    // Both have the room of std's, and no more.
+    for capacity in [0, 1, 3, 4, 100, 1000, 100_000] {
+        let room = std::collections::HashMap::<u64, u64>::with_capacity(capacity).capacity();
+        let map: RapidHashMap<u64, u64> = RapidHashMap::with_capacity(capacity);
+        let set: RapidHashSet<u64> = RapidHashSet::with_capacity(capacity);
+        assert_eq!((map.capacity(), set.capacity()), (room, room));
+    }
     let empty: (RapidHashMap<u8, u8>, RapidHashSet<u8>) = (HashMapExt::new(), HashSetExt::new());
     assert_eq!((empty.0.capacity(), empty.1.capacity()), (0, 0));
+}
+
+#[test]
+fn a_generator_from_a_moment() {
+    let mut seed = 0xbdd8_9aa9_8270_4029;
+    let state = rapidrng_time(&mut seed, 1_700_000_000, 123_456_789);
+    let made = RapidRng::from_moment(1_700_000_000, 123_456_789);
+    assert_eq!(made, RapidRng::new(state));
 }
 
 #[test]

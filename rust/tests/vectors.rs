@@ -26,10 +26,13 @@ fn a_message_above_4_gib_has_its_whole_length() {
     assert_eq!(read, 8938949028826169308);
 }
 
-/// The environment variable `MESSAGES` is their number. The printed line must be the same on each
-/// machine: tests/machines.sh compares it.
+/// There are ten thousand messages, or a million if the environment variable `MESSAGES` is set. Both
+/// checksums are those of the crate rapidhash 4.5.1.
 #[test]
-fn random_messages_hash_alike_in_pieces() {
-    let count = env::var("MESSAGES").map_or(10_000, |count| count.parse().unwrap());
-    println!("{}", replay::messages::checksum(count).unwrap());
+fn random_messages_have_the_checksums_of_the_crate() {
+    let (count, wanted) = match env::var_os("MESSAGES") {
+        None => (10_000, 0x0566_8d6b_81ca_507d),
+        Some(_) => (1_000_000, 0xd6c1_e773_56fc_7486),
+    };
+    assert_eq!(replay::messages::checksum(count), Ok(wanted));
 }

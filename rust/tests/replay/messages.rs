@@ -135,14 +135,14 @@ fn one(draws: &mut Draws, message: &[u8]) -> Result<u64, String> {
     }
 }
 
-/// Returns the checksum of the hashes of `count` messages, in order, as a line of text.
-pub fn checksum(count: u64) -> Result<String, String> {
+/// Returns the checksum of the hashes of `count` messages, in order.
+pub fn checksum(count: u64) -> Result<u64, String> {
     let mut draws = Draws(0);
     let mut room = vec![0u8; ROOM];
     for bytes in room.chunks_exact_mut(8) {
         bytes.copy_from_slice(&draws.word().to_le_bytes());
     }
-    let (mut sum, mut bytes) = (0u64, 0u64);
+    let mut sum = 0u64;
     for _ in 0..count {
         let length = draws.length();
         let at = draws.below(ROOM - length - 8);
@@ -151,9 +151,6 @@ pub fn checksum(count: u64) -> Result<String, String> {
         room[changed..changed + 8].copy_from_slice(&draws.word().to_le_bytes());
         let hash = one(&mut draws, &room[at..at + length])?;
         sum = (sum.rotate_left(9) ^ hash).wrapping_mul(0x9e37_79b9_7f4a_7c15);
-        bytes += length as u64;
     }
-    Ok(format!(
-        "{count} messages of {bytes} bytes, checksum {sum:016x}"
-    ))
+    Ok(sum)
 }
