@@ -20,20 +20,18 @@ WITH_SEED_1 = 8806718467852582029
 SHARED = """
 import threading, rapidhash
 piece, hasher, alone = bytes(range(250)) * 20000, rapidhash.V3(), rapidhash.V3()
+known, found = {alone.update(piece).intdigest() for _ in range(200)}, []
 
 def write():
     for _ in range(50):
-        hasher.update(piece)
-        hasher.copy().intdigest()
+        found.extend((hasher.update(piece).intdigest(), hasher.copy().intdigest()))
 
 threads = [threading.Thread(target=write) for _ in range(4)]
 for thread in threads:
     thread.start()
 for thread in threads:
     thread.join()
-for _ in range(200):
-    alone.update(piece)
-print(hasher.intdigest() == alone.intdigest())
+print(hasher.intdigest() == alone.intdigest(), known.issuperset(found))
 """
 
 
@@ -59,6 +57,8 @@ class Package(unittest.TestCase):
         self.assertEqual(rapidhash.__version__, importlib.metadata.version("yervound-rapidhash"))
 
     def test_all_names_are_there(self):
+        shown = {name for name in vars(rapidhash) if name[0] != "_" and name not in ("array", "operator")}
+        self.assertEqual(set(rapidhash.__all__), shown | {"__version__"})
         for name in rapidhash.__all__:
             self.assertTrue(getattr(rapidhash, name).__doc__, name)
 
@@ -239,7 +239,7 @@ class Hashers(unittest.TestCase):
 
     def test_threads_share_a_hasher_of_long_pieces(self):
         """Runs in its own process, because a write that overlaps another can end the interpreter."""
-        self.assertEqual(run(SHARED), (0, "True\n"))
+        self.assertEqual(run(SHARED), (0, "True True\n"))
 
 
 if __name__ == "__main__":
