@@ -58,8 +58,8 @@ long='import cases; cases.compare("bad", [1] * 100 + [2], [1] * 100 + [3]); case
 try long_values_that_differ ends 1 '1 passed, 1 failed' "$long; cases.finish()" python3
 try stale_files env -C "$top" python3 -Bc 'import sys; sys.argv = ["", "--check"]; sys.path.insert(0, "bin")
 from made_files import TOP, run
-text = (TOP / "NOTICE").read_text()
-assert [run("", "", {name: it}) for name, it in zip(["NOTICE"] * 3 + ["none"], (text, text[:-9], "", text))] == [0, 1, 1, 1]'
+text = (TOP / "LICENSE-APACHE").read_text()
+assert [run("", "", {name: it}) for name, it in zip(["LICENSE-APACHE"] * 3 + ["none"], (text, text[:-9], "", text))] == [0, 1, 1, 1]'
 try a_gate_that_passes gate_with 'echo "1 passed, 0 failed"' 20
 try a_gate_with_a_failure gate_fails 'echo "3 passed, 1 failed"' 20
 try a_gate_with_a_bad_status gate_fails 'echo "3 passed, 0 failed"; exit 1' 20
