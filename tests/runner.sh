@@ -48,18 +48,18 @@ gate_fails() {
 }
 
 start='. "$(dirname "$0")/cases.sh"; cd "$room"; echo >a'
-try a_failing_case ends 1 '99 passed, 1 failed' "$start; for number in {1..99}; do try good true; done; try bad false; finish"
+try a_failing_case ends 1 '99 passed, 1 failed' "$start; for it in {1..99}; do try a true; done; try b false; finish"
 try a_skipped_case ends 0 '1 passed, 0 failed' "$start; try good true; try_with absent no_such_program true; finish"
 for bad in 'runs bad 0 "" "" echo more' 'runs bad 0 "" "" sh -c "exit 3"' 'runs bad 0 "" "" sh -c "echo more >&2"' \
   'prepare_by false' 'try bad failing read:error=EIO a wc -w a' 'try bad reads_in 1 a wc -w a'; do
   try "a_failure_of: $bad" ends 1 '0 passed, 1 failed' "$start; $bad; finish"
 done
-long='import cases; cases.compare("bad", [1] * 100 + [2], [1] * 100 + [3]); cases.compare("a", cases.shell("false; true")[0], 1)'
-try long_values_that_differ ends 1 '1 passed, 1 failed' "$long; cases.finish()" python3
+long='from cases import *; compare("bad", [1] * 100 + [2], [1] * 100 + [3]); compare("a", shell("false; true")[0], 1)'
+try long_values_that_differ ends 1 '1 passed, 1 failed' "$long; finish()" python3
 try stale_files env -C "$top" python3 -Bc 'import sys; sys.argv = ["", "--check"]; sys.path.insert(0, "bin")
 from made_files import TOP, run
-text = (TOP / "LICENSE-APACHE").read_text()
-assert [run("", "", {name: it}) for name, it in zip(["LICENSE-APACHE"] * 3 + ["none"], (text, text[:-9], "", text))] == [0, 1, 1, 1]'
+name, text = "LICENSE-APACHE", (TOP / "LICENSE-APACHE").read_text()
+assert [run("", "", {it: new}) for it, new in ((name, text), (name, text[:-9]), (name, ""), ("none", text))] == [0, 1, 1, 1]'
 try a_gate_that_passes gate_with 'echo "1 passed, 0 failed"' 20
 try a_gate_with_a_failure gate_fails 'echo "3 passed, 1 failed"' 20
 try a_gate_with_a_bad_status gate_fails 'echo "3 passed, 0 failed"; exit 1' 20
