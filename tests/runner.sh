@@ -20,7 +20,7 @@ ends() {
 # Runs tests/must_fail.py over an edit of which the checker says this, and compares its last line: LAST-LINE SAID
 edit_ends() {
   rm -rf "$room/edits" && mkdir -p "$room"/edits/{crates/one/{must-fail,src},tests,bin} && cd "$room/edits" &&
-    touch crates.txt HANDLES && cp "$top"/tests/{cases,must_fail}.py tests && echo 'fn f() { 1 }' >crates/one/src/lib.rt &&
+    touch crates.txt HANDLES && cp "$top"/tests/{cases,must_fail}.py tests && echo '{ 1 }' >crates/one/src/lib.rt &&
     printf '%s\n' 'refused: f, goal' 'file: src/lib.rt' 'old: { 1 }' 'new: { 2 }' >crates/one/must-fail/a.edit &&
     printf '#!/bin/sh\ngrep -q "{ 2 }" src/lib.rt && echo "fn one::f: $SAID"\n' >bin/rt && chmod +x bin/rt &&
     SAID=$2 PATH=$PWD/bin:$PATH python3 tests/must_fail.py >../said
