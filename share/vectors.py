@@ -4,10 +4,11 @@
     python3 share/vectors.py crates/test_replay/data >rapidhash_vectors.tsv
 
 The files in the directory describe a message with a rule, so that they stay small. This script applies the rules.
-It includes only the options that the C library has, and no message above 8193 bytes.
+It includes only the options that the C library has, and no message above 8193 bytes except the last.
 """
 
 import pathlib
+import struct
 import sys
 
 MASK = (1 << 64) - 1
@@ -17,13 +18,15 @@ WORD = 0x8BB84B93962EACC9
 HEAD = """\
 # Hashes of the Rust crate rapidhash 4.5.1. A line is a case, with tabs between its fields:
 # version  v1, v2_0, v2_1, v2_2, v3, v3_micro, v3_nano or v3_protected: the name of a call of the library
-# secrets  default, or make:K for the seed and secrets that make_secrets makes of the number K
-# message  the bytes in hexadecimal digits, or - for none
+# secrets  default; word:K for the seed word K; make:K for the seed and secrets that make_secrets makes of the number K;
+#          or own: with a seed and secrets as decimal numbers, separated by commas
+# message  the bytes in hexadecimal digits, - for none, or zeros:N for N bytes of 0
 # hash     the hash as a decimal number
 version\tsecrets\tmessage\thash"""
 
-FILES = {"v1_bug_off": "v1", "v2_0": "v2_0", "v2_1": "v2_1", "v2_2": "v2_2", "v3": "v3",
-         "micro": "v3_micro", "nano": "v3_nano"}
+FILES = "v1_bug_off", "v2_0", "v2_1", "v2_2", "v3", "micro", "nano", "seeds"
+# Its length exceeds 32 bits. A hash of a length without its upper bits would be that of five bytes.
+LONG = "v3", "default", "zeros:4294967301", "8938949028826169308"
 
 
 def square(length):
@@ -49,27 +52,31 @@ def message(rule, length):
     return words(int(number), length)
 
 
-def cases(path, version):
+def secrets_of(call, rule):
+    name, _, number = rule.partition(":")
+    if name == "words":
+        count = 4 if call == "v1" else 8
+        return "own:" + ",".join(map(str, struct.unpack(f"<{count}Q", words(int(number), 8 * count))))
+    return rule.replace("seed:", "make:").replace("cpp:", "word:")
+
+
+def cases(path):
     """Yields the lines of a file for which the C library has a call."""
     rows = [line.split("\t") for line in path.read_text().splitlines() if not line.startswith("#")]
-    for _form, avalanche, protected, _bug, _minor, rule, length, secrets, value in rows[1:]:
-        if avalanche != "1" or int(length) > 8193:
-            continue
-        if protected == "1":
-            if version != "v3":
-                continue
-            call = "v3_protected"
-        else:
-            call = version
-        yield call, secrets.replace("seed:", "make:"), message(rule, int(length)).hex() or "-", value
+    for form, avalanche, protected, _bug, minor, rule, length, secrets, value in rows[1:]:
+        if avalanche == "1" and int(length) <= 8193 and (protected == "0" or form == "v3"):
+            call = {"v2": f"v2_{minor}", "micro": "v3_micro", "nano": "v3_nano"}.get(form, form)
+            call += "_protected" * (protected == "1")
+            yield call, secrets_of(call, secrets), message(rule, int(length)).hex() or "-", value
 
 
 def main():
     folder = pathlib.Path(sys.argv[1])
     print(HEAD)
-    for name, version in FILES.items():
-        for case in cases(folder / f"{name}.tsv", version):
+    for name in FILES:
+        for case in cases(folder / f"{name}.tsv"):
             print("\t".join(case))
+    print("\t".join(LONG))
 
 
 if __name__ == "__main__":

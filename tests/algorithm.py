@@ -102,6 +102,8 @@ def secrets_of(rule, number, is_v1):
         seed, *places = number.split(",")
         at = dict(map(int, place.split("=")) for place in places)
         return [int(seed), *(at.get(k, 0) for k in range(count))]
+    if rule == "words":
+        return drawn(int(number), count + 1)[:-1]
     made = [premix(int(number), 0)]
     for i in range(count):
         made.append(premix(made[-1], i))

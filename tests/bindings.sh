@@ -167,7 +167,7 @@ test_go() {
   try go_licences has_the_licences "$top/bindings/go"
   try go_layout in_go bash -c '[ -z "$(gofmt -l .)" ]'
   try go in_go env CGO_ENABLED=0 go test -count 1 .
-  try go_race in_go go test -count 1 -race .
+  try go_race in_go go test -count 1 -short -race .
   try go_fuzz in_go go test -run - -fuzz FuzzPieces -fuzztime 20000x .
   try go_386 in_go env GOARCH=386 go test -count 1 .
   try_with go_arm64 qemu-aarch64 in_go env GOARCH=arm64 go test -count 1 -exec qemu-aarch64 .
@@ -191,12 +191,14 @@ builds_from_the_header() {
     make_by_cc_alone install PREFIX="$room/usr" && [ ! -e "$room/usr/bin" ]
 }
 
-# Compiles and runs the first programs of docs/C.md and docs/CPP.md with the headers alone, as the pages say.
+# Compiles and runs the programs of docs/C.md and docs/CPP.md with the headers alone, as the pages say.
 first_program_runs() {
   blocks "$top/docs/C.md" c hello >"$room/bare/hello.c" && blocks "$top/docs/C.md" sh Iinclude >"$room/commands" &&
     blocks "$top/docs/CPP.md" cpp hello >"$room/bare/hello.cpp" && cd "$room/bare" &&
     [ "$(bash -e "$room/commands")" = 3327445792987248966 ] &&
-    c++ -O2 -Iinclude hello.cpp -o hello_cpp && [ "$(./hello_cpp)" = 3327445792987248966 ]
+    c++ -O2 -Iinclude hello.cpp -o hello_cpp && [ "$(./hello_cpp)" = 3327445792987248966 ] &&
+    blocks "$top/docs/C.md" c assert >seeds.c && cc -std=c99 -Iinclude seeds.c -o seeds && ./seeds &&
+    blocks "$top/docs/CPP.md" cpp assert >seeds.cpp && c++ -std=c++11 -Iinclude seeds.cpp -o seeds && ./seeds
 }
 
 # Tests the library that cc compiles from the header: it replaces the proved one on other machines.

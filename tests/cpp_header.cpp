@@ -37,7 +37,7 @@ static void compare(const std::string &name, std::uint64_t value, std::uint64_t 
 static const std::uint64_t hash_of_hello = 3327445792987248966U;
 static const rapidhash::secrets own = {1, {2, 3, 5, 7, 11, 13, 17}};
 
-/* Returns the bytes 0 to 119, whose hashes tests/c_library.c also has. */
+/* Returns the bytes 0 to 119. */
 static std::vector<unsigned char> counted()
 {
     std::vector<unsigned char> message(120);
@@ -88,19 +88,9 @@ static void check_texts()
 #endif
 }
 
-static void check_seeds()
+static void check_defaults()
 {
-    const std::vector<unsigned char> message = counted();
-    const rapidhash::seed greatest(UINT64_MAX);
-    const std::uint64_t of_word = 17432585756072271274U, of_own = 13105958653737073913U;
-
-    compare("a seed word", rapidhash::hash(message, greatest), of_word);
-    compare("a word's secrets", rapidhash::hash(message, rapidhash::seed_secrets(greatest)), of_word);
-    compare("secrets of one's own", rapidhash::hash(message, own), of_own);
-    compare("a hasher with a word", rapidhash::hasher(greatest)(message), static_cast<std::size_t>(of_word));
-    compare("a hasher with secrets", rapidhash::hasher(own)(message), static_cast<std::size_t>(of_own));
     compare("a hasher", rapidhash::hasher()("hello"), static_cast<std::size_t>(hash_of_hello));
-    compare("a stream with a word", rapidhash::stream(greatest).update(message).finish(), of_word);
     compare("a stream", rapidhash::stream().update("hel").update("lo!", 2).finish(), hash_of_hello);
 }
 
@@ -108,6 +98,7 @@ static void check_seeds()
 static void check_copies()
 {
     const std::vector<unsigned char> message = counted();
+    const std::uint64_t known = rapidhash::hash(message, own);
     std::unique_ptr<rapidhash::stream> first(new rapidhash::stream(own));
     rapidhash::stream assigned;
 
@@ -116,10 +107,10 @@ static void check_copies()
     assigned = *first;
     *first = rapidhash::stream(rapidhash::seed(1)).update("other");
     first.reset();
-    compare("a copied stream", copy.update(message.data() + 60, 60).finish(), 13105958653737073913U);
-    compare("an assigned stream", assigned.update(message.data() + 60, 60).finish(), 13105958653737073913U);
+    compare("a copied stream", copy.update(message.data() + 60, 60).finish(), known);
+    compare("an assigned stream", assigned.update(message.data() + 60, 60).finish(), known);
     assigned.reset();
-    compare("a stream after a reset", assigned.update(message).finish(), 13105958653737073913U);
+    compare("a stream after a reset", assigned.update(message).finish(), known);
 }
 
 static void check_tables()
@@ -161,22 +152,55 @@ static void check_stored()
             0xabcdef0123456789U);
 }
 
-/* Checks a case of the file in each way: whole, with a hasher, and in pieces of 1, 2, 3 bytes, and so on. */
-static void check_case(const rapidhash::secrets &made, bool is_default, const std::string &message, std::uint64_t known)
+/* Checks a case of the file with secrets in each way: whole, with a hasher, and in pieces of 1, 2, 3 bytes, and so on.
+ * The two last may have a seed. */
+template <class Start>
+static void check_case(const std::string &name, const Start &start, const std::string &message, std::uint64_t known)
 {
-    const std::string name = "a vector of " + std::to_string(message.size()) + " bytes";
-    rapidhash::stream pieces(made);
+    rapidhash::stream pieces(start);
 
-    if (is_default)
-        compare(name, rapidhash::hash(message), known);
-    compare(name + ", with secrets", rapidhash::hash(message, made), known);
-    compare(name + ", by a hasher", rapidhash::hasher(made)(message), static_cast<std::size_t>(known));
+    compare(name, rapidhash::hash(message, start), known);
+    compare(name + ", by a hasher", rapidhash::hasher(start)(message), static_cast<std::size_t>(known));
     for (std::size_t at = 0, size = 1; at < message.size(); at += size, size++) {
         if (size > message.size() - at)
             size = message.size() - at;
         pieces.update(message.data() + at, size);
     }
     compare(name + ", in pieces", pieces.finish(), known);
+}
+
+/* Checks a case of the file with the secrets that its rule names. */
+static void check_rule(const std::string &rule, const std::string &message, std::uint64_t known)
+{
+    const std::string name = "a vector of " + std::to_string(message.size()) + " bytes with " + rule;
+    std::istringstream list(rule.substr(rule.find(':') + 1));
+    std::vector<std::uint64_t> words;
+
+    for (std::string word; std::getline(list, word, ',');)
+        words.push_back(std::strtoull(word.c_str(), nullptr, 10));
+    if (rule == "default")
+        compare(name, rapidhash::hash(message), known);
+    if (rule.compare(0, 5, "make:") == 0) {
+        check_case(name, rapidhash::make_secrets(words[0]), message, known);
+    } else if (words.size() == 8) {
+        check_case(name, rapidhash::secrets{words[0], {words[1], words[2], words[3], words[4], words[5], words[6],
+                                                       words[7]}}, message, known);
+    } else {
+        check_case(name, rapidhash::seed(words[0]), message, known);
+        check_case(name, rapidhash::seed_secrets(rapidhash::seed(words[0])), message, known);
+    }
+}
+
+/* Checks the hash of so many bytes of 0, which need no memory if nobody writes them. */
+static void check_zeros(unsigned long long size, std::uint64_t known)
+{
+    void *const zeros = size <= SIZE_MAX ? std::calloc(static_cast<std::size_t>(size), 1) : nullptr;
+
+    if (zeros == nullptr)
+        std::printf("skipped zeros:%llu: no memory for it\n", size);
+    else
+        compare("zeros", rapidhash::hash({zeros, static_cast<std::size_t>(size)}), known);
+    std::free(zeros);
 }
 
 static void check_vectors(const char *path)
@@ -189,16 +213,21 @@ static void check_vectors(const char *path)
         std::string version, rule, digits, value, message;
         if (!(fields >> version >> rule >> digits >> value) || version != "v3")
             continue;
+        const std::uint64_t known = std::strtoull(value.c_str(), nullptr, 10);
+        std::uint64_t read = ~known;
+        char hex[17];
+        std::snprintf(hex, sizeof hex, "%016llx", static_cast<unsigned long long>(known));
+        compare("digits", rapidhash::to_hex(known) == hex && rapidhash::from_hex(hex, read) ? read : ~known, known);
+        cases++;
+        if (digits.compare(0, 6, "zeros:") == 0) {
+            check_zeros(std::strtoull(digits.c_str() + 6, nullptr, 10), known);
+            continue;
+        }
         for (std::size_t at = 0; digits != "-" && at < digits.size(); at += 2)
             message += static_cast<char>(std::strtoul(digits.substr(at, 2).c_str(), nullptr, 16));
-        const bool is_default = rule == "default";
-        const std::uint64_t known = std::strtoull(value.c_str(), nullptr, 10);
-        check_case(is_default ? rapidhash::seed_secrets(rapidhash::seed(0))
-                              : rapidhash::make_secrets(std::strtoull(rule.substr(5).c_str(), nullptr, 10)),
-                   is_default, message, known);
-        cases++;
+        check_rule(rule, message, known);
     }
-    compare("the vectors of V3", cases, 144);
+    compare("the vectors of V3", cases, 446);
 }
 
 int main(int count, char **words)
@@ -206,7 +235,7 @@ int main(int count, char **words)
     if (count != 2)
         return 2;
     check_texts();
-    check_seeds();
+    check_defaults();
     check_copies();
     check_tables();
     check_stored();

@@ -65,6 +65,10 @@ hashes file_named_as_an_option "$known" ./--v3 --v1
 hashes first_of_two_files "$known" 'a file with spaces' missing --v1
 hashes two_pieces "$known" --v1 < <(printf some; sleep 0.1; echo thing)
 hashes slow_pipe "$("$tool" ten_million)" < <(slowly ten_million)
+truncate -s 4294967301 zeros
+hashes above_4_gib 8938949028826169308 --v3 zeros
+hashes v1_above_4_gib 5097892995809634994 --v1 zeros
+hashes v2_above_4_gib 9099919017397257265 --v2.2 zeros
 
 # More than 128 MiB, which V1 and V2 keep in memory.
 hashes v1_of_140_million_bytes 15042570400923500380 --v1 < <(head -c 140000000 /dev/zero)

@@ -137,27 +137,24 @@ LINES
 sed -n 's/.*malformed: \([0-9]*\): .*/\1/p' "$room/log" | cmp - <(seq 3 13) && grep -qxF '\\\x stands for itself: OK' out
 tell each_malformed_line_is_named $?
 
-# The values of the Rust crate for the bytes 0 to 119, or 0 to 59, with the default seed and with the greatest.
-printf '%b' "$(printf '\\x%02x' {0..119})" >bytes && head -c 60 bytes >half
-while read -r version file plain seeded; do
-  answers "version_$version" "$(printf %016x "$plain")  $file\n" '' "$program" -a "$version" "$file"
-  answers "seed_of_$version" "RAPIDHASH-${version^^}:ffffffffffffffff ($file) = $(printf %016x "$seeded")\n" '' \
-    "$program" --seed 18446744073709551615 --tag --algorithm "$version" "$file"
-  cat out >>list_of_all
-  echo "$file: OK" >>wanted_of_all
-done <<'VALUES'
-v1 half 13504714392771582078 4523117913705637297
-v2.0 half 13186137053657766175 10138467703456622832
-v2.1 half 13012060828128651499 9837700961849980522
-v2.2 half 6181707366222537282 7542770224395652484
-v3 bytes 7088138960297660729 17432585756072271274
-v3-micro bytes 3055975138125564292 12726087877044209633
-v3-nano bytes 3778853990780631382 4287866527191256466
-VALUES
+# The values of the Rust crate for 57, 58 and 128 bytes, with the default seed and with seed words.
+while IFS=$'\t' read -r version rule message hash; do
+  version=${version/2_/2.} version=${version/3_/3-} word=${rule#word:} file=of_${#message} hash=$(printf %016x "$hash")
+  perl -e 'print pack "H*", $ARGV[0]' "$message" >"$file"
+  if [ "$rule" = default ]; then
+    answers "version_$version" "$hash  $file\n" '' "$program" -a "$version" "$file"
+  else
+    answers "seed_of_$version" "RAPIDHASH-${version^^}:$(printf %016x "$word") ($file) = $hash\n" '' \
+      "$program" --seed "$word" --tag --algorithm "$version" "$file"
+    cat out >>list_of_all
+    echo "$file: OK" >>wanted_of_all
+  fi
+done < <(python3 "$top/share/vectors.py" "$top/crates/test_replay/data" |
+  grep -E '^v[^p]+'$'\t''(default|word:[0-9]+)'$'\t''(.{114}|.{116}|.{256})'$'\t')
 cp wanted_of_all wanted
 prints a_list_of_all_versions "$program" -c list_of_all
-"$program" --seed 1 bytes >list
-answers check_with_a_seed 'bytes: OK\n' '' "$program" --seed 1 -c list
+"$program" --seed 1 first >list
+answers check_with_a_seed 'first: OK\n' '' "$program" --seed 1 -c list
 says check_without_the_seed 'did NOT match' "$program" -c list
 printf 'RAPIDHASH-V9 (first) = a1266b469390773a\n' >list
 says unknown_version_in_a_list 'no properly formatted' "$program" -c list

@@ -7,7 +7,7 @@ import shutil
 import sqlite3
 
 from cases import ROOM, TOP, blocks, compare, finish, shell, tell
-from sql import BINDINGS, DIGITS, HELLO, NOTHING, SEEDED, TEXT, TEXT_HASH, VERSIONS
+from sql import BINDINGS, DIGITS, HELLO, NOTHING, TEXT, TEXT_HASH, VERSIONS
 from sql import every_vector, lines_with_results, signed, unpack
 
 PAGE = "bindings/sqlite/README.md"
@@ -67,30 +67,23 @@ def vectors(database):
     """Tests each message as a BLOB, 8 bytes also as an INTEGER, and in pieces if the version has an aggregate."""
     wrong, counts = [], {"blob": 0, "integer": 0, "pieces": 0}
 
-    def check(kind, query, values, wanted):
+    def check(kind, call, values, wanted, rest=""):
         counts[kind] += 1
-        wrong.extend([f"{query} {values!r:.60}"] * (ask(database, query, *values) != [(wanted,)]))
+        query, found = f"SELECT {call}, rapidhash_hex({call}){rest}", [(wanted, f"{wanted % 2**64:016x}")]
+        wrong.extend([f"{query} {values!r:.60}"] * (ask(database, query, *values) != found))
 
     database.execute("CREATE TABLE pieces (piece)")
     for name, words, message, wanted in every_vector():
-        query = f"SELECT {name}(?{', ?' * len(words)})"
-        check("blob", query, (message, *words), wanted)
+        call = f"{name}(?1{', ?2' * len(words)})"
+        check("blob", call, (message, *words), wanted)
         if len(message) == 8:
-            check("integer", query, (int.from_bytes(message, "little", signed=True), *words), wanted)
+            check("integer", call, (int.from_bytes(message, "little", signed=True), *words), wanted)
         if name[10:] in STREAMS and message:
             database.execute("DELETE FROM pieces")
             database.executemany("INSERT INTO pieces VALUES (?)", pieces(message))
-            check("pieces", f"SELECT {name}_agg(piece) FROM pieces", (), wanted)
+            check("pieces", f"{name}_agg(piece{', ?1' * len(words)})", words, wanted, " FROM pieces")
     tell("vectors", *wrong)
-    compare("count_of_vectors", counts, {"blob": 1152, "integer": 16, "pieces": 213})
-
-
-def seed_words(database):
-    for seed, length, versions, hashes in SEEDED:
-        for version, wanted in zip(versions, map(signed, hashes)):
-            calls = [f"rapidhash_{version}(?1, ?2)"] + [f"rapidhash_{version}_agg(?1, ?2)"] * (version in STREAMS)
-            found = ask(database, f"SELECT {', '.join(calls)}", bytes(range(length)), seed)
-            compare(f"seed {seed} of {version}", found, [(wanted,) * len(calls)])
+    compare("count_of_vectors", counts, {"blob": 3032, "integer": 16, "pieces": 717})
 
 
 def types(database, name):
@@ -167,7 +160,6 @@ commands()
 loaded = opened()
 loaded.execute("CREATE TABLE many (place INTEGER, part INTEGER, word TEXT)")
 vectors(loaded)
-seed_words(loaded)
 types(loaded, "types")
 types(opened("UTF-16le"), "types_in_utf_16le")
 types(opened("UTF-16be"), "types_in_utf_16be")

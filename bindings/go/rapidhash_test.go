@@ -39,47 +39,9 @@ func TestDefaultSecrets(t *testing.T) {
 	compare(t, "v3 of nothing", V3(nil), 232177599295442350)
 }
 
-func TestKnownSeedWord(t *testing.T) {
-	long, short := data(), data()[:60]
-	compare(t, "v1", V1WithSeed(short, 1), 16595489079910452471)
-	compare(t, "v2.0", V2_0WithSeed(short, 1), 10726147324944781525)
-	compare(t, "v2.1", V2_1WithSeed(short, 1), 10166538060445963011)
-	compare(t, "v2.2", V2_2WithSeed(short, 1), 10905583924937672291)
-	compare(t, "v3", V3WithSeed(long, 1), 8806718467852582029)
-	compare(t, "micro", V3MicroWithSeed(long, 1), 13208658450986943527)
-	compare(t, "nano", V3NanoWithSeed(long, 1), 1125117906108554434)
-	compare(t, "seed secrets of v1", V1Seeded(short, SeedSecretsV1(1)), 16595489079910452471)
-	compare(t, "seed secrets", V3Seeded(long, SeedSecrets(1)), 8806718467852582029)
-}
-
-func TestSecretsOfOnesOwn(t *testing.T) {
-	long, short := data(), data()[:60]
-	compare(t, "v1", V1Seeded(short, &SecretsV1{1, [3]uint64{2, 3, 5}}), 13848206912060221315)
-	compare(t, "v2.0", V2_0Seeded(short, &own), 7480442917932512801)
-	compare(t, "v2.1", V2_1Seeded(short, &own), 15302905912564408163)
-	compare(t, "v2.2", V2_2Seeded(short, &own), 11896991483551387597)
-	compare(t, "v3", V3Seeded(long, &own), 13105958653737073913)
-	compare(t, "micro", V3MicroSeeded(long, &own), 5648300410578423183)
-	compare(t, "nano", V3NanoSeeded(long, &own), 4961128163384780230)
-	compare(t, "protected", V3ProtectedSeeded(long, &own), 9934095814131968034)
-}
-
-func TestMadeSecrets(t *testing.T) {
-	known := Secrets{0x6d95b902ea9b0223, [7]uint64{0x4e6220ca4fb6cfce, 0x192d182c120632f7,
-		0xf457c94ec4a04866, 0x4197ccbf5bf8f9d7, 0xfe96dfa00f02022d, 0x7c8eb6ba6268e054,
-		0x6333af257102a99e}}
-	if made := MakeSecrets(0x12345678); *made != known {
-		t.Errorf("%x", *made)
-	}
-	knownV1 := SecretsV1{known.Seed, [3]uint64{known.Secrets[0], known.Secrets[1], known.Secrets[2]}}
-	if made := MakeSecretsV1(0x12345678); *made != knownV1 {
-		t.Errorf("%x", *made)
-	}
-}
-
 func TestUnevenPieces(t *testing.T) {
-	known := map[*Stream]uint64{NewV3(&own): 13105958653737073913,
-		NewV3Micro(&own): 5648300410578423183, NewV3Nano(&own): 4961128163384780230}
+	known := map[*Stream]uint64{NewV3(&own): V3Seeded(data(), &own),
+		NewV3Micro(&own): V3MicroSeeded(data(), &own), NewV3Nano(&own): V3NanoSeeded(data(), &own)}
 	for stream, value := range known {
 		stream.Write(data()[:100])
 		stream.Reset()

@@ -8,27 +8,6 @@ import (
 	"testing"
 )
 
-// seeds are seed words at the bounds of 32 and 64 bits.
-var seeds = []uint64{0, 1, 1 << 32, 1 << 63, 1<<64 - 1}
-
-// TestSeedWords compares every call with a seed word with the call with the secrets of that word. TestKnownSecrets
-// compares those secrets with known ones.
-func TestSeedWords(t *testing.T) {
-	message := long()
-	for _, size := range []int{0, 1, 3, 4, 8, 16, 17, 48, 56, 64, 112, 113, 300, 5000} {
-		for _, seed := range seeds {
-			for name, call := range calls {
-				known := V1Seeded(message[:size], SeedSecretsV1(seed))
-				if call.seeded != nil {
-					known = call.seeded(message[:size], SeedSecrets(seed))
-				}
-				compare(t, fmt.Sprint(name, " of ", size, " with ", seed), call.word(message[:size], seed), known)
-			}
-			compare(t, "string", V3StringWithSeed(string(message[:size]), seed), V3WithSeed(message[:size], seed))
-		}
-	}
-}
-
 func TestDefaultSeeds(t *testing.T) {
 	if *SeedSecrets(0) != (Secrets{defaultSeed, defaults}) || *SeedSecretsV1(v1Word) != (SecretsV1{defaultSeedV1, defaultsV1}) {
 		t.Error("a default seed is not that of its word")
@@ -65,16 +44,6 @@ func TestKnownSecrets(t *testing.T) {
 	}
 	if count < 360 {
 		t.Errorf("%d lines, and 360 are known", count)
-	}
-}
-
-// TestRepairedSeeds makes seeds whose mix has no bit in the upper 16 bits, in bits 24 to 39, or in the lower 16, but
-// has the bits next to them. The Rust crate has these values.
-func TestRepairedSeeds(t *testing.T) {
-	for number, known := range map[uint64]uint64{
-		1053423: 9223652938801408785, 137630: 10552500177576716518, 214786: 10769207283923746817,
-	} {
-		compare(t, fmt.Sprint("seed of ", number), MakeSecrets(number).Seed, known)
 	}
 }
 

@@ -115,18 +115,6 @@ func TestEveryCut(t *testing.T) {
 	}
 }
 
-func TestSeededStreams(t *testing.T) {
-	message := long()[:200000]
-	starts := map[string]func(uint64) *Stream{"v3": NewV3WithSeed, "v3_micro": NewV3MicroWithSeed, "v3_nano": NewV3NanoWithSeed}
-	for name, start := range starts {
-		for _, seed := range seeds {
-			stream := start(seed)
-			stream.Write(message)
-			compare(t, fmt.Sprint(name, " with ", seed), stream.Sum64(), calls[name].word(message, seed))
-		}
-	}
-}
-
 // TestReset resets streams that have folded rows, and writes messages that fill no row.
 func TestReset(t *testing.T) {
 	message := long()[:300]

@@ -15,6 +15,17 @@ fn every_vector_file_is_replayed() {
     assert_eq!(replay::unknown(&folder), Ok(Vec::new()));
 }
 
+/// A length without its upper bits would be that of five bytes. The bytes are never written, so they
+/// need no memory. The hash is that of upstream.
+#[test]
+#[cfg(all(target_pointer_width = "64", not(debug_assertions)))]
+fn a_message_above_4_gib_has_its_whole_length() {
+    let zeros = vec![0; (1 << 32) + 5];
+    assert_eq!(rapidhash::v3::rapidhash_v3(&zeros), 8938949028826169308);
+    let read = rapidhash::v3::rapidhash_v3_file(zeros.as_slice()).unwrap();
+    assert_eq!(read, 8938949028826169308);
+}
+
 /// There are ten thousand messages, or a million if the environment variable `MESSAGES` is set. Both
 /// checksums are those of the crate rapidhash 4.5.1.
 #[test]

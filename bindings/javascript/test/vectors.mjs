@@ -3,14 +3,9 @@
 import assert from "node:assert/strict";
 import { test } from "node:test";
 
-import { loadSync } from "yervound-rapidhash";
+import { hex, loadSync } from "yervound-rapidhash";
 
 const library = loadSync();
-const calls = {
-  v1: library.v1, v2_0: library.v2_0, v2_1: library.v2_1, v2_2: library.v2_2, v3: library.v3,
-  v3_micro: library.v3Micro, v3_nano: library.v3Nano, v3_protected: library.v3Protected,
-};
-const streams = { v3: library.V3, v3_micro: library.V3Micro, v3_nano: library.V3Nano };
 
 async function read(url) {
   if (url.protocol !== "file:") return (await fetch(url)).text();
@@ -24,28 +19,51 @@ function inPieces(hasher, message) {
   return hasher.digest();
 }
 
-/** Returns the seed and secrets that a line of the file names. */
-function secretsOf(version, rule) {
-  if (rule === "default") return {};
-  const make = version === "v1" ? library.makeSecretsV1 : library.makeSecrets;
-  return { secrets: make(BigInt(rule.replace("make:", ""))) };
+/** Returns the hash of so many bytes of 0, more than an array of each engine can have. */
+function ofZeros(length) {
+  const [hasher, zeros] = [new library.V3(), new Uint8Array(2 ** 24)];
+  for (let left = length; left > 0; left -= zeros.length) hasher.update(zeros.subarray(0, left));
+  return hasher.digest();
+}
+
+/** Returns the options for the secrets that a line of the file names. */
+function optionsOf(version, rule) {
+  const [name, list] = rule.split(":");
+  const secrets = BigUint64Array.from((list ?? "0").split(","), BigInt);
+  const [seed] = secrets;
+  const suffix = version === "v1" ? "V1" : "";
+  if (name === "word") return [{ seed }, { secrets: library[`seedSecrets${suffix}`](seed) }];
+  if (name === "make") return [{ secrets: library[`makeSecrets${suffix}`](seed) }];
+  return name === "own" ? [{ secrets }] : [undefined, {}];
+}
+
+/** Compares the hashes of a message in each way. */
+function compare(version, message, options, hash) {
+  const name = version.replace(/_[a-z]/, (part) => part[1].toUpperCase());
+  const Stream = library[name.replace("v", "V")];
+  const digits = hash.toString(16).padStart(16, "0");
+  assert.equal(library[name](message, options), hash);
+  assert.equal(library[`${name}Hex`](message, options), digits);
+  assert.equal(hex(hash), digits);
+  if (Stream === undefined) return;
+  const hasher = new Stream(options);
+  assert.equal(inPieces(hasher, message), hash);
+  assert.equal(hasher.digest("hex"), digits);
 }
 
 const text = await read(new URL("rapidhash_vectors.tsv", import.meta.url));
 const lines = text.trimEnd().split("\n").filter((line) => !/^(#|version\t)/.test(line));
 
 test("all vectors, whole and in pieces", () => {
-  const counts = {};
   for (const line of lines) {
     const [version, rule, digits, hash] = line.split("\t");
+    if (digits.startsWith("zeros:")) {
+      assert.equal(ofZeros(Number(digits.slice(6))), BigInt(hash));
+      continue;
+    }
     const pairs = digits === "-" ? [] : digits.match(/../g);
     const message = Uint8Array.from(pairs, (pair) => Number.parseInt(pair, 16));
-    const options = secretsOf(version, rule);
-    assert.equal(calls[version](message, options), BigInt(hash));
-    if (rule === "default") assert.equal(calls[version](message), BigInt(hash));
-    if (streams[version])
-      assert.equal(inPieces(new streams[version](options), message), BigInt(hash));
-    counts[version] = (counts[version] ?? 0) + 1;
+    for (const options of optionsOf(version, rule)) compare(version, message, options, BigInt(hash));
   }
-  for (const version of Object.keys(calls)) assert.equal(counts[version], 144);
+  assert.equal(lines.length, 3561);
 });

@@ -12,9 +12,9 @@ use std::hash::{Hash, Hasher};
 /// A key of bytes, which it passes to the hasher in one write.
 ///
 /// By the contract of Rattle's std a `&[u8]` or a `Vec<u8>` writes its length and then each byte in
-/// a call of its own, which costs a hash step. This key writes all its bytes at once. It holds anything
-/// that lends bytes: `&[u8]`, `Vec<u8>`, `bytes::Bytes`, `[u8; N]` or `&str`. Two keys are equal if
-/// their bytes are.
+/// a call of its own, which costs a hash step. This key writes all its bytes at once. It holds
+/// anything that lends bytes: `&[u8]`, `Vec<u8>`, `bytes::Bytes`, `[u8; N]` or `&str`. Two keys are
+/// equal if their bytes are.
 ///
 /// For a map of owned keys that is searched by borrowed slices use `ByteKey<CowSlice<u8>>`. The
 /// slices have the one lifetime that the map's type names, so they outlive the map:

@@ -97,7 +97,8 @@ pub fn rapidhash_v3_micro_inline<const AVALANCHE: bool, const PROTECTED: bool>(
 }
 
 /// Returns the hash of `bytes` with three lanes, which has the least code out of line. Up to 48
-/// bytes it is V3's. For less code with V3's values use [`rapidhash_v3_inline`] with `COMPACT`. The options are those of [`rapidhash_v3_inline`].
+/// bytes it is V3's. The options are those of [`rapidhash_v3_inline`], which with `COMPACT` has the
+/// least code in all.
 ///
 /// ```
 /// use rapidhash::v3::{DEFAULT_RAPID_SECRETS, rapidhash_v3_nano_inline};

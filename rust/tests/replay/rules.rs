@@ -90,9 +90,21 @@ pub fn start_of(rule: &str) -> Result<Start, String> {
             three: v1::RapidSecrets::seed(number(seed)?),
             seven: v3::RapidSecrets::seed(number(seed)?),
         }),
+        Some(("cpp", seed)) => Ok(Start {
+            three: v1::RapidSecrets::seed_cpp(number(seed)?),
+            seven: v3::RapidSecrets::seed_cpp(number(seed)?),
+        }),
+        Some(("words", seed)) => Ok(words(number(seed)?)),
         Some(("bare", words)) => bare(words),
         _ => Err(format!("no secrets by the rule {rule}")),
     }
+}
+
+/// Returns a seed and secrets that are the first words of a generator.
+fn words(seed: u64) -> Start {
+    let mut rng = RapidRng::new(seed);
+    let [seed, a, b, c, d, e, f, g] = [(); 8].map(|()| rng.next());
+    of_words(seed, [a, b, c, d, e, f, g])
 }
 
 /// Returns a seed and secrets that are 0, except at the indices named after it, as in `0,1=1`.
@@ -110,12 +122,16 @@ fn bare(words: &str) -> Result<Start, String> {
             }
         }
     }
+    Ok(of_words(seed, secrets))
+}
+
+fn of_words(seed: u64, secrets: [u64; 7]) -> Start {
     let [a, b, c, ..] = secrets;
-    Ok(Start {
+    Start {
         three: v1::RapidSecrets {
             seed,
             secrets: [a, b, c],
         },
         seven: v3::RapidSecrets { seed, secrets },
-    })
+    }
 }

@@ -39,8 +39,8 @@ pub struct Algorithm {
 }
 
 impl Algorithm {
-    /// Returns the hash of all bytes of a reader. V1 and V2 keep at most 64 KiB of them in memory if
-    /// the length is known, and else all.
+    /// Returns the hash of all bytes of a reader. If the length is known, V1 and V2 keep at most
+    /// 64 KiB of them in memory, and otherwise all.
     pub fn hash<A: Allocator + Copy, R: Read>(
         self,
         alloc: A,

@@ -25,8 +25,8 @@ pub trait Store {
 ///
 /// # Errors
 ///
-/// If the file cannot be opened, a read fails, or an allocation for V1 or V2 fails. V1 and V2 refuse
-/// a file that has more or fewer bytes than its length.
+/// If the file cannot be opened, a read fails, or an allocation for V1 or V2 fails. V1 and V2
+/// refuse a file that has more or fewer bytes than its length.
 pub fn hash_named<S: Store, A: Allocator + Copy>(
     alloc: A,
     store: &S,

@@ -10,12 +10,14 @@ import java.nio.file.Files;
 import java.nio.file.Path;
 import java.util.Arrays;
 import java.util.Map;
-import java.util.TreeMap;
+import java.util.Set;
 import java.util.stream.Collectors;
 import org.junit.Test;
 
 /** Compares all values of the Rust crate. Two environment variables name their files. */
 public class VectorsTest {
+    private static final Set<Rapidhash> STREAMED = Set.of(Rapidhash.V3, Rapidhash.V3_MICRO, Rapidhash.V3_NANO);
+
     private static Iterable<String[]> lines(String variable) throws IOException {
         String name = System.getenv(variable);
         assertNotNull(variable + " names no file", name);
@@ -35,31 +37,51 @@ public class VectorsTest {
     @Test
     public void hashes() throws IOException {
         Map<String, Rapidhash> versions = Messages.versions();
-        Map<Rapidhash, Integer> counts = new TreeMap<>();
+        int count = 0;
         for (String[] words : lines("RAPIDHASH_VECTORS")) {
             Rapidhash version = versions.get(words[0]);
-            byte[] message = bytesOf(words[2].replace("-", ""));
             long known = Long.parseUnsignedLong(words[3]);
-            if (words[1].equals("default")) {
-                compareDefault(version, message, known);
+            if (words[2].startsWith("zeros:")) {
+                assertEquals(known, ofZeros(version.stream(), Long.parseLong(words[2].substring(6))));
             } else {
-                Secrets secrets = Secrets.make(Long.parseUnsignedLong(words[1].substring("make:".length())));
-                compare(version, message, secrets, known);
+                compare(version, bytesOf(words[2].replace("-", "")), words[1], known);
             }
-            counts.merge(version, 1, Integer::sum);
+            assertEquals(words[3], Rapidhash.toDecimal(known));
+            assertEquals(String.format("%016x", known), Rapidhash.toHex(known));
+            count++;
         }
-        for (Rapidhash version : Rapidhash.values()) {
-            assertEquals(version + "'s vectors", Integer.valueOf(144), counts.get(version));
+        assertEquals(3561, count);
+    }
+
+    private static void compare(Rapidhash version, byte[] message, String rule, long known) {
+        String[] parts = rule.replace("default", "default:0").split(":");
+        long[] words = Arrays.stream(parts[1].split(",")).mapToLong(Long::parseUnsignedLong).toArray();
+        if (parts[0].equals("make")) {
+            compare(version, message, Secrets.make(words[0]), known);
+        } else if (parts[0].equals("own")) {
+            compare(version, message, Secrets.of(words[0], Arrays.copyOfRange(words, 1, 8)), known);
+        } else if (parts[0].equals("word")) {
+            compareSeed(version, message, words[0], known);
+        } else {
+            assertEquals(known, version.hash(message));
+            assertEquals(known, version.hash(Messages.padded(message), 3, message.length));
+            for (ByteBuffer buffer : Messages.buffers(message)) {
+                assertEquals(known, version.hash(buffer));
+            }
+            compareSeed(version, message, version == Rapidhash.V1 ? 0xbdd89aa982704029L : 0, known);
         }
     }
 
-    private static void compareDefault(Rapidhash version, byte[] message, long known) {
-        assertEquals(known, version.hash(message));
-        assertEquals(known, version.hash(Messages.padded(message), 3, message.length));
+    private static void compareSeed(Rapidhash version, byte[] message, long seed, long known) {
+        assertEquals(known, version.hash(message, seed));
+        assertEquals(known, version.hash(Messages.padded(message), 3, message.length, seed));
         for (ByteBuffer buffer : Messages.buffers(message)) {
-            assertEquals(known, version.hash(buffer));
+            assertEquals(known, version.hash(buffer, seed));
         }
-        compare(version, message, Messages.ofSeed(version, version == Rapidhash.V1 ? 0xbdd89aa982704029L : 0), known);
+        if (STREAMED.contains(version)) {
+            assertEquals(known, inPieces(version.stream(seed), message));
+        }
+        compare(version, message, Messages.ofSeed(version, seed), known);
     }
 
     private static void compare(Rapidhash version, byte[] message, Secrets secrets, long known) {
@@ -68,9 +90,18 @@ public class VectorsTest {
         for (ByteBuffer buffer : Messages.buffers(message)) {
             assertEquals(known, version.hash(buffer, secrets));
         }
-        if (version == Rapidhash.V3 || version == Rapidhash.V3_MICRO || version == Rapidhash.V3_NANO) {
+        if (STREAMED.contains(version)) {
             assertEquals(known, inPieces(version.stream(secrets), message));
         }
+    }
+
+    /** Returns the hash of so many bytes of 0, which no array can have. */
+    private static long ofZeros(RapidhashStream stream, long length) {
+        byte[] zeros = new byte[1 << 20];
+        for (long left = length; left > 0; left -= zeros.length) {
+            stream.update(zeros, 0, (int) Math.min(left, zeros.length));
+        }
+        return stream.getValue();
     }
 
     /** Returns the hash of a message in pieces of 1, 2, 3 bytes, and so on. */
