@@ -45,7 +45,7 @@ case_sums_of_standard_input() { "$sum" <first && "$sum" - first <first; }
 case_missing_file() { "$sum" first nothing 'second name'; }
 case_folder() { mkdir folder && "$sum" folder first; }
 case_folder_as_input() { "$sum" - first <.; }
-case_name_of_300_bytes() { "$sum" "$(printf %300s)" first; }
+case_name_of_300_bytes() { "$sum" "$(printf %300s '')" first; }
 case_read_fails_later() { failing read:error=EIO:when=2 first "$sum" first 'second name'; }
 case_read_of_input_fails_later() { failing read:error=EIO:when=2 first "$sum" - 'second name' <first; }
 case_words_behind_two_hyphens() { cp first -- -first && "$sum" -- -first; }

@@ -172,9 +172,7 @@ for row in "${machines[@]}"; do
 done
 wait
 
-for row in "${machines[@]}"; do
-  cat "$room/${row%% *}.lines"
-done | tee "$room/lines"
+for row in "${machines[@]}"; do cat "$room/${row%% *}.lines"; done | tee "$room/lines"
 skipped=$(sed -n 's/^skipped \([^:]*\):.*/\1/p' "$room/lines" | xargs)
 [ -z "$skipped" ] || printf 'skipped %s: %s\n' "$(wc -w <<<"$skipped")" "$skipped"
 passed=$(grep -c '^ok ' "$room/lines") failed=$(grep -c '^FAILED ' "$room/lines")

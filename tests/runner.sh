@@ -17,15 +17,14 @@ ends() {
   [ "$status" = "$1" ] && [ "$(tail -n 1 "$room/said")" = "$2" ]
 }
 
-# Runs tests/must_fail.py over an edit, which must end with this line if the checker says this of it: LAST-LINE SAID
+# Runs tests/must_fail.py over an edit of which the checker says this, and compares its last line: LAST-LINE SAID
 edit_ends() {
-  local copy=$room/edits
-  rm -rf "$copy" && mkdir -p "$copy"/{crates/one/{must-fail,src},tests,bin} && touch "$copy"/{crates.txt,HANDLES} &&
-    cp "$top"/tests/{cases,must_fail}.py "$copy/tests" && echo 'fn f() { 1 }' >"$copy/crates/one/src/lib.rt" &&
-    printf '%s\n' 'refused: f, goal' 'file: src/lib.rt' 'old: { 1 }' 'new: { 2 }' >"$copy/crates/one/must-fail/a.edit" &&
-    printf '#!/bin/sh\ngrep -q "{ 2 }" src/lib.rt && echo "fn one::f: $SAID"\n' >"$copy/bin/rt" && chmod +x "$copy/bin/rt" &&
-    SAID=$2 PATH="$copy/bin:$PATH" python3 "$copy/tests/must_fail.py" >"$room/said"
-  [ $? -eq "${1:10:1}" ] && [ "$(tail -n 1 "$room/said")" = "$1" ]
+  rm -rf "$room/edits" && mkdir -p "$room"/edits/{crates/one/{must-fail,src},tests,bin} && cd "$room/edits" &&
+    touch crates.txt HANDLES && cp "$top"/tests/{cases,must_fail}.py tests && echo '{ 1 }' >crates/one/src/lib.rt &&
+    printf '%s\n' 'refused: f, goal' 'file: src/lib.rt' 'old: { 1 }' 'new: { 2 }' >crates/one/must-fail/a.edit &&
+    printf '#!/bin/sh\ngrep -q "{ 2 }" src/lib.rt && echo "fn one::f: $SAID"\n' >bin/rt && chmod +x bin/rt &&
+    SAID=$2 PATH=$PWD/bin:$PATH python3 tests/must_fail.py >../said
+  [ "$?:$(tail -n 1 "$room/said")" = "${1:10:1}:$1" ]
 }
 
 # Builds a repository whose gate runs this script instead of tests/pages.py, and others that pass: SCRIPT CASES
@@ -58,9 +57,8 @@ try a_gate_with_a_failure gate_fails 'echo "3 passed, 1 failed"' 20
 try a_gate_with_a_bad_status gate_fails 'echo "3 passed, 0 failed"; exit 1' 20
 try a_gate_with_a_script_that_dies gate_fails 'kill $$' 20
 try a_gate_with_too_few_cases gate_fails 'echo "1 passed, 0 failed"' 99
-# shellcheck disable=SC2016
-for said in '1 passed, 0 failed|not proved: `goal`' '0 passed, 1 failed|not proved: `other`' '0 passed, 1 failed|proved: `goal`'; do
-  try "an_edit_of_which_it_says_${said#*|}" edit_ends "${said%|*}" "${said#*|}"
+for said in 1,0:not\ proved:\`goal\` 0,1:not\ proved:\`other\` 0,1:proved:\`goal\`; do
+  try "edit_$said" edit_ends "${said:0:1} passed, ${said:2:1} failed" "${said:4}"
 done
 
 printf '%s passed, %s failed\n' "$passed" "$failed"
