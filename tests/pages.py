@@ -100,15 +100,20 @@ def made_by(script):
     return said.splitlines() or [f"{script} ended with status {status}"] if status else []
 
 
-def preconditions():
-    """Checks that the pages of the calls have each precondition of the items that they show."""
+def clauses():
+    """Checks that the pages of the calls have each clause of the items that they show."""
     shown = "".join(page.read_text() for page in MADE.glob("*.md"))
+    item = re.compile(r"^( *pub (?:const )?fn .*?\n)( *(?:requires|ensures).*?)^ *\{", re.M | re.S)
     for file in TOP.glob("crates/rapidhash*/src/**/*.rt"):
-        for item in re.findall(r"^( *pub (?:const )?fn .*?\n)( *requires.*?)^ *(?:ensures|\{)", file.read_text(), re.M | re.S):
-            head = f"```rust\n{textwrap.dedent(item[0])}```\n\n"
-            told = re.findall("`([^`]*)`", shown.partition(head)[2].partition("\n")[0])
-            if head in shown and len(told) != item[1].count("requires") or not all(need in item[1] for need in told):
-                yield f"{file.name}: the page has {told} for {head}"
+        for head, contract in item.findall(file.read_text()):
+            head, contract = f"```rust\n{textwrap.dedent(head)}```\n\n", " ".join(contract.split())
+            counts = [len(re.findall(rf"\b{kind}\b", contract)) for kind in ("requires", "ensures")]
+            entries = [re.split("\n##+ `", entry)[0] for entry in shown.split(head)[1:]]
+            told = [[re.findall("`([^`]*)`", "".join(re.findall(rf"^{word}: (.*)", entry, re.M)))
+                     for word in ("Preconditions", "Proved")] for entry in entries]
+            if entries and not any(list(map(len, parts)) == counts and all(clause in contract for clause in sum(parts, []))
+                                   for parts in told):
+                yield f"{file.name}: the pages have {told} for {head}"
 
 
 def pictures():
@@ -155,7 +160,7 @@ def benches():
         yield f"the benches print {found}"
 
 
-for check in (links, paths, limits, names, vectors, statements, preconditions, benches, pictures):
+for check in (links, paths, limits, names, vectors, statements, clauses, benches, pictures):
     tell(check.__name__, *check())
 for made, maker in (("calls", "bin/api"), ("version", "bin/version"), ("figures", "bench/figures")):
     tell(made, *made_by(maker))
