@@ -64,7 +64,8 @@ def names():
         if not name.endswith((".md", ".tsv")):
             words.update(re.findall(r"\w+", (TOP / name).read_text(errors="replace")))
             words.update(re.findall(r"\w+", name))
-    for _, place, line in prose(TOP / "docs" / name for name in ("PROVED.md", "ARCHITECTURE.md", "C.md", "CPP.md")):
+    for _, place, line in prose(TOP / "docs" / f"{name}.md" for name in
+                                ("PROVED", "ARCHITECTURE", "C", "CPP", "DECISIONS", "PERFORMANCE")):
         for name in NAME.findall(line):
             yield from (f"{place}: no {part} of {name} in the code" for part in name.split("::") if part not in words)
 
