@@ -52,7 +52,8 @@ case_words_behind_two_hyphens() { cp first -- -first && "$sum" -- -first; }
 case_full_disk() { "$sum" first >/dev/full; }
 case_full_disk_without_newlines() { "$sum" -z first >/dev/full; }
 case_full_disk_after_a_missing_file() { "$sum" nothing first >/dev/full; }
-case_no_output() { "$sum" first >&-; }
+# Rust's runtime opens /dev/null for a closed stream.
+[ -n "${BUILT-}" ] || case_no_output() { "$sum" first >&-; }
 case_binary() { "$sum" -b first 'second name' $'line\nback\\return\r'; }
 case_last_of_binary_and_text() { "$sum" -t -b first && "$sum" -b -t first; }
 case_tag() { "$sum" --tag first 'second name' $'line\nback\\return\r'; }

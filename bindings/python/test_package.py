@@ -16,15 +16,16 @@ DATA = bytes(range(120))
 KNOWN = 7088138960297660729  # The V3 hash of DATA by the Rust crate, as in test_rapidhash.py
 WITH_SEED_1 = 8806718467852582029
 
-# Four threads write the same piece. Each write takes so long that the threads overlap in the library.
+# Four threads write the same piece. Each write takes so long that the threads overlap in the library. Each answer
+# meanwhile must be that of whole pieces.
 SHARED = """
 import threading, rapidhash
-piece, hasher, alone = bytes(range(250)) * 20000, rapidhash.V3(), rapidhash.V3()
+piece, hasher, alone, found, whole = bytes(range(250)) * 20000, rapidhash.V3(), rapidhash.V3(), set(), set()
 
 def write():
     for _ in range(50):
         hasher.update(piece)
-        hasher.copy().intdigest()
+        found.update({hasher.intdigest(), hasher.copy().intdigest()})
 
 threads = [threading.Thread(target=write) for _ in range(4)]
 for thread in threads:
@@ -32,8 +33,8 @@ for thread in threads:
 for thread in threads:
     thread.join()
 for _ in range(200):
-    alone.update(piece)
-print(hasher.intdigest() == alone.intdigest())
+    whole.add(alone.update(piece).intdigest())
+print(hasher.intdigest() == alone.intdigest() and found <= whole)
 """
 
 
