@@ -4,7 +4,7 @@
     python3 share/vectors.py crates/test_replay/data >rapidhash_vectors.tsv
 
 The files in the directory describe a message with a rule, so that they stay small. This script applies the rules.
-It includes only the options that the C library has, and no message above 8193 bytes except the last.
+It includes only the options that the C library has, and no message above 8193 bytes except the last of each version.
 """
 
 import pathlib
@@ -25,8 +25,10 @@ HEAD = """\
 version\tsecrets\tmessage\thash"""
 
 FILES = "v1_bug_off", "v2_0", "v2_1", "v2_2", "v3", "micro", "nano", "seeds"
-# Its length exceeds 32 bits. A hash of a length without its upper bits would be that of five bytes.
-LONG = "v3", "default", "zeros:4294967301", "8938949028826169308"
+# Their length exceeds 32 bits. A hash of a length without its upper bits would be that of five bytes.
+LONG = {"v1": 5097892995809634994, "v2_0": 9099919017397257265, "v2_1": 9099919017397257265,
+        "v2_2": 9099919017397257265, "v3": 8938949028826169308, "v3_micro": 2750649031582749518,
+        "v3_nano": 7032908810873718698, "v3_protected": 5160834351057704480}
 
 
 def square(length):
@@ -76,7 +78,8 @@ def main():
     for name in FILES:
         for case in cases(folder / f"{name}.tsv"):
             print("\t".join(case))
-    print("\t".join(LONG))
+    for call, value in LONG.items():
+        print(call, "default", "zeros:4294967301", value, sep="\t")
 
 
 if __name__ == "__main__":

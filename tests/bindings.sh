@@ -170,8 +170,8 @@ test_go() {
   try go_race in_go go test -count 1 -short -race .
   try go_fuzz in_go go test -run - -fuzz FuzzPieces -fuzztime 20000x .
   try go_386 in_go env GOARCH=386 go test -count 1 .
-  try_with go_arm64 qemu-aarch64 in_go env GOARCH=arm64 go test -count 1 -exec qemu-aarch64 .
-  try_with go_s390x qemu-s390x in_go env GOARCH=s390x go test -count 1 -exec qemu-s390x .
+  try_with go_arm64 qemu-aarch64 in_go env GOARCH=arm64 go test -count 1 -short -exec qemu-aarch64 .
+  try_with go_s390x qemu-s390x in_go env GOARCH=s390x go test -count 1 -short -exec qemu-s390x .
   for os in linux windows darwin; do try "go_vet_$os" in_go env GOOS="$os" GOARCH=amd64 go vet .; done
   try go_vet_formulas in_go go vet -tags formulas ./...
   try go_page in_go works_as_its_page_says README.md

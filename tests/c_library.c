@@ -217,6 +217,13 @@ static void check_case(const char *name, const char *rule, const void *message, 
                                            : forms[i].seeded(message, len, &secrets), known);
 }
 
+/* Without optimizations, most versions take a minute for a message above 4 GiB, and V3 alone hashes one. */
+#ifdef __OPTIMIZE__
+#define IS_FAST 1
+#else
+#define IS_FAST 0
+#endif
+
 /* Compares the cases of a file. Each message is in memory of its length, so that a tool sees each read past its end.
  * Bytes of 0 that nobody writes need no memory. */
 static void check_vectors(const char *path)
@@ -236,9 +243,11 @@ static void check_vectors(const char *path)
         cases++;
         if (sscanf(digits, "zeros:%llu", &len) != 1)
             len = strlen(digits) / 2;
-        message = len <= SIZE_MAX ? (unsigned char *)calloc((size_t)len, 1) : NULL;
+        message = NULL;
+        if (len <= SIZE_MAX && (IS_FAST || len < sizeof line || strcmp(name, "v3") == 0))
+            message = (unsigned char *)calloc((size_t)len, 1);
         if (message == NULL && len > 0) {
-            printf("skipped %s: no memory for it\n", digits);
+            printf("skipped %s of %s: no memory or no time for it\n", name, digits);
             continue;
         }
         for (i = 0; sscanf(digits + 2 * i, "%2x", &byte) == 1; i++)
@@ -246,7 +255,7 @@ static void check_vectors(const char *path)
         check_case(name, secrets, message, (size_t)len, known);
         free(message);
     }
-    compare(path, "cases", cases, 3561);
+    compare(path, "cases", cases, 3568);
     if (file != NULL)
         fclose(file);
 }

@@ -36,7 +36,7 @@ def every_vector():
             words = (signed(int(word)),) if word else ()
             name = f"rapidhash_{version}" + "_seeded" * (kind == "make")
             found.append((name, words, bytes.fromhex(digits.strip("-")), signed(int(number))))
-    compare("vectors_without_a_call", sum("\town:" in line or "\tzeros:" in line for line in lines), 528 + 1)
+    compare("vectors_without_a_call", sum("\town:" in line or "\tzeros:" in line for line in lines), 528 + 8)
     return found
 
 

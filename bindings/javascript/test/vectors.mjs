@@ -20,8 +20,8 @@ function inPieces(hasher, message) {
 }
 
 /** Returns the hash of so many bytes of 0, more than an array of each engine can have. */
-function ofZeros(length) {
-  const [hasher, zeros] = [new library.V3(), new Uint8Array(2 ** 24)];
+function ofZeros(hasher, length) {
+  const zeros = new Uint8Array(2 ** 24);
   for (let left = length; left > 0; left -= zeros.length) hasher.update(zeros.subarray(0, left));
   return hasher.digest();
 }
@@ -37,10 +37,15 @@ function optionsOf(version, rule) {
   return name === "own" ? [{ secrets }] : [undefined, {}];
 }
 
+/** Returns the name of a version's calls, and the class of its hashers, if any. */
+function named(version) {
+  const name = version.replace(/_[a-z]/, (part) => part[1].toUpperCase());
+  return [name, library[name.replace("v", "V")]];
+}
+
 /** Compares the hashes of a message in each way. */
 function compare(version, message, options, hash) {
-  const name = version.replace(/_[a-z]/, (part) => part[1].toUpperCase());
-  const Stream = library[name.replace("v", "V")];
+  const [name, Stream] = named(version);
   const digits = hash.toString(16).padStart(16, "0");
   assert.equal(library[name](message, options), hash);
   assert.equal(library[`${name}Hex`](message, options), digits);
@@ -58,12 +63,13 @@ test("all vectors, whole and in pieces", () => {
   for (const line of lines) {
     const [version, rule, digits, hash] = line.split("\t");
     if (digits.startsWith("zeros:")) {
-      assert.equal(ofZeros(Number(digits.slice(6))), BigInt(hash));
+      const [, Stream] = named(version);
+      if (Stream) assert.equal(ofZeros(new Stream(), Number(digits.slice(6))), BigInt(hash));
       continue;
     }
     const pairs = digits === "-" ? [] : digits.match(/../g);
     const message = Uint8Array.from(pairs, (pair) => Number.parseInt(pair, 16));
     for (const options of optionsOf(version, rule)) compare(version, message, options, BigInt(hash));
   }
-  assert.equal(lines.length, 3561);
+  assert.equal(lines.length, 3568);
 });

@@ -41,16 +41,16 @@ public class VectorsTest {
         for (String[] words : lines("RAPIDHASH_VECTORS")) {
             Rapidhash version = versions.get(words[0]);
             long known = Long.parseUnsignedLong(words[3]);
-            if (words[2].startsWith("zeros:")) {
+            if (words[2].startsWith("zeros:") && STREAMED.contains(version)) {
                 assertEquals(known, ofZeros(version.stream(), Long.parseLong(words[2].substring(6))));
-            } else {
+            } else if (!words[2].startsWith("zeros:")) {
                 compare(version, bytesOf(words[2].replace("-", "")), words[1], known);
             }
             assertEquals(words[3], Rapidhash.toDecimal(known));
             assertEquals(String.format("%016x", known), Rapidhash.toHex(known));
             count++;
         }
-        assertEquals(3561, count);
+        assertEquals(3568, count);
     }
 
     private static void compare(Rapidhash version, byte[] message, String rule, long known) {
