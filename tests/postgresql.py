@@ -11,7 +11,7 @@ from pathlib import Path
 
 from cases import ROOM, TOP, blocks, compare, finish, shell, tell
 from sql import BINDINGS, DIGITS, HELLO, NOTHING, TEXT, TEXT_HASH, VERSIONS
-from sql import every_vector, lines_with_results, signed, unpack
+from sql import every_vector, lines_with_results, unpack
 
 PAGE = "bindings/postgresql/README.md"
 # The directory of its databases, which also contains its socket.
