@@ -18,6 +18,7 @@ class Item:
     doc: list
     signature: str = ""
     needs: list = field(default_factory=list)
+    ensures: list = field(default_factory=list)
     traits: list = field(default_factory=list)
     members: list = field(default_factory=list)
     impls: list = field(default_factory=list)
@@ -68,7 +69,8 @@ def items(lines, indent=""):
             item.signature = item.signature.split(" =")[0]
         elif kind == "fn" and not texts[end - 1].endswith(("{", ";")):
             clauses = " ".join(texts[end : texts.index("{", end) if "{" in texts[end:] else None])
-            item.needs = re.findall(r"requires\*? ?\w* ?\{ (.*?) \};?(?= requires| ensures|$)", clauses)
+            clause = r"{}\*? ?\w* ?\{{ (.*?) \}};?(?= requires| ensures|$)"
+            item.needs, item.ensures = (re.findall(clause.format(kind), clauses) for kind in ("requires", "ensures"))
         elif kind in ("struct", "enum") and texts[end - 1].endswith("{"):
             item.signature += " {\n" + "".join(fields(block[end:-1], kind, indent)) + "}"
         elif kind in ("impl", "trait"):

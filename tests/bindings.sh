@@ -130,7 +130,7 @@ instructions() {
   printf '%s\n' '#include <stdlib.h>' '#include "rapidhash_c.h"' 'struct rapidhash_secrets secrets;' \
     'uint64_t rust_hash(uint32_t, const void *, size_t, const struct rapidhash_secrets *);' \
     "__attribute__((noinline)) uint64_t counted(const void *bytes, size_t length) { return $1; }" \
-    "int main(int count, char **words) { rapidhash_seed_secrets($2, &secrets); " \
+    "int main(int count, char **words) { rapidhash_seed_secrets($2, &secrets);" \
     'return counted(calloc(4096, 1), atoi(words[count - 1])) == 7; }' >"$room/counted.c" &&
     cc -O2 -DRAPIDHASH_LINK "-I$top/include" "$room"/{counted.c,librust.a} "$archive" -lpthread -ldl -lm -o "$room/counted" &&
     for length in 16 100 4096; do

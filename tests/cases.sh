@@ -10,11 +10,17 @@ passed=0
 failed=0
 
 ok() {
+  rm -f "$room/untraced"
   passed=$((passed + 1))
   printf 'ok %s\n' "$1"
 }
 
+# Counts a failed case, unless it needs a trace that this machine does not allow: NAME REASON
 fail() {
+  if rm "$room/untraced" 2>/dev/null; then
+    printf 'skipped %s: strace cannot trace here\n' "$1"
+    return
+  fi
   failed=$((failed + 1))
   printf 'FAILED %s: %s\n' "$1" "$2"
 }
@@ -116,9 +122,12 @@ to_a_closed_pipe() { perl -e 'pipe R, W; close R; open STDOUT, ">&", W; exec @AR
 in_kibibytes() (ulimit -v "$1" && exec "${@:2}")
 
 # Runs a command in which calls of the system with a file fail, as strace's option inject says: FAILURE FILE COMMAND..
-failing() { strace -qqo /dev/null -P "$PWD/$2" -e "inject=$1" "${@:3}"; }
+failing() { can_trace && strace -qqo /dev/null -P "$PWD/$2" -e "inject=$1" "${@:3}"; }
 # Checks that a command reads a file in at most this many calls: CALLS FILE COMMAND..
-reads_in() { strace -qqo "$room/calls" -P "$PWD/$2" -e trace=read "${@:3}" && [ "$(wc -l <"$room/calls")" -le "$1" ]; }
+reads_in() {
+  can_trace && strace -qqo "$room/calls" -P "$PWD/$2" -e trace=read "${@:3}" && [ "$(wc -l <"$room/calls")" -le "$1" ]
+}
+can_trace() { strace -qqo /dev/null true || { : >"$room/untraced" && return 1; }; }
 
 # Prints the counts and exits with status 1 if a case failed.
 finish() {

@@ -99,28 +99,8 @@ runs by_a_link 0 "$known"$'\n' '' ./linked --v1 <something
 mapfile -t words < <(seq -f '--word%g' 4999)
 hashes many_words "$known" "${words[@]}" --v1 <something
 
-# The help, with its option at any position.
-cat >help <<'HELP'
-Usage: rapidhash <version> [opts] [filename]
-<version>
-  --v1    Use v1 hashing algorithm (no streaming)
-  --v2.0  Use v2.0 hashing algorithm (no streaming)
-  --v2.1  Use v2.1 hashing algorithm (no streaming)
-  --v2.2  Use v2.2 hashing algorithm (no streaming)
-  --v3    Use v3 hashing algorithm (default)
-  --v3-micro  Use v3 micro hashing algorithm
-  --v3-nano   Use v3 nano hashing algorithm
-[opts]
-  --protected  Use the protected variant (default: false)
-[filename]
-  Providing a filename is optional and will read a file directly. Otherwise input
-  is read from stdin.
-
-Note that only some rapidhash versions support streaming, others require
-buffering the entire input in memory.
-
-Docs: https://github.com/hoxxep/rapidhash?tab=readme-ov-file#cli
-HELP
+# The help of the page, with its option at any position.
+blocks "$top/docs/COMMANDS.md" text Usage >help
 runs help 0 "$(cat help)"$'\n' '' "$tool" --help
 runs help_last 0 "$(cat help)"$'\n' '' "$tool" missing --v1 --v3 -h
 runs help_to_a_full_output 1 '' "$write_fault" to_a_full_disk "$tool" --help

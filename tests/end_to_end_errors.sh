@@ -11,7 +11,7 @@ fault two_versions "$versions_fault" --v1 --v3
 fault two_versions_and_a_file "$versions_fault" missing --v3-micro --v3-nano
 fault missing_file "$open_fault" missing
 fault empty_name "$open_fault" ''
-fault name_of_300_bytes "$open_fault" "$(printf %300s)"
+fault name_of_300_bytes "$open_fault" "$(printf %300s '')"
 fault name_of_other_bytes "$open_fault" $'\xff'
 
 # Failures of reads and memory: a directory cannot be read, and the limit is below the input's length.

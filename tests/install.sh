@@ -171,8 +171,7 @@ serves_without_the_kit() {
 
 # Checks that a second installation replaces each file, so that a running program keeps the one that it has mapped.
 replaces_files() {
-  cp -rl "$prefix" "$room/kept" && find "$room/kept" -type f -exec sed -i '$a old' {} + &&
-    rm -rf "$prefix" && cp -rl "$room/kept" "$prefix" && installs PREFIX="$prefix" &&
+  find "$prefix" -type f -exec sed -i '$a old' {} + && cp -rl "$prefix" "$room/kept" && installs PREFIX="$prefix" &&
     [ -z "$(find "$room/kept" -type f -print0 | xargs -0 grep -axL old)" ] && ! grep -raxl old "$prefix"
 }
 

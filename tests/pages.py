@@ -64,7 +64,8 @@ def names():
         if not name.endswith((".md", ".tsv")):
             words.update(re.findall(r"\w+", (TOP / name).read_text(errors="replace")))
             words.update(re.findall(r"\w+", name))
-    for _, place, line in prose(TOP / "docs" / name for name in ("PROVED.md", "ARCHITECTURE.md", "C.md", "CPP.md")):
+    for _, place, line in prose(TOP / "docs" / f"{name}.md" for name in
+                                ("PROVED", "ARCHITECTURE", "C", "CPP", "DECISIONS", "PERFORMANCE")):
         for name in NAME.findall(line):
             yield from (f"{place}: no {part} of {name} in the code" for part in name.split("::") if part not in words)
 
@@ -100,15 +101,20 @@ def made_by(script):
     return said.splitlines() or [f"{script} ended with status {status}"] if status else []
 
 
-def preconditions():
-    """Checks that the pages of the calls have each precondition of the items that they show."""
+def clauses():
+    """Checks that the pages of the calls have each clause of the items that they show."""
     shown = "".join(page.read_text() for page in MADE.glob("*.md"))
+    item = re.compile(r"^( *pub (?:const )?fn .*?\n)( *(?:requires|ensures).*?)^ *\{", re.M | re.S)
     for file in TOP.glob("crates/rapidhash*/src/**/*.rt"):
-        for item in re.findall(r"^( *pub (?:const )?fn .*?\n)( *requires.*?)^ *(?:ensures|\{)", file.read_text(), re.M | re.S):
-            head = f"```rust\n{textwrap.dedent(item[0])}```\n\n"
-            told = re.findall("`([^`]*)`", shown.partition(head)[2].partition("\n")[0])
-            if head in shown and len(told) != item[1].count("requires") or not all(need in item[1] for need in told):
-                yield f"{file.name}: the page has {told} for {head}"
+        for head, contract in item.findall(file.read_text()):
+            head, contract = f"```rust\n{textwrap.dedent(head)}```\n\n", " ".join(contract.split())
+            counts = [len(re.findall(rf"\b{kind}\b", contract)) for kind in ("requires", "ensures")]
+            entries = [re.split("\n##+ `", entry)[0] for entry in shown.split(head)[1:]]
+            told = [[re.findall("`([^`]*)`", "".join(re.findall(rf"^{word}: (.*)", entry, re.M)))
+                     for word in ("Preconditions", "Proved")] for entry in entries]
+            if entries and not any(list(map(len, parts)) == counts and all(clause in contract for clause in sum(parts, []))
+                                   for parts in told):
+                yield f"{file.name}: the pages have {told} for {head}"
 
 
 def pictures():
@@ -124,7 +130,7 @@ def pictures():
 
 def program(name, *lines):
     """Writes a program that prints the next of these lines at each call, at last always the same, and returns its path."""
-    (ROOM / f"{name}.lines").write_text("".join(f"{line}\n" for line in lines))
+    (ROOM / f"{name}.lines").write_text("\n".join(map(str, lines)) + "\n")
     (ROOM / name).write_text('#!/bin/sh\nhead -n 1 "$0.lines"\n[ $(wc -l <"$0.lines") = 1 ] || sed -i 1d "$0.lines"\n')
     (ROOM / name).chmod(0o755)
     return ROOM / name
@@ -138,26 +144,24 @@ def benches():
     made, numbers = runpy.run_path(str(TOP / "bench" / "figures")), os.sched_getaffinity(0)
     harness.ROOM, harness.TRIES, harness.run, harness.print_heading = ROOM, 1, print, lambda _: None
     program("quiet", *[1] * (9 * len(numbers) + 1), 9)
-    times, programs = {"ours": 2, "rust": 4, "crate": 3}, {}
-    for row in ("v3 1", "v3 2"):
-        programs[row] = {name: [program(name + row, *(f"7 {least + more}" for more in (1, 0, 2)))] for name, least in times.items()}
-    programs["v3 1"]["ours"].append(program("slow", "7 9"))
-    loops = {("lto", name): program(name, f"v3\t1 sum\t{least}", f"v3\t1 sum\t{least + 1}") for name, least in times.items()}
+    times, rows = {"ours": 2, "rust": 4, "crate": 3}, ("v3 1", "v3 2")
+    programs = {row: {name: [program(name + row, *(f"7 {least + more}" for more in (1, 0, 2))), program("slow", "7 9")]
+                      for name, least in times.items()} for row in rows}
+    loops = {("lto", it): program(it, *(f"v3\t1 sum\t{least + more}" for more in (0, 1))) for it, least in times.items()}
     with contextlib.redirect_stdout(io.StringIO()) as printed:
-        harness.measure("T", "ms", [*zip(programs)], lambda row: (row, harness.take(programs[row], [], 1)), 3)
+        harness.measure("T", "ms", [*zip(rows)], lambda row: (row, harness.take(programs[row], [], 1)), 3)
         harness.print_rows("T", harness.alternate(loops, [], 2), "ours", ["crate"])
         with contextlib.suppress(SystemExit):
-            harness.take({"ours": [program("a", "7 1")], "crate": [program("b", "8 1")]}, [], 1)
-            print("different values are accepted")
+            print("different", harness.take({"ours": [program("a", "7 1")], "crate": [program("b", "8 1")]}, [], 1))
     os.sched_setaffinity(0, numbers)
     found = re.findall(r"\bcrate/.*|^v3.*|^# \d of \d|^diff.*", printed.getvalue(), re.M)
     found += [made["cell"](times, "ours", "crate"), made["means"]({"v3 1": times}, r"\d", "ours")["v3"]]
-    if found != ["# 5 of 6", *(f"v3 {row}\tms\t2.00\t4.00\t3.00" for row in "12"), "crate/ours 1.500", "crate/rust 0.750",
+    if found != ["# 5 of 6", *(f"{row}\tms\t2.00\t4.00\t3.00" for row in rows), "crate/ours 1.500", "crate/rust 0.750",
                  "v3 1, lto\tns\t2.00\t3.00", "crate/ours 1.500", "2.00 (1.50)", 1.5]:
         yield f"the benches print {found}"
 
 
-for check in (links, paths, limits, names, vectors, statements, preconditions, benches, pictures):
+for check in (links, paths, limits, names, vectors, statements, clauses, benches, pictures):
     tell(check.__name__, *check())
 for made, maker in (("calls", "bin/api"), ("version", "bin/version"), ("figures", "bench/figures")):
     tell(made, *made_by(maker))

@@ -11,7 +11,7 @@ from pathlib import Path
 
 from cases import ROOM, TOP, blocks, compare, finish, shell, tell
 from sql import BINDINGS, DIGITS, HELLO, NOTHING, TEXT, TEXT_HASH, VERSIONS
-from sql import every_vector, lines_with_results, signed, unpack
+from sql import every_vector, lines_with_results, unpack
 
 PAGE = "bindings/postgresql/README.md"
 # The directory of its databases, which also contains its socket.
@@ -130,10 +130,9 @@ def rest():
         compare(query, ask(query), [wanted])
     [query] = re.findall(r"^SELECT .*_agg.*;$", blocks(PAGE, "sql")[0], re.M)
     compare("rows_in_order", ask(query), [str(HELLO)])
-    query = """DROP TABLE words; DROP EXTENSION rapidhash; CREATE ROLE owner; CREATE SCHEMA one AUTHORIZATION owner;
-        CREATE SCHEMA other AUTHORIZATION owner; GRANT CREATE ON DATABASE postgres TO owner; SET ROLE owner;
-        CREATE EXTENSION rapidhash SCHEMA one; RESET ROLE; ALTER EXTENSION rapidhash SET SCHEMA other;
-        SELECT other.rapidhash_v3('hello')"""
+    ask("DROP TABLE words; DROP EXTENSION rapidhash; CREATE ROLE owner; GRANT CREATE ON DATABASE postgres TO owner")
+    query = "SET ROLE owner; CREATE SCHEMA one; CREATE SCHEMA two; CREATE EXTENSION rapidhash SCHEMA one; RESET ROLE; "
+    query += "ALTER EXTENSION rapidhash SET SCHEMA two; SELECT two.rapidhash_v3('hello')"
     compare("owner_and_schema", ask(query), [str(HELLO)])
     compare("dropped", ask(f"DROP EXTENSION rapidhash; {FUNCTIONS}"), [])
 

@@ -1,8 +1,7 @@
 #!/usr/bin/env python3
-"""Runs the examples in README.md: each command of its shell blocks, and its two programs in a new repository with a
-copy of the library. An unknown command or block is a failure, so everything in README.md is tested. The program of
-docs/RATTLE.md also runs there. The numbers in docs/PROVED.md are those that the checker prints. The values are those of
-the Rust crate. With the arguments --repository FOLDER, it only writes that repository, for tests/vendor.sh."""
+"""Runs each command of README.md's shell blocks, and the program of docs/RATTLE.md in a new repository with a copy of
+the library. The numbers in docs/PROVED.md are those that the checker prints. The values are those of the Rust crate.
+With the arguments --repository FOLDER, it only writes that repository, for tests/vendor.sh."""
 
 import os
 import re
@@ -17,45 +16,6 @@ ELSEWHERE = ('make && make install PREFIX="$HOME/.local"', "make check",
              'lib="$HOME/.local/lib" && export PKG_CONFIG_PATH="$lib/pkgconfig"',
              'cc hello.c $(pkg-config --cflags --libs rapidhash_c) -Wl,-rpath,"$lib" && ./a.out')
 
-# The code of a user's program around the blocks of README.md. It prints values that depend on each line of the blocks.
-MAIN = """//! The programs of README.md.
-#![tactic(auto)]
-
-{uses}
-use anyhow::Result;
-use std::alloc::{{AllocError, Global}};
-use std::fs::File;
-use std::io;
-use std::random::RandomSource;
-
-fn hashes(file: File) -> io::Result<[u64; 4]> {{
-{first}
-    Ok([shard, hash, same_shard, fingerprint])
-}}
-
-fn count(random_word: u64, second_random_word: u64, alloc: Global) -> Result<u64, AllocError> {{
-{second}
-    for text in ["a", "b", "a"] {{
-        let count = counts.entry(text)?.or_insert(0);
-        *count = count.saturating_add(1);
-    }}
-    Ok(counts.get(&"a").copied().unwrap_or(0))
-}}
-
-fn random_word(rt: &HostRuntime) -> io::Result<u64> {{
-    let mut bytes = [0; 8];
-    rt.fill_bytes(&mut bytes)?;
-    Ok(u64::from_le_bytes(bytes))
-}}
-
-fn main(rt: HostRuntime) -> Result<()> {{
-    let [shard, hash, same_shard, fingerprint] = hashes(File::open(&rt, "something")?)?;
-    let twice = count(random_word(&rt)?, random_word(&rt)?, rt.alloc())?;
-    println!(rt; "{{shard}} {{hash}} {{same_shard}} {{fingerprint}} {{twice}}")?;
-    Ok(())
-}}
-"""
-PRINTED = "43 14860858794976638546 43 11612086640089003834 2\n"
 # Calls of the functions in docs/RATTLE.md, for the end of its first function, and the output of the program with them.
 CALLS = """    println!(rt; "{} {}", in_pieces(), of_reader(b"hello".as_slice())?)?;
     println!(rt; "{} {}", with_secrets(0x1234_5678), count(&rt, [1, 2], "a b a")?)?;
@@ -97,53 +57,29 @@ def check_statements():
     compare("the lines of the definition", f"{sum(lines)} lines", re.search(r"seven .*?(\d+ lines)", page, re.S)[1])
 
 
-def parted(text):
-    """Returns the import lines, and the other lines with the indentation of a function."""
-    lines = text.splitlines()
-    uses = [line for line in lines if line.startswith("use ")]
-    return uses, "\n".join(f"    {line}".rstrip() for line in lines if not line.startswith("use "))
-
-
 def write_repository(place):
-    """Writes a user's repository, with both programs in a single crate and the library from make vendor."""
-    programs = blocks("README.md", "rust")
-    compare("two programs", len(programs), 2)
-    crate = place / "crates" / "readme"
+    """Writes a user's repository, with the program of docs/RATTLE.md and the library from make vendor."""
+    crate = place / "crates" / "first"
     (crate / "src").mkdir(parents=True)
-    (crate / "data").mkdir()
-    (crate / "data" / "something").write_text("something\n")
-    (crate / "stdout").write_text(PRINTED)
+    first, *others = blocks("docs/RATTLE.md", "rust")
+    program = "\n".join([first.replace("    Ok(())\n", f"{CALLS}    Ok(())\n"), *others])
+    (crate / "src" / "main.rt").write_text(program)
+    (crate / "stdout").write_text(TUTORIAL)
     status, printed = shell(f"make -s vendor INTO='{place}'")
     tell("make vendor", *[printed[-600:]] * (status != 0))
-    rows = re.findall(r"^\w+:.*\n", printed.replace("YOUR_CRATE: rapidhash", "readme: rapidhash anyhow"), re.M)
+    rows = re.findall(r"^\w+:.*\n", printed.replace("YOUR_CRATE: rapidhash", "first: rapidhash anyhow"), re.M)
     (place / "crates.txt").write_text("".join(rows))
     (place / "HANDLES").write_text("Handles allowed: none.\n")
-    (uses, first), (other_uses, second) = map(parted, programs)
-    main = MAIN.format(uses="\n".join(uses + other_uses), first=first, second=second)
-    (crate / "src" / "main.rt").write_text(main)
     shell("git init -q", place)
     shell("rt fmt", crate)
     return crate
 
 
-def run_programs():
-    """Proves and runs both programs as a user does."""
+def run_program():
+    """Proves and runs the program as a user does."""
     crate = write_repository(ROOM / "repository")
     shell("rt run -- 2>/dev/null", crate)
-    compare("the programs of README.md", shell("../out/readme", crate / "data")[1], PRINTED)
-
-
-def run_tutorial():
-    """Runs the blocks of docs/RATTLE.md as a single program in that repository, without a proof."""
-    repository = ROOM / "repository"
-    crate = repository / "crates" / "first"
-    (crate / "src").mkdir(parents=True)
-    first, *others = blocks("docs/RATTLE.md", "rust")
-    program = "\n".join([first.replace("    Ok(())\n", f"{CALLS}    Ok(())\n"), *others])
-    (crate / "src" / "main.rt").write_text(program)
-    with open(repository / "crates.txt", "a") as rows:
-        rows.write("first: rapidhash anyhow\n")
-    compare("the program of docs/RATTLE.md", shell("rt try 2>/dev/null", crate)[1], TUTORIAL)
+    compare("the program of docs/RATTLE.md", shell("out/first", crate)[1], TUTORIAL)
 
 
 if sys.argv[1:2] == ["--repository"]:
@@ -151,6 +87,5 @@ if sys.argv[1:2] == ["--repository"]:
 else:
     run_shell_blocks()
     check_statements()
-    run_programs()
-    run_tutorial()
+    run_program()
 finish()

@@ -17,15 +17,14 @@ ends() {
   [ "$status" = "$1" ] && [ "$(tail -n 1 "$room/said")" = "$2" ]
 }
 
-# Runs tests/must_fail.py over an edit, which must end with this line if the checker says this of it: LAST-LINE SAID
+# Runs tests/must_fail.py over an edit of which the checker says this, and compares its last line: LAST-LINE SAID
 edit_ends() {
-  local copy=$room/edits
-  rm -rf "$copy" && mkdir -p "$copy"/{crates/one/{must-fail,src},tests,bin} && touch "$copy"/{crates.txt,HANDLES} &&
-    cp "$top"/tests/{cases,must_fail}.py "$copy/tests" && echo 'fn f() { 1 }' >"$copy/crates/one/src/lib.rt" &&
-    printf '%s\n' 'refused: f, goal' 'file: src/lib.rt' 'old: { 1 }' 'new: { 2 }' >"$copy/crates/one/must-fail/a.edit" &&
-    printf '#!/bin/sh\ngrep -q "{ 2 }" src/lib.rt && echo "fn one::f: $SAID"\n' >"$copy/bin/rt" && chmod +x "$copy/bin/rt" &&
-    SAID=$2 PATH="$copy/bin:$PATH" python3 "$copy/tests/must_fail.py" >"$room/said"
-  [ $? -eq "${1:10:1}" ] && [ "$(tail -n 1 "$room/said")" = "$1" ]
+  rm -rf "$room/edits" && mkdir -p "$room"/edits/{crates/one/{must-fail,src},tests,bin} && cd "$room/edits" &&
+    touch crates.txt HANDLES && cp "$top"/tests/{cases,must_fail}.py tests && echo '{ 1 }' >crates/one/src/lib.rt &&
+    printf '%s\n' 'refused: f, goal' 'file: src/lib.rt' 'old: { 1 }' 'new: { 2 }' >crates/one/must-fail/a.edit &&
+    printf '#!/bin/sh\ngrep -q "{ 2 }" src/lib.rt && echo "fn one::f: $SAID"\n' >bin/rt && chmod +x bin/rt &&
+    SAID=$2 PATH=$PWD/bin:$PATH python3 tests/must_fail.py >../said
+  [ "$?:$(tail -n 1 "$room/said")" = "${1:10:1}:$1" ]
 }
 
 # Builds a repository whose gate runs this script instead of tests/pages.py, and others that pass, except perhaps one:
@@ -52,6 +51,7 @@ try a_failing_case ends 1 '99 passed, 1 failed' "$start; for it in {1..99}; do t
 try a_skipped_case ends 0 '1 passed, 0 failed' "$start; try good true; try_with absent no_such_program true; finish"
 for bad in 'runs bad 0 "" "" echo more' 'runs bad 0 "" "" sh -c "exit 3"' 'runs bad 0 "" "" sh -c "echo more >&2"' \
   'prepare_by false' 'try bad failing read:error=EIO a wc -w a' 'try bad reads_in 1 a wc -w a'; do
+  [[ $bad != *' wc '* ]] || strace -qqo /dev/null true || { echo "skipped $bad: strace cannot trace here" && continue; }
   try "a_failure_of: $bad" ends 1 '0 passed, 1 failed' "$start; $bad; finish"
 done
 long='from cases import *; compare("bad", [1] * 100 + [2], [1] * 100 + [3]); compare("a", shell("false; true")[0], 1)'
@@ -68,9 +68,8 @@ try a_gate_with_too_few_cases gate_fails 'echo "1 passed, 0 failed"' 99
 for part in .ci/setup bin/{make,rt} tests/{eraser.py,tools_by_cargo.sh,dist.sh}; do
   try "a_gate_in_which_$part fails" gate_fails 'echo "1 passed, 0 failed"' 0 "$part"
 done
-# shellcheck disable=SC2016
-for said in '1 passed, 0 failed|not proved: `goal`' '0 passed, 1 failed|not proved: `other`' '0 passed, 1 failed|proved: `goal`'; do
-  try "an_edit_of_which_it_says_${said#*|}" edit_ends "${said%|*}" "${said#*|}"
+for said in 1,0:not\ proved:\`goal\` 0,1:not\ proved:\`other\` 0,1:proved:\`goal\`; do
+  try "edit_$said" edit_ends "${said:0:1} passed, ${said:2:1} failed" "${said:4}"
 done
 
 printf '%s passed, %s failed\n' "$passed" "$failed"

@@ -3,7 +3,7 @@
 # halfway. The last line counts the cases.
 #
 # With the argument ci, it also runs the merge gate of such a repository, which proves everything from scratch and runs
-# the programs of README.md. This takes some minutes: make test-vendor.
+# the program of docs/RATTLE.md. This takes some minutes: make test-vendor.
 . "$(dirname "$0")/cases.sh"
 exec </dev/null
 library=$room/library
@@ -83,8 +83,8 @@ keeps_what_was_there() {
     prlimit --fsize=4096 "$vendor" "$room/a folder" && is_copy "$room/a folder"
 }
 
-# Runs the merge gate of a repository with the library and the programs of README.md. It proves all three crates from
-# scratch, runs the library's tests, and checks that the program prints the values from README.md.
+# Runs the merge gate of a repository with the library and the program of docs/RATTLE.md. It proves all three crates from
+# scratch, runs the library's tests, and checks that the program prints its values.
 passes_the_gate() {
   "$top/tests/readme.py" --repository "$room/user" && cd "$room/user" && echo out/ >.gitignore &&
     git add -A && git -c user.name=User -c user.email=user@example.org commit -qm 'Take the library' &&

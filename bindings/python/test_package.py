@@ -16,22 +16,25 @@ DATA = bytes(range(120))
 KNOWN = 7088138960297660729  # The V3 hash of DATA by the Rust crate, as in test_rapidhash.py
 WITH_SEED_1 = 8806718467852582029
 
-# Four threads write the same piece. Each write takes so long that the threads overlap in the library.
+# Four threads write the same piece. Each write takes so long that the threads overlap in the library. Each answer
+# meanwhile must be that of whole pieces.
 SHARED = """
 import threading, rapidhash
-piece, hasher, alone = bytes(range(250)) * 20000, rapidhash.V3(), rapidhash.V3()
-known, found = {alone.update(piece).intdigest() for _ in range(200)}, []
+piece, hasher, alone, found, whole = bytes(range(250)) * 20000, rapidhash.V3(), rapidhash.V3(), set(), set()
 
 def write():
     for _ in range(50):
-        found.extend((hasher.update(piece).intdigest(), hasher.copy().intdigest()))
+        hasher.update(piece)
+        found.update({hasher.intdigest(), hasher.copy().intdigest()})
 
 threads = [threading.Thread(target=write) for _ in range(4)]
 for thread in threads:
     thread.start()
 for thread in threads:
     thread.join()
-print(hasher.intdigest() == alone.intdigest(), known.issuperset(found))
+for _ in range(200):
+    whole.add(alone.update(piece).intdigest())
+print(hasher.intdigest() == alone.intdigest() and found <= whole)
 """
 
 
@@ -239,7 +242,7 @@ class Hashers(unittest.TestCase):
 
     def test_threads_share_a_hasher_of_long_pieces(self):
         """Runs in its own process, because a write that overlaps another can end the interpreter."""
-        self.assertEqual(run(SHARED), (0, "True True\n"))
+        self.assertEqual(run(SHARED), (0, "True\n"))
 
 
 if __name__ == "__main__":
