@@ -16,7 +16,8 @@ installs_as_the_page_says() {
 # Checks that the wheel has its files, the licences of the repository, and no other files.
 has_its_files() {
   "$python" -m zipfile -e "$top"/build/wheels/*-cp311-abi3-linux_x86_64.whl "$room/files" && cd "$room/files" &&
-    has_the_licences yervound_rapidhash-*.dist-info && grep -x 'Name: yervound-rapidhash' ./*.dist-info/METADATA &&
+    has_the_licences yervound_rapidhash-*.dist-info && [ "$(grep -cxE \
+    'Name: yervound-rapidhash|License: MIT OR Apache-2\.0|Requires-Python: >=3\.8' ./*.dist-info/METADATA)" -eq 3 ] &&
     ls | diff - <(printf '%s\n' rapidhash yervound_rapidhash-1.0.0.dist-info) &&
     LC_ALL=C ls rapidhash | diff - <(printf '%s\n' __init__.py __init__.pyi _extension.abi3.so _secrets.py py.typed)
 }
