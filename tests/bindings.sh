@@ -166,6 +166,8 @@ test_go() {
   local os
   try go_licences has_the_licences "$top/bindings/go"
   try go_layout in_go bash -c '[ -z "$(gofmt -l .)" ]'
+  # The functions, methods, and types of the release.
+  try go_names in_go bash -c '[ "$(go doc -all | grep -cE "^(func|type) ")" -eq 56 ]'
   try go in_go env CGO_ENABLED=0 go test -count 1 .
   try go_race in_go go test -count 1 -short -race .
   try go_fuzz in_go go test -run - -fuzz FuzzPieces -fuzztime 20000x .

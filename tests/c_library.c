@@ -138,7 +138,7 @@ static void check_copy(const struct stream_form *form)
 
 static void check_large(const struct stream_form *form)
 {
-    static const size_t sizes[] = {16, 64, 112, 1024, 65536, sizeof large};
+    static const size_t sizes[] = {8, 64, 112, 1024, 65536, sizeof large};
     struct rapidhash_secrets secrets;
     struct rapidhash_stream stream;
     char what[40];

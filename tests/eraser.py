@@ -163,6 +163,9 @@ for name, text in REFUSED.items():
     tell(f"{name} is refused", *[f"{erased(text)!r}"] * (not isinstance(erased(text), Refused)))
 for name, wanted, found in assertions():
     compare(f"{name}.rs has the assertions of its source", found, wanted)
+made = {file for file in TOP.glob("rust/**/*.rs") if file.read_text().startswith("// Made by bin/")}
+tables = rust_crate.SOURCES, rust_crate.TESTS, rust_crate.TOOLS
+compare("the generated files", made, {TOP / f"rust/{target}.rs" for _, _, target in rust_crate.sources(*tables)})
 for name, rattle, rust, left_out in sources():
     strange = numbers(rust) - numbers((TOP / "crates" / f"{name.replace('/', '/src/', 1)}.rt").read_text())
     tell(f"{name}.rs is {name}.rt without its contracts", *difference(rattle, rust, left_out), *sorted(strange))

@@ -213,6 +213,17 @@ says memory_refused memory in_kibibytes 32768 "$program" -c large
 try large_file in_kibibytes 32768 "$program" large
 try reads_in_pieces reads_in 1025 large "$program" large
 
+# What cargo's build has in place of parts of the kit: reads to the end, lists, and arguments.
+if [ -n "${BUILT-}" ]; then
+  head -c 60000 large >small
+  try reads_of_a_small_file reads_in 5 small "$program" -a v1 small
+  runs interrupted_read 0 $'dd91317eefdb7bf5  first\n' '' failing read:error=EINTR:when=1 first "$program" -a v1 first
+  runs long_input 0 $'d0c1f214a7d9bf5c  -\n' '' "$program" -a v1 < <(head -c 140000000 /dev/zero)
+  yes 'a1266b469390773a  first' | head -n 70000 >long_list
+  try long_list bash -c '[ "$("$1" -c long_list | wc -l)" -eq 70000 ]' - "$program"
+  try many_names bash -c '[ "$("$1" $(yes first | head -n 70000) | wc -l)" -eq 70000 ]' - "$program"
+fi
+
 # A file above 4 GiB, read in pieces by all versions. The values are the Rust crate's.
 truncate -s 4294967301 sparse
 while read -r version hash; do

@@ -47,11 +47,20 @@ passes() {
   java -ea -cp "$jar:$room/tests:$junit" org.junit.runner.JUnitCore "$package.$1"
 }
 
-# Checks that the module has the version of the pom.
+# Checks that the module has the version of the pom, and that its users need no other package.
 pom_is_current() {
   local version
-  version=$(jar -f "$jar" -d | sed -n "s/^$package@\\([0-9.]*\\) .*/\\1/p") &&
-    grep -xF "  <version>$version</version>" "$folder/pom.xml"
+  version=$(jar -f "$jar" -d | sed -n "s/^$package@\\([0-9.]*\\) .*/\\1/p") && [[ $(<"$folder/pom.xml") == *"
+  <groupId>example.yervound</groupId>
+  <artifactId>yervound-rapidhash</artifactId>
+  <version>$version</version>"* ]] &&
+    [ "$(grep -c '<artifactId>' "$folder/pom.xml")" -eq $((1 + $(grep -cx ' *<scope>test</scope>' "$folder/pom.xml"))) ]
+}
+
+# Checks that the classes have the number of public types and members that the package had at its release.
+has_its_names() {
+  jar -tf "$jar" | sed -n 's|^\(example/.*\)\.class$|\1|p' | xargs javap -cp "$jar" -public >"$room/names" &&
+    cat "$room/names" && [ "$(grep -c '\bpublic ' "$room/names")" -eq 42 ]
 }
 
 if ! command -v javac >/dev/null || [ ! -f /usr/share/java/junit4.jar ]; then
@@ -65,6 +74,7 @@ prepare_by compile "$room/tests" "$jar:$junit" "$folder/src/test"
 try java_licences has_the_licences "$folder"
 try java_module runs_as_a_module
 try java_pom pom_is_current
+try java_names has_its_names
 for test in "$folder"/src/test/java/example/yervound/rapidhash/*Test.java; do
   try "java_$(basename "$test" .java)" passes "$(basename "$test" .java)"
 done

@@ -12,7 +12,8 @@ has_its_files() {
   has_the_licences "$folder" && (cd "$folder" && LC_ALL=C ls) | diff - <(
     printf '%s\n' LICENSE-APACHE LICENSE-MIT NOTICE README.md arguments.mjs index.d.cts index.d.ts library.mjs \
       module.mjs package.json rapidhash.cjs rapidhash.mjs stream.mjs
-  )
+  ) && cd "$room/first" && node -p 'const its = require("yervound-rapidhash/package.json");
+    `${its.license}, ${its.engines.node}, ${its.sideEffects}`' | grep -x 'MIT OR Apache-2.0, >=18, false'
 }
 
 # Lays out the tests beside the installed package, with the files that they read.

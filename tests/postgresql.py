@@ -92,9 +92,9 @@ def types():
 
 
 def aggregates():
-    """Tests the aggregates on a hundred thousand rows, in an order different from the table's, and over windows."""
+    """Tests the aggregates on 300,000 rows, in an order different from the table's, and over windows."""
     ask("CREATE TABLE many AS SELECT place, place % 3 AS part, 'user:' || place AS word "
-        "FROM generate_series(0, 99999) place ORDER BY reverse(place::text)")
+        "FROM generate_series(0, 299999) place ORDER BY reverse(place::text)")
     whole = "string_agg(word, '' ORDER BY place)"
     for version in VERSIONS[4:7]:
         for seed in ("", ", 1", ", 4294967296", ", -1"):
@@ -116,7 +116,7 @@ def aggregates():
     ask("CREATE TABLE compressed AS SELECT repeat('hello', 600) AS word FROM generate_series(1, 3)")
     compare("compressed_rows", ask("SELECT rapidhash_v3_agg(word) = rapidhash_v3(repeat('hello', 1800)) "
                                    "FROM compressed; DROP TABLE compressed"), ["t"])
-    found = ask("SELECT rapidhash_v3_nano_agg(1, place) FROM many")[:1]
+    found = ask("SELECT rapidhash_v3_nano_agg(1, place::bigint << 32) FROM many")[:1]
     compare("other_seed", [line.partition("ERROR:  ")[2] for line in found],
             ["rapidhash_v3_nano_agg: the seed must be the same in every row"])
     ask("DROP TABLE many")

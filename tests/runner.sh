@@ -27,7 +27,8 @@ edit_ends() {
   [ "$?:$(tail -n 1 "$room/said")" = "${1:10:1}:$1" ]
 }
 
-# Builds a repository whose gate runs this script instead of tests/pages.py, and others that pass: SCRIPT CASES
+# Builds a repository whose gate runs this script instead of tests/pages.py, and others that pass, except perhaps one:
+# SCRIPT CASES FAILING
 gate_with() {
   local copy=$room/gate name
   rm -rf "$copy" && mkdir -p "$copy/.ci" "$copy/tests" "$copy/bin" && cp "$top/.ci/run" "$copy/.ci" &&
@@ -36,29 +37,39 @@ gate_with() {
       tests/example_{bloom,dedupe,perfect,shards,sums}.sh; do
       printf '#!/bin/sh\necho "1 passed, 0 failed"\n' >"$copy/$name" && chmod +x "$copy/$name" || return 1
     done &&
-    printf '#!/bin/sh\n%s\n' "$1" >"$copy/tests/pages.py" &&
+    printf '#!/bin/sh\n%s\n' "$1" >"$copy/tests/pages.py" && { [ -z "${3-}" ] || echo 'exit 1' >"$copy/$3"; } &&
     (cd "$copy" && PATH="$copy/bin:$PATH" RAPIDHASH_TEST_MACHINES='' bash .ci/run >"$room/said" 2>&1)
 }
 
-# Checks that the gate fails with this script, and that its last line counts a failure: SCRIPT CASES
+# Checks that the gate then fails, and that its last line counts a failure: SCRIPT CASES FAILING
 gate_fails() {
-  ! gate_with "$1" "$2" && tail -n 1 "$room/said" | grep -qE '^[0-9]+ passed, [1-9][0-9]* failed$'
+  ! gate_with "$@" && tail -n 1 "$room/said" | grep -qE '^[0-9]+ passed, [1-9][0-9]* failed$'
 }
 
-start='. "$(dirname "$0")/cases.sh"'
-try a_failing_case ends 1 '1 passed, 1 failed' "$start; try good true; try bad false; finish"
+start='. "$(dirname "$0")/cases.sh"; cd "$room"; echo >a'
+try a_failing_case ends 1 '99 passed, 1 failed' "$start; for it in {1..99}; do try a true; done; try b false; finish"
 try a_skipped_case ends 0 '1 passed, 0 failed' "$start; try good true; try_with absent no_such_program true; finish"
-try a_wrong_output ends 1 '0 passed, 1 failed' "$start; cd \"\$room\"; runs bad 0 '' '' echo more; finish"
-try a_wrong_status ends 1 '0 passed, 1 failed' "$start; cd \"\$room\"; runs bad 0 '' '' sh -c 'exit 3'; finish"
-long='import cases; cases.compare("bad", [1] * 100 + [2], [1] * 100 + [3]); cases.finish()'
-try long_values_that_differ ends 1 '0 passed, 1 failed' "$long" python3
+for bad in 'runs bad 0 "" "" echo more' 'runs bad 0 "" "" sh -c "exit 3"' 'runs bad 0 "" "" sh -c "echo more >&2"' \
+  'prepare_by false' 'try bad failing read:error=EIO a wc -w a' 'try bad reads_in 1 a wc -w a'; do
+  try "a_failure_of: $bad" ends 1 '0 passed, 1 failed' "$start; $bad; finish"
+done
+long='from cases import *; compare("bad", [1] * 100 + [2], [1] * 100 + [3]); compare("a", shell("false; true")[0], 1)'
+try long_values_that_differ ends 1 '1 passed, 1 failed' "$long; finish()" python3
+try stale_files env -C "$top" python3 -Bc 'import sys; sys.argv = ["", "--check"]; sys.path.insert(0, "bin")
+from made_files import TOP, run
+name, text = "LICENSE-APACHE", (TOP / "LICENSE-APACHE").read_text()
+assert [run("", "", {it: new}) for it, new in ((name, text), (name, text[:-9]), (name, ""), ("none", text))] == [0, 1, 1, 1]'
 try a_gate_that_passes gate_with 'echo "1 passed, 0 failed"' 20
 try a_gate_with_a_failure gate_fails 'echo "3 passed, 1 failed"' 20
 try a_gate_with_a_bad_status gate_fails 'echo "3 passed, 0 failed"; exit 1' 20
 try a_gate_with_a_script_that_dies gate_fails 'kill $$' 20
 try a_gate_with_too_few_cases gate_fails 'echo "1 passed, 0 failed"' 99
-for said in 1,0:not\ proved:\`goal\` 0,1:not\ proved:\`other\` 0,1:proved:\`goal\`; do
-  try "edit_$said" edit_ends "${said:0:1} passed, ${said:2:1} failed" "${said:4}"
+for part in .ci/setup bin/{make,rt} tests/{eraser.py,tools_by_cargo.sh,dist.sh}; do
+  try "a_gate_in_which_$part fails" gate_fails 'echo "1 passed, 0 failed"' 0 "$part"
+done
+# shellcheck disable=SC2016
+for said in '1 passed, 0 failed|not proved: `goal`' '0 passed, 1 failed|not proved: `other`' '0 passed, 1 failed|proved: `goal`'; do
+  try "an_edit_of_which_it_says_${said#*|}" edit_ends "${said%|*}" "${said#*|}"
 done
 
 printf '%s passed, %s failed\n' "$passed" "$failed"

@@ -8,7 +8,7 @@ import sqlite3
 
 from cases import ROOM, TOP, blocks, compare, finish, shell, tell
 from sql import BINDINGS, DIGITS, HELLO, NOTHING, TEXT, TEXT_HASH, VERSIONS
-from sql import every_vector, lines_with_results, unpack
+from sql import every_vector, lines_with_results, signed, unpack
 
 PAGE = "bindings/sqlite/README.md"
 STREAMS = VERSIONS[4:7]
@@ -21,7 +21,7 @@ ERRORS = {
     "rapidhash_hex('1')": "rapidhash_hex: the hash must be an INTEGER",
     "rapidhash_v3_agg(1.5)": f"rapidhash_v3_agg: {REAL}",
     "rapidhash_v3_micro_agg(NULL, '1')": "rapidhash_v3_micro_agg: the seed must be an INTEGER",
-    "rapidhash_v3_nano_agg(1, place) FROM many": "rapidhash_v3_nano_agg: the seed must be the same in every row",
+    "rapidhash_v3_nano_agg(1, place << 32) FROM many": "rapidhash_v3_nano_agg: the seed must be the same in every row",
     "rapidhash_v3_agg(1) OVER (ROWS 1 PRECEDING) FROM many":
         "rapidhash_v3_agg: the window must begin with UNBOUNDED PRECEDING",
     "rapidhash_v3()": "wrong number of arguments to function rapidhash_v3()",
@@ -167,5 +167,11 @@ aggregates(loaded)
 errors(loaded)
 schema(loaded)
 page(loaded)
+# The values of the Rust crate for 140 million bytes of 0, as in tests/end_to_end.sh and tests/javascript.sh.
+query = "SELECT rapidhash_v1(zeroblob(140000000)), rapidhash_v2_2(CAST(zeroblob(140000000) AS TEXT))"
+compare("long_values", ask(loaded, query), [(signed(15042570400923500380), signed(1949155381881807616))])
+compare("names", (ask(loaded, "SELECT count(*) FROM pragma_function_list WHERE name LIKE 'rapidhash%'"),
+                  shell("nm -D --defined-only build/rapidhash.so | cut -d ' ' -f 3")[1]),
+        ([(31,)], "sqlite3_rapidhash_init\n"))
 compare("failing_memory", shell(MEMORY), (0, "every failed allocation ended in SQLITE_NOMEM\n"))
 finish()

@@ -41,6 +41,17 @@ func TestTakesWhatWritersTake(t *testing.T) {
 		t.Fatal(size, err)
 	}
 	compare(t, "copied", stream.Sum64(), V3(message))
+	stream.Reset()
+	for at := range message {
+		stream.Write(message[at : at+1])
+	}
+	compare(t, "in single bytes", stream.Sum64(), V3(message))
+	for name, call := range calls {
+		compare(t, name+" of a long string", call.text(string(message)), call.plain(message))
+	}
+	stream.Reset()
+	stream.WriteString(string(message))
+	compare(t, "a long string", stream.Sum64(), V3(message))
 	sum := stream.Sum([]byte{7})
 	if len(sum) != 1+stream.Size() || sum[0] != 7 || sum[1] != byte(stream.Sum64()>>56) {
 		t.Errorf("%x is not 7 and then the hash", sum)
@@ -74,9 +85,10 @@ func TestSavedStates(t *testing.T) {
 }
 
 func TestRefusedStates(t *testing.T) {
-	stream := NewV3Nano(&own)
+	stream, other := NewV3Nano(&own), NewV3Nano(nil)
 	stream.Write(data())
-	saved, _ := stream.MarshalBinary()
+	other.Write(data())
+	saved, _ := other.MarshalBinary()
 	with := func(at int, value byte) []byte {
 		changed := append([]byte(nil), saved...)
 		changed[at] = value

@@ -107,7 +107,9 @@ func (call call) checkZeros(t *testing.T, name, digits string, known uint64) {
 	compare(t, name+" of zeros", call.plain(zeros), known)
 	if call.start != nil {
 		stream := call.start(nil)
-		stream.Write(zeros)
+		if count, err := stream.Write(zeros); count != size || err != nil {
+			t.Error(count, err)
+		}
 		compare(t, name+" of zeros in a stream", stream.Sum64(), known)
 	}
 }

@@ -50,15 +50,30 @@ class Short(io.RawIOBase):
 
     def __init__(self, data):
         super().__init__()
-        self.rest = data
+        self.rest, self.at = data, 0
 
     def readable(self):
         return True
 
     def readinto(self, buffer):
-        given, self.rest = self.rest[:7], self.rest[7:]
+        given = self.rest[self.at:self.at + 7]
+        self.at += 7
         buffer[:len(given)] = given
         return len(given)
+
+
+class Counted(io.BytesIO):
+    """A file that counts its reads, of which one may fail."""
+
+    def __init__(self, data, failing=0):
+        super().__init__(data)
+        self.reads, self.failing = 0, failing
+
+    def readinto(self, buffer):
+        self.reads += 1
+        if self.reads == self.failing:
+            raise OSError("the third read failed")
+        return super().readinto(buffer)
 
 
 class Buffers(unittest.TestCase):
@@ -78,7 +93,7 @@ class Buffers(unittest.TestCase):
         data, hasher = bytes(1 << 24), rapidhash.V3()
         self.assertTrue(lets_others_run(lambda: rapidhash.v3(data)))
         self.assertTrue(lets_others_run(lambda: hasher.update(data)))
-        self.assertFalse(lets_others_run(lambda: len(data)))
+        self.assertFalse(lets_others_run(lambda: (rapidhash.v3(DATA), hasher.update(DATA))))
 
 
 class Files(unittest.TestCase):
@@ -101,7 +116,12 @@ class Files(unittest.TestCase):
         begun.seek(6)
         self.assertEqual(rapidhash.file_digest(begun).intdigest(), KNOWN)
         long = bytes(range(251)) * 5000
-        self.assertEqual(rapidhash.file_digest(io.BytesIO(long)).intdigest(), rapidhash.v3(long))
+        self.assertEqual(rapidhash.file_digest(Short(long[:500_000])).intdigest(), rapidhash.v3(long[:500_000]))
+        counted = Counted(long)
+        self.assertEqual(rapidhash.file_digest(counted).intdigest(), rapidhash.v3(long))
+        self.assertLess(counted.reads, 10)
+        with self.assertRaisesRegex(OSError, "^the third read failed$"):
+            rapidhash.file_digest(Counted(long, 3))
 
     def test_hashers(self):
         made = rapidhash.file_digest(io.BytesIO(DATA), lambda: rapidhash.V3Micro(seed=1))

@@ -1,6 +1,7 @@
 """Tests the hashes of many messages in one call with an installed copy of the package."""
 
 import array
+import contextlib
 import ctypes
 import mmap
 import sys
@@ -55,6 +56,11 @@ class Columns(unittest.TestCase):
             with mmap.mmap(-1, start + 8) as data:
                 found = rapidhash.each_slice(data, array.array(kind, [start, start + 5]))
             self.assertEqual(found, rapidhash.each([bytes(5)]))
+        with mmap.mmap(-1, 2**32 + 10) as data:
+            half, data[-1] = len(data) // 2, 1
+            with memoryview(data) as view, view[:half] as left, view[half:] as right:
+                self.assertEqual(list(rapidhash.each_row(data, half)), [rapidhash.v3(left), rapidhash.v3(right)])
+        self.assertEqual(rapidhash.v3(bytes(2**32 + 5)), 8938949028826169308)  # As in share/vectors.py.
 
     def test_nothing_to_hash(self):
         empty = array.array("Q")
@@ -63,8 +69,13 @@ class Columns(unittest.TestCase):
             self.assertEqual(found, empty)
 
     def test_a_long_column(self):
-        found = rapidhash.each_row(bytes(200_000), 2)
-        self.assertEqual((len(found), set(found)), (100_000, {rapidhash.v3(bytes(2))}))
+        whole, places = array.array("I", range(100_000)).tobytes(), range(0, 400_000, 4)
+        items = [whole[at:at + 4] for at in places]
+        wanted = array.array("Q", map(rapidhash.v3, items))
+        self.assertEqual(rapidhash.each_row(whole, 4), wanted)
+        self.assertEqual(rapidhash.each_slice(whole, array.array("i", [*places, 400_000])), wanted)
+        for kind in (list, tuple, iter):
+            self.assertEqual(rapidhash.each(kind(items)), wanted)
         self.assertEqual(rapidhash.each([bytes(200_000), "x" * 200_000]),
                          array.array("Q", [rapidhash.v3(bytes(200_000)), rapidhash.v3(b"x" * 200_000)]))
 
@@ -97,6 +108,20 @@ class Out(unittest.TestCase):
         ):
             with self.assertRaisesRegex(kind, f"^{error}"):
                 call()
+
+    def test_buffers_are_released(self):
+        rows, room, offsets = bytearray(16), array.array("Q", [0, 0]), array.array("i", [0, 8, 16])
+        item = bytes(bytearray(8))
+        before = sys.getrefcount(item)
+        for offset in (16, 17):
+            offsets[2] = offset
+            for call in (lambda: rapidhash.each_row(rows, 8, out=room), lambda: rapidhash.each([item, rows], out=room),
+                         lambda: rapidhash.each_slice(rows, offsets, out=room), lambda: rapidhash.each([], out=room)):
+                with contextlib.suppress(ValueError):
+                    call()
+        for buffer in (rows, room, offsets):
+            buffer.append(0)  # Each refuses this while its buffer is exported.
+        self.assertEqual(sys.getrefcount(item), before)
 
 
 class Refused(unittest.TestCase):

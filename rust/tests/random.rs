@@ -4,6 +4,7 @@
 
 use rapidhash::fast::{GlobalState, RandomState, SeedableState};
 use rapidhash::v3::RapidSecrets;
+use rapidhash::{HashMapExt, HashSetExt, RapidHashMap, RapidHashSet};
 use std::alloc::{GlobalAlloc, Layout, System};
 use std::collections::HashSet;
 use std::hash::{BuildHasher, Hasher};
@@ -97,6 +98,27 @@ fn maps_and_threads_differ() {
         for hash in thread.join().unwrap() {
             assert!(seen.insert(hash));
         }
+    }
+}
+
+/// Each bit of a seed is set in some states alone.
+#[test]
+fn seeds_have_64_bits() {
+    let seeds: Vec<u64> = (0..200).map(|_| RapidSecrets::random().seed).collect();
+    assert_eq!(seeds.iter().fold(0, |all, seed| all | seed), u64::MAX);
+    assert_eq!(seeds.iter().fold(u64::MAX, |all, seed| all & seed), 0);
+}
+
+/// Maps and sets differ, however they are made.
+#[test]
+fn collections_differ() {
+    let mut seen = HashSet::new();
+    for capacity in [0, 0, 10, 10] {
+        let maps: [RapidHashMap<u8, u8>; 2] =
+            [HashMapExt::new(), HashMapExt::with_capacity(capacity)];
+        let sets: [RapidHashSet<u8>; 2] = [HashSetExt::new(), HashSetExt::with_capacity(capacity)];
+        assert!(maps.iter().all(|map| seen.insert(hash_of(map.hasher()))));
+        assert!(sets.iter().all(|set| seen.insert(hash_of(set.hasher()))));
     }
 }
 

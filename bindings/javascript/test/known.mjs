@@ -199,9 +199,20 @@ test("streams of the web", async () => {
   }
 });
 
+test("many pieces, and empty ones", async () => {
+  async function* pieces() {
+    for (let at = 0; at < 140000; at++) yield at % 2 ? "x" : "";
+  }
+  const rest = pieces();
+  const reader = { read: () => rest.next(), cancel: () => rest.return() };
+  for (const source of [pieces(), { getReader: () => reader }])
+    assert.equal((await new V3().updateFrom(source)).digest(), v3("x".repeat(70000)));
+});
+
 test("both starts, alone and side by side", async () => {
   const other = await load();
   assert.deepEqual(Object.keys(other), Object.keys(library));
+  assert.equal(Object.keys(library).length, 24);
   assert.equal(other.v3("hello"), 3327445792987248966n);
   const [left, right] = [new V3().update("hel"), new other.V3().update("hel")];
   assert.equal(left.update("lo").digest(), right.update("lo").digest());

@@ -78,5 +78,8 @@ test("a message too large for the memory", () => {
     "V3, micro and nano hash such a message in pieces";
   for (const call of [v1, v3Protected])
     assert.throws(() => call(long), { name: "RangeError", message });
+  const hasher = new V3();
+  for (let at = 0; at < long.length; at += 2 ** 24) hasher.update(long.subarray(at, at + 2 ** 24));
+  assert.equal(v3(long), hasher.digest());
   assert.equal(v3("hello"), 3327445792987248966n);
 });

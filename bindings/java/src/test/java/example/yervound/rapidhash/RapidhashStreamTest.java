@@ -59,7 +59,11 @@ public class RapidhashStreamTest {
                 RapidhashStream stream = version.stream(seed);
                 stream.update(message);
                 assertEquals(version.hash(message, seed), stream.getValue());
-                stream.update(message, 7, 100_000);
+                stream.reset();
+                for (int at = 0; at < message.length; at++) {
+                    stream.update(message, at, 1);
+                }
+                assertEquals(version.hash(message, seed), stream.getValue());
                 stream.reset();
                 stream.update(message);
                 assertEquals(version.hash(message, seed), stream.getValue());

@@ -5,7 +5,10 @@ import static org.junit.Assert.assertArrayEquals;
 import static org.junit.Assert.assertEquals;
 import static org.junit.Assert.assertNotEquals;
 import static org.junit.Assert.assertThrows;
+import static org.junit.Assert.assertTrue;
 
+import com.sun.management.ThreadMXBean;
+import java.lang.management.ManagementFactory;
 import java.nio.ByteBuffer;
 import java.nio.ByteOrder;
 import java.nio.charset.StandardCharsets;
@@ -38,6 +41,17 @@ public class RapidhashTest {
             assertEquals(limit, buffer.limit());
             assertEquals(position, buffer.reset().position());
         }
+    }
+
+    @Test
+    public void buffersAreNotCopied() {
+        ThreadMXBean counter = (ThreadMXBean) ManagementFactory.getThreadMXBean();
+        ByteBuffer direct = ByteBuffer.allocateDirect(1 << 20);
+        RapidhashStream stream = Rapidhash.V3.stream();
+        long before = counter.getThreadAllocatedBytes(Thread.currentThread().getId());
+        stream.update(direct.duplicate());
+        assertEquals(Rapidhash.V3.hash(direct), stream.getValue());
+        assertTrue(counter.getThreadAllocatedBytes(Thread.currentThread().getId()) - before < 1 << 18);
     }
 
     @Test
@@ -88,6 +102,7 @@ public class RapidhashTest {
         assertNotEquals(Secrets.make(7), Secrets.make(8));
         assertNotEquals(Secrets.of(1, 2, 3, 5, 7, 11, 13, 18), OWN);
         assertNotEquals(Secrets.of(2, 2, 3, 5, 7, 11, 13, 17), OWN);
+        assertNotEquals(Secrets.of(1 | 1L << 32, 2, 3, 5, 7, 11, 13, 17), OWN);
         OWN.secrets()[0] = 9;
         assertArrayEquals(new long[] {2, 3, 5, 7, 11, 13, 17}, OWN.secrets());
         assertEquals("Secrets[hidden]", OWN.toString());
