@@ -8,7 +8,7 @@ import sqlite3
 
 from cases import ROOM, TOP, blocks, compare, finish, shell, tell
 from sql import BINDINGS, DIGITS, HELLO, NOTHING, TEXT, TEXT_HASH, VERSIONS
-from sql import every_vector, lines_with_results, unpack
+from sql import every_vector, lines_with_results, signed, unpack
 
 PAGE = "bindings/sqlite/README.md"
 STREAMS = VERSIONS[4:7]

@@ -20,21 +20,19 @@ WITH_SEED_1 = 8806718467852582029
 # meanwhile must be that of whole pieces.
 SHARED = """
 import threading, rapidhash
-piece, hasher, alone, found, whole = bytes(range(250)) * 20000, rapidhash.V3(), rapidhash.V3(), set(), set()
+piece, hasher, alone = bytes(range(250)) * 20000, rapidhash.V3(), rapidhash.V3()
+known, found = {alone.update(piece).intdigest() for _ in range(200)}, []
 
 def write():
     for _ in range(50):
-        hasher.update(piece)
-        found.update({hasher.intdigest(), hasher.copy().intdigest()})
+        found.extend((hasher.update(piece).intdigest(), hasher.copy().intdigest()))
 
 threads = [threading.Thread(target=write) for _ in range(4)]
 for thread in threads:
     thread.start()
 for thread in threads:
     thread.join()
-for _ in range(200):
-    whole.add(alone.update(piece).intdigest())
-print(hasher.intdigest() == alone.intdigest() and found <= whole)
+print(hasher.intdigest() == alone.intdigest(), known.issuperset(found))
 """
 
 
@@ -242,7 +240,7 @@ class Hashers(unittest.TestCase):
 
     def test_threads_share_a_hasher_of_long_pieces(self):
         """Runs in its own process, because a write that overlaps another can end the interpreter."""
-        self.assertEqual(run(SHARED), (0, "True\n"))
+        self.assertEqual(run(SHARED), (0, "True True\n"))
 
 
 if __name__ == "__main__":
