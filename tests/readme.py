@@ -47,11 +47,11 @@ def check_statements():
     """Compares what docs/PROVED.md states of a single proof, of the axioms, and of the definition's size."""
     page = (TOP / "docs/PROVED.md").read_text()
     command, _, wanted = blocks("docs/PROVED.md", "sh")[0].strip().partition("  # ")
-    compare(command, shell(command)[1].strip(), wanted)
+    compare(command, shell(f"{{ {command}; }} 2>/dev/null")[1].strip(), wanted)
     rows = re.findall(r"^\| `(\w+)`: [^|]* \| (none|\d+) \|$", page, re.M)
-    logs = {crate: (TOP / "build" / f"{crate}.log").read_text() for crate, _ in rows}
-    counts = [re.findall(r"^logic=proved functions=\d+ (?:axioms=(\d+) )?target=", log, re.M) for log in logs.values()]
-    compare("axioms", [(crate, count[-1] or "none") for crate, count in zip(logs, counts)], rows)
+    said = [shell("rt check", TOP / "crates" / crate)[1] for crate, _ in rows]
+    found = [re.findall(r"^logic=proved functions=\d+ (?:axioms=(\d+) )?target=", text, re.M) for text in said]
+    compare("axioms", [count[-1:] for count in found], [["" if count == "none" else count] for _, count in rows])
     files = re.findall(r"`(\w+)`", re.search(r"The whole definition is in seven .*? lines: (.*?);", page, re.S)[1])
     lines = [(TOP / "crates/rapidhash_portable/specs" / f"{name}.antt").read_text().count("\n") for name in files]
     compare("the lines of the definition", f"{sum(lines)} lines", re.search(r"seven .*?(\d+ lines)", page, re.S)[1])
