@@ -11,9 +11,9 @@ names='librapidhash-c-dev librapidhash-c1 postgresql-15-rapidhash rapidhash-tool
 packs_the_same_bytes() {
   make -s -C "$top" deb && cd "$packages" && sha256sum ./*.deb >"$room/sums" && mkdir "$room/elsewhere" &&
     cp ./*.dsc ./*.tar.xz "$room/elsewhere" && cd "$room/elsewhere" && dpkg-source -x ./*.dsc bare &&
-    [ "$(for deb in ./*.deb; do dpkg-deb --field "$deb" Multi-Arch; done | xargs)" = 'same same no foreign no' ] &&
     (cd bare && env -i PATH=/usr/bin:/bin dpkg-buildpackage -b -us -uc) && sha256sum --check "$room/sums" &&
-    diff <(printf '%s_1.0.0_amd64.deb\n' $names) <(printf '%s\n' *.deb)
+    diff <(printf '%s_1.0.0_amd64.deb\n' $names) <(printf '%s\n' *.deb) &&
+    [ "$(for deb in *.deb; do dpkg-deb --field "$deb" Multi-Arch; done | xargs)" = 'same same no foreign no' ]
 }
 
 # Runs dpkg in the root with all packed files, even those that the machine omits from its own packages: ARGUMENT..
