@@ -15,7 +15,7 @@ ok() {
   printf 'ok %s\n' "$1"
 }
 
-# Counts a failed case, unless it needs a trace that this machine does not allow: NAME REASON
+# Counts a failed case, unless it needs strace, which this machine does not allow: NAME REASON
 fail() {
   if rm "$room/untraced" 2>/dev/null; then
     printf 'skipped %s: strace cannot trace here\n' "$1"
@@ -121,7 +121,7 @@ to_no_output() { "$@" >&-; }
 to_a_closed_pipe() { perl -e 'pipe R, W; close R; open STDOUT, ">&", W; exec @ARGV' "$@"; }
 in_kibibytes() (ulimit -v "$1" && exec "${@:2}")
 
-# Runs a command in which calls of the system with a file fail, as strace's option inject says: FAILURE FILE COMMAND..
+# Runs a command in which system calls on a file fail, as strace's option inject describes: FAILURE FILE COMMAND..
 failing() { can_trace && strace -qqo /dev/null -P "$PWD/$2" -e "inject=$1" "${@:3}"; }
 # Checks that a command reads a file in at most this many calls: CALLS FILE COMMAND..
 reads_in() {
