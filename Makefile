@@ -27,7 +27,7 @@ DESTDIR =
 
 soname = librapidhash_c.so.1
 kit_archive = crates/rapidhash_c/out/librapidhash_c.a
-kit_tools = crates/rapidhash_cli/out/rapidhash_cli crates/example_sums/out/example_sums
+kit_tools = crates/rapidhash_cli/out/rapidhash_cli crates/rapidsum/out/rapidsum
 # Without the toolchain, and without products of it, cc compiles the library's header, and cargo builds the tools.
 kit := $(or $(shell command -v rt),$(wildcard $(kit_archive) $(kit_tools)))
 ifneq ($(kit),)
@@ -46,7 +46,7 @@ linker = $(dir $(shell rt doc))toolchain/bin/ld.lld
 system = /lib/x86_64-linux-gnu /lib64 /usr/lib
 
 .PHONY: all tool sums library wasm npm page wheel jar sqlite postgresql deb check check-source quick test fmt bench \
-  install uninstall clean dist vendor rapidhash_c rapidhash_cli example_sums example_bloom example_perfect \
+  install uninstall clean dist vendor rapidhash_c rapidhash_cli rapidsum example_bloom example_perfect \
   example_shards example_dedupe
 .DELETE_ON_ERROR:
 MAKEFLAGS += --no-builtin-rules
@@ -79,7 +79,7 @@ program = $(call product,$(1),crates/$(1)/out/$(1),run -- $(2),$(3))
 $(eval $(call product,rapidhash_c,crates/rapidhash_c/out/librapidhash_c.a,lib,rapidhash_portable))
 # Each program has an argument with which it exits immediately, because rt runs the program after building it.
 $(eval $(call program,rapidhash_cli,--help,rapidhash_portable rapidhash_tool))
-$(eval $(call program,example_sums,--version,rapidhash_portable))
+$(eval $(call program,rapidsum,--version,rapidhash_portable))
 $(eval $(call program,example_bloom,--help,$(both)))
 $(eval $(call program,example_perfect,--help,$(both)))
 $(eval $(call program,example_shards,red,$(both)))

@@ -153,7 +153,7 @@ wants_a_build_first() {
   done
 }
 # The products that make install copies, each after the products from which it is built.
-products=(crates/rapidhash_cli/out/rapidhash_cli crates/example_sums/out/example_sums
+products=(crates/rapidhash_cli/out/rapidhash_cli crates/rapidsum/out/rapidsum
   crates/rapidhash_c/out/librapidhash_c.a build/librapidhash_c.so.1)
 
 # Checks that make without the kit prints one line, builds the same files by cc and cargo, and installs them, and that

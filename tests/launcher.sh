@@ -105,7 +105,7 @@ used_by() {
 each_edit_counts() {
   local crate
   make -pq -C "$top" >rules 2>/dev/null
-  for crate in rapidhash_c rapidhash_cli example_{sums,bloom,perfect,shards,dedupe}; do
+  for crate in rapidhash_c rapidhash_cli rapidsum example_{bloom,perfect,shards,dedupe}; do
     diff <(used_by "$crate" | sort -u) \
       <(grep -oE "^crates/$crate/out/[^.]*(\.a)?: .*" rules | grep -oE '[ ]crates/[^/]*/src ' | cut -d / -f 2 | sort -u) || return 1
   done

@@ -31,7 +31,7 @@ def run_shell_blocks():
     programs = ROOM / "bin"
     programs.mkdir()
     shell("make -s tool sums")
-    for crate, name in (("rapidhash_cli", "rapidhash"), ("example_sums", "rapidsum")):
+    for crate, name in (("rapidhash_cli", "rapidhash"), ("rapidsum", "rapidsum")):
         os.symlink(TOP / "crates" / crate / "out" / crate, programs / name)
     for line in "".join(blocks("README.md", "sh")).splitlines():
         command, _, comment = line.partition(" #")

@@ -10,7 +10,7 @@ try layout cargo fmt --check
 try lints env CARGO_TARGET_DIR="$top/build/cargo" cargo clippy --release -- -D warnings
 try no_unsafe bash -c '[ "$(grep -rlxF "#![forbid(unsafe_code)]" src | wc -l)" -eq 3 ]'
 export RAPIDHASH_TOOL=$tools/rapidhash BUILT=$tools/rapidsum
-for script in end_to_end end_to_end_errors example_sums; do
+for script in end_to_end end_to_end_errors rapidsum; do
   "$top/tests/$script.sh" | tee "$room/lines"
   if [[ $(tail -n 1 "$room/lines") =~ ^([0-9]+)\ passed,\ ([0-9]+)\ failed$ ]]; then
     passed=$((passed + BASH_REMATCH[1])) failed=$((failed + BASH_REMATCH[2]))

@@ -1,4 +1,4 @@
-// Made by bin/rust_crate from crates/test_calls/src/fakes/readers.rt: change that file.
+// Made by bin/rust_crate from crates/test_effects/src/fakes/readers.rt: change that file.
 
 //! A reader that counts its reads, and fails.
 

@@ -1,4 +1,4 @@
-// Made by bin/rust_crate from crates/test_calls/src/secrets.rt: change that file.
+// Made by bin/rust_crate from crates/test_effects/src/secrets.rt: change that file.
 
 //! Secrets and seeds that are made of random words.
 

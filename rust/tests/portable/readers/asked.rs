@@ -1,4 +1,4 @@
-// Made by bin/rust_crate from crates/test_calls/src/readers/asked.rt: change that file.
+// Made by bin/rust_crate from crates/test_effects/src/readers/asked.rt: change that file.
 
 //! What a call over a reader returns, and what it leaves unread.
 

@@ -1,4 +1,4 @@
-// Made by bin/rust_crate from crates/test_calls/src/readers/ends.rt: change that file.
+// Made by bin/rust_crate from crates/test_effects/src/readers/ends.rt: change that file.
 
 //! Bytes after the length, and readers that end before it.
 

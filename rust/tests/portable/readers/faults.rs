@@ -1,4 +1,4 @@
-// Made by bin/rust_crate from crates/test_calls/src/readers/faults.rt: change that file.
+// Made by bin/rust_crate from crates/test_effects/src/readers/faults.rt: change that file.
 
 //! A read that fails, each in turn, and the call after it.
 

@@ -1,4 +1,4 @@
-// Made by bin/rust_crate from crates/test_calls/src/readers/known_length.rt: change that file.
+// Made by bin/rust_crate from crates/test_effects/src/readers/known_length.rt: change that file.
 
 //! The hashes of a number of bytes of a reader, V1 and V2: what each asks its reader for, and what
 //! is returned if a read fails.

@@ -1,4 +1,4 @@
-// Made by bin/rust_crate from crates/test_calls/src/readers/outcome.rt: change that file.
+// Made by bin/rust_crate from crates/test_effects/src/readers/outcome.rt: change that file.
 
 //! What a hash over a fake reader returned, and what it asked the reader for.
 

@@ -1,4 +1,4 @@
-// Made by bin/rust_crate from crates/test_calls/src/readers/sizes.rt: change that file.
+// Made by bin/rust_crate from crates/test_effects/src/readers/sizes.rt: change that file.
 
 //! V3's readers with buffers of several sizes.
 

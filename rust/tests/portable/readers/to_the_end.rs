@@ -1,4 +1,4 @@
-// Made by bin/rust_crate from crates/test_calls/src/readers/to_the_end.rt: change that file.
+// Made by bin/rust_crate from crates/test_effects/src/readers/to_the_end.rt: change that file.
 
 //! The hashes of all that a reader has, V3, micro and nano: what each asks its reader for, and what
 //! is returned if a read fails.

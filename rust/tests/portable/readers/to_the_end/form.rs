@@ -1,4 +1,4 @@
-// Made by bin/rust_crate from crates/test_calls/src/readers/to_the_end/form.rt: change that file.
+// Made by bin/rust_crate from crates/test_effects/src/readers/to_the_end/form.rt: change that file.
 
 //! The calls that hash all that a reader has.
 

@@ -1,4 +1,4 @@
-// Made by bin/rust_crate from crates/example_sums/src/algorithm.rt: change that file.
+// Made by bin/rust_crate from crates/rapidsum/src/algorithm.rt: change that file.
 
 //! Which hash a file has: the version and the seed.
 

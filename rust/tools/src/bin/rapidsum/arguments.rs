@@ -1,4 +1,4 @@
-// Made by bin/rust_crate from crates/example_sums/src/arguments.rt: change that file.
+// Made by bin/rust_crate from crates/rapidsum/src/arguments.rt: change that file.
 
 //! The arguments as text for the parser, and the bytes of an argument from its text.
 //!

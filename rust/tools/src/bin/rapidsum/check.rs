@@ -1,4 +1,4 @@
-// Made by bin/rust_crate from crates/example_sums/src/check.rt: change that file.
+// Made by bin/rust_crate from crates/rapidsum/src/check.rt: change that file.
 
 //! Whether files still have the hashes that a list says.
 

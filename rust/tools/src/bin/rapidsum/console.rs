@@ -1,4 +1,4 @@
-// Made by bin/rust_crate from crates/example_sums/src/console.rt: change that file.
+// Made by bin/rust_crate from crates/rapidsum/src/console.rt: change that file.
 
 //! What the program writes to standard output and standard error.
 

@@ -1,4 +1,4 @@
-// Made by bin/rust_crate from crates/example_sums/src/disk.rt: change that file.
+// Made by bin/rust_crate from crates/rapidsum/src/disk.rt: change that file.
 
 //! Files of the system, with a progress line if standard error is a terminal.
 

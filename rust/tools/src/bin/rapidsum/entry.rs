@@ -1,4 +1,4 @@
-// Made by bin/rust_crate from crates/example_sums/src/entry.rt: change that file.
+// Made by bin/rust_crate from crates/rapidsum/src/entry.rt: change that file.
 
 //! The lines of a list, read back.
 

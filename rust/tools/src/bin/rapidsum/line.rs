@@ -1,4 +1,4 @@
-// Made by bin/rust_crate from crates/example_sums/src/line.rt: change that file.
+// Made by bin/rust_crate from crates/rapidsum/src/line.rt: change that file.
 
 //! The lines that the program prints.
 

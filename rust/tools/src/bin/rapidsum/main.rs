@@ -1,4 +1,4 @@
-// Made by bin/rust_crate from crates/example_sums/src/main.rt: change that file.
+// Made by bin/rust_crate from crates/rapidsum/src/main.rt: change that file.
 
 //! Prints the hash of each file as a line and checks such lines, as sha256sum does with its own.
 #![forbid(unsafe_code)]

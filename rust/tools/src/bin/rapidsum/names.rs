@@ -1,4 +1,4 @@
-// Made by bin/rust_crate from crates/example_sums/src/names.rt: change that file.
+// Made by bin/rust_crate from crates/rapidsum/src/names.rt: change that file.
 
 //! Names in lines: a backslash, a newline and a carriage return are escaped.
 

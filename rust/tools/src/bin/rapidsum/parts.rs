@@ -1,4 +1,4 @@
-// Made by bin/rust_crate from crates/example_sums/src/parts.rt: change that file.
+// Made by bin/rust_crate from crates/rapidsum/src/parts.rt: change that file.
 
 //! The parts of a line: the version, the hash and the text of the name.
 

@@ -1,4 +1,4 @@
-// Made by bin/rust_crate from crates/example_sums/src/problem.rt: change that file.
+// Made by bin/rust_crate from crates/rapidsum/src/problem.rt: change that file.
 
 //! What can go wrong.
 

@@ -1,4 +1,4 @@
-// Made by bin/rust_crate from crates/example_sums/src/runs.rt: change that file.
+// Made by bin/rust_crate from crates/rapidsum/src/runs.rt: change that file.
 
 //! What a call of the program does.
 

@@ -1,4 +1,4 @@
-// Made by bin/rust_crate from crates/example_sums/src/store.rt: change that file.
+// Made by bin/rust_crate from crates/rapidsum/src/store.rt: change that file.
 
 //! Where files come from, and the hash of one.
 

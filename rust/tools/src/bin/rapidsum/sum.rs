@@ -1,4 +1,4 @@
-// Made by bin/rust_crate from crates/example_sums/src/sum.rt: change that file.
+// Made by bin/rust_crate from crates/rapidsum/src/sum.rt: change that file.
 
 //! The line of a file, printed.
 

@@ -1,4 +1,4 @@
-// Made by bin/rust_crate from crates/example_sums/src/tag.rt: change that file.
+// Made by bin/rust_crate from crates/rapidsum/src/tag.rt: change that file.
 
 //! The tag of a line: its version and its seed.
 

@@ -1,4 +1,4 @@
-// Made by bin/rust_crate from crates/example_sums/src/words.rt: change that file.
+// Made by bin/rust_crate from crates/rapidsum/src/words.rt: change that file.
 
 //! The arguments of the command line.
 

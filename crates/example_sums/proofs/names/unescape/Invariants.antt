@@ -1,6 +1,0 @@
-use Rattle.std.proofs.Common.{◌≡◌, [], false, drop}
-use Rattle.example_sums.specs.Line.{unescape_from}
-use Rattle.example_sums.proofs.names.unescape.Given as goal
-
-abbrev pub invariant-loop-byte : goal.invariant-loop-byte
-invariant-loop-byte g l = unescape_from l.name.items l.pending (drop l.byte-index l.text) ≡ unescape_from [] false l.text

@@ -1,0 +1,40 @@
+-- The hash that a version and a seed word choose.
+use Rattle.std.specs.Prelude.{ℕ, false, List, Option, None, Some}
+use Rattle.rapidhash_portable.specs.declared.form.Form.{Form}
+use Rattle.rapidhash_portable.specs.declared.form.Form.TheVariants as form
+use Rattle.rapidhash_portable.specs.Form.{standard}
+use Rattle.rapidhash_portable.specs.Hash.{portable_hash}
+use Rattle.rapidhash_portable.specs.Secrets.{cpp_seeded, default_secrets, default_secrets_v1, default_seed, default_seed_v1}
+use Rattle.rapidsum.specs.declared.algorithm.Algorithm.{Algorithm}
+use Rattle.rapidsum.specs.declared.algorithm.Version.{Version}
+use Rattle.rapidsum.specs.declared.algorithm.Version.TheVariants.{V1, V2Minor0, V2Minor1, V2Minor2, V3, V3Micro, V3Nano}
+
+-- the form of a version
+abbrev pub form_of : Version → Form
+form_of V1 = form.V1 false
+form_of V2Minor0 = form.V2 0
+form_of V2Minor1 = form.V2 1
+form_of V2Minor2 = form.V2 2
+form_of V3 = form.V3 7
+form_of V3Micro = form.V3 5
+form_of V3Nano = form.V3 3
+
+-- V1's seed: the default one, or that made of a word
+abbrev pub seed_by_v1 : Option ℕ → ℕ
+seed_by_v1 None = default_seed_v1
+seed_by_v1 (Some word) = cpp_seeded word 0
+
+-- the seed of the other versions
+abbrev pub seed_by : Option ℕ → ℕ
+seed_by None = default_seed
+seed_by (Some word) = cpp_seeded word 2
+
+-- the hash with the default secrets and such a seed
+abbrev pub hash_by : Option ℕ → Form → List ℕ → ℕ
+hash_by word (form.V1 bug) x = portable_hash (form.V1 bug) standard (seed_by_v1 word) default_secrets_v1 x
+hash_by word (form.V2 minor) x = portable_hash (form.V2 minor) standard (seed_by word) default_secrets x
+hash_by word (form.V3 lanes) x = portable_hash (form.V3 lanes) standard (seed_by word) default_secrets x
+
+-- the hash of a file's bytes
+abbrev pub hash_of : Algorithm → List ℕ → ℕ
+hash_of algorithm x = hash_by algorithm.seed (form_of algorithm.version) x

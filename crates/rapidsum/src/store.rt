@@ -1,0 +1,45 @@
+//! Where files come from, and the hash of one.
+
+ghost use Rattle.std.specs.Prelude.{◌≡◌, ℕ, List, Option, IfOk, IfSome};
+ghost use Rattle.rapidsum.specs.Algorithm.{hash_of};
+
+use crate::algorithm::Algorithm;
+use std::alloc::Allocator;
+use std::io;
+use std::io::Read;
+
+/// Where files come from: a disk, or a test.
+pub trait Store {
+    /// An open file.
+    type Reader: Read + Drop;
+
+    // The bytes of the file of a name, if they are known.
+    ghost told: { Self → List ℕ → Option (List ℕ) };
+
+    /// Opens the file of a name.
+    fn open(&self, name: &[u8]) -> io::Result<Self::Reader>
+        ensures { IfOk result (λ reader. Self.Reader.remaining reader ≡ told self.now name.now) };
+
+    /// Returns the number of bytes of an open file, if it is known before they are read.
+    fn length(&self, reader: &Self::Reader) -> Option<u64>;
+}
+
+/// Returns the hash of the file that has a name.
+///
+/// # Errors
+///
+/// If the file cannot be opened, a read fails, or an allocation for V1 or V2 fails. V1 and V2
+/// refuse a file that has more or fewer bytes than its length.
+pub fn hash_named<S: Store, A: Allocator + Copy>(
+    alloc: A,
+    store: &S,
+    name: &[u8],
+    algorithm: Algorithm,
+) -> io::Result<u64>
+    ensures { IfOk result (λ hash. IfSome (S.told store.now name.now) (λ bytes.
+        hash ≡ hash_of algorithm bytes)) }
+{
+    let reader = store.open(name)?;
+    let length = store.length(&reader);
+    algorithm.hash(alloc, reader, length)
+}

@@ -1,0 +1,13 @@
+-- What a reader of a test starts with.
+use Rattle.std.specs.Prelude.{ℕ, ◌≡◌, List}
+use Rattle.std.specs.declared.io.ErrorKind.{ErrorKind}
+use Rattle.test_effects.specs.declared.fakes.readers.CountingReader.{CountingReader}
+
+-- a reader that was asked for nothing yet: the bytes that it has, how many a read returns, which read fails, and how
+pub record Starts (reader : CountingReader) (bytes : List ℕ) (at_most failing : ℕ) (error : ErrorKind) : Type 0 where
+  pub left : reader.left.now ≡ bytes
+  pub most : reader.most ≡ at_most
+  pub reads : reader.reads ≡ 0
+  pub longest : reader.longest ≡ 0
+  pub fails_at : reader.fails_at ≡ failing
+  pub kind : reader.kind ≡ error
