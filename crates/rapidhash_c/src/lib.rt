@@ -1,4 +1,4 @@
-//! The hashes for C and for languages that call C: `include/rapidhash_c.h` declares them. Each
+//! The hashes for C and for languages that call C: `packages/c/include/rapidhash_c.h` declares them. Each
 //! export calls the library's function and restates its clause.
 #![tactic(auto)]
 
