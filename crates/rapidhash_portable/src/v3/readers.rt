@@ -48,7 +48,7 @@ pub fn rapidhash_v3_source<R: Read, const PROTECTED: bool>(
         (λ _. is_marked source.new) (seeded_hash v3 (options true PROTECTED) secrets.now) }
     ensures mark { MarksFailures result (is_marked source.new) ErrorKind.Other }
 {
-    rapidhash_v3_source_sized::<R, BUFFER, PROTECTED>(source, secrets)
+    rapidhash_v3_source_lanes::<R, 7, BUFFER, PROTECTED>(source, secrets)
 }
 
 /// Returns the hash of [`rapidhash_v3_source`], with a buffer of `SIZE` bytes on the stack: no read
@@ -168,7 +168,7 @@ fn read_all<R: Read, const LANES: usize, const SIZE: usize, const PROTECTED: boo
 pub fn rapidhash_v3_file<R: Read + Drop>(data: R) -> io::Result<u64>
     ensures { HashesKnown (R.remaining «data») result (default_hash v3 standard) }
 {
-    rapidhash_v3_file_inline::<R, false>(data, RapidSecrets::default_ref())
+    rapidhash_v3_file_lanes::<R, 7, BUFFER, false>(data, RapidSecrets::default_ref())
 }
 
 /// Returns the hash of all that a reader has, with the caller's seed and secrets.
@@ -180,7 +180,7 @@ pub fn rapidhash_v3_file_seeded<R: Read + Drop>(data: R, secrets: &RapidSecrets)
     ensures { HashesKnown (R.remaining «data») result
         (seeded_hash v3 standard secrets.now) }
 {
-    rapidhash_v3_file_inline::<R, false>(data, secrets)
+    rapidhash_v3_file_lanes::<R, 7, BUFFER, false>(data, secrets)
 }
 
 /// Returns the hash of all that a reader has; `PROTECTED` mixes each product with its factors.
@@ -196,7 +196,7 @@ pub fn rapidhash_v3_file_inline<R: Read + Drop, const PROTECTED: bool>(
     ensures { HashesKnown (R.remaining «data») result
         (seeded_hash v3 (options true PROTECTED) secrets.now) }
 {
-    rapidhash_v3_file_sized::<R, BUFFER, PROTECTED>(data, secrets)
+    rapidhash_v3_file_lanes::<R, 7, BUFFER, PROTECTED>(data, secrets)
 }
 
 /// Returns the hash of [`rapidhash_v3_file_inline`], with a buffer of `SIZE` bytes on the stack: no
