@@ -27,7 +27,7 @@ pub extern "C" fn rapidhash_stream_write(stream: &mut RapidStream<'_>, bytes: &[
     stream.write(bytes);
 }
 
-/// The hash of the message so far. It changes nothing: further pieces may follow.
+/// Returns the hash of the message so far. It changes nothing: further pieces may follow.
 #[unsafe(no_mangle)]
 pub extern "C" fn rapidhash_stream_finish(stream: &RapidStream<'_>) -> u64
     ensures { (x : List ℕ) → StandsByLanes stream.now x → result

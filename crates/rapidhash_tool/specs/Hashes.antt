@@ -14,7 +14,7 @@ minor_number M0 = 0
 minor_number M1 = 1
 minor_number M2 = 2
 
--- the one definition, at the version's form, with the avalanche and the form's default seed and secrets
+-- the definition for the version's form, with the avalanche and the form's default seed and secrets
 abbrev pub hash_of : RapidhashVersion → List ℕ → ℕ
 hash_of (V1 protected) bytes = default_hash v1 (options true protected) bytes
 hash_of (V2 protected minor) bytes = default_hash (v2 (minor_number minor)) (options true protected) bytes
@@ -22,7 +22,7 @@ hash_of (V3 protected) bytes = default_hash v3 (options true protected) bytes
 hash_of (V3Micro protected) bytes = default_hash micro (options true protected) bytes
 hash_of (V3Nano protected) bytes = default_hash nano (options true protected) bytes
 
--- the bytes of a file that a version hashes: V1 and V2 only so many as the length tells
+-- the bytes of a file that a version hashes: V1 and V2 hash only the first `len`
 abbrev pub read_of : RapidhashVersion → ℕ → List ℕ → List ℕ
 read_of (V1 protected) len bytes = take len bytes
 read_of (V2 protected minor) len bytes = take len bytes
@@ -30,6 +30,6 @@ read_of (V3 protected) len bytes = bytes
 read_of (V3Micro protected) len bytes = bytes
 read_of (V3Nano protected) len bytes = bytes
 
--- a file has the bytes that a version asks for
+-- a file has the bytes that a version requires
 abbrev pub HasLength : RapidhashVersion → ℕ → List ℕ → Type 0
 HasLength version len bytes = NeedsLength version → len ≤ length bytes

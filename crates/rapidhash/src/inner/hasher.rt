@@ -82,7 +82,7 @@ impl<
         RapidHasher::new(0)
     }
 
-    /// A hasher of a seed and secrets as they are.
+    /// Returns a hasher with the given seed and secrets.
     #[inline(always)]
     pub(crate) const fn from_parts(seed: u64, secrets: &'s [u64; 7]) -> Self
         ensures value { result ≡ fresh seed secrets.entry }
@@ -95,7 +95,7 @@ impl<
         }
     }
 
-    /// The seed after a step on 128 bits.
+    /// Returns the seed after a step on 128 bits.
     #[inline(always)]
     fn mixed(&self, wide: u128) -> u64
         ensures { result

@@ -117,9 +117,9 @@ pub fn rapidhash_v3_source_lanes<
     }
 }
 
-/// The loop of every hash here, from a hasher of no bytes. Short reads gather in the buffer until
-/// it is more than half full, so that no read requests less than half of it. The loop is out of
-/// line because of its buffer.
+/// Returns the hash with a hasher of no bytes: the loop of every public call here. Short reads
+/// gather in the buffer until it is more than half full, so that no read requests less than half of
+/// it. The loop is out of line because of its buffer.
 #[inline(never)]
 fn read_all<R: Read, const LANES: usize, const SIZE: usize, const PROTECTED: bool>(
     source: &mut Source<R>,
