@@ -3,7 +3,7 @@ use Rattle.std.specs.Prelude.{ℕ, ◌<◌, codes, List}
 use Rattle.rapidhash_tool.specs.declared.faults.CliFault.{CliFault}
 use Rattle.rapidhash_tool.specs.declared.faults.CliFault.TheVariants.{File, Memory, Open, Stdin, Versions, Write}
 use Rattle.rapidhash_tool.specs.declared.version.RapidhashVersion.{RapidhashVersion}
-use Rattle.rapidhash_tool.specs.declared.version.RapidhashVersion.TheVariants.{V1, V2, V3, V3Micro, V3Nano}
+use Rattle.rapidhash_tool.specs.Hashes.{NeedsLength}
 
 -- each error's number
 abbrev pub number_of : CliFault → ℕ
@@ -22,14 +22,6 @@ text_of Stdin = codes "Could not read from stdin."
 text_of Memory = codes "Out of memory."
 text_of File = codes "Failed to hash file."
 text_of Write = codes "Could not write to stdout."
-
--- the version hashes no byte before it knows the number of bytes
-abbrev pub NeedsLength : RapidhashVersion → Type 0
-NeedsLength (V1 protected) = Unit {0}
-NeedsLength (V2 protected minor) = Unit {0}
-NeedsLength (V3 protected) = ⊥
-NeedsLength (V3Micro protected) = ⊥
-NeedsLength (V3Nano protected) = ⊥
 
 -- hashing standard input stops if a read fails or the reads have no end, or if an allocation fails for a version that keeps the whole input
 abbrev pub MayStopStdin : RapidhashVersion → CliFault → Type 0

@@ -2,7 +2,7 @@
 
 ghost use Rattle.std.specs.Prelude.{◌≡◌, ◌↔◌, map, string_bytes, IsTrue};
 ghost use Rattle.rapidhash_tool.specs.CommandLine.{version_of, versions, word_of};
-ghost use Rattle.rapidhash_tool.specs.Faults.{NeedsLength};
+ghost use Rattle.rapidhash_tool.specs.Hashes.{NeedsLength};
 
 use crate::command_line::has;
 
