@@ -53,7 +53,7 @@ unfoldable pub finished : Options → Bool → List ℕ → ℕ → List Item �
 finished options sponge secrets start items = closed options secrets (seed_after options sponge secrets start items) (pending sponge items) (width sponge items)
 
 -- a seed, a pending number and its width represent a start value and a list of items
-pub record StandsFor (options : Options) (sponge : Bool) (secrets : List ℕ) (seed number bits start : ℕ) (items : List Item) : Type 0 where
+pub record NumbersRepresent (options : Options) (sponge : Bool) (secrets : List ℕ) (seed number bits start : ℕ) (items : List Item) : Type 0 where
   pub start_fits : start < 2 ^ 64
   pub items_fit : All IsItem items
   pub seed_is : seed ≡ seed_after options sponge secrets start items

@@ -7,7 +7,7 @@ use Rattle.rapidhash_portable.specs.Hash.{portable_hash}
 use Rattle.rapidhash.specs.declared.laws.blocks.Num.{Num}
 use Rattle.rapidhash.specs.declared.laws.blocks.Num.TheVariants.{N8, N16, N32, N64}
 use Rattle.rapidhash.specs.declared.inner.hasher.RapidHasher.{RapidHasher}
-use Rattle.rapidhash.specs.RapidHasher.{Stands, secrets_of}
+use Rattle.rapidhash.specs.RapidHasher.{Represents, secrets_of}
 use Rattle.rapidhash.specs.Sponge.{Item, Num as Integer, block, end_of}
 
 -- two messages have the same length and the same absorbed words
@@ -60,15 +60,15 @@ HasRoom items width = (end_of items).1 + width ≤ 128
 -- two integers of the same width are absorbed; if the last block has room for both, the result is that of the integer that joins them
 pub record JoinsWrites {avalanche sponge compact protected : ℕ} (old new : RapidHasher avalanche sponge compact protected) (width low high : ℕ) : Type 0 where
   pub secrets : secrets_of new ≡ secrets_of old
-  pub apart : (start : ℕ) (items : List Item) → Stands old start items
-      → Stands new start (items ++ Integer width low ∷ Integer width high ∷ [])
-  pub joined : (start : ℕ) (items : List Item) → Stands old start items → HasRoom items (2 * width)
-      → Stands new start (items ++ Integer (2 * width) (low + high * 2 ^ width) ∷ [])
+  pub apart : (start : ℕ) (items : List Item) → Represents old start items
+      → Represents new start (items ++ Integer width low ∷ Integer width high ∷ [])
+  pub joined : (start : ℕ) (items : List Item) → Represents old start items → HasRoom items (2 * width)
+      → Represents new start (items ++ Integer (2 * width) (low + high * 2 ^ width) ∷ [])
 
 -- an item and then an integer are absorbed; if the last block has room for the integer, the result is that of the opposite order
 pub record TurnsWrites {avalanche sponge compact protected : ℕ} (old new : RapidHasher avalanche sponge compact protected) (item : Item) (number : Num) : Type 0 where
   pub secrets : secrets_of new ≡ secrets_of old
-  pub in_order : (start : ℕ) (items : List Item) → Stands old start items
-      → Stands new start (items ++ item ∷ item_of number ∷ [])
-  pub turned : (start : ℕ) (items : List Item) → Stands old start items → HasRoom items (width_of number)
-      → Stands new start (items ++ item_of number ∷ item ∷ [])
+  pub in_order : (start : ℕ) (items : List Item) → Represents old start items
+      → Represents new start (items ++ item ∷ item_of number ∷ [])
+  pub turned : (start : ℕ) (items : List Item) → Represents old start items → HasRoom items (width_of number)
+      → Represents new start (items ++ item_of number ∷ item ∷ [])

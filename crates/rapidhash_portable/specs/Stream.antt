@@ -16,7 +16,7 @@ abbrev pub folded_bytes : ℕ → ℕ → ℕ
 folded_bytes lanes n = 16 * (lanes * chunk_count lanes n)
 
 -- the data represent the message `x`: its chunks in the lanes, their count, whether there is a chunk, the bytes after the chunks, and the 16 bytes before these if there is a chunk
-pub record PartsStandFor (protected : Bool) (lanes : ℕ) (parts : Parts) (x : List ℕ) : Type 0 where
+pub record PartsRepresent (protected : Bool) (lanes : ℕ) (parts : Parts) (x : List ℕ) : Type 0 where
   pub folded :
       HaveFolded protected parts.secrets.now.secrets x lanes (replicate 7 parts.secrets.now.seed) parts.folded.lanes (chunk_count lanes (length x))
   pub steps : parts.folded.count.steps ≡ chunk_count lanes (length x)
@@ -25,8 +25,8 @@ pub record PartsStandFor (protected : Bool) (lanes : ℕ) (parts : Parts) (x : L
   pub carried : 0 < chunk_count lanes (length x) → take 16 parts.kept ≡ take 16 (drop (folded_bytes lanes (length x) - 16) x)
 
 -- the hasher represents the message `x`, with the option `protected` of its type
-abbrev pub StreamStandsFor : {lanes avalanche protected' : ℕ} → Bool → RapidStreamHasherLanes lanes avalanche protected' → List ℕ → Type 0
-StreamStandsFor {lanes} protected hasher x = PartsStandFor protected lanes hasher.state.parts x
+abbrev pub StreamRepresents : {lanes avalanche protected' : ℕ} → Bool → RapidStreamHasherLanes lanes avalanche protected' → List ℕ → Type 0
+StreamRepresents {lanes} protected hasher x = PartsRepresent protected lanes hasher.state.parts x
 
 -- the number of chunks folded since `new` or the last `reset`
 abbrev pub steps_of : {lanes avalanche protected : ℕ} → RapidStreamHasherLanes lanes avalanche protected → ℕ
@@ -44,12 +44,12 @@ abbrev pub secrets_by_lanes : RapidStream → RapidSecrets
 secrets_by_lanes stream = stream.parts.secrets.now
 
 -- the stream represents the message `x`
-abbrev pub StandsByLanes : RapidStream → List ℕ → Type 0
-StandsByLanes stream x = PartsStandFor false stream.lanes stream.parts x
+abbrev pub RepresentsByLanes : RapidStream → List ℕ → Type 0
+RepresentsByLanes stream x = PartsRepresent false stream.lanes stream.parts x
 
 -- the stream represents the empty message, with these lanes and secrets, and has folded no chunk
 pub record StartsByLanes (stream : RapidStream) (lanes : ℕ) (secrets : RapidSecrets) : Type 0 where
-  pub empty : StandsByLanes stream []
+  pub empty : RepresentsByLanes stream []
   pub count : stream.parts.folded.count.steps ≡ 0
   pub lanes_are : lanes_of stream ≡ lanes
   pub secrets_are : secrets_by_lanes stream ≡ secrets

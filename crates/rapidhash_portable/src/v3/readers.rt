@@ -10,7 +10,7 @@ ghost use Rattle.rapidhash_portable.specs.Lanes.{IsLaneCount};
 ghost use Rattle.rapidhash_portable.specs.Reading.{HashesAll, HashesKnown, MarksFailures};
 ghost use Rattle.rapidhash_portable.specs.Hash.{default_hash, seeded_hash};
 ghost use Rattle.rapidhash_portable.specs.Source.{is_marked, reader_of};
-ghost use Rattle.rapidhash_portable.specs.Stream.{StreamStandsFor, secrets_of};
+ghost use Rattle.rapidhash_portable.specs.Stream.{StreamRepresents, secrets_of};
 
 use super::stream::RapidStreamHasherLanes;
 use crate::reader::Source;
@@ -125,7 +125,7 @@ fn read_all<R: Read, const LANES: usize, const SIZE: usize, const PROTECTED: boo
     source: &mut Source<R>,
     mut hasher: RapidStreamHasherLanes<'_, LANES, true, PROTECTED>,
 ) -> io::Result<u64>
-    requires empty { StreamStandsFor PROTECTED hasher [] }
+    requires empty { StreamRepresents PROTECTED hasher [] }
     requires room { 0 < SIZE }
     requires few { SIZE < 2 ^ 63 }
     ensures all { HashesAll

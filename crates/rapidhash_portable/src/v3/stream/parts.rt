@@ -70,15 +70,15 @@ fn copy_piece(room: &mut [u8], piece: &[u8])
 }
 
 impl<'a> Parts<'a> {
-    ghost use Rattle.rapidhash_portable.specs.Stream.{PartsStandFor};
+    ghost use Rattle.rapidhash_portable.specs.Stream.{PartsRepresent};
 
     /// Adds a piece.
     #[inline(always)]
     pub(crate) fn write<const LANES: usize, const PROTECTED: bool>(&mut self, piece: &[u8])
         requires lanes { IsLaneCount LANES }
         requires fits { self.old.len ≤ 16 * LANES }
-        ensures adds { (x : List ℕ) → PartsStandFor PROTECTED LANES self.old x →
-            PartsStandFor PROTECTED LANES self.new (x ++ piece.now) }
+        ensures adds { (x : List ℕ) → PartsRepresent PROTECTED LANES self.old x →
+            PartsRepresent PROTECTED LANES self.new (x ++ piece.now) }
         ensures secrets { self.new.secrets.now ≡ self.old.secrets.now }
         ensures fits { self.new.len ≤ 16 * LANES }
     {
@@ -99,8 +99,8 @@ impl<'a> Parts<'a> {
         requires lanes { IsLaneCount LANES }
         requires fits { self.old.len ≤ 16 * LANES }
         requires past { 16 * LANES - self.old.len < length piece.now }
-        ensures adds { (x : List ℕ) → PartsStandFor PROTECTED LANES self.old x →
-            PartsStandFor PROTECTED LANES self.new (x ++ piece.now) }
+        ensures adds { (x : List ℕ) → PartsRepresent PROTECTED LANES self.old x →
+            PartsRepresent PROTECTED LANES self.new (x ++ piece.now) }
         ensures secrets { self.new.secrets.now ≡ self.old.secrets.now }
         ensures fits { self.new.len ≤ 16 * LANES }
     {
@@ -133,7 +133,7 @@ impl<'a> Parts<'a> {
     ) -> u64
         requires lanes { IsLaneCount LANES }
         requires fits { self.now.len ≤ 16 * LANES }
-        ensures { (x : List ℕ) → PartsStandFor PROTECTED LANES self.now x →
+        ensures { (x : List ℕ) → PartsRepresent PROTECTED LANES self.now x →
             result
             ≡ seeded_hash (V3 LANES) (options AVALANCHE PROTECTED) self.now.secrets.now x }
     {
@@ -151,7 +151,7 @@ impl<'a> Parts<'a> {
     /// Starts again with no bytes.
     #[inline(always)]
     pub(crate) fn reset<const LANES: usize, const PROTECTED: bool>(&mut self)
-        ensures empty { PartsStandFor PROTECTED LANES self.new [] }
+        ensures empty { PartsRepresent PROTECTED LANES self.new [] }
         ensures count { self.new.folded.count.steps ≡ 0 }
         ensures secrets { self.new.secrets.now ≡ self.old.secrets.now }
         ensures len { self.new.len ≡ 0 }
