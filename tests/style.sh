@@ -37,6 +37,15 @@ lints_python() {
   { scripts_in python && git ls-files '*.py'; } | sort -u | xargs pyflakes3
 }
 
+# Checks that the doc comment of each public function of the product begins with a verb, such as "Returns".
+begins_with_verbs() {
+  git ls-files -z 'crates/rapid*/src/*.rt' | xargs -0 awk '
+    /^ *\/\/\// { if (!word) word = $2; next }
+    / *pub .*fn / && word && word !~ /^[A-Z][a-z]+s$/ { print FILENAME ":" FNR ": " word; found = 1 }
+    !/^ *#\[/ { word = "" }
+    END { exit found }'
+}
+
 # Checks that each subject names an area and has at most 72 characters.
 has_short_subjects() {
   ! git log -20 --no-merges --format=%s | grep -vE '^[A-Za-z0-9_/, .-]+: .+' &&
@@ -46,6 +55,7 @@ has_short_subjects() {
 try columns narrow
 try shell_scripts lints_shell
 try python_scripts lints_python
+try verbs begins_with_verbs
 try commits has_short_subjects
 # Proves the two large libraries, rapidhash_portable and rapidhash, so that no copy must prove them.
 (cd crates/rapidhash && rt lib >/dev/null 2>&1) || echo 'rapidhash is not built'

@@ -1,7 +1,7 @@
 #!/usr/bin/env python3
 """Applies the edits of crates/CRATE/must-fail/, many per check, and tests that the checker refuses each edited
 function at the goal that its edit names. The arguments are crates; without any, it tries all. `rt ci` tries each edit
-too, but only looks whether it is refused.
+too, but only looks whether it is refused. With the variable VERBOSE it also prints the checker's messages.
 
 The first line of an edit is `refused: FUNCTION, GOAL`, which `rt` ignores. Edits share a check only if none of their
 functions calls another, because the checker does not judge a function that calls a refused one."""
@@ -123,6 +123,8 @@ def said_by(output):
 def judge(number, edits):
     """Returns the edits with their findings. Tries an edit again if its function calls a refused one."""
     said = check(number, edits)
+    if "VERBOSE" in os.environ:
+        print(*(f"{edit.crate}/{edit.name}: {said[edit.function]}" for edit in edits), sep="\n", file=sys.stderr)
     found = [(edit, edit.finding(said[edit.function])) for edit in edits]
     hidden = [edit for edit, finding in found if finding and "it calls `" in finding]
     hidden *= len(hidden) < len(edits)

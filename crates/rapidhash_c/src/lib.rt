@@ -8,7 +8,7 @@ mod hashes;
 mod secrets;
 mod streams;
 
-/// The version number of the library: 100 times the major number, and the minor number.
+/// Returns the version number of the library: 100 times the major number, and the minor number.
 #[unsafe(no_mangle)]
 pub extern "C" fn rapidhash_c_version() -> u32
     ensures { result ≡ 100 }

@@ -103,7 +103,7 @@ pub(crate) const fn fold_rows<
 }
 
 const_fn! {
-/// The XOR of the first `WIDTH` lanes.
+/// Returns the XOR of the first `WIDTH` lanes.
 #[inline(always)]
 pub(crate) const fn join<const LANES: usize, const WIDTH: usize>(lanes: &[u64; LANES]) -> u64 {
     let mut all = 0;
@@ -117,7 +117,7 @@ pub(crate) const fn join<const LANES: usize, const WIDTH: usize>(lanes: &[u64; L
 }
 
 const_fn! {
-/// The seed after all rows of `LANES` pairs, and the bytes that are left.
+/// Returns the seed after all rows of `LANES` pairs, and the remaining bytes.
 #[inline(always)]
 pub(crate) const fn wide_lanes<
     'x,
@@ -136,8 +136,8 @@ pub(crate) const fn wide_lanes<
 }
 
 const_fn! {
-/// The seed after all rows of seven pairs and then of three, which the first three lanes fold, and
-/// the bytes that are left.
+/// Returns the seed after all rows of seven pairs and then of three, which the first three lanes
+/// fold, and the remaining bytes.
 #[inline(always)]
 pub(crate) const fn mixed_lanes<'x, const COMPACT: bool, const PROTECTED: bool>(
     bytes: &'x [u8],
@@ -150,7 +150,7 @@ pub(crate) const fn mixed_lanes<'x, const COMPACT: bool, const PROTECTED: bool>(
 }
 
 const_fn! {
-/// As [`wide_lanes`], where the lanes have folded a prefix already, and `bytes` are what follows
+/// Returns the same as [`wide_lanes`], if the lanes have already folded a prefix and `bytes` follow
 /// it.
 #[inline(always)]
 pub(crate) const fn join_wide<
@@ -170,8 +170,8 @@ pub(crate) const fn join_wide<
 }
 
 const_fn! {
-/// As [`mixed_lanes`], where the lanes have folded a prefix already, and `bytes` are what follows
-/// it.
+/// Returns the same as [`mixed_lanes`], if the lanes have already folded a prefix and `bytes`
+/// follow it.
 #[inline(always)]
 pub(crate) const fn join_mixed<'x, const COMPACT: bool, const PROTECTED: bool>(
     lanes: &mut [u64; 7],

@@ -78,8 +78,8 @@ impl<R: Read> Source<R> {
         &mut self.reader
     }
 
-    /// The result of a hash that read from the reader itself. The mark is turned on if a read
-    /// failed.
+    /// Returns the result of a hash that read from the reader itself. It turns the mark on if a
+    /// read failed.
     pub(crate) fn settle(&mut self, answer: Result<u64, Stop>) -> io::Result<u64> {
         match answer {
             Ok(hash) => Ok(hash),
@@ -105,7 +105,7 @@ pub(crate) enum Stop {
 }
 
 impl Stop {
-    /// The reader's own error, or `ErrorKind::UnexpectedEof`.
+    /// Returns the reader's own error, or `ErrorKind::UnexpectedEof`.
     pub(crate) fn into_error(self) -> io::Error {
         match self {
             Stop::Failed(failed) => failed.error,
@@ -114,7 +114,7 @@ impl Stop {
     }
 }
 
-/// One read of `reader`.
+/// Reads once from `reader`.
 #[inline(always)]
 pub(crate) fn read_once<R: Read>(reader: &mut R, buf: &mut [u8]) -> Result<usize, FailedRead> {
     reader.read(buf).map_err(|error| FailedRead { error })

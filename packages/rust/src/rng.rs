@@ -113,7 +113,7 @@ impl RapidRng {
         RapidRng::new(rapidrng_time(&mut seed, secs, nanos))
     }
 
-    /// The state as a number, with its range in the contract.
+    /// Returns the state as a number, with its range in the contract.
     fn number(&self) -> u64 {
         self.seed
     }

@@ -11,9 +11,9 @@ use crate::util::rapid_mix;
 #[repr(C)]
 #[derive(Debug, Clone, Copy, PartialEq, Eq, Hash)]
 pub struct RapidSecrets {
-    /// What every lane starts from.
+    /// The start value of every lane.
     pub seed: u64,
-    /// What the words of a message are mixed with, each lane with its own.
+    /// The words that a message's words are mixed with: each lane has its own.
     pub secrets: [u64; 7],
 }
 
@@ -90,33 +90,33 @@ pub(crate) const DEFAULT_SECRETS: [u64; 7] = [
     0x90ed_1765_281c_388c,
 ];
 
-/// What the global seed is mixed with.
+/// The number that the global seed is mixed with.
 const GLOBAL_MASK: u64 = 0xbdd8_9aa9_8270_4029;
 
-/// The word, with `bit` set if it has no bit of `mask`.
+/// Returns the word, with `bit` set if it has no bit of `mask`.
 const fn with_bit(word: u64, mask: u64, bit: u64) -> u64 {
     if word & mask == 0 { word | bit } else { word }
 }
 
-/// The word, with a bit set in each of its upper, its middle and its lower part that has none.
+/// Returns the word, with a bit set in each of its upper, middle and lower part that has none.
 pub(crate) const fn repair(word: u64) -> u64 {
     let upper = with_bit(word, 0xffff << 48, 1 << 63);
     let middle = with_bit(upper, 0xffff << 24, 1 << 31);
     with_bit(middle, 0xffff, 1)
 }
 
-/// The word mixed with the default secret at `place`, and repaired.
+/// Returns the word mixed with the default secret at `place`, and repaired.
 const fn premix(word: u64, place: usize) -> u64 {
     let mixed = rapid_mix::<false>(word ^ DEFAULT_SECRETS[2], DEFAULT_SECRETS[place]);
     repair(word ^ mixed)
 }
 
-/// The seed that `RapidSecrets::seed` makes.
+/// Returns the seed that `RapidSecrets::seed` derives.
 pub(crate) const fn seed_of(number: u64) -> u64 {
     premix(number, 0)
 }
 
-/// `COUNT` secrets, the first made of the seed and each other of the one before.
+/// Returns `COUNT` secrets: the first is derived from the seed, each other from the previous one.
 pub(crate) const fn chain<const COUNT: usize>(seed: u64) -> [u64; COUNT] {
     let mut secrets = [0; COUNT];
     let mut last = seed;
@@ -129,22 +129,24 @@ pub(crate) const fn chain<const COUNT: usize>(seed: u64) -> [u64; COUNT] {
     secrets
 }
 
-/// The seed that `RapidSecrets::seed_cpp` makes: V1 mixes with default secret 0, the others with 2.
+/// Returns the seed that `RapidSecrets::seed_cpp` derives: V1 mixes with default secret 0, the
+/// others with 2.
 pub(crate) const fn cpp_seed_of(number: u64, place: usize) -> u64 {
     number ^ rapid_mix::<false>(number ^ DEFAULT_SECRETS[place], DEFAULT_SECRETS[1])
 }
 
-/// The seed that `RapidSecrets::reseed` makes, with the last default secret of the version.
+/// Returns the seed that `RapidSecrets::reseed` derives, with the last default secret of the
+/// version.
 pub(crate) const fn reseed_of(seed: u64, place: usize) -> u64 {
     premix(seed, place)
 }
 
-/// The global seed of a random word.
+/// Returns the global seed of a random word.
 pub(crate) fn global_seed_of(random: u64) -> u64 {
     rapid_mix::<false>(random ^ DEFAULT_SECRETS[0], GLOBAL_MASK)
 }
 
-/// The seven secrets that a random word makes, each of the one before.
+/// Returns the seven secrets of a random word, each derived from the previous one.
 pub(crate) fn made_secrets(random: u64) -> [u64; 7] {
     let mut secrets = [0; 7];
     let mut state = rapid_mix::<false>(random ^ DEFAULT_SECRETS[2], DEFAULT_SECRETS[1]);

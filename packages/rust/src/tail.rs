@@ -1,13 +1,13 @@
 // Made by scripts/rust_crate from crates/rapidhash_portable/src/tail.rt: change that file.
 
-//! What every hash does after its rows: the pairs of the tail are folded into the seed, and the
-//! close makes the hash of the seed and the last two words.
+//! The end of every hash, after its rows: the pairs of the tail are folded into the seed, and the
+//! close computes the hash from the seed and the last two words.
 
 use crate::util::{rapid_mix, rapid_mum, read_u64};
 
 const_fn! {
-/// The seed after the pairs of a tail: pair j is mixed with secret j of the table, and the last 1
-/// to 16 bytes form no pair.
+/// Returns the seed after the pairs of a tail: pair j is mixed with secret j of the table, and the
+/// last 1 to 16 bytes form no pair.
 #[inline(always)]
 pub(crate) const fn fold_tail<const COUNT: usize, const PROTECTED: bool>(
     tail: &[u8],
@@ -33,7 +33,7 @@ pub(crate) const fn fold_tail<const COUNT: usize, const PROTECTED: bool>(
 }
 
 const_fn! {
-/// The value of the last two words and the seed.
+/// Returns the value of the last two words and the seed.
 #[inline(always)]
 pub(crate) const fn close<const AVALANCHE: bool, const PROTECTED: bool>(
     words: (u64, u64),

@@ -5,7 +5,7 @@
 use crate::util::{read_u32, read_u32_combined, read_u64};
 
 const_fn! {
-/// The last 16 bytes as two words.
+/// Returns the last 16 bytes as two words.
 #[inline(always)]
 pub(crate) const fn last_16(bytes: &[u8]) -> (u64, u64) {
     let n = bytes.len();
@@ -14,7 +14,7 @@ pub(crate) const fn last_16(bytes: &[u8]) -> (u64, u64) {
 }
 
 const_fn! {
-/// The first, the middle and the last of 1 to 3 bytes in one word.
+/// Returns the first, the middle and the last of 1 to 3 bytes in one word.
 #[inline(always)]
 const fn three_bytes(bytes: &[u8]) -> u64 {
     let n = bytes.len();
@@ -23,7 +23,7 @@ const fn three_bytes(bytes: &[u8]) -> u64 {
 }
 
 const_fn! {
-/// The two words of V1, of at most 16 bytes.
+/// Returns the two words of at most 16 bytes in V1.
 #[inline(always)]
 pub(crate) const fn short_words_v1(bytes: &[u8]) -> (u64, u64) {
     let n = bytes.len();
@@ -44,7 +44,7 @@ pub(crate) const fn short_words_v1(bytes: &[u8]) -> (u64, u64) {
 }
 
 const_fn! {
-/// The two words of V2, of at most 16 bytes.
+/// Returns the two words of at most 16 bytes in V2.
 #[inline(always)]
 pub(crate) const fn short_words_v2<const MINOR: u8>(bytes: &[u8]) -> (u64, u64) {
     let n = bytes.len();
@@ -62,7 +62,7 @@ pub(crate) const fn short_words_v2<const MINOR: u8>(bytes: &[u8]) -> (u64, u64) 
 }
 
 const_fn! {
-/// The two words of V3, micro, nano and the in-memory core, of at most 16 bytes.
+/// Returns the two words of at most 16 bytes in V3, micro, nano and the in-memory core.
 #[inline(always)]
 pub(crate) const fn short_words_v3(bytes: &[u8]) -> (u64, u64) {
     let n = bytes.len();
@@ -78,7 +78,7 @@ pub(crate) const fn short_words_v3(bytes: &[u8]) -> (u64, u64) {
 }
 
 const_fn! {
-/// The two words of V2, V3, micro, nano and the in-memory core, of 4 to 16 bytes.
+/// Returns the two words of 4 to 16 bytes in V2, V3, micro, nano and the in-memory core.
 #[inline(always)]
 const fn words_from_4(bytes: &[u8]) -> (u64, u64) {
     let n = bytes.len();

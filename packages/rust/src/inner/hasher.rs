@@ -69,7 +69,7 @@ impl<'s, const AVALANCHE: bool, const SPONGE: bool, const COMPACT: bool, const P
         RapidHasher::new(0)
     }
 
-    /// A hasher of a seed and secrets as they are.
+    /// Returns a hasher with the given seed and secrets.
     #[inline(always)]
     pub(crate) const fn from_parts(seed: u64, secrets: &'s [u64; 7]) -> Self {
         RapidHasher {
@@ -79,7 +79,7 @@ impl<'s, const AVALANCHE: bool, const SPONGE: bool, const COMPACT: bool, const P
         }
     }
 
-    /// The seed after a step on 128 bits.
+    /// Returns the seed after a step on 128 bits.
     #[inline(always)]
     fn mixed(&self, wide: u128) -> u64 {
         let low = (wide % 0x1_0000_0000_0000_0000) as u64;

@@ -10,13 +10,13 @@ pub(crate) struct Sponge {
 }
 
 impl Sponge {
-    /// No bits.
+    /// Returns a sponge without bits.
     #[inline(always)]
     pub(crate) const fn empty() -> Sponge {
         Sponge { bits: 0, width: 0 }
     }
 
-    /// An integer alone.
+    /// Returns a sponge with a single integer.
     #[inline(always)]
     pub(crate) fn of(value: u64, width: u8) -> Sponge {
         Sponge {
@@ -25,7 +25,7 @@ impl Sponge {
         }
     }
 
-    /// An integer after those that wait.
+    /// Adds an integer after the pending ones.
     #[inline(always)]
     pub(crate) fn with(self, value: u64, width: u8) -> Sponge {
         Sponge {

@@ -30,7 +30,7 @@ pub const fn hash<
 }
 
 const_fn! {
-/// The hash of at most 16 bytes, made of their two words.
+/// Returns the hash of at most 16 bytes from their two words.
 #[inline(always)]
 const fn close_short<const AVALANCHE: bool, const PROTECTED: bool>(
     bytes: &[u8],
@@ -45,7 +45,7 @@ const fn close_short<const AVALANCHE: bool, const PROTECTED: bool>(
 }
 
 const_fn! {
-/// The hash above 16 bytes. A message that has no row makes no call.
+/// Returns the hash above 16 bytes. A message that has no row makes no call.
 #[inline(always)]
 const fn long<const AVALANCHE: bool, const COMPACT: bool, const PROTECTED: bool, const V1_BUG: bool>(
     bytes: &[u8],
@@ -63,7 +63,7 @@ const fn long<const AVALANCHE: bool, const COMPACT: bool, const PROTECTED: bool,
 }
 
 const_fn! {
-/// The hash of a message that has a row, out of line.
+/// Returns the hash of a message that has a row, out of line.
 #[cold]
 #[inline(never)]
 const fn with_rows<
@@ -83,8 +83,8 @@ const fn with_rows<
 }
 
 const_fn! {
-/// The hash of `len` bytes, more than 16, made of the joined lanes, the tail, and bytes that end in
-/// the message's last 16.
+/// Returns the hash of `len` bytes, more than 16, from the joined lanes, the tail, and bytes that
+/// end in the message's last 16.
 #[inline(always)]
 pub(crate) const fn close_tail<const AVALANCHE: bool, const PROTECTED: bool>(
     tail: &[u8],
@@ -103,7 +103,7 @@ pub(crate) const fn close_tail<const AVALANCHE: bool, const PROTECTED: bool>(
 }
 
 const_fn! {
-/// The length of the longest message without a row.
+/// Returns the length of the longest message without a row.
 #[inline(always)]
 const fn longest_rowless<const V1_BUG: bool>() -> usize {
     if V1_BUG { 47 } else { 48 }

@@ -25,7 +25,7 @@ pub const fn hash<const MINOR: u8, const AVALANCHE: bool, const COMPACT: bool, c
 }
 
 const_fn! {
-/// The hash of at most 16 bytes, made of their two words.
+/// Returns the hash of at most 16 bytes from their two words.
 #[inline(always)]
 const fn close_short<const AVALANCHE: bool, const PROTECTED: bool>(
     bytes: &[u8],
@@ -40,7 +40,7 @@ const fn close_short<const AVALANCHE: bool, const PROTECTED: bool>(
 }
 
 const_fn! {
-/// The hash above 16 bytes. A message that has no row makes no call.
+/// Returns the hash above 16 bytes. A message that has no row makes no call.
 #[inline(always)]
 const fn long<const MINOR: u8, const AVALANCHE: bool, const COMPACT: bool, const PROTECTED: bool>(
     bytes: &[u8],
@@ -57,7 +57,7 @@ const fn long<const MINOR: u8, const AVALANCHE: bool, const COMPACT: bool, const
 }
 
 const_fn! {
-/// The hash above 16 bytes of a message that has no row.
+/// Returns the hash above 16 bytes of a message that has no row.
 #[inline(always)]
 const fn without_rows<const MINOR: u8, const AVALANCHE: bool, const PROTECTED: bool>(
     bytes: &[u8],
@@ -72,7 +72,7 @@ const fn without_rows<const MINOR: u8, const AVALANCHE: bool, const PROTECTED: b
 }
 
 const_fn! {
-/// The hash of a message that has a row, out of line.
+/// Returns the hash of a message that has a row, out of line.
 #[cold]
 #[inline(never)]
 const fn with_rows<const MINOR: u8, const AVALANCHE: bool, const COMPACT: bool, const PROTECTED: bool>(
@@ -87,8 +87,8 @@ const fn with_rows<const MINOR: u8, const AVALANCHE: bool, const COMPACT: bool, 
 }
 
 const_fn! {
-/// The hash of `len` bytes that have a row, made of the joined lanes, the tail, and bytes that end
-/// in the message's last 16.
+/// Returns the hash of `len` bytes that have a row, from the joined lanes, the tail, and bytes that
+/// end in the message's last 16.
 #[inline(always)]
 pub(crate) const fn close_tail<const AVALANCHE: bool, const PROTECTED: bool>(
     tail: &[u8],
@@ -103,8 +103,8 @@ pub(crate) const fn close_tail<const AVALANCHE: bool, const PROTECTED: bool>(
 }
 
 const_fn! {
-/// The hash of `len` bytes, more than 16, made of the seed after all pairs, and bytes that end in
-/// the message's last 16.
+/// Returns the hash of `len` bytes, more than 16, from the seed after all pairs, and bytes that end
+/// in the message's last 16.
 #[inline(always)]
 const fn close_long<const AVALANCHE: bool, const PROTECTED: bool>(
     ending: &[u8],
@@ -122,7 +122,7 @@ const fn close_long<const AVALANCHE: bool, const PROTECTED: bool>(
 }
 
 const_fn! {
-/// The length of the longest message without a row.
+/// Returns the length of the longest message without a row.
 #[inline(always)]
 const fn longest_rowless<const MINOR: u8>() -> usize {
     if MINOR == 0 { 56 } else { 64 }
@@ -130,7 +130,7 @@ const fn longest_rowless<const MINOR: u8>() -> usize {
 }
 
 const_fn! {
-/// The index of the secret for the third pair of such a message.
+/// Returns the index of the secret for the third pair of a message without a row.
 #[inline(always)]
 const fn last_place<const MINOR: u8>() -> usize {
     if MINOR < 2 { 0 } else { 1 }

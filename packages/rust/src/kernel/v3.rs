@@ -35,8 +35,8 @@ pub const fn hash<
 }
 
 const_fn! {
-/// The hash of at most 16 bytes, made of their two words. From 4 bytes on the length is mixed into
-/// the seed.
+/// Returns the hash of at most 16 bytes from their two words. From 4 bytes on the length is mixed
+/// into the seed.
 #[inline(always)]
 const fn close_short<const LANES: usize, const AVALANCHE: bool, const PROTECTED: bool>(
     bytes: &[u8],
@@ -51,7 +51,7 @@ const fn close_short<const LANES: usize, const AVALANCHE: bool, const PROTECTED:
 }
 
 const_fn! {
-/// The hash above 16 bytes.
+/// Returns the hash above 16 bytes.
 #[inline(always)]
 const fn long<const LANES: usize, const AVALANCHE: bool, const COMPACT: bool, const PROTECTED: bool>(
     bytes: &[u8],
@@ -68,7 +68,7 @@ const fn long<const LANES: usize, const AVALANCHE: bool, const COMPACT: bool, co
 }
 
 const_fn! {
-/// The hash above 16 bytes, out of line.
+/// Returns the hash above 16 bytes, out of line.
 #[cold]
 #[inline(never)]
 const fn with_rows<
@@ -87,8 +87,8 @@ const fn with_rows<
 }
 
 const_fn! {
-/// The hash above 16 bytes, made of the joined lanes, the tail, and bytes that end in the message's
-/// last 16.
+/// Returns the hash above 16 bytes, from the joined lanes, the tail, and bytes that end in the
+/// message's last 16.
 #[inline(always)]
 pub(crate) const fn close_tail<const AVALANCHE: bool, const PROTECTED: bool>(
     tail: &[u8],

@@ -36,7 +36,7 @@ pub fn rapidhash_v3_source<R: Read, const PROTECTED: bool>(
     source: &mut Source<R>,
     secrets: &RapidSecrets,
 ) -> io::Result<u64> {
-    rapidhash_v3_source_sized::<R, BUFFER, PROTECTED>(source, secrets)
+    rapidhash_v3_source_lanes::<R, 7, BUFFER, PROTECTED>(source, secrets)
 }
 
 /// Returns the hash of [`rapidhash_v3_source`], with a buffer of `SIZE` bytes on the stack: no read
@@ -95,9 +95,9 @@ pub fn rapidhash_v3_source_lanes<
     }
 }
 
-/// The loop of every hash here, from a hasher of no bytes. Short reads gather in the buffer until
-/// it is more than half full, so that no read requests less than half of it. The loop is out of
-/// line because of its buffer.
+/// Returns the hash with a hasher of no bytes: the loop of every public call here. Short reads
+/// gather in the buffer until it is more than half full, so that no read requests less than half of
+/// it. The loop is out of line because of its buffer.
 #[inline(never)]
 fn read_all<R: Read, const LANES: usize, const SIZE: usize, const PROTECTED: bool>(
     source: &mut Source<R>,
@@ -135,7 +135,7 @@ fn read_all<R: Read, const LANES: usize, const SIZE: usize, const PROTECTED: boo
 ///
 /// The reader's own error, or `ErrorKind::Other` after 2^64 - 1 reads that returned bytes.
 pub fn rapidhash_v3_file<R: Read>(data: R) -> io::Result<u64> {
-    rapidhash_v3_file_inline::<R, false>(data, RapidSecrets::default_ref())
+    rapidhash_v3_file_lanes::<R, 7, BUFFER, false>(data, RapidSecrets::default_ref())
 }
 
 /// Returns the hash of all that a reader has, with the caller's seed and secrets.
@@ -144,7 +144,7 @@ pub fn rapidhash_v3_file<R: Read>(data: R) -> io::Result<u64> {
 ///
 /// Those of [`rapidhash_v3_file`].
 pub fn rapidhash_v3_file_seeded<R: Read>(data: R, secrets: &RapidSecrets) -> io::Result<u64> {
-    rapidhash_v3_file_inline::<R, false>(data, secrets)
+    rapidhash_v3_file_lanes::<R, 7, BUFFER, false>(data, secrets)
 }
 
 /// Returns the hash of all that a reader has; `PROTECTED` mixes each product with its factors.
@@ -157,7 +157,7 @@ pub fn rapidhash_v3_file_inline<R: Read, const PROTECTED: bool>(
     data: R,
     secrets: &RapidSecrets,
 ) -> io::Result<u64> {
-    rapidhash_v3_file_sized::<R, BUFFER, PROTECTED>(data, secrets)
+    rapidhash_v3_file_lanes::<R, 7, BUFFER, PROTECTED>(data, secrets)
 }
 
 /// Returns the hash of [`rapidhash_v3_file_inline`], with a buffer of `SIZE` bytes on the stack: no

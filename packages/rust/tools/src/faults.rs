@@ -21,7 +21,7 @@ pub enum CliFault {
 }
 
 impl CliFault {
-    /// The error's number. It never changes, and no other error will have it.
+    /// Returns the error's number. It never changes, and no other error will have it.
     pub fn number(&self) -> u8 {
         match self {
             CliFault::Versions => 1,
@@ -33,7 +33,7 @@ impl CliFault {
         }
     }
 
-    /// The line for standard error, without its newline.
+    /// Returns the line for standard error, without its newline.
     pub fn text(&self) -> &'static str {
         match self {
             CliFault::Versions => {

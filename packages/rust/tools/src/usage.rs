@@ -2,7 +2,7 @@
 
 //! The help text.
 
-/// What `--help` prints.
+/// Returns the text of `--help`.
 pub fn help() -> &'static str {
     "Usage: rapidhash <version> [opts] [filename]
 <version>

@@ -65,9 +65,9 @@ pub enum Plan {
 }
 
 impl RapidhashVersion {
-    /// The version that the arguments after the program's name select: V3 if they name none, and
-    /// `None` if they name two. A version named twice counts once, `--protected` may be at any
-    /// place, and all other arguments are ignored, also `--help`.
+    /// Returns the version that the arguments after the program's name select: V3 if they name
+    /// none, and `None` if they name two. A version named twice counts once, `--protected` may be
+    /// at any place, and all other arguments are ignored, also `--help`.
     pub fn new(args: &[String]) -> Option<Self> {
         let protected = has(args, "--protected");
         let mut chosen = None;
@@ -82,8 +82,8 @@ impl RapidhashVersion {
         Some(chosen.unwrap_or(RapidhashVersion::V3 { protected }))
     }
 
-    /// Whether the version needs the number of bytes before it hashes the first: V1 and V2 read
-    /// standard input to its end, and use a file's length.
+    /// Returns whether the version needs the number of bytes before it hashes the first: V1 and V2
+    /// read standard input to its end, and use a file's length.
     pub fn needs_length(&self) -> bool {
         matches!(
             self,

@@ -12,7 +12,7 @@ pub(crate) struct Seeded<'s> {
 }
 
 impl<'s> Seeded<'s> {
-    /// A hasher of the seed and the secrets that has absorbed nothing.
+    /// Returns a hasher with the seed and the secrets that has absorbed nothing.
     #[inline(always)]
     pub(crate) fn hasher<
         const AVALANCHE: bool,

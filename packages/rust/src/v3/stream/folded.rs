@@ -18,12 +18,12 @@ use crate::lanes::{fold_row, fold_two_rows_by_lane, join};
 struct Count {}
 
 impl Count {
-    /// None.
+    /// Returns a count of none.
     fn new() -> Count {
         Count {}
     }
 
-    /// One more than before.
+    /// Returns one more than before.
     fn after(_before: &Count) -> Count {
         Count {}
     }
@@ -96,7 +96,7 @@ impl Folded {
         *self = Folded::new(seed);
     }
 
-    /// The XOR of the first `LANES` lanes.
+    /// Returns the XOR of the first `LANES` lanes.
     #[inline(always)]
     pub(crate) fn joined<const LANES: usize>(&self) -> u64 {
         join::<7, LANES>(&self.lanes)

@@ -21,11 +21,11 @@ pub(crate) struct Parts<'a> {
     pub(crate) any: bool,
     /// The last 16 folded bytes, and then the new ones.
     pub(crate) kept: [u8; 128],
-    /// How many bytes are new: a whole chunk of them is folded when a further byte comes.
+    /// The number of new bytes. A whole chunk of them is folded when a further byte follows.
     pub(crate) len: usize,
 }
 
-/// The 16 bytes from `from` on.
+/// Returns the 16 bytes from `from` on.
 #[inline(always)]
 fn sixteen(bytes: &[u8], from: usize) -> [u8; 16] {
     let mut out = [0; 16];
@@ -93,8 +93,8 @@ impl<'a> Parts<'a> {
         self.len = rest.len();
     }
 
-    /// The hash of the message that was written. A message without a folded chunk is in the buffer
-    /// as a whole.
+    /// Returns the hash of the message. A message without a folded chunk is in the buffer as a
+    /// whole.
     #[inline(always)]
     pub(crate) fn finish<const LANES: usize, const AVALANCHE: bool, const PROTECTED: bool>(
         &self,

@@ -25,7 +25,7 @@ fn byte_of(letter: u8) -> Option<u8> {
     }
 }
 
-/// Whether a name has a byte that is escaped.
+/// Returns whether a name has a byte that is escaped.
 pub fn needs_escape(name: &[u8]) -> bool {
     for byte in name {
         if letter_of(*byte).is_some() {
@@ -48,8 +48,8 @@ pub fn push_escaped<A: Allocator>(text: &mut Vec<u8, A>, name: &[u8]) -> Result<
     Ok(())
 }
 
-/// The name that an escaped text represents. There is none if a backslash is at the end, or before
-/// a byte that is no letter of an escape.
+/// Returns the name that an escaped text represents. There is none if a backslash is at the end, or
+/// before a byte that is no letter of an escape.
 pub fn unescape<A: Allocator>(alloc: A, text: &[u8]) -> Result<Option<Vec<u8, A>>, AllocError> {
     let mut name = Vec::new(alloc);
     let mut pending = false;
