@@ -14,6 +14,7 @@
 # make install     installs the built files, manual pages, and completions under PREFIX; uninstall removes them
 # make dist        packs everything that a user without the toolchain needs into a single archive in build/
 # make deb         builds the Debian source package and its packages in build/debian, by Debian's tools alone
+# make release     makes the archive, the packages and their checksums in build/release, from a tree without changes
 # make vendor      copies the library into another Rattle repository: make vendor INTO=FOLDER
 # make test-vendor runs the merge gate of such a repository, which proves everything from scratch
 # make clean       removes all build results
@@ -148,10 +149,21 @@ vendor:
 clean:
 	rm -rf crates/*/out build
 
-# The next two are not part of the gate, because they take some additional minutes.
-.PHONY: test-edits
+# Without changes, the results are those of a commit.
+release:
+	@[ -z "$$(git status --porcelain)" ] || { echo 'make release: the tree has changes: commit them first' >&2; exit 2; }
+	@$(MAKE) -s dist deb
+	@rm -rf build/release && mkdir build/release && git rev-parse HEAD >build/release/COMMIT
+	@cp build/*.t*gz build/*.jar build/wheels/*.* build/debian/*.deb build/debian/*.dsc build/debian/*.tar.xz build/release
+	@cd build/release && sha256sum -- * >SHA256SUMS
+
+# The next three are not part of the gate, because they take some additional minutes.
+.PHONY: release test-edits test-machines
 test-edits:
 	@tests/release/must_fail.py
+
+test-machines:
+	@prove --verbose --exec '' tests/release/machines.sh
 
 .PHONY: test-vendor
 test-vendor:

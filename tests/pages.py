@@ -17,7 +17,7 @@ MADE = TOP / "docs" / "api"
 PAGES = sorted([*TOP.glob("*.md"), *TOP.glob("docs/*.md"), *MADE.glob("*.md"), *TOP.glob("*/NOTES.md"),
                 *TOP.glob("packages/*/README.md"), *TOP.glob("packages/rust/*/README.md")])
 # Directories that builds create, and paths that exist only in an archive or in an installed copy.
-BUILT = ("build/", "crates/example_NAME", "tests/examples/example_NAME", "crates/first")
+BUILT = ("build/", "crates/first")
 PATH = re.compile(r"`((?:crates|docs|tests|bench|bin|packages|scripts|\.ci)/[^` ]*)`")
 NAME = re.compile(r"`([A-Za-z]\w*(?:::\w+)*)`")
 
@@ -43,7 +43,7 @@ def links():
 def paths():
     for _, place, line in prose(page for page in PAGES if page.parent.name != "archive" and page.parent.name != "rust"):
         for path in PATH.findall(line):
-            if "/out/" not in path and not path.startswith(BUILT) and not any(TOP.glob(path.rstrip("/"))):
+            if not re.search("/out/|NAME", path) and not path.startswith(BUILT) and not any(TOP.glob(path.rstrip("/"))):
                 yield f"{place}: no {path}"
 
 

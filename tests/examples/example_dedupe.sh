@@ -75,7 +75,7 @@ rm odd/$'bad\xff'
 # The first and the last read of a file that is hashed, and of two that are compared.
 for read in 'other 1' 'other 6' 'copy 7' 'copy 10'; do
   failing "read:error=EIO:when=${read#* }" "odd/${read% *}" "$program" odd >out 2>"$room/log"
-  [ $? -eq 1 ] && grep -qxE 'example_dedupe: odd/(other|copy|zeros): Input/output error \(os error 5\)' "$room/log" &&
+  [ $? -eq 1 ] && grep -qxF "example_dedupe: odd/${read% *}: Input/output error (os error 5)" "$room/log" &&
     if [[ $read = copy* ]]; then [ ! -s out ]; else cmp out wanted; fi
   tell "failed_read_of_$read" $?
 done

@@ -77,6 +77,13 @@ has_what_make_builds() {
   done <"$room/targets"
 }
 
+# Checks that a tree with a new file is refused before anything is built.
+refuses_changes() {
+  git clone -q -s "$top" "$room/changed" && touch "$room/changed/new" && ! make -s -C "$room/changed" release >"$room/said" 2>&1 &&
+    grep -x 'make release: the tree has changes: commit them first' "$room/said" && [ ! -e "$room/changed/build" ]
+}
+
+try release_of_a_changed_tree refuses_changes
 try archive makes_the_archive
 try results_of_make has_what_make_builds
 try program prints_the_known_hash "$room/unpacked"

@@ -195,12 +195,18 @@ static void check_rule(const std::string &rule, const std::string &message, std:
 static void check_zeros(unsigned long long size, std::uint64_t known)
 {
     void *const zeros = size <= SIZE_MAX ? std::calloc(static_cast<std::size_t>(size), 1) : nullptr;
+    struct {
+        const char *at;
+        std::size_t count;
+        const char *data() const { return at; }
+        std::size_t size() const { return count; }
+    } const range = {static_cast<const char *>(zeros), static_cast<std::size_t>(size)};
 
     if (zeros == nullptr)
         std::printf("skipped zeros:%llu: no memory for it\n", size);
     else
-        for (std::uint64_t value : {rapidhash::hash({zeros, static_cast<std::size_t>(size)}),
-                                    rapidhash::stream().update(zeros, static_cast<std::size_t>(size)).finish()})
+        for (std::uint64_t value : {rapidhash::hash({zeros, range.count}), rapidhash::hash(range),
+                                    rapidhash::stream().update(zeros, range.count).finish()})
             compare("zeros", value, known);
     std::free(zeros);
 }

@@ -57,6 +57,10 @@ pom_is_current() {
     [ "$(grep -c '<artifactId>' "$folder/pom.xml")" -eq $((1 + $(grep -cx ' *<scope>test</scope>' "$folder/pom.xml"))) ]
 }
 
+contains_the_licences() {
+  (cd "$room" && jar -xf "$jar" META-INF) && has_the_licences "$room/META-INF"
+}
+
 # Checks that the classes have the number of public types and members that the package had at its release.
 has_its_names() {
   jar -tf "$jar" | sed -n 's|^\(example/.*\)\.class$|\1|p' | xargs javap -cp "$jar" -public >"$room/names" &&
@@ -68,7 +72,7 @@ prepare_by make -s -C "$top" jar
 prepare_by write_vectors
 prepare_by compile "$room/tests" "$jar:$junit" "$folder/src/test"
 
-try java_licences has_the_licences "$folder"
+try java_licences contains_the_licences
 try java_module runs_as_a_module
 try java_pom pom_is_current
 try java_names has_its_names

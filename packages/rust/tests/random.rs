@@ -66,7 +66,7 @@ const INNER: &str = "RAPIDHASH_FIRST_STATES";
 
 fn line_of_a_process() -> String {
     let program = std::env::current_exe().unwrap();
-    let words = ["two_processes_differ", "--exact", "--nocapture"];
+    let words = ["processes_differ", "--exact", "--nocapture"];
     let output = Command::new(program).args(words).env(INNER, "1").output();
     let output = output.unwrap();
     let text = String::from_utf8(output.stdout).unwrap();
@@ -76,11 +76,16 @@ fn line_of_a_process() -> String {
 }
 
 #[test]
-fn two_processes_differ() {
+fn processes_differ() {
     if std::env::var_os(INNER).is_some() {
         return first_states_allocate_nothing();
     }
-    assert_ne!(line_of_a_process(), line_of_a_process());
+    // Two of so many processes would share a word of eight random bits, with a probability of 0.9997.
+    let lines: Vec<_> = (0..64).map(|_| line_of_a_process()).collect();
+    for column in 1..=4 {
+        let seen: HashSet<_> = lines.iter().map(|line| line.split(' ').nth(column)).collect();
+        assert_eq!(seen.len(), lines.len(), "column {column} of {lines:?}");
+    }
 }
 
 /// Maps differ within a thread and between threads, also those that run one after the other on the same stack.

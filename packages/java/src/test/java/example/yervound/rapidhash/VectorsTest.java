@@ -6,8 +6,10 @@ import static org.junit.Assert.assertTrue;
 
 import java.io.IOException;
 import java.nio.ByteBuffer;
+import java.nio.channels.FileChannel;
 import java.nio.file.Files;
 import java.nio.file.Path;
+import java.nio.file.StandardOpenOption;
 import java.util.Arrays;
 import java.util.Map;
 import java.util.Set;
@@ -102,6 +104,24 @@ public class VectorsTest {
             stream.update(zeros, 0, (int) Math.min(left, zeros.length));
         }
         return stream.getValue();
+    }
+
+    /** Compares the hashes of the longest buffer, a file without blocks. The values are those of the Rust crate. */
+    @Test
+    public void longestBuffer() throws IOException {
+        Path file = Files.createTempFile("zeros", null);
+        try (FileChannel channel = FileChannel.open(file, StandardOpenOption.READ, StandardOpenOption.WRITE)) {
+            channel.write(ByteBuffer.allocate(1), Integer.MAX_VALUE - 1L);
+            ByteBuffer zeros = channel.map(FileChannel.MapMode.READ_ONLY, 0, Integer.MAX_VALUE);
+            assertEquals(1341893928005486386L, Rapidhash.V1.hash(zeros));
+            assertEquals(Long.parseUnsignedLong("17332495739427886321"), Rapidhash.V2_2.hash(zeros));
+            assertEquals(Long.parseUnsignedLong("11522169431647323224"), Rapidhash.V3.hash(zeros));
+            RapidhashStream stream = Rapidhash.V3.stream();
+            stream.update(zeros);
+            assertEquals(Long.parseUnsignedLong("11522169431647323224"), stream.getValue());
+        } finally {
+            Files.delete(file);
+        }
     }
 
     /** Returns the hash of a message in pieces of 1, 2, 3 bytes, and so on. */
