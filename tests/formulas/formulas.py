@@ -51,7 +51,7 @@ def build_crate():
     folder = shutil.copytree(TOP / "packages" / "rust" / "src", ROOM / "crate")
     for path in folder.rglob("*.rs"):
         path.write_text(re.sub(r"\bconst fn\b", "fn", path.read_text()))
-    shutil.copy(FOLDER / "util.rs", folder)
+    shutil.copy(FOLDER / "util.rs", folder / "proved")
     return shell("rustc -O --edition 2021 --crate-type rlib --crate-name rapidhash --cap-lints allow"
                  " --cfg 'feature=\"std\"' crate/lib.rs", ROOM)
 

@@ -14,10 +14,9 @@
 //! vectors of integers, which std passes as they are in memory: those of `usize` differ on 32-bit
 //! machines, and those of integers wider than a byte on big-endian machines.
 
-mod hasher;
-mod sponge;
 mod state;
 
+pub(crate) use crate::proved::inner::{hasher, sponge};
 pub use crate::seeding::{GlobalSecrets, SeedSource};
 pub use hasher::RapidHasher;
 pub use state::{GlobalState, RandomState, SeedableState};

@@ -62,24 +62,15 @@ pub mod fast;
 pub mod inner;
 #[cfg(feature = "std")]
 mod io;
-mod kernel;
-#[cfg(feature = "std")]
-mod known_length;
-mod lanes;
-mod memory;
+mod proved;
 pub mod quality;
 mod random;
-#[cfg(feature = "std")]
-pub mod reader;
-pub mod rng;
-mod secrets;
-mod seeding;
-mod tail;
-pub mod util;
-pub mod v1;
-pub mod v2;
-pub mod v3;
-mod words;
 
 #[cfg(feature = "std")]
 pub use collections::{HashMapExt, HashSetExt, RapidHashMap, RapidHashSet};
+#[cfg(feature = "std")]
+use proved::known_length;
+#[cfg(feature = "std")]
+pub use proved::reader;
+use proved::{kernel, lanes, memory, secrets, seeding, tail, words};
+pub use proved::{rng, util, v1, v2, v3};

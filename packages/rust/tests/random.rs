@@ -83,7 +83,10 @@ fn processes_differ() {
     // Two of so many processes would share a word of eight random bits, with a probability of 0.9997.
     let lines: Vec<_> = (0..64).map(|_| line_of_a_process()).collect();
     for column in 1..=4 {
-        let seen: HashSet<_> = lines.iter().map(|line| line.split(' ').nth(column)).collect();
+        let seen: HashSet<_> = lines
+            .iter()
+            .map(|line| line.split(' ').nth(column))
+            .collect();
         assert_eq!(seen.len(), lines.len(), "column {column} of {lines:?}");
     }
 }

@@ -1,143 +1,104 @@
 //! The states that build hashers for a map. Each keeps only a seed and secrets, in the proved
 //! `seeded`. The source of a random seed and of random secrets is outside the proof.
 
+use crate::proved::inner::state::seeded::Seeded;
 use crate::random::{global_seed, next_seed, secrets};
 use crate::secrets::RapidSecrets;
 use std::fmt::{Debug, Formatter, Result};
 use std::hash::BuildHasher;
 
-mod seeded;
-
 use super::RapidHasher;
-use seeded::Seeded;
 
-/// Builds hashers with the single random seed of this process: all its maps hash in the same way.
-///
-/// ```
-/// use rapidhash::inner::GlobalState;
-///
-/// let state = GlobalState::<false, true, false, false>::new();
-/// assert_eq!(state, GlobalState::new());
-/// ```
-#[derive(Clone, Copy, PartialEq, Eq)]
-pub struct GlobalState<
-    const AVALANCHE: bool,
-    const SPONGE: bool,
-    const COMPACT: bool,
-    const PROTECTED: bool,
-> {
-    seeded: Seeded<'static>,
+/// Defines a state whose `new` draws the seed with a function.
+macro_rules! random_state {
+    ($(#[$about:meta])* $name:ident, $(#[$new:meta])* $seed:path) => {
+        $(#[$about])*
+        #[derive(Clone, Copy, PartialEq, Eq)]
+        pub struct $name<
+            const AVALANCHE: bool,
+            const SPONGE: bool,
+            const COMPACT: bool,
+            const PROTECTED: bool,
+        > {
+            seeded: Seeded<'static>,
+        }
+
+        impl<const AVALANCHE: bool, const SPONGE: bool, const COMPACT: bool, const PROTECTED: bool>
+            $name<AVALANCHE, SPONGE, COMPACT, PROTECTED>
+        {
+            $(#[$new])*
+            #[must_use]
+            #[inline]
+            pub fn new() -> Self {
+                Self {
+                    seeded: Seeded {
+                        seed: $seed(),
+                        secrets: secrets(),
+                    },
+                }
+            }
+        }
+
+        impl<const AVALANCHE: bool, const SPONGE: bool, const COMPACT: bool, const PROTECTED: bool> Default
+            for $name<AVALANCHE, SPONGE, COMPACT, PROTECTED>
+        {
+            /// Returns the state of `new`.
+            #[inline]
+            fn default() -> Self {
+                Self::new()
+            }
+        }
+
+        impl<const AVALANCHE: bool, const SPONGE: bool, const COMPACT: bool, const PROTECTED: bool>
+            BuildHasher for $name<AVALANCHE, SPONGE, COMPACT, PROTECTED>
+        {
+            type Hasher = RapidHasher<'static, AVALANCHE, SPONGE, COMPACT, PROTECTED>;
+
+            #[inline(always)]
+            fn build_hasher(&self) -> Self::Hasher {
+                self.seeded.hasher()
+            }
+        }
+
+        impl<const AVALANCHE: bool, const SPONGE: bool, const COMPACT: bool, const PROTECTED: bool> Debug
+            for $name<AVALANCHE, SPONGE, COMPACT, PROTECTED>
+        {
+            fn fmt(&self, f: &mut Formatter<'_>) -> Result {
+                f.debug_struct(stringify!($name)).finish_non_exhaustive()
+            }
+        }
+    };
 }
 
-impl<const AVALANCHE: bool, const SPONGE: bool, const COMPACT: bool, const PROTECTED: bool>
-    GlobalState<AVALANCHE, SPONGE, COMPACT, PROTECTED>
-{
+random_state! {
+    /// Builds hashers with the single random seed of this process: all its maps hash in the same way.
+    ///
+    /// ```
+    /// use rapidhash::inner::GlobalState;
+    ///
+    /// let state = GlobalState::<false, true, false, false>::new();
+    /// assert_eq!(state, GlobalState::new());
+    /// ```
+    GlobalState,
     /// Returns a state with the seed and the secrets of this process.
-    #[must_use]
-    #[inline]
-    pub fn new() -> Self {
-        Self {
-            seeded: Seeded {
-                seed: global_seed(),
-                secrets: secrets(),
-            },
-        }
-    }
+    global_seed
 }
 
-impl<const AVALANCHE: bool, const SPONGE: bool, const COMPACT: bool, const PROTECTED: bool> Default
-    for GlobalState<AVALANCHE, SPONGE, COMPACT, PROTECTED>
-{
-    /// Returns [`GlobalState::new`].
-    #[inline]
-    fn default() -> Self {
-        Self::new()
-    }
-}
-
-impl<const AVALANCHE: bool, const SPONGE: bool, const COMPACT: bool, const PROTECTED: bool>
-    BuildHasher for GlobalState<AVALANCHE, SPONGE, COMPACT, PROTECTED>
-{
-    type Hasher = RapidHasher<'static, AVALANCHE, SPONGE, COMPACT, PROTECTED>;
-
-    #[inline(always)]
-    fn build_hasher(&self) -> Self::Hasher {
-        self.seeded.hasher()
-    }
-}
-
-impl<const AVALANCHE: bool, const SPONGE: bool, const COMPACT: bool, const PROTECTED: bool> Debug
-    for GlobalState<AVALANCHE, SPONGE, COMPACT, PROTECTED>
-{
-    fn fmt(&self, f: &mut Formatter<'_>) -> Result {
-        f.debug_struct("GlobalState").finish_non_exhaustive()
-    }
-}
-
-/// Builds hashers with a random seed and the random secrets of this process. Each state has its own
-/// seed; two seeds may be equal.
-///
-/// ```
-/// use rapidhash::inner::RandomState;
-/// use std::collections::HashMap;
-///
-/// let state = RandomState::<false, true, false, false>::new();
-/// let mut map = HashMap::with_hasher(state);
-/// map.insert("answer", 42);
-/// ```
-#[derive(Clone, Copy, PartialEq, Eq)]
-pub struct RandomState<
-    const AVALANCHE: bool,
-    const SPONGE: bool,
-    const COMPACT: bool,
-    const PROTECTED: bool,
-> {
-    seeded: Seeded<'static>,
-}
-
-impl<const AVALANCHE: bool, const SPONGE: bool, const COMPACT: bool, const PROTECTED: bool>
-    RandomState<AVALANCHE, SPONGE, COMPACT, PROTECTED>
-{
+random_state! {
+    /// Builds hashers with a random seed and the random secrets of this process. Each state has its own
+    /// seed; two seeds may be equal.
+    ///
+    /// ```
+    /// use rapidhash::inner::RandomState;
+    /// use std::collections::HashMap;
+    ///
+    /// let state = RandomState::<false, true, false, false>::new();
+    /// let mut map = HashMap::with_hasher(state);
+    /// map.insert("answer", 42);
+    /// ```
+    RandomState,
     /// Returns a state with a new random seed.
-    #[must_use]
-    #[inline]
-    pub fn new() -> Self {
-        Self {
-            seeded: Seeded {
-                seed: next_seed(),
-                secrets: secrets(),
-            },
-        }
-    }
-}
-
-impl<const AVALANCHE: bool, const SPONGE: bool, const COMPACT: bool, const PROTECTED: bool> Default
-    for RandomState<AVALANCHE, SPONGE, COMPACT, PROTECTED>
-{
-    /// Returns [`RandomState::new`].
-    #[inline]
-    fn default() -> Self {
-        Self::new()
-    }
-}
-
-impl<const AVALANCHE: bool, const SPONGE: bool, const COMPACT: bool, const PROTECTED: bool>
-    BuildHasher for RandomState<AVALANCHE, SPONGE, COMPACT, PROTECTED>
-{
-    type Hasher = RapidHasher<'static, AVALANCHE, SPONGE, COMPACT, PROTECTED>;
-
-    #[inline(always)]
-    fn build_hasher(&self) -> Self::Hasher {
-        self.seeded.hasher()
-    }
-}
-
-impl<const AVALANCHE: bool, const SPONGE: bool, const COMPACT: bool, const PROTECTED: bool> Debug
-    for RandomState<AVALANCHE, SPONGE, COMPACT, PROTECTED>
-{
-    fn fmt(&self, f: &mut Formatter<'_>) -> Result {
-        f.debug_struct("RandomState").finish_non_exhaustive()
-    }
+    next_seed
 }
 
 /// Builds hashers with the caller's seed.
