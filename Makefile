@@ -211,7 +211,7 @@ test:
 	done
 
 # The bench and the arguments for each file of figures. A bench that fails leaves the figures unchanged.
-bench: $(patsubst %,bench/%.tsv,slices speed rust c java files memory tool packages)
+bench: $(patsubst %,bench/%.tsv,slices speed rust c java files memory tool packages size)
 	@bench/figures --write
 
 bench/slices.tsv: measured = slices default seeded
@@ -223,6 +223,7 @@ bench/files.tsv: measured = files
 bench/memory.tsv: measured = memory
 bench/tool.tsv: measured = tool
 bench/packages.tsv: measured = packages
+bench/size.tsv: measured = size
 
 .PHONY: always
 bench/%.tsv: always
