@@ -6,7 +6,7 @@
  * byte order. Its names do not clash with those of the C++ library's rapidhash.h. For C++ there is also rapidhash.hpp.
  *
  * Linking. A program that defines RAPIDHASH_LINK before it includes the header gets declarations only. It links
- * with -lrapidhash_c (pkg-config: rapidhash_c), which on x86-64 Linux can be the formally verified library.
+ * with -lrapidhash_c (pkg-config: rapidhash_c), which on x86-64-v2 Linux can be the formally verified library.
  *
  * Values. A hash is the same on every run and every machine, and will not change in any later version. To store one,
  * write its canonical bytes: rapidhash_to_canonical.
