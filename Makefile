@@ -10,10 +10,11 @@
 # make wasm        builds the C header for WebAssembly
 # make npm, wheel, sqlite, and postgresql build the bindings, including the library: see docs/BINDINGS.md
 # make jar         builds the package for Java, which needs a JDK alone
-# make page        copies examples/browser and the npm package to build/browser, for any file server
+# make page        copies packages/javascript/page and the npm package to build/browser, for any file server
 # make install     installs the built files, manual pages, and completions under PREFIX; uninstall removes them
 # make dist        packs everything that a user without the toolchain needs into a single archive in build/
 # make deb         builds the Debian source package and its packages in build/debian, by Debian's tools alone
+# make release     makes the archive, the packages and their checksums in build/release, from a tree without changes
 # make vendor      copies the library into another Rattle repository: make vendor INTO=FOLDER
 # make test-vendor runs the merge gate of such a repository, which proves everything from scratch
 # make clean       removes all build results
@@ -40,10 +41,6 @@ shared = build/header/$(soname)
 tools = $(if $(shell command -v cargo),build/cargo/release/rapidhash build/cargo/release/rapidsum)
 endif
 name = yervound-1.0-x86_64-linux
-
-# The kit's linker, located from the path that rt prints, and the directories that may contain a machine's C library.
-linker = $(dir $(shell rt doc))toolchain/bin/ld.lld
-system = /lib/x86_64-linux-gnu /lib64 /usr/lib
 
 .PHONY: all tool sums library wasm npm page wheel jar sqlite postgresql deb check check-source quick test fmt bench \
   install uninstall clean dist vendor rapidhash_c rapidhash_cli rapidsum example_bloom example_perfect \
@@ -85,108 +82,14 @@ $(eval $(call program,example_perfect,--help,$(both)))
 $(eval $(call program,example_shards,red,$(both)))
 $(eval $(call program,example_dedupe,args,$(both)))
 
-ifeq ($(kit),)
 # Says so once, before the first product.
 unproved = $(if $(said),:,$(eval said := yes)echo 'make: rt is not on PATH: building with $(if \
   $(tools),cc and cargo,cc the library alone), which is not the proved build' >&2)
-CFLAGS ?= -O2
-build/header/rapidhash_c.o: share/rapidhash_c.c include/rapidhash_c.h
-	@$(unproved)
-	@mkdir -p build/header
-	@$(CC) -std=c99 -fPIC $(CPPFLAGS) $(CFLAGS) -Iinclude -c $< -o $@
 
-$(archive): build/header/rapidhash_c.o
-	@rm -f $@
-	@$(AR) rcs $@ $<
+include packages/*/make.mk
 
-$(shared): build/header/rapidhash_c.o share/librapidhash_c.map
-	@$(CC) -shared $(LDFLAGS) -Wl,-soname,$(soname),--version-script,share/librapidhash_c.map,-z,relro,-z,now $< -o $@
-
-build/cargo/release/rapid%: $(wildcard rust/*.toml rust/build.rs rust/tools/Cargo.toml) \
-    $(shell find rust/src rust/tools/src -name '*.rs' 2>/dev/null)
-	@command -v cargo >/dev/null || { echo 'make: neither rt, of the Rattle kit, nor cargo is on PATH' >&2; exit 2; }
-	@$(unproved)
-	@cd rust/tools && CARGO_TARGET_DIR='$(CURDIR)/build/cargo' CARGO_PROFILE_RELEASE_LTO=fat \
-	  CARGO_PROFILE_RELEASE_CODEGEN_UNITS=1 CARGO_PROFILE_RELEASE_PANIC=abort \
-	  cargo build --release --offline --quiet --bin rapid$*
-	@touch $@
-else
-$(shared): $(archive) share/librapidhash_c.map
-	@command -v rt >/dev/null || { echo 'make: rt, whose kit has the linker, is not on PATH' >&2; exit 2; }
-	@mkdir -p build
-	@$(linker) -shared -soname $(soname) -z now -z relro -z noexecstack -z text --gc-sections --build-id=sha1 \
-	  --eh-frame-hdr --version-script share/librapidhash_c.map --whole-archive $(archive) --no-whole-archive \
-	  --as-needed $(addprefix -L,$(system)) -l:libc.so.6 -o $(shared)
-endif
-
-module = build/rapidhash.wasm
-folder = build/npm/rapidhash.cjs
-package = build/yervound-rapidhash-1.0.0.tgz
-wasm: $(module)
-npm: $(package)
-
-# The linker is called by itself, because clang would run wasm-opt if it is installed.
-$(module): bindings/javascript/rapidhash.c bindings/javascript/string.h include/rapidhash_c.h
-	@for program in clang wasm-ld; do command -v $$program >/dev/null || \
-	  { echo "make: $$program, of clang and lld, is not on PATH" >&2; exit 2; }; done
-	@mkdir -p build
-	@clang --target=wasm32 -std=c99 -Os -Wall -Wextra -Werror -ffreestanding -mbulk-memory \
-	  -isystem bindings/javascript -Iinclude -c $< -o build/wasm.o
-	@wasm-ld --no-entry --strip-all --export=__heap_base -z stack-size=16384 build/wasm.o -o $@
-
-# Lays out the directory of the package. module.mjs contains the module as text, and rapidhash.cjs is for `require`.
-$(folder): $(module) $(wildcard bindings/javascript/*.*) LICENSE-MIT LICENSE-APACHE NOTICE
-	@command -v esbuild >/dev/null || { echo 'make: esbuild is not on PATH' >&2; exit 2; }
-	@rm -rf build/npm && mkdir build/npm
-	@cd bindings/javascript && cp *.mjs index.d.ts package.json README.md ../../build/npm
-	@cp LICENSE-MIT LICENSE-APACHE NOTICE build/npm && cp bindings/javascript/index.d.ts build/npm/index.d.cts
-	@{ printf 'export default "' && base64 -w 0 $(module) && echo '";'; } >build/npm/module.mjs
-	@esbuild build/npm/rapidhash.mjs --bundle --platform=node --target=node18 --log-level=warning --outfile=$@
-
-$(package): $(folder)
-	@command -v npm >/dev/null || { echo 'make: npm is not on PATH' >&2; exit 2; }
-	@cd build && npm pack --silent ./npm >npm.log
-
-page: $(folder)
-	@rm -rf build/browser && mkdir build/browser
-	@cp examples/browser/*.* build/npm/*.mjs LICENSE-MIT LICENSE-APACHE NOTICE build/browser
-
-# The system's Python can build a wheel with its packages python3-setuptools, python3-wheel and python3-dev.
-PYTHON = /usr/bin/python3
-wheels = build/wheels
-wheel: $(wheels)/made
-
-$(wheels)/made: include/rapidhash_c.h LICENSE-MIT LICENSE-APACHE NOTICE \
-    $(wildcard bindings/python/*.* bindings/python/rapidhash/*.*)
-	@$(PYTHON) -c 'import setuptools, wheel' || { echo 'make: $(PYTHON) lacks setuptools or wheel' >&2; exit 2; }
-	@rm -rf $(wheels) && mkdir -p $(wheels)
-	@$(PYTHON) -m pip wheel --quiet --no-index --no-deps --no-build-isolation --wheel-dir $(wheels) ./bindings/python
-	@cd bindings/python && $(PYTHON) -Bc 'import backend; backend.build_sdist("../../$(wheels)")' \
-	  >../../build/sdist.log 2>&1 || { cat ../../build/sdist.log; exit 2; } >&2
-	@touch $@
-
-jar = build/yervound-rapidhash-1.0.0.jar
-jar: $(jar)
-
-$(jar): LICENSE-MIT LICENSE-APACHE NOTICE bindings/java/pom.xml $(shell find bindings/java/src/main -name '*.java' 2>/dev/null)
-	@command -v javac >/dev/null || { echo 'make: javac, of a JDK, is not on PATH' >&2; exit 2; }
-	@rm -rf build/java && mkdir -p build/java/META-INF/maven
-	@javac --release 11 -Xlint:all -Xdoclint:all,-missing -Werror -d build/java $(filter %.java,$^)
-	@cp LICENSE-MIT LICENSE-APACHE NOTICE build/java/META-INF && cp bindings/java/pom.xml build/java/META-INF/maven
-	@jar --create --file $@ --module-version 1.0.0 -C build/java .
-
-extension = build/rapidhash.so
-sqlite: $(extension)
-
-$(extension): bindings/sqlite/rapidhash.c include/rapidhash_c.h
-	@mkdir -p build
-	@cc -std=c99 -O2 -Wall -Wextra -Wpedantic -Werror -fPIC -fvisibility=hidden -shared -Iinclude $< \
-	  -Wl,-z,relro,-z,now -o $@
-
-postgresql:
-	@command -v pg_config >/dev/null || { echo 'make: pg_config, of PostgreSQL, is not on PATH' >&2; exit 2; }
-	@rm -rf build/postgresql && mkdir -p build && cp -r bindings/postgresql build
-	@MAKEFLAGS= $(MAKE) -s -C build/postgresql COPT=-Werror
+# Everything that the tests of the packages and examples use, so that none of them builds what another is building.
+products: example_bloom example_perfect example_shards example_dedupe npm page wheel jar sqlite
 
 check:
 	@command -v rt >/dev/null || { echo 'make: make check proves everything with rt, the command of the Rattle kit,' \
@@ -200,15 +103,13 @@ fmt:
 	@for crate in crates/*; do (cd $$crate && rt fmt) || exit 1; done
 
 quick: fmt
-	@bin/rust_crate --write
+	@scripts/rust_crate --write
 	@tests/pages.py
 	@rt all check
 
 test:
 	@rt all test
-	@for script in tests/end_to_end*.sh tests/launcher.sh tests/example_*.sh; do \
-	  echo $$script; $$script || exit 1; \
-	done
+	@prove --exec "" packages/tools/tests tests/examples
 
 # Each file of figures has a bench with its name, except as stated. A bench that fails leaves the figures unchanged.
 bench: $(patsubst %,bench/%.tsv,slices speed rust c java files memory tool packages size)
@@ -221,7 +122,7 @@ bench/speed.tsv: measured = slices v3 plot
 bench/%.tsv: always
 	@mkdir -p build && bench/$(or $(measured),$*) >build/$*.tsv && mv build/$*.tsv $@
 
-# bin/install reads the directories from variables, so that the shell interprets none of their characters.
+# scripts/install reads the directories from variables, so that the shell interprets none of their characters.
 folders = PREFIX BINDIR LIBDIR INCLUDEDIR DATADIR DESTDIR
 $(foreach name,$(folders),$(eval install uninstall: export $(name) := $$($(name))))
 install: export ARCHIVE = $(archive)
@@ -230,44 +131,32 @@ install: export TOOLS = $(tools)
 
 install:
 	@$(MAKE) -q all || { echo 'make install: something is missing or out of date: run make first' >&2; exit 2; }
-	@bin/install
+	@scripts/install
 
 uninstall:
-	@bin/install --remove
-
-dist: all $(folder) wheel jar
-	rm -rf build/$(name)
-	$(MAKE) -s install DESTDIR= PREFIX='$(CURDIR)/build/$(name)'
-	tar --exclude=__pycache__ --exclude=bindings/javascript --exclude=target --exclude=rust/tests -hcf - \
-	  bindings rust | tar -C build/$(name) -xf -
-	cp -r build/npm build/$(name)/bindings/javascript
-	install -D -m 644 -t build/$(name)/wheels $(wheels)/*.whl $(wheels)/*.tar.gz
-	install -m 644 $(jar) build/$(name)/bindings/java
-	install -m 644 LICENSE-MIT LICENSE-APACHE NOTICE docs/C.md docs/CPP.md docs/ALGORITHM.md build/$(name)
-	install -D -m 644 docs/images/lanes.svg build/$(name)/images/lanes.svg
-	install -m 644 share/dist.md build/$(name)/README.md
-	install -m 644 tests/c_library.c build/$(name)/check_vectors.c
-	python3 share/vectors.py crates/test_replay/data >build/$(name)/rapidhash_vectors.tsv
-	tar -C build -czf build/$(name).tar.gz $(name)
-	rm -rf build/$(name)
-
-# The source package has the files that git lists; Debian's own tools build it.
-deb:
-	@rm -rf build/debian && mkdir -p build/debian/source
-	@git ls-files -z | xargs -0 cp --parents -t build/debian/source && cp -r share/debian build/debian/source
-	@cd build/debian/source && dpkg-buildpackage -us -uc >../log 2>&1 || \
-	  { tail -n 20 ../log; echo 'make: the packages failed; full output: build/debian/log'; exit 2; } >&2
+	@scripts/install --remove
 
 vendor:
-	@bin/vendor "$(INTO)"
+	@scripts/vendor "$(INTO)"
 
 clean:
 	rm -rf crates/*/out build
 
-# The next two are not part of the gate, because they take some additional minutes.
-.PHONY: test-edits
+# Without changes, the results are those of a commit.
+release:
+	@[ -z "$$(git status --porcelain)" ] || { echo 'make release: the tree has changes: commit them first' >&2; exit 2; }
+	@$(MAKE) -s dist deb
+	@rm -rf build/release && mkdir build/release && git rev-parse HEAD >build/release/COMMIT
+	@cp build/*.t*gz build/*.jar build/wheels/*.* build/debian/*.deb build/debian/*.dsc build/debian/*.tar.xz build/release
+	@cd build/release && sha256sum -- * >SHA256SUMS
+
+# The next three are not part of the gate, because they take some additional minutes.
+.PHONY: release test-edits test-machines
 test-edits:
-	@tests/must_fail.py
+	@tests/release/must_fail.py
+
+test-machines:
+	@prove --verbose --exec '' tests/release/machines.sh
 
 .PHONY: test-vendor
 test-vendor:

@@ -15,7 +15,7 @@ TOP = Path(__file__).resolve().parent.parent
 ROOM = TOP / "build" / "bench"
 # This library in Rattle or C, its Rust crate, the crate rapidhash if RAPIDHASH_CRATE names its directory, and XXH3.
 LIBRARIES = "ours rust crate xxh3".split()
-CRATES = {"rust": TOP / "rust"}
+CRATES = {"rust": TOP / "packages" / "rust"}
 if "RAPIDHASH_CRATE" in os.environ:
     CRATES["crate"] = Path(os.environ["RAPIDHASH_CRATE"]).resolve()
 # The maximum number of attempts at a measurement until a processor was quiet before and after it.

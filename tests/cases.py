@@ -1,9 +1,11 @@
-"""The common start of the Python test scripts: `ROOM`, a temporary directory that is removed when the script ends, the
-counts of its cases, and functions that run commands and find code blocks. `TOP` is the repository."""
+"""The common start of the Python test scripts: `ROOM`, a temporary directory that is removed when the script ends, and
+functions that print cases in the Test Anything Protocol (TAP), run commands, and find code blocks. `TOP` is the
+repository."""
 
 import atexit
 import os
 import re
+import shutil
 import subprocess
 import sys
 import tempfile
@@ -14,17 +16,24 @@ TOP = Path(__file__).resolve().parent.parent
 _room = tempfile.TemporaryDirectory(ignore_cleanup_errors=True)
 atexit.register(_room.cleanup)
 ROOM = Path(_room.name)
-counts = {"passed": 0, "failed": 0}
+results = []
 
 
 def tell(name, *findings):
-    """Counts a case, which fails if there are findings."""
-    counts["failed" if findings else "passed"] += 1
-    print(f"FAILED {name}:" if findings else f"ok {name}", *findings[:20], sep="\n  ", flush=True)
+    """Prints a case, which fails if there are findings."""
+    results.append(not findings)
+    reasons = [f"# {line}" for finding in findings[:20] for line in str(finding).splitlines()]
+    print("not " * bool(findings) + f"ok - {' '.join(name.split())}".replace("#", ""), *reasons, sep="\n", flush=True)
+
+
+def skip(name, reason):
+    """Prints a case that cannot run on this machine."""
+    results.append(True)
+    print(f"ok - {name} # SKIP {reason}", flush=True)
 
 
 def compare(name, found, wanted):
-    """Counts a case, which passes if both values are equal."""
+    """Prints a case, which passes if both values are equal."""
     tell(name, *[f"{found!r} is not {wanted!r}"] * (found != wanted))
 
 
@@ -42,6 +51,18 @@ def blocks(page, language):
 
 
 def finish():
-    """Prints the counts and exits with status 1 if a case failed."""
-    print(f"{counts['passed']} passed, {counts['failed']} failed")
-    sys.exit(counts["failed"] > 0)
+    """Prints the number of cases and exits with status 1 if one failed."""
+    print(f"1..{len(results)}")
+    sys.exit(not all(results))
+
+
+def skip_all(reason):
+    """Ends a script that cannot run on this machine."""
+    print(f"1..0 # SKIP {reason}")
+    sys.exit()
+
+
+def needs_the_toolchain():
+    """Ends a script that cannot run without the toolchain."""
+    if not shutil.which("rt"):
+        skip_all("no rt")

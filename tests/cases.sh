@@ -1,28 +1,39 @@
-# The common start of the test scripts: `room`, a temporary directory that is removed when the script ends, and the
-# counts of its cases. `top` is the repository.
+# The common start of the test scripts: `room`, a temporary directory that is removed when the script ends, and
+# functions that print cases in the Test Anything Protocol (TAP), which `prove` reads. `top` is the repository.
 # shellcheck shell=bash
 set -u
 
 top=$(cd "$(dirname "${BASH_SOURCE[0]}")/.." && pwd) || exit 1
 room=$(mktemp -d) || exit 1
 trap 'chmod -R u+rwx "$room"; rm -rf "$room"' EXIT
-passed=0
+cases=0
 failed=0
+
+# Prints the line of a case: RESULT NAME DIRECTIVE
+print_case() {
+  cases=$((cases + 1))
+  printf '%s - %s%s\n' "$1" "${2//#/}" "${3-}"
+}
 
 ok() {
   rm -f "$room/untraced"
-  passed=$((passed + 1))
-  printf 'ok %s\n' "$1"
+  print_case ok "$1"
 }
 
-# Counts a failed case, unless it needs strace, which this machine does not allow: NAME REASON
+# Prints a case that cannot run on this machine: NAME REASON
+skip() {
+  print_case ok "$1" " # SKIP $2"
+}
+
+# Prints a failed case with its reason, unless it needs strace, which this machine does not allow: NAME REASON
 fail() {
   if rm "$room/untraced" 2>/dev/null; then
-    printf 'skipped %s: strace cannot trace here\n' "$1"
+    skip "$1" 'strace cannot trace here'
     return
   fi
   failed=$((failed + 1))
-  printf 'FAILED %s: %s\n' "$1" "$2"
+  print_case 'not ok' "$1"
+  sed 's/^/# /' <<<"$2"
 }
 
 # Counts a case according to a status. The file log may contain the compared values: NAME STATUS
@@ -45,7 +56,7 @@ try_with() {
   if command -v "$program" >/dev/null; then
     try "$name" "$@"
   else
-    printf 'skipped %s: no %s\n' "$name" "$program"
+    skip "$name" "no $program"
   fi
 }
 
@@ -84,7 +95,7 @@ prints_the_known_hash() {
 builds_by_pkg_config() {
   local words
   words=$(PKG_CONFIG_LIBDIR=$1/pkgconfig pkg-config --cflags --libs rapidhash_c) &&
-    eval "cc -O2 -Wall -Werror '$top/tests/c_library.c' $words -o '$room/c_library'" &&
+    eval "cc -O2 -Wall -Werror '$top/packages/c/tests/c_library.c' $words -o '$room/c_library'" &&
     LD_LIBRARY_PATH=$1 "$room/c_library" &&
     readelf -d "$room/c_library" | grep -q 'NEEDED.*librapidhash_c\.so\.1'
 }
@@ -92,8 +103,8 @@ builds_by_pkg_config() {
 # Checks that C and C++ programs find an installed library with CMake and use it as shared library, archive, and header:
 # PREFIX
 builds_by_cmake() {
-  python3 "$top/share/vectors.py" "$top/crates/test_replay/data" >"$room/vectors" &&
-    cmake -S "$top/tests/cmake" -B "$room/cmake" -D CMAKE_PREFIX_PATH="$1" -D VECTORS="$room/vectors" &&
+  python3 "$top/scripts/vectors.py" "$top/crates/test_replay/data" >"$room/vectors" &&
+    cmake -S "$top/packages/c/tests/cmake" -B "$room/cmake" -D CMAKE_PREFIX_PATH="$1" -D VECTORS="$room/vectors" &&
     grep "^rapidhash_c_DIR:PATH=$1/" "$room/cmake/CMakeCache.txt" &&
     cmake --build "$room/cmake" && (cd "$room/cmake" && ctest | tee /dev/stderr | grep '100%.* out of 6$')
 }
@@ -129,11 +140,21 @@ reads_in() {
 }
 can_trace() { strace -qqo /dev/null true || { : >"$room/untraced" && return 1; }; }
 
-# Prints the counts and exits with status 1 if a case failed.
+# Prints the number of cases and exits with status 1 if one failed.
 finish() {
-  printf '%s passed, %s failed\n' "$passed" "$failed"
-  [ "$failed" -eq 0 ]
+  echo "1..$cases"
+  exit $((failed > 0))
+}
+
+# Ends a script that cannot run on this machine: REASON
+skip_all() {
+  echo "1..0 # SKIP $1"
   exit
+}
+
+# Ends a script that cannot run without the toolchain.
+needs_the_toolchain() {
+  command -v rt >/dev/null || skip_all 'no rt'
 }
 
 # Runs a command that prepares the cases, and ends the script if it fails: COMMAND..

@@ -15,10 +15,10 @@ from cases import ROOM, TOP, blocks, finish, shell, tell
 
 MADE = TOP / "docs" / "api"
 PAGES = sorted([*TOP.glob("*.md"), *TOP.glob("docs/*.md"), *MADE.glob("*.md"), *TOP.glob("*/NOTES.md"),
-                *TOP.glob("bindings/*/README.md"), TOP / "share" / "dist.md", TOP / "rust" / "README.md"])
+                *TOP.glob("packages/*/README.md"), *TOP.glob("packages/rust/*/README.md")])
 # Directories that builds create, and paths that exist only in an archive or in an installed copy.
-BUILT = ("build/", "crates/example_NAME", "tests/example_NAME", "crates/first")
-PATH = re.compile(r"`((?:crates|docs|tests|bench|bin|include|bindings|share|\.ci)/[^` ]*)`")
+BUILT = ("build/", "crates/first")
+PATH = re.compile(r"`((?:crates|docs|tests|bench|bin|packages|scripts|\.ci)/[^` ]*)`")
 NAME = re.compile(r"`([A-Za-z]\w*(?:::\w+)*)`")
 
 
@@ -41,9 +41,9 @@ def links():
 
 
 def paths():
-    for _, place, line in prose(page for page in PAGES if page.name != "dist.md" and page.parent.name != "rust"):
+    for _, place, line in prose(page for page in PAGES if page.parent.name != "archive" and page.parent.name != "rust"):
         for path in PATH.findall(line):
-            if "/out/" not in path and not path.startswith(BUILT) and not any(TOP.glob(path.rstrip("/"))):
+            if not re.search("/out/|NAME", path) and not path.startswith(BUILT) and not any(TOP.glob(path.rstrip("/"))):
                 yield f"{place}: no {path}"
 
 
@@ -163,6 +163,6 @@ def benches():
 
 for check in (links, paths, limits, names, vectors, statements, clauses, benches, pictures):
     tell(check.__name__, *check())
-for made, maker in (("calls", "bin/api"), ("version", "bin/version"), ("figures", "bench/figures")):
+for made, maker in (("calls", "scripts/api"), ("version", "scripts/version"), ("figures", "bench/figures")):
     tell(made, *made_by(maker))
 finish()

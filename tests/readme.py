@@ -1,7 +1,7 @@
 #!/usr/bin/env python3
-"""Runs each command of the shell blocks of README.md and docs/COMMANDS.md, and the program of docs/RATTLE.md in a new repository with a copy of
-the library. The numbers in docs/PROVED.md are those that the checker prints. The values are those of the Rust crate.
-With the arguments --repository FOLDER, it only writes that repository, for tests/vendor.sh."""
+"""Runs each command of the shell blocks of README.md and docs/COMMANDS.md, and the program of docs/RATTLE.md in a new
+repository with a copy of the library. The numbers in docs/PROVED.md are those that the checker prints. The values are
+those of the Rust crate. With the arguments --repository FOLDER, it only writes that repository, for tests/vendor.sh."""
 
 import os
 import re
@@ -9,9 +9,9 @@ import shutil
 import sys
 from pathlib import Path
 
-from cases import ROOM, TOP, blocks, compare, finish, shell, tell
+from cases import ROOM, TOP, blocks, compare, finish, needs_the_toolchain, shell, tell
 
-# Commands that other tests run: the gate itself, and tests/install.sh.
+# Commands that other tests run: the gate itself, and packages/tools/tests/install.sh.
 ELSEWHERE = ('make && make install PREFIX="$HOME/.local"', 'make uninstall PREFIX="$HOME/.local"', "make check",
              'lib="$HOME/.local/lib" && export PKG_CONFIG_PATH="$lib/pkgconfig"',
              'cc hello.c $(pkg-config --cflags --libs rapidhash_c) -Wl,-rpath,"$lib" && ./a.out')
@@ -85,6 +85,7 @@ def run_program():
 if sys.argv[1:2] == ["--repository"]:
     write_repository(Path(sys.argv[2]))
 else:
+    needs_the_toolchain()
     run_shell_blocks()
     check_statements()
     run_program()

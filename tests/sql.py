@@ -10,15 +10,15 @@ TEXT, TEXT_HASH = "héllo €😀", 7424989580978448810
 VERSIONS = ("v1", "v2_0", "v2_1", "v2_2", "v3", "v3_micro", "v3_nano", "v3_protected")
 # The digits of a hash as an SQL integer: those of HELLO, and of words with leading zeros and with the highest bit.
 DIGITS = {HELLO: "2e2d7651b45f7946", 0: "0" * 16, 2**32: "0000000100000000", -1: "f" * 16, -2**62: "c" + "0" * 15}
-# The page of all bindings, which also shows the commands on each package's page.
+# The page of all packages, which also shows the commands on each package's page.
 BINDINGS = (TOP / "docs/BINDINGS.md").read_text()
 
 
 def unpack(folder, binding):
     """Lays out the header in a directory with the source of a binding, as in the archive. Returns the command that the
     archive's page has for it."""
-    shell(f"mkdir -p '{folder}' && cp -r --parents include bindings/{binding} '{folder}'")
-    return re.search(rf"^\| `bindings/{binding}` .*`((?:cc|make) .*)`", (TOP / "share/dist.md").read_text(), re.M)[1]
+    shell(f"mkdir -p '{folder}' && cp -r --parents packages/c/include packages/{binding} '{folder}'")
+    return re.search(rf"^\| `packages/{binding}` .*`((?:cc|make) .*)`", (TOP / "packages/archive/README.md").read_text(), re.M)[1]
 
 
 def signed(number):
@@ -29,7 +29,7 @@ def signed(number):
 def every_vector():
     """Returns each vector that SQL has a call for: the name of the call, its further arguments, the message, and the
     hash. SQL has no calls with secrets of one's own, and no message above 4 GiB."""
-    found, lines = [], shell("python3 share/vectors.py crates/test_replay/data")[1].splitlines()
+    found, lines = [], shell("python3 scripts/vectors.py crates/test_replay/data")[1].splitlines()
     for version, rule, digits, number in (line.split("\t") for line in lines if not line.startswith("#")):
         kind, _, word = rule.partition(":")
         if version in VERSIONS and kind != "own" and not digits.startswith("zeros:"):

@@ -1,17 +1,17 @@
 #!/usr/bin/env bash
-# Copies the library into other repositories with bin/vendor. The cases are copies that succeed, are refused, or fail
-# halfway. The last line counts the cases.
+# Copies the library into other repositories with scripts/vendor. The cases are copies that succeed, are refused, or
+# fail halfway.
 #
 # With the argument ci, it also runs the merge gate of such a repository, which proves everything from scratch and runs
 # the program of docs/RATTLE.md. This takes some minutes: make test-vendor.
 . "$(dirname "$0")/cases.sh"
 exec </dev/null
 library=$room/library
-vendor=$library/bin/vendor
+vendor=$library/scripts/vendor
 
 # Clones the repository, with a substitute for a large directory of proofs.
 clone() {
-  git clone -q -s "$top" "$library" && cp "$top/bin/vendor" "$vendor" &&
+  git clone -q -s "$top" "$library" && cp "$top/scripts/vendor" "$vendor" &&
     mkdir "$library/crates/rapidhash/out" && echo proved >"$library/crates/rapidhash/out/proved"
 }
 
@@ -83,8 +83,8 @@ keeps_what_was_there() {
     prlimit --fsize=4096 "$vendor" "$room/a folder" && is_copy "$room/a folder"
 }
 
-# Runs the merge gate of a repository with the library and the program of docs/RATTLE.md. It proves all three crates from
-# scratch, runs the library's tests, and checks that the program prints its values.
+# Runs the merge gate of a repository with the library and the program of docs/RATTLE.md. It proves all three crates
+# from scratch, runs the library's tests, and checks that the program prints its values.
 passes_the_gate() {
   "$top/tests/readme.py" --repository "$room/user" && cd "$room/user" && echo out/ >.gitignore &&
     git add -A && git -c user.name=User -c user.email=user@example.org commit -qm 'Take the library' &&

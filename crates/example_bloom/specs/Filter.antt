@@ -1,4 +1,4 @@
--- What a filter finds.
+-- The keys that a filter finds.
 use Rattle.std.specs.Prelude.{◌≡◌, ℕ, ◌<◌, ◌+◌, ◌*◌, ◌%◌, ◌/◌, List, length, slice_index, ◌⊎◌}
 use Rattle.std.specs.Int.{bit_at}
 use Rattle.rapidhash.specs.Form.{standard, v3}
@@ -10,7 +10,7 @@ use Rattle.example_bloom.specs.declared.shape.Shape.{Shape}
 abbrev pub hash_of : List ℕ → ℕ
 hash_of key = default_hash v3 standard key
 
--- where mark number `i` of a hash lies, before the count of bits is known
+-- the step of mark number `i` of a hash, for any number of bits
 unfoldable pub step_of : ℕ → ℕ → ℕ
 step_of hash i = hash % 4294967296 + i * (hash / 4294967296)
 
@@ -18,26 +18,26 @@ step_of hash i = hash % 4294967296 + i * (hash / 4294967296)
 abbrev pub HasBit : List ℕ → ℕ → Type 0
 HasBit words step = bit_at (slice_index words (step % length words)) (step / length words % 64) ≡ 1
 
--- so many marks of a hash are set
+-- the first `marks` marks of a hash are set
 abbrev pub HasMarks : List ℕ → ℕ → ℕ → Type 0
 HasMarks words marks hash = (i : ℕ) → i < marks → HasBit words (step_of hash i)
 
--- two steps lead to one bit of so many words
+-- two steps lead to the same bit in this number of words
 abbrev pub SameBit : ℕ → ℕ → ℕ → Type 0
 SameBit words step other = (step % words ≡ other % words) × (step / words % 64 ≡ other / words % 64)
 
--- the bit of a step was set, every bit that was set before still is, and no other bit is
+-- the bit of a step is set, every bit that was set before still is, and no other bit is
 pub record Sets (old new : List ℕ) (step : ℕ) : Type 0 where
   pub added : HasBit new step
   pub kept : (other : ℕ) → HasBit old other → HasBit new other
   pub only : (other : ℕ) → HasBit new other → HasBit old other ⊎ SameBit (length old) other step
   pub same : length new ≡ length old
 
--- a step leads to one of so many marks of a hash
+-- a step leads to one of the first `marks` marks of a hash
 abbrev pub IsMark : ℕ → ℕ → ℕ → ℕ → Type 0
 IsMark words marks hash step = (i : ℕ) × (i < marks) × SameBit words step (step_of hash i)
 
--- the marks of a hash were set, every bit that was set before still is, and no other bit is
+-- the marks of a hash are set, every bit that was set before still is, and no other bit is
 pub record Marks (old new : List ℕ) (marks hash : ℕ) : Type 0 where
   pub added : HasMarks new marks hash
   pub kept : (step : ℕ) → HasBit old step → HasBit new step
@@ -52,7 +52,7 @@ HasWords filter = 0 < length filter.words.items
 abbrev pub Finds : Filter → List ℕ → Type 0
 Finds filter key = HasMarks filter.words.items filter.marks (hash_of key)
 
--- no bit of the filter is set, though it has words
+-- the filter has words, but no bit is set
 pub record IsEmpty (filter : Filter) : Type 0 where
   pub words : HasWords filter
   pub none : (step : ℕ) → HasBit filter.words.items step → ⊥
@@ -62,25 +62,25 @@ pub record HasShape (shape : Shape) (filter : Filter) : Type 0 where
   pub words : length filter.words.items ≡ shape.last_word + 1
   pub marks : filter.marks ≡ shape.marks
 
--- two filters have as many words, and give a key as many marks
+-- two filters have the same number of words, and of marks per key
 pub record HasSameShape (filter other : Filter) : Type 0 where
   pub words : length other.words.items ≡ length filter.words.items
   pub marks : other.marks ≡ filter.marks
 
--- a key was put in: it is found, whatever was found before still is, and no bit was set but the key's marks
+-- a key was added: it is found, every key found before still is, and no bit was set except the key's marks
 pub record Adds (old new : Filter) (key : List ℕ) : Type 0 where
   pub found : Finds new key
   pub kept : (other : List ℕ) → Finds old other → Finds new other
   pub only : (step : ℕ) → HasBit new.words.items step → HasBit old.words.items step ⊎ IsMark (length old.words.items) old.marks (hash_of key) step
   pub shape : HasSameShape old new
 
--- two filters became one: it finds what either finds, and no bit is set but theirs
+-- two filters were united: the result finds every key that either finds, and no bit is set except theirs
 pub record Unites (old other new : Filter) : Type 0 where
   pub found : (key : List ℕ) → Finds old key ⊎ Finds other key → Finds new key
   pub only : (step : ℕ) → HasBit new.words.items step → HasBit old.words.items step ⊎ HasBit other.words.items step
   pub shape : HasSameShape old new
 
--- whatever was found before still is
+-- every key found before still is
 pub record KeepsAll (old new : Filter) : Type 0 where
   pub kept : (key : List ℕ) → Finds old key → Finds new key
   pub shape : HasSameShape old new

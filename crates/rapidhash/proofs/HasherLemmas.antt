@@ -7,7 +7,7 @@ use Rattle.std.proofs.lemmas.Bool.{le-leb, lt-leb}
 use Rattle.std.proofs.lemmas.Bool.Decides.{nat_tests}
 use Rattle.rapidhash_portable.specs.declared.form.Options.{Options}
 use Rattle.rapidhash_portable.specs.Memory.{memory_hash}
-use Rattle.rapidhash.specs.Hasher.{StandsFor, closed, finished, pending, seed_after, step, steps, steps_from, steps_of, width}
+use Rattle.rapidhash.specs.Hasher.{NumbersRepresent, closed, finished, pending, seed_after, step, steps, steps_from, steps_of, width}
 use Rattle.rapidhash.specs.Sponge.{Bytes, IsItem, Item, Num, Wide, block, end_after, end_from, end_of, share}
 use Rattle.rapidhash.proofs.SpongeLemmas.{block_from-behind, block_from-snoc, end_from-grows, end_from-snoc, own_block, share-before}
 
@@ -69,12 +69,12 @@ items-snoc : (xs : List Item) (y : Item) → All IsItem xs → IsItem y → All 
 items-snoc xs y h i = All-append IsItem xs (y ∷ []) h (All-cons IsItem y [] i (All-nil IsItem))
 
 -- with a sponge: one item more, by what it does to the seed and to the last block
-stands-snoc : (options : Options) (s : List ℕ) (seed v w start : ℕ) (xs : List Item) (y : Item) (seed' v' w' : ℕ) → IsItem y
+represents-snoc : (options : Options) (s : List ℕ) (seed v w start : ℕ) (xs : List Item) (y : Item) (seed' v' w' : ℕ) → IsItem y
     → seed' ≡ fold (step options s) seed (steps_of (block xs) (end_of xs) y)
     → w' ≡ (end_after (end_of xs) y).1
     → v' ≡ block xs (end_after (end_of xs) y).0 + share (end_after (end_of xs) y).0 (end_of xs) y
-    → StandsFor options true s seed v w start xs → StandsFor options true s seed' v' w' start (xs ++ y ∷ [])
-stands-snoc options s seed v w start xs y seed' v' w' i e f g h = record {
+    → NumbersRepresent options true s seed v w start xs → NumbersRepresent options true s seed' v' w' start (xs ++ y ∷ [])
+represents-snoc options s seed v w start xs y seed' v' w' i e f g h = record {
   start_fits = h.start_fits;
   items_fit = items-snoc xs y h.items_fit i;
   seed_is = e ∙ ap (λ (n : ℕ). fold (step options s) n (steps_of (block xs) (end_of xs) y)) h.seed_is ∙ sym (seed_after-snoc options s start xs y);
@@ -83,10 +83,10 @@ stands-snoc options s seed v w start xs y seed' v' w' i e f g h = record {
 }
 
 -- without a sponge each item is a step
-stands-step : (options : Options) (s : List ℕ) (seed v w start : ℕ) (xs : List Item) (y : Item) → IsItem y
-    → StandsFor options false s seed v w start xs → StandsFor options false s (step options s seed y) v w start (xs ++ y ∷ [])
+represents-step : (options : Options) (s : List ℕ) (seed v w start : ℕ) (xs : List Item) (y : Item) → IsItem y
+    → NumbersRepresent options false s seed v w start xs → NumbersRepresent options false s (step options s seed y) v w start (xs ++ y ∷ [])
 unfolding seed_after steps
-stands-step options s seed v w start xs y i h = record {
+represents-step options s seed v w start xs y i h = record {
   start_fits = h.start_fits;
   items_fit = items-snoc xs y h.items_fit i;
   seed_is = ap (λ (n : ℕ). step options s n y) h.seed_is ∙ sym (fold-append (step options s) start xs (y ∷ []));
@@ -95,62 +95,62 @@ stands-step options s seed v w start xs y i h = record {
 }
 
 -- an integer that the last block has room for
-pub stands-behind : (options : Options) (sponge : Bool) (s : List ℕ) (seed v w start : ℕ) (xs : List Item) (k n v' w' : ℕ) → sponge ≡ true
+pub represents-behind : (options : Options) (sponge : Bool) (s : List ℕ) (seed v w start : ℕ) (xs : List Item) (k n v' w' : ℕ) → sponge ≡ true
     → IsItem (Num k n) → w + k ≤ 128 → v' ≡ v + n * 2 ^ w → w' ≡ w + k
-    → StandsFor options sponge s seed v w start xs → StandsFor options sponge s seed v' w' start (xs ++ Num k n ∷ [])
-stands-behind options false s seed v w start xs k n v' w' t i room e f h = absurd (cc)
-stands-behind options true s seed v w start xs k n v' w' t i room e f h =
+    → NumbersRepresent options sponge s seed v w start xs → NumbersRepresent options sponge s seed v' w' start (xs ++ Num k n ∷ [])
+represents-behind options false s seed v w start xs k n v' w' t i room e f h = absurd (cc)
+represents-behind options true s seed v w start xs k n v' w' t i room e f h =
     let we : w ≡ (end_of xs).1 = h.bits_are in
     let ve : v ≡ block xs (end_of xs).0 = h.number_is in
     let fits : nat_le ((end_of xs).1 + k) 128 ≡ true = le-leb _ _ (rw (← we) room) in
-    stands-snoc options s seed v w start xs (Num k n) seed v' w' i (rw fits refl) (f ∙ rw (fits, we) refl) (e ∙ rw (fits, own_block, we, ve) refl) h
+    represents-snoc options s seed v w start xs (Num k n) seed v' w' i (rw fits refl) (f ∙ rw (fits, we) refl) (e ∙ rw (fits, own_block, we, ve) refl) h
 
 -- an integer that opens a block, where the last one becomes a step
-pub stands-opening : (options : Options) (sponge : Bool) (s : List ℕ) (seed v w start : ℕ) (xs : List Item) (k n seed' v' w' : ℕ) → sponge ≡ true
+pub represents-opening : (options : Options) (sponge : Bool) (s : List ℕ) (seed v w start : ℕ) (xs : List Item) (k n seed' v' w' : ℕ) → sponge ≡ true
     → IsItem (Num k n) → 128 < w + k → seed' ≡ step options s seed (Wide v) → v' ≡ n → w' ≡ k
-    → StandsFor options sponge s seed v w start xs → StandsFor options sponge s seed' v' w' start (xs ++ Num k n ∷ [])
-stands-opening options false s seed v w start xs k n seed' v' w' t i full d e f h = absurd (cc)
-stands-opening options true s seed v w start xs k n seed' v' w' t i full d e f h =
+    → NumbersRepresent options sponge s seed v w start xs → NumbersRepresent options sponge s seed' v' w' start (xs ++ Num k n ∷ [])
+represents-opening options false s seed v w start xs k n seed' v' w' t i full d e f h = absurd (cc)
+represents-opening options true s seed v w start xs k n seed' v' w' t i full d e f h =
     let we : w ≡ (end_of xs).1 = h.bits_are in
     let ve : v ≡ block xs (end_of xs).0 = h.number_is in
     let opens : nat_le ((end_of xs).1 + k) 128 ≡ false = lt-leb _ _ (rw (← we) full) in
     let none : block xs ((end_of xs).0 + 1) ≡ 0 = block_from-behind _ (0, 0) xs (omega arith) in
-    stands-snoc options s seed v w start xs (Num k n) seed' v' w' i (d ∙ rw (opens, ve) refl) (f ∙ rw opens (omega arith)) (e ∙ rw (opens, own_block, none) (omega arith)) h
+    represents-snoc options s seed v w start xs (Num k n) seed' v' w' i (d ∙ rw (opens, ve) refl) (f ∙ rw opens (omega arith)) (e ∙ rw (opens, own_block, none) (omega arith)) h
 
 -- an integer with no sponge
-pub stands-number : (options : Options) (sponge : Bool) (s : List ℕ) (seed v w start : ℕ) (xs : List Item) (k n seed' : ℕ) → sponge ≡ false
+pub represents-number : (options : Options) (sponge : Bool) (s : List ℕ) (seed v w start : ℕ) (xs : List Item) (k n seed' : ℕ) → sponge ≡ false
     → IsItem (Num k n) → seed' ≡ step options s seed (Num k n)
-    → StandsFor options sponge s seed v w start xs → StandsFor options sponge s seed' v w start (xs ++ Num k n ∷ [])
-stands-number options true s seed v w start xs k n seed' t i d h = absurd (cc)
-stands-number options false s seed v w start xs k n seed' t i d h = rw d (stands-step options s seed v w start xs (Num k n) i h)
+    → NumbersRepresent options sponge s seed v w start xs → NumbersRepresent options sponge s seed' v w start (xs ++ Num k n ∷ [])
+represents-number options true s seed v w start xs k n seed' t i d h = absurd (cc)
+represents-number options false s seed v w start xs k n seed' t i d h = rw d (represents-step options s seed v w start xs (Num k n) i h)
 
 -- bytes, which are a step at once
-pub stands-bytes : (options : Options) (sponge : Bool) (s : List ℕ) (seed v w start : ℕ) (xs : List Item) (x : List ℕ) (seed' : ℕ) → IsItem (Bytes x)
+pub represents-bytes : (options : Options) (sponge : Bool) (s : List ℕ) (seed v w start : ℕ) (xs : List Item) (x : List ℕ) (seed' : ℕ) → IsItem (Bytes x)
     → seed' ≡ memory_hash options x seed s
-    → StandsFor options sponge s seed v w start xs → StandsFor options sponge s seed' v w start (xs ++ Bytes x ∷ [])
-stands-bytes options true s seed v w start xs x seed' i d h =
-    stands-snoc options s seed v w start xs (Bytes x) seed' v w i d h.bits_are (omega (arith, h.number_is)) h
-stands-bytes options false s seed v w start xs x seed' i d h = rw d (stands-step options s seed v w start xs (Bytes x) i h)
+    → NumbersRepresent options sponge s seed v w start xs → NumbersRepresent options sponge s seed' v w start (xs ++ Bytes x ∷ [])
+represents-bytes options true s seed v w start xs x seed' i d h =
+    represents-snoc options s seed v w start xs (Bytes x) seed' v w i d h.bits_are (omega (arith, h.number_is)) h
+represents-bytes options false s seed v w start xs x seed' i d h = rw d (represents-step options s seed v w start xs (Bytes x) i h)
 
 -- a number of 128 bits, which is a step at once
-pub stands-wide : (options : Options) (sponge : Bool) (s : List ℕ) (seed v w start : ℕ) (xs : List Item) (n seed' : ℕ) → IsItem (Wide n)
+pub represents-wide : (options : Options) (sponge : Bool) (s : List ℕ) (seed v w start : ℕ) (xs : List Item) (n seed' : ℕ) → IsItem (Wide n)
     → seed' ≡ step options s seed (Wide n)
-    → StandsFor options sponge s seed v w start xs → StandsFor options sponge s seed' v w start (xs ++ Wide n ∷ [])
-stands-wide options true s seed v w start xs n seed' i d h =
-    stands-snoc options s seed v w start xs (Wide n) seed' v w i d h.bits_are (omega (arith, h.number_is)) h
-stands-wide options false s seed v w start xs n seed' i d h = rw d (stands-step options s seed v w start xs (Wide n) i h)
+    → NumbersRepresent options sponge s seed v w start xs → NumbersRepresent options sponge s seed' v w start (xs ++ Wide n ∷ [])
+represents-wide options true s seed v w start xs n seed' i d h =
+    represents-snoc options s seed v w start xs (Wide n) seed' v w i d h.bits_are (omega (arith, h.number_is)) h
+represents-wide options false s seed v w start xs n seed' i d h = rw d (represents-step options s seed v w start xs (Wide n) i h)
 
 -- the answer from what represents a start and a list
-pub stands-finish : (options : Options) (sponge : Bool) (s : List ℕ) (seed v w start : ℕ) (xs : List Item)
-    → StandsFor options sponge s seed v w start xs → closed options s seed v w ≡ finished options sponge s start xs
+pub represents-finish : (options : Options) (sponge : Bool) (s : List ℕ) (seed v w start : ℕ) (xs : List Item)
+    → NumbersRepresent options sponge s seed v w start xs → closed options s seed v w ≡ finished options sponge s start xs
 unfolding finished
-stands-finish options sponge s seed v w start xs h i = closed options s (h.seed_is i) (h.number_is i) (h.bits_are i)
+represents-finish options sponge s seed v w start xs h i = closed options s (h.seed_is i) (h.number_is i) (h.bits_are i)
 
 -- a new hasher represents its start and no item
-pub stands-new : (options : Options) (sponge : Bool) (s : List ℕ) (start : ℕ) → start < 2 ^ 64 → StandsFor options sponge s start 0 0 start []
+pub represents-new : (options : Options) (sponge : Bool) (s : List ℕ) (start : ℕ) → start < 2 ^ 64 → NumbersRepresent options sponge s start 0 0 start []
 unfolding seed_after steps
-stands-new options true s start h = record { start_fits = h; items_fit = All-nil IsItem; seed_is = refl; number_is = refl; bits_are = refl }
-stands-new options false s start h = record { start_fits = h; items_fit = All-nil IsItem; seed_is = refl; number_is = refl; bits_are = refl }
+represents-new options true s start h = record { start_fits = h; items_fit = All-nil IsItem; seed_is = refl; number_is = refl; bits_are = refl }
+represents-new options false s start h = record { start_fits = h; items_fit = All-nil IsItem; seed_is = refl; number_is = refl; bits_are = refl }
 
 -- the bytes of a slice are an item in range
 pub bytes_fit : (xs : List ℕ) → ((i : ℕ) → Fits w8 (get_or xs i 0)) → IsItem (Bytes xs)

@@ -49,7 +49,7 @@ share-behind m c (Bytes x) h = refl
 share-behind m c (Wide v) h = refl
 share-behind m c (Num w v) h = other_block _ _ _ (inl h)
 
--- nothing stands in a block behind the last one
+-- no number is in a block after the last one
 pub block_from-behind : (m : ℕ) (c : ℕ × ℕ) (xs : List Item) → (end_from c xs).0 < m → block_from m c xs ≡ 0
 block_from-behind m c [] h = refl
 block_from-behind m c (x ∷ xs) h =
@@ -58,7 +58,7 @@ block_from-behind m c (x ∷ xs) h =
     let rest = block_from-behind m (end_after c x) xs h in
     omega (arith, here, rest)
 
--- nothing stands in a block before the first one
+-- no number is in a block before the first one
 block_from-before : (m : ℕ) (c : ℕ × ℕ) (xs : List Item) → m < c.0 → block_from m c xs ≡ 0
 block_from-before m c [] h = refl
 block_from-before m c (x ∷ xs) h =
@@ -79,7 +79,7 @@ number-multiple false c w v xs rec =
     let behind = block_from-before c.0 (c.0 + 1, 0 + w) xs (omega arith) in
     (0, rw (other, behind) (omega arith))
 
--- so what stands behind bit b of a block is a multiple of 2^b
+-- so the number above bit b of a block is a multiple of 2^b
 block_from-multiple : (c : ℕ × ℕ) (xs : List Item) → (k : ℕ) × (block_from c.0 c xs ≡ k * 2 ^ c.1)
 block_from-multiple c [] = (0, omega arith)
 block_from-multiple c (Bytes x ∷ xs) = let r = block_from-multiple c xs in (r.0, omega (arith, r.1))

@@ -1,10 +1,10 @@
--- What a key of bytes feeds a hasher.
+-- The writes of a key of bytes to a hasher.
 use Rattle.std.specs.Prelude.{ℕ, List, [], ◌∷◌, nat_eq}
 use Rattle.std.specs.Cmp.Lexicographic.{pointwise}
 use Rattle.std.specs.Hash.{HashWrites, Alike, same_Alike}
 use Rattle.std.proofs.lemmas.Slice.Eq.{bytes_eq-Decides}
 
--- the bytes by one write
+-- the bytes in a single write
 abbrev pub one_write : List ℕ → HashWrites
 one_write bytes = bytes ∷ []
 

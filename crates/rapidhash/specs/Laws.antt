@@ -1,4 +1,4 @@
--- What the laws say of messages and of lists of integers.
+-- The laws on messages and on lists of integers.
 use Rattle.std.specs.Prelude.{ℕ, ◌≡◌, ◌+◌, ◌*◌, ◌≤◌, ◌<◌, ◌^◌, List, [], ◌∷◌, ◌++◌, length, map, slice_index}
 use Rattle.rapidhash_portable.specs.declared.form.Form.{Form}
 use Rattle.rapidhash_portable.specs.declared.form.Options.{Options}
@@ -7,25 +7,25 @@ use Rattle.rapidhash_portable.specs.Hash.{portable_hash}
 use Rattle.rapidhash.specs.declared.laws.blocks.Num.{Num}
 use Rattle.rapidhash.specs.declared.laws.blocks.Num.TheVariants.{N8, N16, N32, N64}
 use Rattle.rapidhash.specs.declared.inner.hasher.RapidHasher.{RapidHasher}
-use Rattle.rapidhash.specs.RapidHasher.{Stands, secrets_of}
+use Rattle.rapidhash.specs.RapidHasher.{Represents, secrets_of}
 use Rattle.rapidhash.specs.Sponge.{Item, Num as Integer, block, end_of}
 
--- two messages have one length and one list of absorbed words
+-- two messages have the same length and the same absorbed words
 abbrev pub SameWords : Form → List ℕ → List ℕ → Type 0
 SameWords form x y = (length x ≡ length y) × (absorbed_words form x ≡ absorbed_words form y)
 
--- whatever the options, the seed and the secrets, the one definition is the value of the message's length and its absorbed words
+-- with any options, seed and secrets, the definition is the value of the message's length and its absorbed words
 abbrev pub HashIsOfWords : Form → List ℕ → Type 0
 HashIsOfWords form x =
     (options : Options) (seed : ℕ) (secrets : List ℕ) → seed < 2 ^ 64 → ((i : ℕ) → slice_index secrets i < 2 ^ 64)
     → portable_hash form options seed secrets x ≡ value_of_words form options seed secrets (length x) (absorbed_words form x)
 
--- and so of two messages
+-- the same for two messages
 pub record HashesAreOfWords (form : Form) (x y : List ℕ) : Type 0 where
   pub first : HashIsOfWords form x
   pub second : HashIsOfWords form y
 
--- two forms have one hash of a message, whatever the options, the seed and the secrets
+-- two forms have the same hash of a message, with any options, seed and secrets
 abbrev pub SameHash : Form → Form → List ℕ → Type 0
 SameHash first second x =
     (options : Options) (seed : ℕ) (secrets : List ℕ)
@@ -53,22 +53,22 @@ item_of number = Integer (width_of number) (value_of number)
 abbrev pub SameBlocks : List Num → List Num → Type 0
 SameBlocks x y = (place : ℕ) → block (map item_of x) place ≡ block (map item_of y) place
 
--- the last block of a hasher that absorbed some items has room for so many bits
+-- the last block of a hasher that absorbed some items has room for `width` bits
 abbrev pub HasRoom : List Item → ℕ → Type 0
 HasRoom items width = (end_of items).1 + width ≤ 128
 
--- two integers of one width are absorbed; where the last block has room for both, that is to absorb the one integer that joins them
+-- two integers of the same width are absorbed; if the last block has room for both, the result is that of the integer that joins them
 pub record JoinsWrites {avalanche sponge compact protected : ℕ} (old new : RapidHasher avalanche sponge compact protected) (width low high : ℕ) : Type 0 where
   pub secrets : secrets_of new ≡ secrets_of old
-  pub apart : (start : ℕ) (items : List Item) → Stands old start items
-      → Stands new start (items ++ Integer width low ∷ Integer width high ∷ [])
-  pub joined : (start : ℕ) (items : List Item) → Stands old start items → HasRoom items (2 * width)
-      → Stands new start (items ++ Integer (2 * width) (low + high * 2 ^ width) ∷ [])
+  pub apart : (start : ℕ) (items : List Item) → Represents old start items
+      → Represents new start (items ++ Integer width low ∷ Integer width high ∷ [])
+  pub joined : (start : ℕ) (items : List Item) → Represents old start items → HasRoom items (2 * width)
+      → Represents new start (items ++ Integer (2 * width) (low + high * 2 ^ width) ∷ [])
 
--- an item and then an integer are absorbed; where the last block has room for the integer, that is to absorb the integer first
+-- an item and then an integer are absorbed; if the last block has room for the integer, the result is that of the opposite order
 pub record TurnsWrites {avalanche sponge compact protected : ℕ} (old new : RapidHasher avalanche sponge compact protected) (item : Item) (number : Num) : Type 0 where
   pub secrets : secrets_of new ≡ secrets_of old
-  pub in_order : (start : ℕ) (items : List Item) → Stands old start items
-      → Stands new start (items ++ item ∷ item_of number ∷ [])
-  pub turned : (start : ℕ) (items : List Item) → Stands old start items → HasRoom items (width_of number)
-      → Stands new start (items ++ item_of number ∷ item ∷ [])
+  pub in_order : (start : ℕ) (items : List Item) → Represents old start items
+      → Represents new start (items ++ item ∷ item_of number ∷ [])
+  pub turned : (start : ℕ) (items : List Item) → Represents old start items → HasRoom items (width_of number)
+      → Represents new start (items ++ item_of number ∷ item ∷ [])

@@ -1,18 +1,18 @@
--- What contracts see of `RapidHasher`: whose numbers represent a start and a list of items, and what a write does and `finish` returns.
+-- `RapidHasher` in contracts: the start value and the items that its numbers represent, the effect of a write, and the result of `finish`.
 use Rattle.std.specs.Prelude.{ℕ, ◌≡◌, Bool, not, nat_eq, List, [], ◌∷◌, ◌++◌}
 use Rattle.std.specs.Borrow.{Bor}
 use Rattle.rapidhash_portable.specs.declared.form.Options.{Options}
 use Rattle.rapidhash_portable.specs.Memory.{memory_hash}
 use Rattle.rapidhash_portable.specs.Form.{options}
 use Rattle.rapidhash.specs.Sponge.{Item, empty_sponge}
-use Rattle.rapidhash.specs.Hasher.{StandsFor, closed, finished}
+use Rattle.rapidhash.specs.Hasher.{NumbersRepresent, closed, finished}
 use Rattle.rapidhash.specs.declared.inner.hasher.RapidHasher.{RapidHasher}
 
 -- the secrets of a hasher
 abbrev pub secrets_of : {avalanche sponge compact protected : ℕ} → RapidHasher avalanche sponge compact protected → List ℕ
 secrets_of hasher = hasher.secrets.now
 
--- whether an option is on, by the number of its const parameter
+-- whether an option is on, from the number of its const parameter
 abbrev pub is_on : ℕ → Bool
 is_on option = not (nat_eq option 0)
 
@@ -23,22 +23,22 @@ options_of {avalanche} {sponge} {compact} {protected} hasher = options (is_on av
 abbrev pub has_sponge : {avalanche sponge compact protected : ℕ} → RapidHasher avalanche sponge compact protected → Bool
 has_sponge {avalanche} {sponge} {compact} {protected} hasher = is_on sponge
 
--- a hasher represents a start and a list of items, under its own secrets
-abbrev pub Stands : {avalanche sponge compact protected : ℕ} → RapidHasher avalanche sponge compact protected → ℕ → List Item → Type 0
-Stands hasher start items =
-    StandsFor (options_of hasher) (has_sponge hasher) hasher.secrets.now hasher.seed hasher.sponge.bits hasher.sponge.width start items
+-- a hasher represents a start value and a list of items, with its own secrets
+abbrev pub Represents : {avalanche sponge compact protected : ℕ} → RapidHasher avalanche sponge compact protected → ℕ → List Item → Type 0
+Represents hasher start items =
+    NumbersRepresent (options_of hasher) (has_sponge hasher) hasher.secrets.now hasher.seed hasher.sponge.bits hasher.sponge.width start items
 
--- one item more is absorbed: the secrets stay, and for every start and list that the old hasher represents, the new one represents the list with the item at its end
+-- a further item is absorbed: the secrets do not change, and for every start value and list that the old hasher represents, the new one represents the list with the item at its end
 pub record Absorbs {avalanche sponge compact protected : ℕ} (old new : RapidHasher avalanche sponge compact protected) (item : Item) : Type 0 where
   pub secrets : secrets_of new ≡ secrets_of old
-  pub stands : (start : ℕ) (items : List Item) → Stands old start items → Stands new start (items ++ item ∷ [])
+  pub represents : (start : ℕ) (items : List Item) → Represents old start items → Represents new start (items ++ item ∷ [])
 
--- for every start and list that the hasher represents, the result is their hash
+-- for every start value and list that the hasher represents, the result is their hash
 abbrev pub Answers : {avalanche sponge compact protected : ℕ} → RapidHasher avalanche sponge compact protected → ℕ → Type 0
 Answers hasher answer =
-    (start : ℕ) (items : List Item) → Stands hasher start items → answer ≡ finished (options_of hasher) (has_sponge hasher) hasher.secrets.now start items
+    (start : ℕ) (items : List Item) → Represents hasher start items → answer ≡ finished (options_of hasher) (has_sponge hasher) hasher.secrets.now start items
 
--- a hasher of a seed and secrets that has absorbed nothing
+-- a hasher with a seed and secrets that has absorbed nothing
 abbrev pub fresh : {avalanche sponge compact protected : ℕ} → ℕ → Bor (List ℕ) → RapidHasher avalanche sponge compact protected
 fresh seed secrets = record { seed = seed; secrets = secrets; sponge = empty_sponge }
 

@@ -1,13 +1,13 @@
--- What a hasher absorbs, and its integers packed into blocks of 128 bits, at places that widths alone fix.
+-- The items that a hasher absorbs, and their integers packed into blocks of 128 bits, at offsets that depend on the widths alone.
 use Rattle.std.specs.Prelude.{ℕ, ◌≡◌, ◌+◌, ◌*◌, ◌^◌, ◌<◌, ◌⊎◌, if◌then◌else◌, nat_le, nat_eq, List, [], ◌∷◌, All}
 use Rattle.std.proofs.Common.{lit≤, lit<}
 use Rattle.rapidhash.specs.declared.inner.sponge.Sponge.{Sponge}
 
--- the sponge of a hasher in which nothing waits
+-- the sponge without pending integers
 abbrev pub empty_sponge : Sponge
 empty_sponge = record { bits = 0; width = 0; small = lit≤ tt; fits = lit< tt }
 
--- what a hasher absorbs: bytes, a number of 128 bits, or an integer by its width in bits and its value
+-- the item that a hasher absorbs: bytes, a number of 128 bits, or an integer with its width in bits and its value
 pub data Item : Type 0 where
   Bytes : List ℕ → Item
   Wide : ℕ → Item
@@ -23,36 +23,36 @@ IsItem (Bytes bytes) = All (λ byte. byte < 2 ^ 8) bytes
 IsItem (Wide value) = value < 2 ^ 128
 IsItem (Num width value) = IsWidth width × (value < 2 ^ width)
 
--- the block and the bit where an integer is placed: after the one before it, which ends at `end`, where the block has room, else at bit 0 of the next block
+-- the block and the bit of an integer: after the previous integer, which ends at `end`, if the block has room; otherwise bit 0 of the next block
 abbrev pub place_of : ℕ × ℕ → ℕ → ℕ × ℕ
 place_of end width = if nat_le (end.1 + width) 128 then end else (end.0 + 1, 0)
 
--- the block and the bit where the integers end after one item more
+-- the block and the bit at the end of the integers after a further item
 abbrev pub end_after : ℕ × ℕ → Item → ℕ × ℕ
 end_after end (Bytes bytes) = end
 end_after end (Wide value) = end
 end_after end (Num width value) = ((place_of end width).0, (place_of end width).1 + width)
 
--- and after a list of items
+-- the same after a list of items
 abbrev pub end_from : ℕ × ℕ → List Item → ℕ × ℕ
 end_from end [] = end
 end_from end (item ∷ items) = end_from (end_after end item) items
 
--- where the integers of a whole list end
+-- the block and the bit at the end of the integers of a whole list
 abbrev pub end_of : List Item → ℕ × ℕ
 end_of items = end_from (0, 0) items
 
--- what an item adds to the number of a block
+-- the number that an item adds to a block
 abbrev pub share : ℕ → ℕ × ℕ → Item → ℕ
 share place end (Bytes bytes) = 0
 share place end (Wide value) = 0
 share place end (Num width value) = if nat_eq (place_of end width).0 place then value * 2 ^ (place_of end width).1 else 0
 
--- what a list of items adds to it
+-- the number that a list of items adds to it
 abbrev pub block_from : ℕ → ℕ × ℕ → List Item → ℕ
 block_from place end [] = 0
 block_from place end (item ∷ items) = share place end item + block_from place (end_after end item) items
 
--- the number of the block at a place: the sum of its integers, each times 2 to the power of its bit
+-- the number of a block: the sum of its integers, each times 2 to the power of its bit
 abbrev pub block : List Item → ℕ → ℕ
 block items place = block_from place (0, 0) items

@@ -1,4 +1,4 @@
--- What contracts see of the states: a seed and secrets, when two states are equal, and the hasher that a state builds.
+-- The states in contracts: a seed and secrets, their equality, and the hasher that a state builds.
 use Rattle.std.specs.Prelude.{ℕ, Bool, List, ◌==◌, ◌&&◌, nat_eq}
 use Rattle.std.specs.Cmp.Lexicographic.{pointwise}
 use Rattle.rapidhash.specs.RapidHasher.{fresh}
@@ -10,11 +10,11 @@ use Rattle.rapidhash.specs.declared.inner.state.State.{State}
 abbrev pub seeded_eq : Seeded → Seeded → Bool
 seeded_eq x y = x.seed == y.seed && pointwise nat_eq x.secrets.now y.secrets.now
 
--- the hasher of a seed and secrets
+-- the hasher with a seed and secrets
 abbrev pub hasher_of : {avalanche sponge compact protected : ℕ} → Seeded → RapidHasher avalanche sponge compact protected
 hasher_of seeded = fresh seeded.seed seeded.secrets
 
--- of a state: the seed, the secrets, whether two are equal, and the hasher that it builds
+-- a state's seed and secrets, whether two states are equal, and the hasher that a state builds
 abbrev pub seed_of_state : {K : Type 0} {i j k l : ℕ} → State K i j k l → ℕ
 seed_of_state state = state.seeded.seed
 

@@ -50,12 +50,12 @@ pub trait HashMapExt<A>: Sized {
     // Whether the map has no entry.
     ghost is_empty: { Self → Type 0 };
 
-    /// An empty map, which allocates nothing.
+    /// Returns an empty map, without an allocation.
     fn new(alloc: A, state: Self::State) -> Self
         ensures { is_empty result };
 
-    /// An empty map with room for `capacity` entries. It fails only if the allocation does, and
-    /// then nothing was made.
+    /// Returns an empty map with room for `capacity` entries. It fails only if the allocation does,
+    /// and then nothing is allocated.
     fn with_capacity(alloc: A, capacity: usize, state: Self::State) -> Result<Self, AllocError>
         ensures { IfOk result is_empty };
 }
@@ -68,12 +68,12 @@ pub trait HashSetExt<A>: Sized {
     // Whether the set has no key.
     ghost is_empty: { Self → Type 0 };
 
-    /// An empty set, which allocates nothing.
+    /// Returns an empty set, without an allocation.
     fn new(alloc: A, state: Self::State) -> Self
         ensures { is_empty result };
 
-    /// An empty set with room for `capacity` keys. It fails only if the allocation does, and then
-    /// nothing was made.
+    /// Returns an empty set with room for `capacity` keys. It fails only if the allocation does,
+    /// and then nothing is allocated.
     fn with_capacity(alloc: A, capacity: usize, state: Self::State) -> Result<Self, AllocError>
         ensures { IfOk result is_empty };
 }

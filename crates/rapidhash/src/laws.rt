@@ -38,8 +38,8 @@ pub enum StreamOp<'d> {
     Reset,
 }
 
-/// What V3's stream hasher returns for each `Finish` of a run, in order. It fails only if an
-/// allocation for the list of hashes does, and then it has freed what it had allocated.
+/// Returns the hash that V3's stream hasher returns for each `Finish` of a run, in order. It fails
+/// only if an allocation for the list of hashes does, and then it frees the list.
 ///
 /// ```
 /// let ops = [StreamOp::Write(b"hello"), StreamOp::Finish];
@@ -56,7 +56,7 @@ pub fn replay<A: Allocator, const AVALANCHE: bool, const PROTECTED: bool>(
     replay_lanes::<A, 7, AVALANCHE, PROTECTED>(alloc, secrets, ops)
 }
 
-/// As [`replay`], with 7, 5 or 3 lanes: V3, micro or nano.
+/// Returns the hashes of [`replay`], with 7, 5 or 3 lanes: V3, micro or nano.
 #[tactic(auto, unfolding(crate::specs::Replay::finishes_from))]
 pub fn replay_lanes<A: Allocator, const LANES: usize, const AVALANCHE: bool, const PROTECTED: bool>(
     alloc: A,

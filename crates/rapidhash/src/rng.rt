@@ -142,7 +142,7 @@ impl RapidRng {
         RapidRng::new(rapidrng_time(&mut seed, secs, nanos))
     }
 
-    /// The state as a number, with its range in the contract.
+    /// Returns the state as a number, with its range in the contract.
     fn number(&self) -> u64
         ensures { result ≡ self.now }
     {
@@ -195,13 +195,13 @@ impl SeedableRng for RapidRng {
 
     ghost seed_of_u64 = { to_le_bytes w64 };
 
-    /// The generator whose [`RapidRng::state`] is `seed`.
+    /// Returns the generator whose [`RapidRng::state`] is `seed`.
     #[inline]
     fn from_seed(seed: [u8; 8]) -> RapidRng {
         RapidRng::new(u64::from_le_bytes(seed))
     }
 
-    /// As [`RapidRng::new`].
+    /// Returns the generator of [`RapidRng::new`].
     #[inline]
     fn seed_from_u64(state: u64) -> RapidRng
         ensures seeded { result ≡ from_le_bytes w64 (to_le_bytes w64 state) }
@@ -223,7 +223,7 @@ impl NextWord<u64> for RapidRng {
 impl Rng for RapidRng {
     ghost stream = { generator_stream };
 
-    /// The low half of the next word.
+    /// Returns the low half of the next word.
     #[inline]
     fn next_u32(&mut self) -> u32
         ensures stream { (result, generator_stream self.new)
@@ -234,7 +234,7 @@ impl Rng for RapidRng {
         (self.next() % 0x1_0000_0000) as u32
     }
 
-    /// The next word.
+    /// Returns the next word.
     #[inline]
     fn next_u64(&mut self) -> u64
         ensures stream { (result, generator_stream self.new)
@@ -245,8 +245,8 @@ impl Rng for RapidRng {
         self.next()
     }
 
-    /// The first bytes of the next words, each in little-endian order. One word is drawn per 8
-    /// bytes, rounded up; what is left of the last one is dropped.
+    /// Writes the first bytes of the next words, each in little-endian order. One word is drawn per
+    /// 8 bytes, rounded up; the rest of the last word is dropped.
     #[inline]
     fn fill_bytes(&mut self, dst: &mut [u8])
         ensures stream { (dst.new, generator_stream self.new)

@@ -11,7 +11,7 @@ use rapidhash_portable::kernel::{GUARDED, MIXED, PLAIN, UNROLLED, v1, v2, v3};
 use rapidhash_portable::v1::RapidSecrets as RapidSecretsV1;
 use rapidhash_portable::v3::{RapidSecrets, rapidhash_v3_inline};
 
-/// The hash of `bytes` by V1, with the default seed and secrets.
+/// Returns the V1 hash of `bytes` with the default seed and secrets.
 #[unsafe(no_mangle)]
 pub extern "C" fn rapidhash_v1(bytes: &[u8]) -> u64
     ensures { result ≡ default_hash v1 standard bytes.now }
@@ -20,7 +20,7 @@ pub extern "C" fn rapidhash_v1(bytes: &[u8]) -> u64
     v1::hash::<MIXED, UNROLLED, PLAIN, false>(bytes, defaults.seed, &defaults.secrets)
 }
 
-/// The hash of `bytes` by V1, with a seed and secrets of the caller's.
+/// Returns the V1 hash of `bytes` with the caller's seed and secrets.
 #[unsafe(no_mangle)]
 pub extern "C" fn rapidhash_v1_seeded(bytes: &[u8], secrets: &RapidSecretsV1) -> u64
     ensures { result ≡ seeded_hash_v1 false standard secrets.now bytes.now }
@@ -28,7 +28,7 @@ pub extern "C" fn rapidhash_v1_seeded(bytes: &[u8], secrets: &RapidSecretsV1) ->
     v1::hash::<MIXED, UNROLLED, PLAIN, false>(bytes, secrets.seed, &secrets.secrets)
 }
 
-/// The hash of `bytes` by V1, with one seed word.
+/// Returns the V1 hash of `bytes` with one seed word.
 #[unsafe(no_mangle)]
 pub extern "C" fn rapidhash_v1_with_seed(bytes: &[u8], seed: u64) -> u64
     ensures { result ≡ portable_hash v1 standard (cpp_seeded seed 0) default_secrets_v1 bytes.now }
@@ -37,7 +37,7 @@ pub extern "C" fn rapidhash_v1_with_seed(bytes: &[u8], seed: u64) -> u64
     v1::hash::<MIXED, UNROLLED, PLAIN, false>(bytes, seed, &RapidSecretsV1::default_ref().secrets)
 }
 
-/// The hash by V2, of a minor.
+/// Returns the V2.0, V2.1 or V2.2 hash.
 #[inline(always)]
 fn v2_of<const MINOR: u8>(bytes: &[u8], seed: u64, secrets: &[u64; 7]) -> u64
     requires { MINOR ≤ 2 }
@@ -46,7 +46,7 @@ fn v2_of<const MINOR: u8>(bytes: &[u8], seed: u64, secrets: &[u64; 7]) -> u64
     v2::hash::<MINOR, MIXED, UNROLLED, PLAIN>(bytes, seed, secrets)
 }
 
-/// The hash of `bytes` by V2.0, with the default seed and secrets.
+/// Returns the V2.0 hash of `bytes` with the default seed and secrets.
 #[unsafe(no_mangle)]
 pub extern "C" fn rapidhash_v2_0(bytes: &[u8]) -> u64
     ensures { result ≡ default_hash (v2 0) standard bytes.now }
@@ -55,7 +55,7 @@ pub extern "C" fn rapidhash_v2_0(bytes: &[u8]) -> u64
     v2_of::<0>(bytes, defaults.seed, &defaults.secrets)
 }
 
-/// The hash of `bytes` by V2.0, with a seed and secrets of the caller's.
+/// Returns the V2.0 hash of `bytes` with the caller's seed and secrets.
 #[unsafe(no_mangle)]
 pub extern "C" fn rapidhash_v2_0_seeded(bytes: &[u8], secrets: &RapidSecrets) -> u64
     ensures { result ≡ seeded_hash (v2 0) standard secrets.now bytes.now }
@@ -63,7 +63,7 @@ pub extern "C" fn rapidhash_v2_0_seeded(bytes: &[u8], secrets: &RapidSecrets) ->
     v2_of::<0>(bytes, secrets.seed, &secrets.secrets)
 }
 
-/// The hash of `bytes` by V2.0, with one seed word.
+/// Returns the V2.0 hash of `bytes` with one seed word.
 #[unsafe(no_mangle)]
 pub extern "C" fn rapidhash_v2_0_with_seed(bytes: &[u8], seed: u64) -> u64
     ensures { result ≡ portable_hash (v2 0) standard (cpp_seeded seed 2) default_secrets bytes.now }
@@ -72,7 +72,7 @@ pub extern "C" fn rapidhash_v2_0_with_seed(bytes: &[u8], seed: u64) -> u64
     v2_of::<0>(bytes, seed, &RapidSecrets::default_ref().secrets)
 }
 
-/// The hash of `bytes` by V2.1, with the default seed and secrets.
+/// Returns the V2.1 hash of `bytes` with the default seed and secrets.
 #[unsafe(no_mangle)]
 pub extern "C" fn rapidhash_v2_1(bytes: &[u8]) -> u64
     ensures { result ≡ default_hash (v2 1) standard bytes.now }
@@ -81,7 +81,7 @@ pub extern "C" fn rapidhash_v2_1(bytes: &[u8]) -> u64
     v2_of::<1>(bytes, defaults.seed, &defaults.secrets)
 }
 
-/// The hash of `bytes` by V2.1, with a seed and secrets of the caller's.
+/// Returns the V2.1 hash of `bytes` with the caller's seed and secrets.
 #[unsafe(no_mangle)]
 pub extern "C" fn rapidhash_v2_1_seeded(bytes: &[u8], secrets: &RapidSecrets) -> u64
     ensures { result ≡ seeded_hash (v2 1) standard secrets.now bytes.now }
@@ -89,7 +89,7 @@ pub extern "C" fn rapidhash_v2_1_seeded(bytes: &[u8], secrets: &RapidSecrets) ->
     v2_of::<1>(bytes, secrets.seed, &secrets.secrets)
 }
 
-/// The hash of `bytes` by V2.1, with one seed word.
+/// Returns the V2.1 hash of `bytes` with one seed word.
 #[unsafe(no_mangle)]
 pub extern "C" fn rapidhash_v2_1_with_seed(bytes: &[u8], seed: u64) -> u64
     ensures { result ≡ portable_hash (v2 1) standard (cpp_seeded seed 2) default_secrets bytes.now }
@@ -98,7 +98,7 @@ pub extern "C" fn rapidhash_v2_1_with_seed(bytes: &[u8], seed: u64) -> u64
     v2_of::<1>(bytes, seed, &RapidSecrets::default_ref().secrets)
 }
 
-/// The hash of `bytes` by V2.2, with the default seed and secrets.
+/// Returns the V2.2 hash of `bytes` with the default seed and secrets.
 #[unsafe(no_mangle)]
 pub extern "C" fn rapidhash_v2_2(bytes: &[u8]) -> u64
     ensures { result ≡ default_hash (v2 2) standard bytes.now }
@@ -107,7 +107,7 @@ pub extern "C" fn rapidhash_v2_2(bytes: &[u8]) -> u64
     v2_of::<2>(bytes, defaults.seed, &defaults.secrets)
 }
 
-/// The hash of `bytes` by V2.2, with a seed and secrets of the caller's.
+/// Returns the V2.2 hash of `bytes` with the caller's seed and secrets.
 #[unsafe(no_mangle)]
 pub extern "C" fn rapidhash_v2_2_seeded(bytes: &[u8], secrets: &RapidSecrets) -> u64
     ensures { result ≡ seeded_hash (v2 2) standard secrets.now bytes.now }
@@ -115,7 +115,7 @@ pub extern "C" fn rapidhash_v2_2_seeded(bytes: &[u8], secrets: &RapidSecrets) ->
     v2_of::<2>(bytes, secrets.seed, &secrets.secrets)
 }
 
-/// The hash of `bytes` by V2.2, with one seed word.
+/// Returns the V2.2 hash of `bytes` with one seed word.
 #[unsafe(no_mangle)]
 pub extern "C" fn rapidhash_v2_2_with_seed(bytes: &[u8], seed: u64) -> u64
     ensures { result ≡ portable_hash (v2 2) standard (cpp_seeded seed 2) default_secrets bytes.now }
@@ -124,7 +124,7 @@ pub extern "C" fn rapidhash_v2_2_with_seed(bytes: &[u8], seed: u64) -> u64
     v2_of::<2>(bytes, seed, &RapidSecrets::default_ref().secrets)
 }
 
-/// The hash by V3, micro or nano.
+/// Returns the V3, micro or nano hash.
 #[inline(always)]
 fn v3_of<const LANES: usize>(bytes: &[u8], seed: u64, secrets: &[u64; 7]) -> u64
     requires few { LANES ≤ 7 }
@@ -134,7 +134,7 @@ fn v3_of<const LANES: usize>(bytes: &[u8], seed: u64, secrets: &[u64; 7]) -> u64
     v3::hash::<LANES, MIXED, UNROLLED, PLAIN>(bytes, seed, secrets)
 }
 
-/// The hash of `bytes` by V3, with the default seed and secrets.
+/// Returns the V3 hash of `bytes` with the default seed and secrets.
 #[unsafe(no_mangle)]
 pub extern "C" fn rapidhash_v3(bytes: &[u8]) -> u64
     ensures { result ≡ default_hash v3 standard bytes.now }
@@ -143,7 +143,7 @@ pub extern "C" fn rapidhash_v3(bytes: &[u8]) -> u64
     v3_of::<7>(bytes, defaults.seed, &defaults.secrets)
 }
 
-/// The hash of `bytes` by V3, with a seed and secrets of the caller's.
+/// Returns the V3 hash of `bytes` with the caller's seed and secrets.
 #[unsafe(no_mangle)]
 pub extern "C" fn rapidhash_v3_seeded(bytes: &[u8], secrets: &RapidSecrets) -> u64
     ensures { result ≡ seeded_hash v3 standard secrets.now bytes.now }
@@ -151,7 +151,7 @@ pub extern "C" fn rapidhash_v3_seeded(bytes: &[u8], secrets: &RapidSecrets) -> u
     v3_of::<7>(bytes, secrets.seed, &secrets.secrets)
 }
 
-/// The hash of `bytes` by V3, with one seed word.
+/// Returns the V3 hash of `bytes` with one seed word.
 #[unsafe(no_mangle)]
 pub extern "C" fn rapidhash_v3_with_seed(bytes: &[u8], seed: u64) -> u64
     ensures { result ≡ portable_hash v3 standard (cpp_seeded seed 2) default_secrets bytes.now }
@@ -160,7 +160,7 @@ pub extern "C" fn rapidhash_v3_with_seed(bytes: &[u8], seed: u64) -> u64
     v3_of::<7>(bytes, seed, &RapidSecrets::default_ref().secrets)
 }
 
-/// The hash of `bytes` by V3 micro, with the default seed and secrets.
+/// Returns the V3 micro hash of `bytes` with the default seed and secrets.
 #[unsafe(no_mangle)]
 pub extern "C" fn rapidhash_v3_micro(bytes: &[u8]) -> u64
     ensures { result ≡ default_hash micro standard bytes.now }
@@ -169,7 +169,7 @@ pub extern "C" fn rapidhash_v3_micro(bytes: &[u8]) -> u64
     v3_of::<5>(bytes, defaults.seed, &defaults.secrets)
 }
 
-/// The hash of `bytes` by V3 micro, with a seed and secrets of the caller's.
+/// Returns the V3 micro hash of `bytes` with the caller's seed and secrets.
 #[unsafe(no_mangle)]
 pub extern "C" fn rapidhash_v3_micro_seeded(bytes: &[u8], secrets: &RapidSecrets) -> u64
     ensures { result ≡ seeded_hash micro standard secrets.now bytes.now }
@@ -177,7 +177,7 @@ pub extern "C" fn rapidhash_v3_micro_seeded(bytes: &[u8], secrets: &RapidSecrets
     v3_of::<5>(bytes, secrets.seed, &secrets.secrets)
 }
 
-/// The hash of `bytes` by V3 micro, with one seed word.
+/// Returns the V3 micro hash of `bytes` with one seed word.
 #[unsafe(no_mangle)]
 pub extern "C" fn rapidhash_v3_micro_with_seed(bytes: &[u8], seed: u64) -> u64
     ensures { result ≡ portable_hash micro standard (cpp_seeded seed 2) default_secrets bytes.now }
@@ -186,7 +186,7 @@ pub extern "C" fn rapidhash_v3_micro_with_seed(bytes: &[u8], seed: u64) -> u64
     v3_of::<5>(bytes, seed, &RapidSecrets::default_ref().secrets)
 }
 
-/// The hash of `bytes` by V3 nano, with the default seed and secrets.
+/// Returns the V3 nano hash of `bytes` with the default seed and secrets.
 #[unsafe(no_mangle)]
 pub extern "C" fn rapidhash_v3_nano(bytes: &[u8]) -> u64
     ensures { result ≡ default_hash nano standard bytes.now }
@@ -195,7 +195,7 @@ pub extern "C" fn rapidhash_v3_nano(bytes: &[u8]) -> u64
     v3_of::<3>(bytes, defaults.seed, &defaults.secrets)
 }
 
-/// The hash of `bytes` by V3 nano, with a seed and secrets of the caller's.
+/// Returns the V3 nano hash of `bytes` with the caller's seed and secrets.
 #[unsafe(no_mangle)]
 pub extern "C" fn rapidhash_v3_nano_seeded(bytes: &[u8], secrets: &RapidSecrets) -> u64
     ensures { result ≡ seeded_hash nano standard secrets.now bytes.now }
@@ -203,7 +203,7 @@ pub extern "C" fn rapidhash_v3_nano_seeded(bytes: &[u8], secrets: &RapidSecrets)
     v3_of::<3>(bytes, secrets.seed, &secrets.secrets)
 }
 
-/// The hash of `bytes` by V3 nano, with one seed word.
+/// Returns the V3 nano hash of `bytes` with one seed word.
 #[unsafe(no_mangle)]
 pub extern "C" fn rapidhash_v3_nano_with_seed(bytes: &[u8], seed: u64) -> u64
     ensures { result ≡ portable_hash nano standard (cpp_seeded seed 2) default_secrets bytes.now }
@@ -212,7 +212,7 @@ pub extern "C" fn rapidhash_v3_nano_with_seed(bytes: &[u8], seed: u64) -> u64
     v3_of::<3>(bytes, seed, &RapidSecrets::default_ref().secrets)
 }
 
-/// The hash of `bytes` by V3 with PROTECTED, with the default seed and secrets.
+/// Returns the V3 hash of `bytes` with PROTECTED and the default seed and secrets.
 #[unsafe(no_mangle)]
 pub extern "C" fn rapidhash_v3_protected(bytes: &[u8]) -> u64
     ensures { result ≡ default_hash v3 guarded bytes.now }
@@ -220,7 +220,7 @@ pub extern "C" fn rapidhash_v3_protected(bytes: &[u8]) -> u64
     rapidhash_v3_inline::<MIXED, UNROLLED, GUARDED>(bytes, RapidSecrets::default_ref())
 }
 
-/// The hash of `bytes` by V3 with PROTECTED, with a seed and secrets of the caller's.
+/// Returns the V3 hash of `bytes` with PROTECTED and the caller's seed and secrets.
 #[unsafe(no_mangle)]
 pub extern "C" fn rapidhash_v3_protected_seeded(bytes: &[u8], secrets: &RapidSecrets) -> u64
     ensures { result ≡ seeded_hash v3 guarded secrets.now bytes.now }
@@ -228,7 +228,7 @@ pub extern "C" fn rapidhash_v3_protected_seeded(bytes: &[u8], secrets: &RapidSec
     rapidhash_v3_inline::<MIXED, UNROLLED, GUARDED>(bytes, secrets)
 }
 
-/// The hash of `bytes` by V3 with PROTECTED, with one seed word.
+/// Returns the V3 hash of `bytes` with PROTECTED and one seed word.
 #[unsafe(no_mangle)]
 pub extern "C" fn rapidhash_v3_protected_with_seed(bytes: &[u8], seed: u64) -> u64
     ensures { result ≡ portable_hash v3 guarded (cpp_seeded seed 2) default_secrets bytes.now }

@@ -1,4 +1,4 @@
-//! The hashes for C and for languages that call C: `include/rapidhash_c.h` declares them. Each
+//! The hashes for C and for languages that call C: `packages/c/include/rapidhash_c.h` declares them. Each
 //! export calls the library's function and restates its clause.
 #![tactic(auto)]
 
@@ -8,7 +8,7 @@ mod hashes;
 mod secrets;
 mod streams;
 
-/// The version number of the library: 100 times the major number, and the minor number.
+/// Returns the version number of the library: 100 times the major number, and the minor number.
 #[unsafe(no_mangle)]
 pub extern "C" fn rapidhash_c_version() -> u32
     ensures { result ≡ 100 }

@@ -6,7 +6,7 @@ ghost use Rattle.rapidhash_portable.specs.Secrets.{IsGood, cpp_seeded, default_s
 
 use rapidhash_portable::{v1, v3};
 
-/// A seed and secrets made of a number, for V1.
+/// Writes a seed and secrets derived from a number, for V1.
 #[unsafe(no_mangle)]
 pub extern "C" fn rapidhash_v1_make_secrets(number: u64, secrets: &mut v1::RapidSecrets)
     ensures seed { secrets.new.seed ≡ seeded number }
@@ -16,7 +16,7 @@ pub extern "C" fn rapidhash_v1_make_secrets(number: u64, secrets: &mut v1::Rapid
     *secrets = v1::RapidSecrets::seed(number);
 }
 
-/// A seed and secrets made of a number, for the others.
+/// Writes a seed and secrets derived from a number, for V2 and V3.
 #[unsafe(no_mangle)]
 pub extern "C" fn rapidhash_make_secrets(number: u64, secrets: &mut v3::RapidSecrets)
     ensures seed { secrets.new.seed ≡ seeded number }
@@ -26,7 +26,7 @@ pub extern "C" fn rapidhash_make_secrets(number: u64, secrets: &mut v3::RapidSec
     *secrets = v3::RapidSecrets::seed(number);
 }
 
-/// The default secrets, and a seed made of one seed word, for V1.
+/// Writes the default secrets and a seed derived from one seed word, for V1.
 #[unsafe(no_mangle)]
 pub extern "C" fn rapidhash_v1_seed_secrets(seed: u64, secrets: &mut v1::RapidSecrets)
     ensures seed { secrets.new.seed ≡ cpp_seeded seed 0 }
@@ -35,7 +35,7 @@ pub extern "C" fn rapidhash_v1_seed_secrets(seed: u64, secrets: &mut v1::RapidSe
     *secrets = v1::RapidSecrets::seed_cpp(seed);
 }
 
-/// The default secrets, and a seed made of one seed word, for the others.
+/// Writes the default secrets and a seed derived from one seed word, for V2 and V3.
 #[unsafe(no_mangle)]
 pub extern "C" fn rapidhash_seed_secrets(seed: u64, secrets: &mut v3::RapidSecrets)
     ensures seed { secrets.new.seed ≡ cpp_seeded seed 2 }

@@ -3,7 +3,7 @@
 ghost use Rattle.std.specs.Prelude.{◌≡◌, ◌++◌, ℕ, List, true, false};
 ghost use Rattle.rapidhash_portable.specs.Form.{standard};
 ghost use Rattle.rapidhash_portable.specs.Hash.{seeded_hash};
-ghost use Rattle.rapidhash_portable.specs.Stream.{StandsByLanes, StartsByLanes, lanes_of, secrets_by_lanes};
+ghost use Rattle.rapidhash_portable.specs.Stream.{RepresentsByLanes, StartsByLanes, lanes_of, secrets_by_lanes};
 ghost use Rattle.rapidhash_portable.specs.declared.form.Form.TheVariants.{V3};
 
 use rapidhash_portable::v3::RapidStream;
@@ -19,18 +19,18 @@ pub extern "C" fn rapidhash_stream_reset(stream: &mut RapidStream<'_>)
 /// Adds a piece to the message.
 #[unsafe(no_mangle)]
 pub extern "C" fn rapidhash_stream_write(stream: &mut RapidStream<'_>, bytes: &[u8])
-    ensures adds { (x : List ℕ) → StandsByLanes stream.old x →
-        StandsByLanes stream.new (x ++ bytes.now) }
+    ensures adds { (x : List ℕ) → RepresentsByLanes stream.old x →
+        RepresentsByLanes stream.new (x ++ bytes.now) }
     ensures secrets { secrets_by_lanes stream.new ≡ secrets_by_lanes stream.old }
     ensures lanes { lanes_of stream.new ≡ lanes_of stream.old }
 {
     stream.write(bytes);
 }
 
-/// The hash of the message so far. It changes nothing: further pieces may follow.
+/// Returns the hash of the message so far. It changes nothing: further pieces may follow.
 #[unsafe(no_mangle)]
 pub extern "C" fn rapidhash_stream_finish(stream: &RapidStream<'_>) -> u64
-    ensures { (x : List ℕ) → StandsByLanes stream.now x → result
+    ensures { (x : List ℕ) → RepresentsByLanes stream.now x → result
         ≡ seeded_hash (V3 (lanes_of stream.now)) standard
         (secrets_by_lanes stream.now) x }
 {

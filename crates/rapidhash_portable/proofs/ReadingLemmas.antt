@@ -101,33 +101,33 @@ MarksFailures-settles (Err Ended) (Err e) marked settled = record { clean = tt; 
 
 -- ---- all bytes
 
--- bytes were taken, one or more a turn: `Stands` holds for those before the last ones, which are kept
-pub record HaveRead (old now : Option (List ℕ)) (Stands : List ℕ → Type 0) (kept : List ℕ) (turn : ℕ) : Type 0 where
+-- bytes were read, at least one per iteration: `Represents` holds for those before the last, which are kept
+pub record HaveRead (old now : Option (List ℕ)) (Represents : List ℕ → Type 0) (kept : List ℕ) (turn : ℕ) : Type 0 where
   pub front : List ℕ
   pub taken : Consumes old now (front ++ kept)
-  pub stands : Stands front
+  pub represents : Represents front
   pub some : turn ≤ length (front ++ kept)
 
 -- a read more, whose bytes are kept
-pub HaveRead-more : {old now : Option (List ℕ)} {Stands : List ℕ → Type 0} {kept : List ℕ} {turn : ℕ} →
-    HaveRead old now Stands kept turn → (new : Option (List ℕ)) (piece : List ℕ) →
-    Consumes now new piece → 0 < length piece → HaveRead old new Stands (kept ++ piece) (turn + 1)
+pub HaveRead-more : {old now : Option (List ℕ)} {Represents : List ℕ → Type 0} {kept : List ℕ} {turn : ℕ} →
+    HaveRead old now Represents kept turn → (new : Option (List ℕ)) (piece : List ℕ) →
+    Consumes now new piece → 0 < length piece → HaveRead old new Represents (kept ++ piece) (turn + 1)
 HaveRead-more {kept = kept} h new piece took some =
     let joined = append_assoc h.front kept piece in
     record {
       front = h.front;
       taken = subst (Consumes _ _) joined (Consumes-trans _ _ _ _ _ h.taken took);
-      stands = h.stands;
+      represents = h.represents;
       some = omega (arith, h.some, ap length joined, length-append (h.front ++ kept) piece);
     }
 
--- what was kept is added to what stands
-pub HaveRead-added : {old now : Option (List ℕ)} {Stands : List ℕ → Type 0} {kept : List ℕ} {turn : ℕ} (Stands' : List ℕ → Type 0) →
-    HaveRead old now Stands kept turn → ((x : List ℕ) → Stands x → Stands' (x ++ kept)) → HaveRead old now Stands' [] turn
-HaveRead-added {kept = kept} Stands' h adds = let all = append-nil (h.front ++ kept) in record {
+-- the kept bytes are added to the represented ones
+pub HaveRead-added : {old now : Option (List ℕ)} {Represents : List ℕ → Type 0} {kept : List ℕ} {turn : ℕ} (Represents' : List ℕ → Type 0) →
+    HaveRead old now Represents kept turn → ((x : List ℕ) → Represents x → Represents' (x ++ kept)) → HaveRead old now Represents' [] turn
+HaveRead-added {kept = kept} Represents' h adds = let all = append-nil (h.front ++ kept) in record {
   front = h.front ++ kept;
   taken = subst (Consumes _ _) (sym all) h.taken;
-  stands = adds h.front h.stands;
+  represents = adds h.front h.represents;
   some = omega (arith, h.some, ap length all);
 }
 

@@ -12,7 +12,7 @@ use Rattle.rapidhash_portable.specs.declared.v3.stream.parts.Parts.{Parts}
 use Rattle.rapidhash_portable.specs.Folded.{AfterRows, HaveFolded, PrefixIsFolded, Running}
 use Rattle.rapidhash_portable.specs.Form.{shape_of}
 use Rattle.rapidhash_portable.specs.Lanes.{IsLaneCount, joined}
-use Rattle.rapidhash_portable.specs.Stream.{PartsStandFor, chunk_count, folded_bytes}
+use Rattle.rapidhash_portable.specs.Stream.{PartsRepresent, chunk_count, folded_bytes}
 use Rattle.rapidhash_portable.specs.Words.{last_16}
 use Rattle.rapidhash_portable.proofs.BytesLemmas.{word64-drop}
 use Rattle.rapidhash_portable.proofs.FoldedLemmas.{AfterRows-wide, HaveFolded-append, HaveFolded-none, HaveFolded-take, PrefixIsFolded-all, PrefixIsFolded-left, PrefixIsFolded-more}
@@ -48,9 +48,9 @@ mul_some lanes (suc rows) some = omega arith
 -- ---- a message
 
 -- no bytes
-pub PartsStandFor-none : (protected : Bool) (lanes : ℕ) (s : Parts) → s.folded.lanes ≡ replicate 7 s.secrets.now.seed →
-    s.folded.count.steps ≡ 0 → s.any ≡ false → s.len ≡ 0 → PartsStandFor protected lanes s []
-PartsStandFor-none protected lanes s held steps any len =
+pub PartsRepresent-none : (protected : Bool) (lanes : ℕ) (s : Parts) → s.folded.lanes ≡ replicate 7 s.secrets.now.seed →
+    s.folded.count.steps ≡ 0 → s.any ≡ false → s.len ≡ 0 → PartsRepresent protected lanes s []
+PartsRepresent-none protected lanes s held steps any len =
     let none : chunk_count lanes 0 ≡ 0 = zero-div (16 * lanes) in
     let z : 16 * (lanes * 0) ≡ 0 = omega arith in
     record {
@@ -75,12 +75,12 @@ Running-more r held' rest' steps' more n folded counted size room next = record 
 }
 
 -- what is left behind the last whole chunk is buffered
-pub PartsStandFor-rest : (protected : Bool) {lanes : ℕ} (s : Parts) (y carried tail kept' kept'' : List ℕ) (i j : ℕ) → IsLaneCount lanes →
+pub PartsRepresent-rest : (protected : Bool) {lanes : ℕ} (s : Parts) (y carried tail kept' kept'' : List ℕ) (i j : ℕ) → IsLaneCount lanes →
     (r : Running protected s.secrets.now.secrets y lanes s.secrets.now.seed s.folded.lanes s.folded.count.steps tail) → length tail ≤ 16 * lanes → length tail < length y →
     s.any ≡ true → length s.kept ≡ 128 → length carried ≡ 16 → carried ≡ take 16 (drop (length y - length tail - 16) y) →
     kept' ≡ put_mid 0 i s.kept carried → length kept' ≡ 128 → kept'' ≡ put_mid 16 j kept' tail →
-    PartsStandFor protected lanes (record s { kept = kept''; len = length tail }) y
-PartsStandFor-rest protected {lanes} s y carried tail kept' kept'' i j count r few less flag size sixteen before e size' e' =
+    PartsRepresent protected lanes (record s { kept = kept''; len = length tail }) y
+PartsRepresent-rest protected {lanes} s y carried tail kept' kept'' i j count r few less flag size sixteen before e size' e' =
     let rows = PrefixIsFolded-all r.prefix (omega arith) in
     let left = PrefixIsFolded-left r.prefix in
     let some = some_rows lanes r.prefix.rows (length tail) (length y) left less in
@@ -99,7 +99,7 @@ PartsStandFor-rest protected {lanes} s y carried tail kept' kept'' i j count r f
 -- ---- the data of a message
 
 module _ {protected : Bool} {lanes : ℕ} {s : Parts} {x : List ℕ}
-    (count : IsLaneCount lanes) (h : PartsStandFor protected lanes s x) (size : length s.kept ≡ 128) (fits : s.len ≤ 16 * lanes) where
+    (count : IsLaneCount lanes) (h : PartsRepresent protected lanes s x) (size : length s.kept ≡ 128) (fits : s.len ≤ 16 * lanes) where
   low : folded_bytes lanes (length x) ≤ length x - 1
   low = chunk_count-low lanes (length x) (omega arith)
 
@@ -115,9 +115,9 @@ module _ {protected : Bool} {lanes : ℕ} {s : Parts} {x : List ℕ}
   buffered-append d = ap (λ (l : List ℕ). l ++ d) h.buffered ∙ sym (drop-append-le (folded_bytes lanes (length x)) x d (omega (arith, low)))
 
   -- a piece that fits into the buffer
-  pub PartsStandFor-fits : (d kept' : List ℕ) (j : ℕ) → s.len + length d ≤ 16 * lanes → kept' ≡ put_mid (16 + s.len) j s.kept d →
-      PartsStandFor protected lanes (record s { kept = kept'; len = s.len + length d }) (x ++ d)
-  PartsStandFor-fits d kept' j room e =
+  pub PartsRepresent-fits : (d kept' : List ℕ) (j : ℕ) → s.len + length d ≤ 16 * lanes → kept' ≡ put_mid (16 + s.len) j s.kept d →
+      PartsRepresent protected lanes (record s { kept = kept'; len = s.len + length d }) (x ++ d)
+  PartsRepresent-fits d kept' j room e =
       let whole = length-buffered in
       let edge = low in
       let same : chunk_count lanes (length (x ++ d)) ≡ chunk_count lanes (length x) =
@@ -174,10 +174,10 @@ module _ {protected : Bool} {lanes : ℕ} {s : Parts} {x : List ℕ}
       omega (arith, low)
 
   -- its rows are in the lanes, and its tail is what is buffered
-  pub AfterRows-stands : s.any ≡ true → (all : ℕ) → all ≡ joined (take lanes s.folded.lanes) →
+  pub AfterRows-represents : s.any ≡ true → (all : ℕ) → all ≡ joined (take lanes s.folded.lanes) →
       AfterRows protected s.secrets.now.secrets x (shape_of (V3 lanes) (length x)) s.secrets.now.seed all (take s.len (drop 16 s.kept))
   unfolding shape_of
-  AfterRows-stands on all is =
+  AfterRows-represents on all is =
       let long = chunk-below on in
       let prefix : PrefixIsFolded protected s.secrets.now.secrets x lanes 1 (replicate 7 s.secrets.now.seed) s.folded.lanes (take s.len (drop 16 s.kept)) =
       record { rows = chunk_count lanes (length x); lanes = h.folded; rest_is = h.buffered; left = omega (arith, low) } in

@@ -1,4 +1,4 @@
--- Secrets made of a random word, seen from outside.
+-- Secrets derived from a random word, as callers see them.
 use Rattle.std.specs.Prelude.{ℕ, List}
 use Rattle.rapidhash_portable.specs.declared.seeding.GlobalSecrets.{GlobalSecrets}
 
@@ -6,6 +6,6 @@ use Rattle.rapidhash_portable.specs.declared.seeding.GlobalSecrets.{GlobalSecret
 abbrev pub seed_of : GlobalSecrets → ℕ
 seed_of secrets = secrets.seed
 
--- the seven made secrets
+-- the seven derived secrets
 abbrev pub secrets_of : GlobalSecrets → List ℕ
 secrets_of secrets = secrets.secrets

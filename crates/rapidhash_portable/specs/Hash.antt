@@ -1,4 +1,4 @@
--- The one definition of all portable hashes, and its short names.
+-- The definition of all portable hashes, and its short names.
 use Rattle.std.specs.Prelude.{ℕ, Bool, List, length, ◌-◌, slice_index, bit_xor, if◌then◌else◌}
 use Rattle.rapidhash_portable.specs.Multiply.{multiply, mix}
 use Rattle.rapidhash_portable.specs.Lanes.{row_bytes, row_pairs, pair_of, after_lanes}
@@ -20,7 +20,7 @@ close options words seed secret masks =
     then mix options.protected (bit_xor ab.0 masks.0) (bit_xor ab.1 masks.1)
     else bit_xor ab.0 ab.1
 
--- the value of `n` bytes, of which no more is known than their pairs and their last two words: of the rows each lane folds its own pairs, then the joined lanes fold the tail's pairs, then the last words close
+-- the value of `n` bytes, from their pairs and their last two words alone: each lane folds its own pairs of the rows, then the joined lanes fold the tail's pairs, then the close uses the last words
 unfoldable pub value : Form → Options → ℕ → List ℕ → ℕ → (ℕ → ℕ × ℕ) → ℕ × ℕ → ℕ
 value form options seed secrets n pair words =
     let shape = shape_of form n in
@@ -29,19 +29,19 @@ value form options seed secrets n pair words =
     let after_all = after_tail options.protected (picked secrets (tail_places form n)) pair (row_pairs shape) t (tail_seed form secrets t after_rows) in
     close options (mixed_words form n t words) after_all (slice_index secrets 1) (masks form secrets n t)
 
--- the one definition, of a message
+-- the definition, for a message
 abbrev pub portable_hash : Form → Options → ℕ → List ℕ → List ℕ → ℕ
 portable_hash form options seed secrets x = value form options seed secrets (length x) (pair_of x) (last_words form x)
 
--- the hash of a message by V2 or V3, with a caller's seed and secrets
+-- the hash of a message with V2 or V3, with a caller's seed and secrets
 abbrev pub seeded_hash : Form → Options → RapidSecrets → List ℕ → ℕ
 seeded_hash form options secrets x = portable_hash form options secrets.seed secrets.secrets x
 
--- the same by V1, with its historical fault or without it
+-- the same with V1, with its historical fault or without it
 abbrev pub seeded_hash_v1 : Bool → Options → RapidSecretsV1 → List ℕ → ℕ
 seeded_hash_v1 bug options secrets x = portable_hash (V1 bug) options secrets.seed secrets.secrets x
 
--- the hash of a message by any form, with the form's default seed and secrets
+-- the hash of a message with any form, with the form's default seed and secrets
 abbrev pub default_hash : Form → Options → List ℕ → ℕ
 default_hash (V1 bug) options x = portable_hash (V1 bug) options default_seed_v1 default_secrets_v1 x
 default_hash (V2 minor) options x = portable_hash (V2 minor) options default_seed default_secrets x

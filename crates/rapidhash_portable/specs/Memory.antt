@@ -9,21 +9,21 @@ use Rattle.rapidhash_portable.specs.Form.{alternating_bits}
 use Rattle.rapidhash_portable.specs.Words.{last_words}
 use Rattle.rapidhash_portable.specs.Hash.{close}
 
--- the longest message that the core takes with no row, and the longest that it takes by rows of three alone: the limits of the Rust crate's hasher
+-- the length of the longest message without a row in the core, and of the longest with rows of three alone: the limits of the Rust crate's hasher
 abbrev pub longest_rowless : ℕ
 longest_rowless = 48
 
 abbrev pub longest_narrow : ℕ
 longest_narrow = 400
 
--- how the core cuts a message of `n` bytes: above the second limit into rows of seven and then of three
+-- the rows and the tail of a message of `n` bytes in the core: above the second limit, rows of seven and then of three
 unfoldable pub memory_shape : ℕ → Shape
 memory_shape n =
     if nat_lt longest_narrow n then mixed_shape 7 n else
     if nat_lt longest_rowless n then wide_shape 3 0 n else
     no_rows 3
 
--- which secrets the pairs of the core's tail use
+-- the indices of the secrets for the pairs of the core's tail
 abbrev pub core_tail_places : List ℕ
 core_tail_places = 0 ∷ 0 ∷ []
 
@@ -34,7 +34,7 @@ after_pairs protected seed secrets x =
     after_tail protected (picked secrets core_tail_places) (pair_of x) (row_pairs shape) (length x - row_bytes shape)
     (after_lanes protected secrets (pair_of x) shape seed)
 
--- the value: the length is added to the seed, and the last words are those of V3 with no tail's length
+-- the value: the length is added to the seed, and the last words are those of V3, without the tail's length
 unfoldable pub memory_hash : Options → List ℕ → ℕ → List ℕ → ℕ
 memory_hash options x seed secrets =
     let sum = (after_pairs options.protected seed secrets x + length x) % 2 ^ 64 in

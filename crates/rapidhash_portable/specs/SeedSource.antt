@@ -1,4 +1,4 @@
--- A source of seeds, seen from outside.
+-- A source of seeds, as callers see it.
 use Rattle.std.specs.Prelude.{ℕ, ◌≡◌}
 use Rattle.rapidhash_portable.specs.declared.seeding.SeedSource.{SeedSource}
 use Rattle.rapidhash_portable.specs.Secrets.{source_answer, source_next}
@@ -10,7 +10,7 @@ counter_of source = source.counter
 abbrev pub random_of : SeedSource → ℕ
 random_of source = source.random
 
--- a seed is drawn from a source: the counter goes on, the random word stays, and the seed is what they make
+-- a seed is drawn from a source: the counter advances, the random word does not change, and the seed is derived from both
 pub record Draws (old new : SeedSource) (seed : ℕ) : Type 0 where
   pub counter : counter_of new ≡ source_next (counter_of old)
   pub random : random_of new ≡ random_of old

@@ -1,4 +1,4 @@
--- A source as its callers see it, and why a hash over a reader stopped.
+-- A source as callers see it, and the reasons why a hash over a reader stops.
 use Rattle.std.specs.Prelude.{◌≡◌, ℕ, Bool, true, false, Result, Ok, Err, IsErr, IsErrAnd}
 use Rattle.std.specs.IoError.{error_kind}
 use Rattle.std.specs.declared.io.Error.{Error}
@@ -24,7 +24,7 @@ abbrev pub is_failed : Stop → Bool
 is_failed (Failed read) = true
 is_failed Ended = false
 
--- what becomes of a hash's result and of the mark: a failed read turns the mark on, and an early end has its own kind
+-- a call's result and mark, from a hash's result: a failed read turns the mark on, and an early end has its own error kind
 abbrev pub Settles : Result ℕ Stop → Result ℕ Error → Bool → Bool → Type 0
 Settles (Ok hash) result old new = (result ≡ Ok hash) × (new ≡ old)
 Settles (Err (Failed read)) result old new = IsErr result × (new ≡ true)

@@ -7,16 +7,16 @@ use Rattle.rapidhash_portable.specs.declared.v3.stream.parts.Parts.{Parts}
 use Rattle.rapidhash_portable.specs.declared.v3.stream.RapidStreamHasherLanes.{RapidStreamHasherLanes}
 use Rattle.rapidhash_portable.specs.declared.v3.stream.c_stream.RapidStream.{RapidStream}
 
--- how many chunks, rows of a pair for each lane, are folded of `n` bytes, of which the last one is in no folded chunk
+-- the number of folded chunks in `n` bytes; a chunk is a row of a pair per lane, and the last byte is in no folded chunk
 abbrev pub chunk_count : ℕ → ℕ → ℕ
 chunk_count lanes n = rows_in lanes 1 n
 
--- the bytes of the folded chunks
+-- the number of bytes in the folded chunks
 abbrev pub folded_bytes : ℕ → ℕ → ℕ
 folded_bytes lanes n = 16 * (lanes * chunk_count lanes n)
 
--- the data are what the message `x` leaves: its chunks in the lanes, their count, whether there is one, the bytes after them, and if there is one the 16 bytes before these
-pub record PartsStandFor (protected : Bool) (lanes : ℕ) (parts : Parts) (x : List ℕ) : Type 0 where
+-- the data represent the message `x`: its chunks in the lanes, their count, whether there is a chunk, the bytes after the chunks, and the 16 bytes before these if there is a chunk
+pub record PartsRepresent (protected : Bool) (lanes : ℕ) (parts : Parts) (x : List ℕ) : Type 0 where
   pub folded :
       HaveFolded protected parts.secrets.now.secrets x lanes (replicate 7 parts.secrets.now.seed) parts.folded.lanes (chunk_count lanes (length x))
   pub steps : parts.folded.count.steps ≡ chunk_count lanes (length x)
@@ -24,11 +24,11 @@ pub record PartsStandFor (protected : Bool) (lanes : ℕ) (parts : Parts) (x : L
   pub buffered : take parts.len (drop 16 parts.kept) ≡ drop (folded_bytes lanes (length x)) x
   pub carried : 0 < chunk_count lanes (length x) → take 16 parts.kept ≡ take 16 (drop (folded_bytes lanes (length x) - 16) x)
 
--- the hasher's data are what the message leaves, where `protected` is the option of its type
-abbrev pub StreamStandsFor : {lanes avalanche protected' : ℕ} → Bool → RapidStreamHasherLanes lanes avalanche protected' → List ℕ → Type 0
-StreamStandsFor {lanes} protected hasher x = PartsStandFor protected lanes hasher.state.parts x
+-- the hasher represents the message `x`, with the option `protected` of its type
+abbrev pub StreamRepresents : {lanes avalanche protected' : ℕ} → Bool → RapidStreamHasherLanes lanes avalanche protected' → List ℕ → Type 0
+StreamRepresents {lanes} protected hasher x = PartsRepresent protected lanes hasher.state.parts x
 
--- how many chunks were folded since `new` or the last `reset`
+-- the number of chunks folded since `new` or the last `reset`
 abbrev pub steps_of : {lanes avalanche protected : ℕ} → RapidStreamHasherLanes lanes avalanche protected → ℕ
 steps_of hasher = hasher.state.parts.folded.count.steps
 
@@ -36,20 +36,20 @@ steps_of hasher = hasher.state.parts.folded.count.steps
 abbrev pub secrets_of : {lanes avalanche protected : ℕ} → RapidStreamHasherLanes lanes avalanche protected → RapidSecrets
 secrets_of hasher = hasher.state.parts.secrets.now
 
--- the number of lanes of a stream that has it as a field, and its seed and secrets
+-- the number of lanes of a stream that has it as a field, and the stream's seed and secrets
 abbrev pub lanes_of : RapidStream → ℕ
 lanes_of stream = stream.lanes
 
 abbrev pub secrets_by_lanes : RapidStream → RapidSecrets
 secrets_by_lanes stream = stream.parts.secrets.now
 
--- its data are what the message leaves
-abbrev pub StandsByLanes : RapidStream → List ℕ → Type 0
-StandsByLanes stream x = PartsStandFor false stream.lanes stream.parts x
+-- the stream represents the message `x`
+abbrev pub RepresentsByLanes : RapidStream → List ℕ → Type 0
+RepresentsByLanes stream x = PartsRepresent false stream.lanes stream.parts x
 
--- it has these lanes and secrets, no bytes yet, and has folded no chunk
+-- the stream represents the empty message, with these lanes and secrets, and has folded no chunk
 pub record StartsByLanes (stream : RapidStream) (lanes : ℕ) (secrets : RapidSecrets) : Type 0 where
-  pub empty : StandsByLanes stream []
+  pub empty : RepresentsByLanes stream []
   pub count : stream.parts.folded.count.steps ≡ 0
   pub lanes_are : lanes_of stream ≡ lanes
   pub secrets_are : secrets_by_lanes stream ≡ secrets

@@ -1,14 +1,14 @@
--- The two words that a message ends in.
+-- The last two words of a message.
 use Rattle.std.specs.Prelude.{ℕ, ◌+◌, ◌-◌, ◌*◌, ◌/◌, ◌^◌, List, length, slice_index, if◌then◌else◌, nat_lt, ◌==◌, bit_xor}
 use Rattle.rapidhash_portable.specs.Bytes.{word32, word64}
 use Rattle.rapidhash_portable.specs.declared.form.Form.{Form}
 use Rattle.rapidhash_portable.specs.declared.form.Form.TheVariants.{V1, V2, V3}
 
--- two words of 4 bytes in one of 8, the one at `top` above the one at `bottom`
+-- the 4-byte numbers at `top` and `bottom` in a word of 8 bytes, with that at `top` in the upper half
 abbrev pub combined : List ℕ → ℕ → ℕ → ℕ
 combined x top bottom = word32 x top * 2 ^ 32 + word32 x bottom
 
--- the first, the middle and the last of at most 3 bytes in one word
+-- the first, the middle and the last of at most 3 bytes in a word
 abbrev pub three_bytes : List ℕ → ℕ
 three_bytes x = slice_index x 0 * 2 ^ 56 + slice_index x (length x / 2) * 2 ^ 32 + slice_index x (length x - 1)
 
@@ -43,11 +43,11 @@ short_words form x =
 abbrev pub last_16 : List ℕ → ℕ × ℕ
 last_16 x = (word64 x (length x - 16), word64 x (length x - 8))
 
--- the two words that a message ends in
+-- the last two words of a message
 unfoldable pub last_words : Form → List ℕ → ℕ × ℕ
 last_words form x = if nat_lt 16 (length x) then last_16 x else short_words form x
 
--- what becomes of them: above 16 bytes V3 mixes the length of the tail into the first
+-- the last two words as the close uses them: above 16 bytes V3 mixes the length of the tail into the first
 unfoldable pub mixed_words : Form → ℕ → ℕ → ℕ × ℕ → ℕ × ℕ
 mixed_words (V1 bug) n t words = words
 mixed_words (V2 minor) n t words = words

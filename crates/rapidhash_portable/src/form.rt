@@ -3,26 +3,26 @@
 /// A portable hash.
 #[derive(Debug, Clone, Copy, PartialEq, Eq)]
 pub enum Form {
-    /// V1: with its historical fault at 48 bytes, or without it.
+    /// V1, with its historical fault at 48 bytes or without it.
     V1(bool),
-    /// V2, by its minor number: 0, 1 or 2.
+    /// V2, with its minor number: 0, 1 or 2.
     V2(u8),
-    /// V3 and its relatives, by the number of lanes: 7 is V3, 5 is micro, 3 is nano.
+    /// V3 and its relatives, with the number of lanes: 7 is V3, 5 is micro, 3 is nano.
     V3(usize),
 }
 
-/// How a message is cut: rows of a pair for each lane, then rows of three pairs, then a tail.
+/// The parts of a message: rows of a pair for each lane, then rows of three pairs, then a tail.
 #[derive(Debug, Clone, Copy, PartialEq, Eq)]
 pub struct Shape {
-    /// How many lanes there are.
+    /// The number of lanes.
     pub lanes: usize,
-    /// How many rows have a pair for each lane.
+    /// The number of rows of a pair for each lane.
     pub rows: usize,
-    /// How many rows of three pairs follow.
+    /// The number of rows of three pairs after them.
     pub threes: usize,
 }
 
-/// What a caller may choose besides the form, the seed and the secrets.
+/// The choices of a caller besides the form, the seed and the secrets.
 #[derive(Debug, Clone, Copy, PartialEq, Eq)]
 pub struct Options {
     /// Whether the two halves of the last product are mixed once more.

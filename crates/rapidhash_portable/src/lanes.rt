@@ -115,7 +115,7 @@ pub(crate) fn fold_rows<
     rest
 }
 
-/// The XOR of the first `WIDTH` lanes.
+/// Returns the XOR of the first `WIDTH` lanes.
 #[inline(always)]
 #[tactic(auto, unfolding(crate::specs::Lanes::joined))]
 pub(crate) fn join<const LANES: usize, const WIDTH: usize>(lanes: &[u64; LANES]) -> u64
@@ -129,7 +129,7 @@ pub(crate) fn join<const LANES: usize, const WIDTH: usize>(lanes: &[u64; LANES])
     all
 }
 
-/// The seed after all rows of `LANES` pairs, and the bytes that are left.
+/// Returns the seed after all rows of `LANES` pairs, and the remaining bytes.
 #[inline(always)]
 pub(crate) fn wide_lanes<
     'x,
@@ -150,8 +150,8 @@ pub(crate) fn wide_lanes<
     join_wide::<LANES, LEAST, COMPACT, PROTECTED>(&mut lanes, bytes, secrets)
 }
 
-/// The seed after all rows of seven pairs and then of three, which the first three lanes fold, and
-/// the bytes that are left.
+/// Returns the seed after all rows of seven pairs and then of three, which the first three lanes
+/// fold, and the remaining bytes.
 #[inline(always)]
 pub(crate) fn mixed_lanes<'x, const COMPACT: bool, const PROTECTED: bool>(
     bytes: &'x [u8],
@@ -165,7 +165,7 @@ pub(crate) fn mixed_lanes<'x, const COMPACT: bool, const PROTECTED: bool>(
     join_mixed::<COMPACT, PROTECTED>(&mut lanes, bytes, secrets)
 }
 
-/// As [`wide_lanes`], where the lanes have folded a prefix already, and `bytes` are what follows
+/// Returns the same as [`wide_lanes`], if the lanes have already folded a prefix and `bytes` follow
 /// it.
 #[inline(always)]
 pub(crate) fn join_wide<
@@ -189,8 +189,8 @@ pub(crate) fn join_wide<
     (join::<LANES, LANES>(lanes), rest)
 }
 
-/// As [`mixed_lanes`], where the lanes have folded a prefix already, and `bytes` are what follows
-/// it.
+/// Returns the same as [`mixed_lanes`], if the lanes have already folded a prefix and `bytes`
+/// follow it.
 #[inline(always)]
 pub(crate) fn join_mixed<'x, const COMPACT: bool, const PROTECTED: bool>(
     lanes: &mut [u64; 7],

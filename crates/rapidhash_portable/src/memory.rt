@@ -20,7 +20,7 @@ const LONGEST_ROWLESS: usize = 48;
 /// The longest message that is hashed by rows of three pairs alone.
 const LONGEST_NARROW: usize = 400;
 
-/// The value of `bytes` with a seed and secrets as they are. `AVALANCHE` mixes the last product
+/// Returns the value of `bytes` with the given seed and secrets. `AVALANCHE` mixes the last product
 /// once more, `PROTECTED` mixes each product with its factors, and `COMPACT` changes the code but
 /// no value.
 #[inline(always)]
@@ -38,9 +38,9 @@ pub fn memory_hash<const AVALANCHE: bool, const COMPACT: bool, const PROTECTED: 
     close_sum::<AVALANCHE, PROTECTED>(bytes, short_words_v3(bytes), seed, secrets)
 }
 
-/// The value above 16 bytes. It is out of line and cold, so that the code for short messages, which
-/// is inlined into each caller, has no jump over it and saves no registers for it. The rows are out
-/// of line again, so that a message without a row sets up no lanes.
+/// Returns the value above 16 bytes. It is out of line and cold, so that the code for short
+/// messages, which is inlined into each caller, has no jump over it and saves no registers for it.
+/// The rows are out of line again, so that a message without a row sets up no lanes.
 #[cold]
 #[inline(never)]
 #[tactic(auto, using(crate::proofs::Cases::no_rows), unfolding(crate::specs::Memory::memory_shape))]
@@ -58,8 +58,8 @@ fn long<const AVALANCHE: bool, const COMPACT: bool, const PROTECTED: bool>(
     close_tail::<AVALANCHE, PROTECTED>(bytes, bytes, seed, secrets)
 }
 
-/// The value of a message with a row. Rows of three pairs alone are at most eight, too few to take
-/// two at a time.
+/// Returns the value of a message with a row. Rows of three pairs alone are at most eight, too few
+/// to take two at a time.
 #[inline(never)]
 #[tactic(auto, using(crate::proofs::Cases::tests), unfolding(crate::specs::Memory::memory_shape))]
 fn with_rows<const AVALANCHE: bool, const COMPACT: bool, const PROTECTED: bool>(
@@ -77,7 +77,7 @@ fn with_rows<const AVALANCHE: bool, const COMPACT: bool, const PROTECTED: bool>(
     close_tail::<AVALANCHE, PROTECTED>(tail, bytes, joined, secrets)
 }
 
-/// The value of a longer message, by rows of seven pairs and then of three.
+/// Returns the value of a longer message, with rows of seven pairs and then of three.
 #[inline(never)]
 #[tactic(auto, using(crate::proofs::Cases::tests), unfolding(crate::specs::Memory::memory_shape))]
 fn with_wide_rows<const AVALANCHE: bool, const COMPACT: bool, const PROTECTED: bool>(
@@ -92,7 +92,7 @@ fn with_wide_rows<const AVALANCHE: bool, const COMPACT: bool, const PROTECTED: b
     close_tail::<AVALANCHE, PROTECTED>(tail, bytes, joined, secrets)
 }
 
-/// The value above 16 bytes, made of the joined lanes and the tail.
+/// Returns the value above 16 bytes, from the joined lanes and the tail.
 #[inline(always)]
 #[tactic(auto, using(crate::proofs::Cases::in_core))]
 fn close_tail<const AVALANCHE: bool, const PROTECTED: bool>(
@@ -110,7 +110,7 @@ fn close_tail<const AVALANCHE: bool, const PROTECTED: bool>(
     close_sum::<AVALANCHE, PROTECTED>(bytes, last_16(bytes), seed, secrets)
 }
 
-/// The value, made of the last words and the seed after all pairs.
+/// Returns the value, from the last words and the seed after all pairs.
 #[inline(always)]
 #[tactic(auto, using(crate::proofs::Cases::in_core), unfolding(crate::specs::Memory::memory_hash))]
 fn close_sum<const AVALANCHE: bool, const PROTECTED: bool>(

@@ -103,8 +103,8 @@ impl<R: Read> Source<R> {
         &mut self.reader
     }
 
-    /// The result of a hash that read from the reader itself. The mark is turned on if a read
-    /// failed.
+    /// Returns the result of a hash that read from the reader itself. It turns the mark on if a
+    /// read failed.
     pub(crate) fn settle(&mut self, answer: Result<u64, Stop>) -> io::Result<u64>
         ensures reader { reader_of self.new ≡ reader_of self.old }
         ensures answer { Settles answer result (is_marked self.old) (is_marked self.new) }
@@ -133,7 +133,7 @@ pub(crate) enum Stop {
 }
 
 impl Stop {
-    /// The reader's own error, or `ErrorKind::UnexpectedEof`.
+    /// Returns the reader's own error, or `ErrorKind::UnexpectedEof`.
     pub(crate) fn into_error(self) -> io::Error {
         match self {
             Stop::Failed(failed) => failed.error,
@@ -142,7 +142,7 @@ impl Stop {
     }
 }
 
-/// One read of `reader`.
+/// Reads once from `reader`.
 #[inline(always)]
 pub(crate) fn read_once<R: Read>(reader: &mut R, buf: &mut [u8]) -> Result<usize, FailedRead>
     ensures bound { ReadsAtMost result buf.new }

@@ -13,9 +13,9 @@ use crate::util::rapid_mix;
 #[repr(C)]
 #[derive(Debug, Clone, Copy, PartialEq, Eq, Hash)]
 pub struct RapidSecrets {
-    /// What every lane starts from.
+    /// The start value of every lane.
     pub seed: u64,
-    /// What the words of a message are mixed with, each lane with its own.
+    /// The words that a message's words are mixed with: each lane has its own.
     pub secrets: [u64; 7],
 }
 
@@ -123,10 +123,10 @@ pub(crate) const DEFAULT_SECRETS: [u64; 7] = [
     0x90ed_1765_281c_388c,
 ];
 
-/// What the global seed is mixed with.
+/// The number that the global seed is mixed with.
 const GLOBAL_MASK: u64 = 0xbdd8_9aa9_8270_4029;
 
-/// The word, with `bit` set if it has no bit of `mask`.
+/// Returns the word, with `bit` set if it has no bit of `mask`.
 #[tactic(auto, using(crate::proofs::Cases::tests), unfolding(crate::specs::Secrets::with_bit))]
 const fn with_bit(word: u64, mask: u64, bit: u64) -> u64
     ensures { result ≡ with_bit word mask bit }
@@ -134,7 +134,7 @@ const fn with_bit(word: u64, mask: u64, bit: u64) -> u64
     if word & mask == 0 { word | bit } else { word }
 }
 
-/// The word, with a bit set in each of its upper, its middle and its lower part that has none.
+/// Returns the word, with a bit set in each of its upper, middle and lower part that has none.
 #[tactic(auto, unfolding(crate::specs::Secrets::repaired))]
 pub(crate) const fn repair(word: u64) -> u64
     ensures value { result ≡ repaired word }
@@ -145,7 +145,7 @@ pub(crate) const fn repair(word: u64) -> u64
     with_bit(middle, 0xffff, 1)
 }
 
-/// The word mixed with the default secret at `place`, and repaired.
+/// Returns the word mixed with the default secret at `place`, and repaired.
 #[tactic(auto, unfolding(crate::specs::Secrets::premixed))]
 const fn premix(word: u64, place: usize) -> u64
     requires { place < 7 }
@@ -156,7 +156,7 @@ const fn premix(word: u64, place: usize) -> u64
     repair(word ^ mixed)
 }
 
-/// The seed that `RapidSecrets::seed` makes.
+/// Returns the seed that `RapidSecrets::seed` derives.
 #[tactic(auto, unfolding(crate::specs::Secrets::seeded))]
 pub(crate) const fn seed_of(number: u64) -> u64
     ensures value { result ≡ seeded number }
@@ -165,7 +165,7 @@ pub(crate) const fn seed_of(number: u64) -> u64
     premix(number, 0)
 }
 
-/// `COUNT` secrets, the first made of the seed and each other of the one before.
+/// Returns `COUNT` secrets: the first is derived from the seed, each other from the previous one.
 #[tactic(auto, using(crate::proofs::Cases::filled), unfolding(crate::specs::Secrets::chained))]
 pub(crate) const fn chain<const COUNT: usize>(seed: u64) -> [u64; COUNT]
     requires { COUNT ≤ 7 }
@@ -183,7 +183,8 @@ pub(crate) const fn chain<const COUNT: usize>(seed: u64) -> [u64; COUNT]
     secrets
 }
 
-/// The seed that `RapidSecrets::seed_cpp` makes: V1 mixes with default secret 0, the others with 2.
+/// Returns the seed that `RapidSecrets::seed_cpp` derives: V1 mixes with default secret 0, the
+/// others with 2.
 #[tactic(auto, unfolding(crate::specs::Secrets::cpp_seeded))]
 pub(crate) const fn cpp_seed_of(number: u64, place: usize) -> u64
     requires { place < 7 }
@@ -192,7 +193,8 @@ pub(crate) const fn cpp_seed_of(number: u64, place: usize) -> u64
     number ^ rapid_mix::<false>(number ^ DEFAULT_SECRETS[place], DEFAULT_SECRETS[1])
 }
 
-/// The seed that `RapidSecrets::reseed` makes, with the last default secret of the version.
+/// Returns the seed that `RapidSecrets::reseed` derives, with the last default secret of the
+/// version.
 #[tactic(auto, unfolding(crate::specs::Secrets::reseeded))]
 pub(crate) const fn reseed_of(seed: u64, place: usize) -> u64
     requires { place < 7 }
@@ -202,7 +204,7 @@ pub(crate) const fn reseed_of(seed: u64, place: usize) -> u64
     premix(seed, place)
 }
 
-/// The global seed of a random word.
+/// Returns the global seed of a random word.
 #[tactic(auto, unfolding(crate::specs::Secrets::global_seed))]
 pub(crate) fn global_seed_of(random: u64) -> u64
     ensures { result ≡ global_seed random }
@@ -210,7 +212,7 @@ pub(crate) fn global_seed_of(random: u64) -> u64
     rapid_mix::<false>(random ^ DEFAULT_SECRETS[0], GLOBAL_MASK)
 }
 
-/// The seven secrets that a random word makes, each of the one before.
+/// Returns the seven secrets of a random word, each derived from the previous one.
 #[tactic(auto, using(crate::proofs::Cases::filled), unfolding(crate::specs::Secrets::made_state))]
 pub(crate) fn made_secrets(random: u64) -> [u64; 7]
     ensures value { result ≡ made_secrets random }

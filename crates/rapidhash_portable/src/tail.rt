@@ -1,5 +1,5 @@
-//! What every hash does after its rows: the pairs of the tail are folded into the seed, and the
-//! close makes the hash of the seed and the last two words.
+//! The end of every hash, after its rows: the pairs of the tail are folded into the seed, and the
+//! close computes the hash from the seed and the last two words.
 
 ghost use Rattle.std.specs.Prelude.{◌≡◌, ◌≤◌, length};
 ghost use Rattle.rapidhash_portable.specs.Hash.{close};
@@ -9,8 +9,8 @@ ghost use Rattle.rapidhash_portable.specs.Tail.{after_tail};
 
 use crate::util::{rapid_mix, rapid_mum, read_u64};
 
-/// The seed after the pairs of a tail: pair j is mixed with secret j of the table, and the last 1
-/// to 16 bytes form no pair.
+/// Returns the seed after the pairs of a tail: pair j is mixed with secret j of the table, and the
+/// last 1 to 16 bytes form no pair.
 #[inline(always)]
 #[tactic(auto, using(crate::proofs::Cases::tail))]
 pub(crate) fn fold_tail<const COUNT: usize, const PROTECTED: bool>(
@@ -36,7 +36,7 @@ pub(crate) fn fold_tail<const COUNT: usize, const PROTECTED: bool>(
     seed
 }
 
-/// The value of the last two words and the seed.
+/// Returns the value of the last two words and the seed.
 #[inline(always)]
 #[tactic(auto, unfolding(crate::specs::Hash::close))]
 pub(crate) fn close<const AVALANCHE: bool, const PROTECTED: bool>(

@@ -6,7 +6,7 @@ ghost use Rattle.rapidhash_portable.specs.Words.{last_16, short_words, three_byt
 
 use crate::util::{read_u32, read_u32_combined, read_u64};
 
-/// The last 16 bytes as two words.
+/// Returns the last 16 bytes as two words.
 #[inline(always)]
 pub(crate) fn last_16(bytes: &[u8]) -> (u64, u64)
     requires { 16 ≤ length bytes.now }
@@ -16,7 +16,7 @@ pub(crate) fn last_16(bytes: &[u8]) -> (u64, u64)
     (read_u64(bytes, n - 16), read_u64(bytes, n - 8))
 }
 
-/// The first, the middle and the last of 1 to 3 bytes in one word.
+/// Returns the first, the middle and the last of 1 to 3 bytes in one word.
 #[inline(always)]
 #[tactic(auto, using(crate::proofs::WordsLemmas::packed_three))]
 fn three_bytes(bytes: &[u8]) -> u64
@@ -27,7 +27,7 @@ fn three_bytes(bytes: &[u8]) -> u64
     ((bytes[0] as u64) << 56) | ((bytes[n / 2] as u64) << 32) | bytes[n - 1] as u64
 }
 
-/// The two words of V1, of at most 16 bytes.
+/// Returns the two words of at most 16 bytes in V1.
 #[inline(always)]
 #[tactic(auto, using(crate::proofs::Cases::tests), unfolding(crate::specs::Words::short_words))]
 pub(crate) fn short_words_v1(bytes: &[u8]) -> (u64, u64)
@@ -50,7 +50,7 @@ pub(crate) fn short_words_v1(bytes: &[u8]) -> (u64, u64)
     }
 }
 
-/// The two words of V2, of at most 16 bytes.
+/// Returns the two words of at most 16 bytes in V2.
 #[inline(always)]
 #[tactic(auto, using(crate::proofs::Cases::tests), unfolding(crate::specs::Words::short_words))]
 pub(crate) fn short_words_v2<const MINOR: u8>(bytes: &[u8]) -> (u64, u64)
@@ -70,7 +70,7 @@ pub(crate) fn short_words_v2<const MINOR: u8>(bytes: &[u8]) -> (u64, u64)
     }
 }
 
-/// The two words of V3, micro, nano and the in-memory core, of at most 16 bytes.
+/// Returns the two words of at most 16 bytes in V3, micro, nano and the in-memory core.
 #[inline(always)]
 #[tactic(auto, using(crate::proofs::Cases::tests), unfolding(crate::specs::Words::short_words))]
 pub(crate) fn short_words_v3(bytes: &[u8]) -> (u64, u64)
@@ -88,7 +88,7 @@ pub(crate) fn short_words_v3(bytes: &[u8]) -> (u64, u64)
     }
 }
 
-/// The two words of V2, V3, micro, nano and the in-memory core, of 4 to 16 bytes.
+/// Returns the two words of 4 to 16 bytes in V2, V3, micro, nano and the in-memory core.
 #[inline(always)]
 #[tactic(auto, using(crate::proofs::Cases::tests), unfolding(crate::specs::Words::short_words))]
 fn words_from_4(bytes: &[u8]) -> (u64, u64)

@@ -1,4 +1,4 @@
--- What the arguments of a call ask for.
+-- The plan that the arguments of a call request.
 use Rattle.std.specs.Prelude.{ℕ, ◌+◌, ◌<◌, Bool, true, false, not, ◌||◌, bytes_eq, codes, cond, nat_eq, List, [], ◌∷◌, drop, position, filter, Option, None, Some, option_map}
 use Rattle.std.specs.List.{list_any}
 use Rattle.rapidhash_tool.specs.declared.version.Minor.TheVariants.{M0, M1, M2}
@@ -30,41 +30,41 @@ word_of (V3Nano protected) = codes "--v3-nano"
 abbrev pub versions : Bool → List RapidhashVersion
 versions protected = V1 protected ∷ V2 protected M0 ∷ V2 protected M1 ∷ V2 protected M2 ∷ V3 protected ∷ V3Micro protected ∷ V3Nano protected ∷ []
 
--- those of the versions whose argument is among the arguments
+-- the versions whose argument is among the arguments
 abbrev pub named : List (List ℕ) → List RapidhashVersion → List RapidhashVersion
 named words = filter (λ version. occurs (word_of version) words)
 
--- the one of the versions, another where there is none, and none where there are several
+-- the only version of a list, `other` for an empty list, and none for several
 abbrev pub the_only : RapidhashVersion → List RapidhashVersion → Option RapidhashVersion
 the_only other [] = Some other
 the_only other (version ∷ []) = Some version
 the_only other (version ∷ second ∷ others) = None
 
--- the version that the arguments after the program's name choose, or none if they name two different ones
+-- the version that the arguments after the program's name select, or none if they name two
 abbrev pub version_of : List (List ℕ) → Option RapidhashVersion
 version_of words =
     let protected = occurs (codes "--protected") words in
     the_only (V3 protected) (named words (versions protected))
 
--- whether there are no arguments, or one of them, the program's name included, asks for help
+-- whether there are no arguments, or one of them, including the program's name, requests help
 abbrev pub wants_help : List (List ℕ) → Bool
 wants_help [] = true
 wants_help (name ∷ others) = occurs (codes "--help") (name ∷ others) || occurs (codes "-h") (name ∷ others)
 
--- the least place from 1 on whose argument does not begin with a hyphen
+-- the index, from 1 on, of the first argument that does not begin with a hyphen
 abbrev pub file_of : List (List ℕ) → Option ℕ
 file_of words = option_map (λ place. place + 1) (position (λ w. not (is_option w)) (drop 1 words))
 
--- the plan of a version and a file, where no help is wanted
+-- the plan from a version and a file, if no help is requested
 abbrev pub run_of : Option RapidhashVersion → Option ℕ → Plan
 run_of None file = Refused
 run_of (Some version) file = Run version file
 
--- the plan of all arguments, the program's name first
+-- the plan from all arguments, with the program's name first
 abbrev pub plan_of : List (List ℕ) → Plan
 plan_of words = cond (wants_help words) Help (run_of (version_of (drop 1 words)) (file_of words))
 
--- the file that a plan names, if any, is at a place below `count`
+-- the file that a plan names, if any, has an index below `count`
 abbrev pub NamesFileBelow : ℕ → Plan → Type 0
 NamesFileBelow count Help = Unit {0}
 NamesFileBelow count Refused = Unit {0}

@@ -1,9 +1,9 @@
--- The errors: their numbers, their texts, and which of them a call may return.
+-- The errors: their numbers, their texts, and the errors that each call may return.
 use Rattle.std.specs.Prelude.{ℕ, ◌<◌, codes, List}
 use Rattle.rapidhash_tool.specs.declared.faults.CliFault.{CliFault}
 use Rattle.rapidhash_tool.specs.declared.faults.CliFault.TheVariants.{File, Memory, Open, Stdin, Versions, Write}
 use Rattle.rapidhash_tool.specs.declared.version.RapidhashVersion.{RapidhashVersion}
-use Rattle.rapidhash_tool.specs.declared.version.RapidhashVersion.TheVariants.{V1, V2, V3, V3Micro, V3Nano}
+use Rattle.rapidhash_tool.specs.Hashes.{NeedsLength}
 
 -- each error's number
 abbrev pub number_of : CliFault → ℕ
@@ -23,15 +23,7 @@ text_of Memory = codes "Out of memory."
 text_of File = codes "Failed to hash file."
 text_of Write = codes "Could not write to stdout."
 
--- the versions that hash no byte before they know how many there are
-abbrev pub NeedsLength : RapidhashVersion → Type 0
-NeedsLength (V1 protected) = Unit {0}
-NeedsLength (V2 protected minor) = Unit {0}
-NeedsLength (V3 protected) = ⊥
-NeedsLength (V3Micro protected) = ⊥
-NeedsLength (V3Nano protected) = ⊥
-
--- hashing standard input stops where a read failed or the reads had no end, or where memory was refused to a version that keeps the input whole
+-- hashing standard input stops if a read fails or the reads have no end, or if an allocation fails for a version that keeps the whole input
 abbrev pub MayStopStdin : RapidhashVersion → CliFault → Type 0
 MayStopStdin version Stdin = Unit {0}
 MayStopStdin version Memory = NeedsLength version
@@ -40,7 +32,7 @@ MayStopStdin version Open = ⊥
 MayStopStdin version File = ⊥
 MayStopStdin version Write = ⊥
 
--- hashing a file of `len` bytes stops where a read failed, where the reads had no end, or where the file is shorter; never where no byte is to be read
+-- hashing a file of `len` bytes stops if a read fails, the reads have no end, or the file is shorter; never if it must read no byte
 abbrev pub MayStopFile : RapidhashVersion → ℕ → CliFault → Type 0
 MayStopFile version len File = NeedsLength version → 0 < len
 MayStopFile version len Versions = ⊥
@@ -49,12 +41,12 @@ MayStopFile version len Stdin = ⊥
 MayStopFile version len Memory = ⊥
 MayStopFile version len Write = ⊥
 
--- printing the hash of standard input stops for the same reasons, or where a write failed
+-- printing the hash of standard input stops for the same reasons, or if a write fails
 abbrev pub MayStopStdinRun : RapidhashVersion → CliFault → Type 0
 MayStopStdinRun version Write = Unit {0}
 MayStopStdinRun version fault = MayStopStdin version fault
 
--- and so does printing the hash of a file
+-- the same for printing the hash of a file
 abbrev pub MayStopFileRun : RapidhashVersion → ℕ → CliFault → Type 0
 MayStopFileRun version len Write = Unit {0}
 MayStopFileRun version len fault = MayStopFile version len fault

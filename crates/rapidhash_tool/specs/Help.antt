@@ -1,7 +1,7 @@
 -- The help text.
 use Rattle.std.specs.Prelude.{ℕ, List, [], ◌∷◌, ◌++◌, codes}
 
--- each line, with a newline behind it
+-- each line, with a newline after it
 unfoldable pub lines_of : List (List ℕ) → List ℕ
 lines_of [] = []
 lines_of (line ∷ others) = line ++ 10 ∷ lines_of others

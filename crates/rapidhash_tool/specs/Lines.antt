@@ -1,4 +1,4 @@
--- What the tool writes.
+-- The output of the tool.
 use Rattle.std.specs.Prelude.{ℕ, ◌≡◌, ◌<◌, List, [], ◌∷◌, ◌++◌, length, take, decimal, Option, IfSome, Result, MatchResult}
 use Rattle.std.specs.Io.KnownBytes.{Appends, Keeps}
 use Rattle.rapidhash_tool.specs.declared.faults.CliFault.{CliFault}
@@ -18,25 +18,25 @@ input_line version bytes = line_of (hash_of version bytes)
 abbrev pub file_line : RapidhashVersion → ℕ → List ℕ → List ℕ
 file_line version len bytes = line_of (hash_of version (read_of version len bytes))
 
--- a beginning of the line was written, short of the whole
+-- a part of the line was written: its beginning, but not the whole line
 abbrev pub StopsShort : Option (List ℕ) → Option (List ℕ) → List ℕ → Type 0
 StopsShort old new line = (k : ℕ) × (k < length line) × Appends old new (take k line)
 
--- what a fault leaves written: a beginning of the line where a write failed, and else nothing
+-- the output after an error: the beginning of the line if a write failed, otherwise nothing
 abbrev pub LeftBy : CliFault → Option (List ℕ) → Option (List ℕ) → List ℕ → Type 0
 LeftBy Write old new line = StopsShort old new line
 LeftBy fault old new line = Keeps old new
 
--- a fault that is no failed write leaves nothing written, whatever is known of the bytes read
+-- after an error other than a failed write nothing was written, even if the bytes read are not known
 abbrev pub KeepsUnlessWrite : CliFault → Option (List ℕ) → Option (List ℕ) → Type 0
 KeepsUnlessWrite Write old new = Unit {0}
 KeepsUnlessWrite fault old new = Keeps old new
 
--- what a run that ended with an error has written, where `line` is the line of an input
+-- the output of a run that ended with an error, if `line` is the line of an input
 pub record LeftByRun (fault : CliFault) (old new input : Option (List ℕ)) (line : List ℕ → List ℕ) : Type 0 where
   pub of_line : IfSome input (λ bytes. LeftBy fault old new (line bytes))
   pub of_nothing : KeepsUnlessWrite fault old new
 
--- a call writes the whole text, or stops at a failing write and has written a beginning of it
+-- a call writes the whole text, or stops at a failed write and has written the beginning of the text
 abbrev pub WritesWhole : {A : Type 0} → Option (List ℕ) → Option (List ℕ) → Result A CliFault → List ℕ → Type 0
 WritesWhole old new result text = MatchResult result (λ done. Appends old new text) (λ fault. (fault ≡ Write) × StopsShort old new text)

@@ -5,7 +5,7 @@ ghost use Rattle.rapidhash_tool.specs.CommandLine.{NamesFileBelow, is_option, oc
 
 use crate::version::{Plan, RapidhashVersion};
 
-/// What the arguments ask for, of which the first is the program's name.
+/// Returns the plan that the arguments request. The first of them is the program's name.
 ///
 /// It is the help if there are no arguments or one of them is `--help` or `-h`. Otherwise those
 /// after the name select the version, and the first of them that does not begin with a hyphen names

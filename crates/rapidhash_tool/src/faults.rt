@@ -22,7 +22,7 @@ pub enum CliFault {
 }
 
 impl CliFault {
-    /// The error's number. It never changes, and no other error will have it.
+    /// Returns the error's number. It never changes, and no other error will have it.
     pub fn number(&self) -> u8
         ensures { result ≡ number_of self.now }
     {
@@ -36,7 +36,7 @@ impl CliFault {
         }
     }
 
-    /// The line for standard error, without its newline.
+    /// Returns the line for standard error, without its newline.
     pub fn text(&self) -> &'static str
         ensures { result.now ≡ text_of self.now }
     {

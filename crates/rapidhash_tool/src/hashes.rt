@@ -25,7 +25,7 @@ use std::io::Read;
 const PIECE: usize = 65536;
 
 impl RapidhashVersion {
-    /// The hash of all that a reader has left, with the version's default seed and secrets.
+    /// Returns the hash of a reader's remaining bytes, with the version's default seed and secrets.
     ///
     /// V1 and V2 keep all bytes in memory, the others none. An interrupted read is
     /// [`CliFault::Stdin`]. So is a reader that has no end: the call gives up after 2^64 - 1 reads
@@ -56,8 +56,8 @@ impl RapidhashVersion {
         streamed.map_err(|_| CliFault::Stdin)
     }
 
-    /// The hash of a file's bytes, with the version's default seed and secrets. It allocates
-    /// nothing.
+    /// Returns the hash of a file's bytes, with the version's default seed and secrets. It
+    /// allocates nothing.
     ///
     /// V1 and V2 hash the first `len` bytes, and read no further. The others hash all bytes and
     /// ignore `len`.

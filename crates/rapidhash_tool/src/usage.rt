@@ -3,7 +3,7 @@
 ghost use Rattle.std.specs.Prelude.{◌≡◌};
 ghost use Rattle.rapidhash_tool.specs.Help.{help_text};
 
-/// What `--help` prints.
+/// Returns the text of `--help`.
 #[tactic(auto, unfolding(crate::specs::Help::help_text, crate::specs::Help::lines_of))]
 pub fn help() -> &'static str
     ensures { result.now ≡ help_text }

@@ -2,7 +2,7 @@
 
 ghost use Rattle.std.specs.Prelude.{◌≡◌, ◌↔◌, map, string_bytes, IsTrue};
 ghost use Rattle.rapidhash_tool.specs.CommandLine.{version_of, versions, word_of};
-ghost use Rattle.rapidhash_tool.specs.Faults.{NeedsLength};
+ghost use Rattle.rapidhash_tool.specs.Hashes.{NeedsLength};
 
 use crate::command_line::has;
 
@@ -67,9 +67,9 @@ pub enum Plan {
 }
 
 impl RapidhashVersion {
-    /// The version that the arguments after the program's name select: V3 if they name none, and
-    /// `None` if they name two. A version named twice counts once, `--protected` may be at any
-    /// place, and all other arguments are ignored, also `--help`.
+    /// Returns the version that the arguments after the program's name select: V3 if they name
+    /// none, and `None` if they name two. A version named twice counts once, `--protected` may be
+    /// at any place, and all other arguments are ignored, also `--help`.
     pub fn new(args: &[String]) -> Option<Self>
         ensures { result ≡ version_of (map string_bytes args.now) }
     {
@@ -86,8 +86,8 @@ impl RapidhashVersion {
         Some(chosen.unwrap_or(RapidhashVersion::V3 { protected }))
     }
 
-    /// Whether the version needs the number of bytes before it hashes the first: V1 and V2 read
-    /// standard input to its end, and use a file's length.
+    /// Returns whether the version needs the number of bytes before it hashes the first: V1 and V2
+    /// read standard input to its end, and use a file's length.
     pub fn needs_length(&self) -> bool
         ensures { IsTrue result ↔ NeedsLength self.now }
     {

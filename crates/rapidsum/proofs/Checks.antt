@@ -28,7 +28,7 @@ right-next ignore given told entries verdicts after entry verdict i below is pus
     ap (λ (k : ℕ). take k entries) next ∙ take-suc entries i entry below ∙ ap (λ e. take i entries ++ e ∷ []) (sym is) in
     rw (taken, pushed) more
 
--- a test that stands last
+-- a last test
 last : (b c : Bool) → (b && c) ≡ (b && (c && true))
 last true true = refl
 last true false = refl

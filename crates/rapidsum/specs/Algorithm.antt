@@ -1,4 +1,4 @@
--- The hash that a version and a seed word choose.
+-- The hash that a version and a seed word select.
 use Rattle.std.specs.Prelude.{ℕ, false, List, Option, None, Some}
 use Rattle.rapidhash_portable.specs.declared.form.Form.{Form}
 use Rattle.rapidhash_portable.specs.declared.form.Form.TheVariants as form
@@ -19,7 +19,7 @@ form_of V3 = form.V3 7
 form_of V3Micro = form.V3 5
 form_of V3Nano = form.V3 3
 
--- V1's seed: the default one, or that made of a word
+-- V1's seed: the default, or the seed derived from a word
 abbrev pub seed_by_v1 : Option ℕ → ℕ
 seed_by_v1 None = default_seed_v1
 seed_by_v1 (Some word) = cpp_seeded word 0
@@ -29,7 +29,7 @@ abbrev pub seed_by : Option ℕ → ℕ
 seed_by None = default_seed
 seed_by (Some word) = cpp_seeded word 2
 
--- the hash with the default secrets and such a seed
+-- the hash with the default secrets and this seed
 abbrev pub hash_by : Option ℕ → Form → List ℕ → ℕ
 hash_by word (form.V1 bug) x = portable_hash (form.V1 bug) standard (seed_by_v1 word) default_secrets_v1 x
 hash_by word (form.V2 minor) x = portable_hash (form.V2 minor) standard (seed_by word) default_secrets x

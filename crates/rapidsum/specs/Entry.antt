@@ -1,4 +1,4 @@
--- What a line reads as.
+-- The entry that a line represents.
 use denote.Ref.{Bor}
 use Rattle.std.specs.Prelude.{ℕ, ◌≡◌, ◌<◌, ◌^◌, ◌++◌, codes, slice_index, List, Option, IfSome, IsSomeAnd}
 use Rattle.rapidsum.specs.Line.{carried}
@@ -15,11 +15,11 @@ use Rattle.rapidsum.specs.declared.entry.Line.TheVariants.{Comment, Entry, Malfo
 abbrev pub Fits : Algorithm → ℕ → Type 0
 Fits algorithm hash = (hash < 2 ^ 64) × IfSome algorithm.seed (λ word. word < 2 ^ 64)
 
--- the version and the rest that were read
+-- the version that was read, and the rest of the text
 abbrev pub HasRead : Option (Version × Bor (List ℕ)) → Version → List ℕ → Type 0
 HasRead result version rest = IsSomeAnd result (λ parts. (parts.0 ≡ version) × (parts.1.now ≡ rest))
 
--- each version is read at the start of a text, and 3 where no hyphen follows it
+-- each version is read at the start of a text, and V3 only if no hyphen follows it
 pub record ReadsVersions (text : List ℕ) (result : Option (Version × Bor (List ℕ))) : Type 0 where
   pub v1 : (rest : List ℕ) → text ≡ codes "1" ++ rest → HasRead result V1 rest
   pub v2_0 : (rest : List ℕ) → text ≡ codes "2.0" ++ rest → HasRead result V2Minor0 rest
@@ -29,15 +29,15 @@ pub record ReadsVersions (text : List ℕ) (result : Option (Version × Bor (Lis
   pub micro : (rest : List ℕ) → text ≡ codes "3-MICRO" ++ rest → HasRead result V3Micro rest
   pub nano : (rest : List ℕ) → text ≡ codes "3-NANO" ++ rest → HasRead result V3Nano rest
 
--- the parts are these, with the text of the name
+-- the parts are these, with this text of the name
 abbrev pub AreParts : Parts → Option Algorithm → ℕ → List ℕ → Type 0
 AreParts parts algorithm hash text = (parts.algorithm ≡ algorithm) × (parts.hash ≡ hash) × (parts.text.now ≡ text)
 
--- the entry has these, with the name
+-- the entry has these parts, with this name
 abbrev pub Names : {A : Type 0} → OneEntry A → Option Algorithm → ℕ → List ℕ → Type 0
 Names entry algorithm hash name = (entry.algorithm ≡ algorithm) × (entry.hash ≡ hash) × (entry.name.items ≡ name)
 
--- the line is an entry of this hash and this name, with the version and seed that its layout carries
+-- the line is an entry with this hash and this name, and with the version and seed of its layout
 abbrev pub IsEntry : {A : Type 0} → Line A → Layout → Algorithm → ℕ → List ℕ → Type 0
 IsEntry (Entry entry) layout algorithm hash name = Names entry (carried layout algorithm) hash name
 IsEntry Comment layout algorithm hash name = ⊥

@@ -17,12 +17,12 @@ letter_of c = cond (nat_eq c 92) (Some 92) (cond (nat_eq c 10) (Some 110) (cond 
 abbrev pub byte_of : ℕ → Option ℕ
 byte_of c = cond (nat_eq c 92) (Some 92) (cond (nat_eq c 110) (Some 10) (cond (nat_eq c 114) (Some 13) None))
 
--- a byte of a name as it is printed
+-- the printed text of a byte of a name
 abbrev pub escape_by : ℕ → Option ℕ → List ℕ
 escape_by c None = c ∷ []
 escape_by c (Some letter) = 92 ∷ letter ∷ []
 
--- a name as it is printed
+-- the printed text of a name
 unfoldable pub escaped : List ℕ → List ℕ
 escaped [] = []
 escaped (c ∷ cs) = escape_by c (letter_of c) ++ escaped cs
@@ -31,11 +31,11 @@ escaped (c ∷ cs) = escape_by c (letter_of c) ++ escaped cs
 abbrev pub needs_escape : List ℕ → Bool
 needs_escape name = list_any (λ c. is_some (letter_of c)) name
 
--- the 16 hexadecimal digits of a hash, the highest first
+-- the 16 hexadecimal digits of a hash, with the highest first
 abbrev pub digits_of : ℕ → List ℕ
 digits_of hash = encode_lower (to_be_bytes w64 hash)
 
--- a version as a tag has it
+-- the text of a version in a tag
 unfoldable pub version_text : Version → List ℕ
 version_text V1 = codes "1"
 version_text V2Minor0 = codes "2.0"
@@ -45,16 +45,16 @@ version_text V3 = codes "3"
 version_text V3Micro = codes "3-MICRO"
 version_text V3Nano = codes "3-NANO"
 
--- a seed word as a tag has it: nothing for the default seed
+-- the text of a seed word in a tag: nothing for the default seed
 unfoldable pub seed_text : Option ℕ → List ℕ
 seed_text None = []
 seed_text (Some word) = 58 ∷ digits_of word
 
--- what a line begins with that says which hash it has
+-- the tag: the start of a line that names its hash
 abbrev pub tag_of : Algorithm → List ℕ
 tag_of algorithm = codes "RAPIDHASH-V" ++ version_text algorithm.version ++ seed_text algorithm.seed
 
--- what follows a tag: the text of the name in parentheses, an equals sign and the digits
+-- the text after a tag: the name in parentheses, an equals sign and the digits
 abbrev pub value_of : ℕ → List ℕ → List ℕ
 value_of hash text = (32 ∷ 40 ∷ text ++ 41 ∷ 32 ∷ 61 ∷ 32 ∷ []) ++ digits_of hash
 
@@ -64,24 +64,24 @@ body_of Text algorithm hash text = digits_of hash ++ 32 ∷ 32 ∷ text
 body_of Binary algorithm hash text = digits_of hash ++ 32 ∷ 42 ∷ text
 body_of Tagged algorithm hash text = tag_of algorithm ++ value_of hash text
 
--- the line of a hash and a name, without its newline: a backslash first where a byte of the name is escaped
+-- the line of a hash and a name, without its newline: a backslash first if a byte of the name is escaped
 abbrev pub line_of : Layout → Algorithm → ℕ → List ℕ → List ℕ
 line_of layout algorithm hash name =
     let body = body_of layout algorithm hash (escaped name) in
     cond (needs_escape name) (92 ∷ body) body
 
--- what is printed for a hash and a name: the line and a newline, or nothing escaped and a zero byte
+-- the printed text for a hash and a name: the line and a newline, or without escapes and with a zero byte
 abbrev pub sum_of : Layout → Bool → Algorithm → ℕ → List ℕ → List ℕ
 sum_of layout zero algorithm hash name =
     cond zero (body_of layout algorithm hash name ++ 0 ∷ []) (line_of layout algorithm hash name ++ 10 ∷ [])
 
--- the version and seed that a line itself names
+-- the version and seed that the line names
 abbrev pub carried : Layout → Algorithm → Option Algorithm
 carried Text algorithm = None
 carried Binary algorithm = None
 carried Tagged algorithm = Some algorithm
 
--- the name that an escaped text represents, after the bytes that were read already; none if a backslash comes before another byte
+-- the name that an escaped text represents, after the bytes already read; none if a backslash is before any other byte
 unfoldable pub unescape_from : List ℕ → Bool → List ℕ → Option (List ℕ)
 unescape_from name false [] = Some name
 unescape_from name true [] = None

@@ -26,7 +26,7 @@ pub enum Verdict {
 }
 
 impl Verdict {
-    /// Whether a check passes that has this verdict.
+    /// Returns whether a check with this verdict passes.
     pub fn passes(self) -> bool
         ensures { result ≡ passes self }
     {
@@ -44,7 +44,7 @@ pub struct Checked<A: Allocator> {
 }
 
 impl<A: Allocator> Checked<A> {
-    /// How many lines have a verdict.
+    /// Returns the number of lines with a verdict.
     pub fn count(&self, verdict: Verdict) -> usize {
         self.verdicts
             .iter()
@@ -55,7 +55,7 @@ impl<A: Allocator> Checked<A> {
 
 /// What is informed of each line as it is checked.
 pub trait Report {
-    /// A file was checked. The error is that of a file that could not be opened or read.
+    /// Reports a checked file. The error is that of a file that could not be opened or read.
     fn tell(
         &mut self,
         name: &[u8],

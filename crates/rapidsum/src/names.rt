@@ -35,7 +35,7 @@ fn byte_of(letter: u8) -> Option<u8>
     }
 }
 
-/// Whether a name has a byte that is escaped.
+/// Returns whether a name has a byte that is escaped.
 pub fn needs_escape(name: &[u8]) -> bool
     ensures { result ≡ needs_escape name.now }
 {
@@ -63,8 +63,8 @@ pub fn push_escaped<A: Allocator>(text: &mut Vec<u8, A>, name: &[u8]) -> Result<
     Ok(())
 }
 
-/// The name that an escaped text represents. There is none if a backslash is at the end, or before
-/// a byte that is no letter of an escape.
+/// Returns the name that an escaped text represents. There is none if a backslash is at the end, or
+/// before a byte that is no letter of an escape.
 #[tactic(auto, unfolding(crate::specs::Line::unescape_from))]
 pub fn unescape<A: Allocator>(alloc: A, text: &[u8]) -> Result<Option<Vec<u8, A>>, AllocError>
     ensures { IfOk result (λ name.

@@ -21,7 +21,7 @@ pub struct Options {
 }
 
 impl Options {
-    /// The options in the arguments.
+    /// Returns the options in the arguments.
     pub fn of(matches: &ArgMatches<'_>) -> Options {
         Options {
             quiet: matches.get_flag("quiet"),
@@ -120,7 +120,7 @@ fn with_styles<'a>(alloc: Global, command: Command<'a>) -> Result<Command<'a>, A
     command.arg(binary)?.arg(text)?.arg(tag)?.arg(zero)
 }
 
-/// The command line.
+/// Returns the command line.
 pub fn command<'a>(alloc: Global) -> Result<Command<'a>, AllocError> {
     let algorithm = Arg::new(alloc, "algorithm")
         .short('a')

@@ -1,10 +1,10 @@
--- What a plain hasher is handed, as the definition's items.
+-- The items of a plain hasher, as items of the definition.
 use Rattle.rapidhash.specs.Laws.{item_of as item_of_number}
 use Rattle.rapidhash.specs.Sponge.{Item, IsItem, Bytes as OfBytes, Num as OfNumber, Wide as OfWide}
 use Rattle.test_definitions.specs.declared.hasher.Absorbed.{Absorbed}
 use Rattle.test_definitions.specs.declared.hasher.Absorbed.TheVariants.{Bytes, Number, Wide}
 
--- an item as the definition sees it
+-- an item of the definition
 abbrev pub item_of : Absorbed → Item
 item_of (Bytes bytes) = OfBytes bytes.now
 item_of (Wide value) = OfWide value

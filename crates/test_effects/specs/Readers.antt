@@ -1,9 +1,9 @@
--- What a reader of a test starts with.
+-- The start of a test's reader.
 use Rattle.std.specs.Prelude.{ℕ, ◌≡◌, List}
 use Rattle.std.specs.declared.io.ErrorKind.{ErrorKind}
 use Rattle.test_effects.specs.declared.fakes.readers.CountingReader.{CountingReader}
 
--- a reader that was asked for nothing yet: the bytes that it has, how many a read returns, which read fails, and how
+-- a reader before its first read: its bytes, the number of bytes per read, the read that fails, and its error
 pub record Starts (reader : CountingReader) (bytes : List ℕ) (at_most failing : ℕ) (error : ErrorKind) : Type 0 where
   pub left : reader.left.now ≡ bytes
   pub most : reader.most ≡ at_most

@@ -3,7 +3,7 @@
 
 ghost use Rattle.std.specs.Prelude.{◌≡◌, ◌+◌, ◌++◌, false, length};
 ghost use Rattle.rapidhash_portable.specs.Lanes.{IsLaneCount};
-ghost use Rattle.rapidhash_portable.specs.Stream.{StreamStandsFor, chunk_count, steps_of};
+ghost use Rattle.rapidhash_portable.specs.Stream.{StreamRepresents, chunk_count, steps_of};
 
 use rapidhash_portable::v3::{
     RapidSecrets, RapidStreamHasherInlineMicro, RapidStreamHasherInlineNano,
@@ -16,7 +16,7 @@ pub fn after_one_piece<'a, const LANES: usize>(
     bytes: &[u8],
 ) -> RapidStreamHasherLanes<'a, LANES, true, false>
     requires { IsLaneCount LANES }
-    ensures stands { StreamStandsFor false result bytes.now }
+    ensures stands { StreamRepresents false result bytes.now }
     ensures steps { steps_of result ≡ chunk_count LANES (length bytes.now) }
 {
     let mut hasher = RapidStreamHasherLanes::new(secrets);
@@ -30,7 +30,7 @@ pub fn after_single_bytes<'a, const LANES: usize>(
     bytes: &[u8],
 ) -> RapidStreamHasherLanes<'a, LANES, true, false>
     requires { IsLaneCount LANES }
-    ensures stands { StreamStandsFor false result bytes.now }
+    ensures stands { StreamRepresents false result bytes.now }
     ensures steps { steps_of result ≡ chunk_count LANES (length bytes.now) }
 {
     let mut hasher = RapidStreamHasherLanes::new(secrets);
@@ -47,7 +47,7 @@ pub fn after_two_pieces<'a, const LANES: usize>(
     second: &[u8],
 ) -> RapidStreamHasherLanes<'a, LANES, true, false>
     requires { IsLaneCount LANES }
-    ensures stands { StreamStandsFor false result (first.now ++ second.now) }
+    ensures stands { StreamRepresents false result (first.now ++ second.now) }
     ensures steps { steps_of result
         ≡ chunk_count LANES (length first.now + length second.now) }
 {

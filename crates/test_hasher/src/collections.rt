@@ -4,6 +4,7 @@ use linked_list_allocator::LocalHeap;
 use rapidhash::inner::{GlobalSecrets, SeedSource};
 use rapidhash::{HashMapExt, HashSetExt, RapidHashMap, RapidHashSet, fast};
 use std::alloc::{AllocError, Global};
+use std::collections::{HashMap, HashSet};
 use std::test::Fail;
 
 #[test]
@@ -56,6 +57,23 @@ fn test_hashset_with_capacity(rt: HostRuntime) -> Result<(), Fail> {
     let _ = set.insert("value")?;
     assert!(rt; set.contains("value"));
     assert!(rt; !set.contains("na"));
+    Ok(())
+}
+
+/// `with_capacity` reserves no more and no less than std's own map and set do.
+#[test]
+fn room_is_that_of_std(rt: HostRuntime) -> Result<(), Fail> {
+    let secrets = GlobalSecrets::new(1);
+    let mut source = SeedSource::new(&secrets, 2);
+    let state = fast::RandomState::new(&secrets, &mut source);
+    for count in 0..30usize {
+        let map: RapidHashMap<u32, u32, _> = HashMapExt::with_capacity(rt.alloc(), count, state)?;
+        let plain: HashMap<u32, u32> = HashMap::with_capacity(rt.alloc(), count)?;
+        assert!(rt; map.capacity() == plain.capacity());
+        let set: RapidHashSet<u32, _> = HashSetExt::with_capacity(rt.alloc(), count, state)?;
+        let plain: HashSet<u32> = HashSet::with_capacity(rt.alloc(), count)?;
+        assert!(rt; set.capacity() == plain.capacity());
+    }
     Ok(())
 }
 

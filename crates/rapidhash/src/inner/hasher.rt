@@ -4,7 +4,7 @@ ghost use Rattle.std.specs.Prelude.{◌≡◌, ◌<◌, ◌^◌, []};
 ghost use Rattle.rapidhash_portable.specs.Secrets.{cpp_seeded, default_secrets, default_seed};
 ghost use Rattle.rapidhash.specs.Sponge.{Bytes, IsWidth, Num, Wide};
 ghost use Rattle.rapidhash.specs.Hasher.{step};
-ghost use Rattle.rapidhash.specs.RapidHasher.{Absorbs, Answers, Stands, answer_of, fresh, options_of, secrets_of, written};
+ghost use Rattle.rapidhash.specs.RapidHasher.{Absorbs, Answers, Represents, answer_of, fresh, options_of, secrets_of, written};
 
 use crate::inner::sponge::Sponge;
 use rapidhash_portable::memory::memory_hash;
@@ -65,7 +65,7 @@ impl<
     #[inline(always)]
     pub const fn new(seed: u64) -> Self
         ensures secrets { secrets_of result ≡ default_secrets }
-        ensures stands { Stands result (cpp_seeded seed 2) [] }
+        ensures represents { Represents result (cpp_seeded seed 2) [] }
     {
         RapidHasher::from_parts(
             RapidSecrets::seed_cpp(seed).seed,
@@ -77,16 +77,16 @@ impl<
     #[inline(always)]
     pub const fn default_const() -> Self
         ensures secrets { secrets_of result ≡ default_secrets }
-        ensures stands { Stands result default_seed [] }
+        ensures represents { Represents result default_seed [] }
     {
         RapidHasher::new(0)
     }
 
-    /// A hasher of a seed and secrets as they are.
+    /// Returns a hasher with the given seed and secrets.
     #[inline(always)]
     pub(crate) const fn from_parts(seed: u64, secrets: &'s [u64; 7]) -> Self
         ensures value { result ≡ fresh seed secrets.entry }
-        ensures stands { Stands result seed [] }
+        ensures represents { Represents result seed [] }
     {
         RapidHasher {
             seed,
@@ -95,7 +95,7 @@ impl<
         }
     }
 
-    /// The seed after a step on 128 bits.
+    /// Returns the seed after a step on 128 bits.
     #[inline(always)]
     fn mixed(&self, wide: u128) -> u64
         ensures { result
@@ -152,7 +152,7 @@ impl<
     #[inline(always)]
     fn finish(&self) -> u64
         ensures value { result ≡ answer_of self.now }
-        ensures stands { Answers self.now result }
+        ensures represents { Answers self.now result }
     {
         let mut last = self.seed;
         if self.sponge.width > 0 {
@@ -173,7 +173,7 @@ impl<
     const PROTECTED: bool,
 > Default for RapidHasher<'s, AVALANCHE, SPONGE, COMPACT, PROTECTED> {
     ghost is_default = { λ hasher. (secrets_of hasher ≡ default_secrets)
-        × Stands hasher default_seed [] };
+        × Represents hasher default_seed [] };
 
     /// Returns [`RapidHasher::default_const`].
     #[inline(always)]

@@ -14,7 +14,7 @@ pub(crate) struct Sponge {
 impl Sponge {
     ghost use Rattle.rapidhash.specs.Sponge.{empty_sponge};
 
-    /// No bits.
+    /// Returns a sponge without bits.
     #[inline(always)]
     pub(crate) const fn empty() -> Sponge
         ensures { result ≡ empty_sponge }
@@ -22,7 +22,7 @@ impl Sponge {
         Sponge { bits: 0, width: 0 }
     }
 
-    /// An integer alone.
+    /// Returns a sponge with a single integer.
     #[inline(always)]
     pub(crate) fn of(value: u64, width: u8) -> Sponge
         requires small { width ≤ 64 }
@@ -36,7 +36,7 @@ impl Sponge {
         }
     }
 
-    /// An integer after those that wait.
+    /// Adds an integer after the pending ones.
     #[inline(always)]
     pub(crate) fn with(self, value: u64, width: u8) -> Sponge
         requires room { self.width + width ≤ 128 }

@@ -21,7 +21,7 @@ use std::marker::PhantomData;
 
 /// The name of a kind of states, which `Debug` prints.
 pub trait Kind {
-    /// The name and two dots.
+    /// Returns the name and two dots.
     fn shown() -> &'static str;
 }
 
@@ -49,7 +49,7 @@ impl<
 > State<'s, K, AVALANCHE, SPONGE, COMPACT, PROTECTED> {
     ghost use Rattle.rapidhash.specs.States.{secrets_of_state, seed_of_state};
 
-    /// A state of a seed and secrets as they are.
+    /// Returns a state with the given seed and secrets.
     #[inline(always)]
     pub(crate) fn of(seed: u64, secrets: &'s [u64; 7]) -> Self
         ensures seed { seed_of_state result ≡ seed }
@@ -106,19 +106,19 @@ impl<
     const COMPACT: bool,
     const PROTECTED: bool,
 > BuildHasher for State<'s, K, AVALANCHE, SPONGE, COMPACT, PROTECTED> {
-    ghost use Rattle.rapidhash.specs.RapidHasher.{Stands, secrets_of};
+    ghost use Rattle.rapidhash.specs.RapidHasher.{Represents, secrets_of};
     ghost use Rattle.rapidhash.specs.States.{built_by, secrets_of_state, seed_of_state};
 
     type Hasher = RapidHasher<'s, AVALANCHE, SPONGE, COMPACT, PROTECTED>;
 
     ghost build_hasher = { built_by };
 
-    /// A hasher of the state's seed and secrets that has absorbed nothing.
+    /// Returns a hasher with the state's seed and secrets that has absorbed nothing.
     #[inline(always)]
     fn build_hasher(&self) -> RapidHasher<'s, AVALANCHE, SPONGE, COMPACT, PROTECTED>
         ensures value { result ≡ built_by self.now }
         ensures secrets { secrets_of result ≡ secrets_of_state self.now }
-        ensures stands { Stands result (seed_of_state self.now) [] }
+        ensures represents { Represents result (seed_of_state self.now) [] }
     {
         self.seeded.hasher()
     }

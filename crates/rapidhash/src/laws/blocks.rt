@@ -17,7 +17,7 @@ pub enum Num {
 }
 
 impl Num {
-    /// The integer, whatever its width.
+    /// Returns the integer, whatever its width.
     fn value(self) -> u64
         ensures value { result ≡ value_of self }
         ensures fits { result < 2 ^ width_of self }
@@ -31,9 +31,9 @@ impl Num {
     }
 }
 
-/// Whether two lists of integers are packed into the same blocks, as a hasher with `SPONGE` packs
-/// those of its own integer writes. They are exactly if the lists are equal. Precondition: the
-/// lists are equally long, and their widths agree in order.
+/// Returns whether two lists of integers are packed into the same blocks, as a hasher with `SPONGE`
+/// packs those of its own integer writes. They are exactly if the lists are equal. Precondition:
+/// the lists are equally long, and their widths agree in order.
 ///
 /// ```
 /// assert!(!same_blocks(&[Num::N8(1), Num::N16(2)], &[Num::N8(1), Num::N16(3)]));

@@ -5,7 +5,7 @@ ghost use Rattle.rapidhash_portable.specs.declared.form.Form.TheVariants.{V1};
 ghost use Rattle.rapidhash_portable.specs.Form.{micro, nano, v2, v3};
 ghost use Rattle.rapidhash.specs.Laws.{SameHash};
 
-/// Whether a message is so short, at most 80 bytes, that V3 micro and V3 have the same hash of it
+/// Returns whether a message has at most 80 bytes, so that V3 micro and V3 have the same hash of it
 /// with any options, seed and secrets.
 ///
 /// ```
@@ -19,7 +19,7 @@ pub fn micro_is_v3(bytes: &[u8]) -> bool
     bytes.len() <= 80
 }
 
-/// As [`micro_is_v3`], of V3 nano and V3: at most 48 bytes.
+/// Returns the same as [`micro_is_v3`] for V3 nano and V3: at most 48 bytes.
 #[tactic(auto, using(crate::proofs::AgreementLemmas::same_nano))]
 pub fn nano_is_v3(bytes: &[u8]) -> bool
     ensures lengths { IsTrue result ↔ length bytes.now ≤ 48 }
@@ -28,7 +28,8 @@ pub fn nano_is_v3(bytes: &[u8]) -> bool
     bytes.len() <= 48
 }
 
-/// As [`micro_is_v3`], of V1 with its historical fault and without it: any length but 48 bytes.
+/// Returns the same as [`micro_is_v3`] for V1 with its historical fault and without it: any length
+/// except 48 bytes.
 #[tactic(auto, using(crate::proofs::AgreementLemmas::same_v1))]
 pub fn v1_is_v1_with_its_fault(bytes: &[u8]) -> bool
     ensures lengths { IsTrue result ↔ length bytes.now ≢ 48 }
@@ -37,7 +38,7 @@ pub fn v1_is_v1_with_its_fault(bytes: &[u8]) -> bool
     bytes.len() != 48
 }
 
-/// As [`micro_is_v3`], of V2.0 and V2.1: any length but 57 to 64 bytes.
+/// Returns the same as [`micro_is_v3`] for V2.0 and V2.1: any length except 57 to 64 bytes.
 #[tactic(auto, using(crate::proofs::AgreementLemmas::same_v2_0))]
 pub fn v2_0_is_v2_1(bytes: &[u8]) -> bool
     ensures lengths { IsTrue result ↔ ((length bytes.now ≤ 56) ⊎ (64 < length bytes.now)) }
@@ -46,7 +47,8 @@ pub fn v2_0_is_v2_1(bytes: &[u8]) -> bool
     bytes.len() <= 56 || bytes.len() > 64
 }
 
-/// As [`micro_is_v3`], of V2.1 and V2.2: any length but 1 to 3 and 49 to 64 bytes.
+/// Returns the same as [`micro_is_v3`] for V2.1 and V2.2: any length except 1 to 3 and 49 to 64
+/// bytes.
 #[tactic(auto, using(crate::proofs::AgreementLemmas::same_v2_1))]
 pub fn v2_1_is_v2_2(bytes: &[u8]) -> bool
     ensures lengths { IsTrue result ↔ ((length bytes.now ≡ 0)

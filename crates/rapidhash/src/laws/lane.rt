@@ -5,9 +5,9 @@ ghost use Rattle.rapidhash_portable.specs.Lanes.{step};
 
 use rapidhash_portable::util::rapid_mix;
 
-/// A lane after a pair whose first word is the lane's own secret. Without `PROTECTED` the result is
-/// 0 for every lane: all that it had folded is lost. With it the lane becomes the XOR of its old
-/// value and the pair's second word, so two lanes that differ still differ.
+/// Returns a lane after a pair whose first word is the lane's own secret. Without `PROTECTED` the
+/// result is 0 for every lane: all folded pairs are lost. With it the lane becomes the XOR of its
+/// old value and the pair's second word, so two lanes that differ still differ.
 ///
 /// ```
 /// assert_eq!(lane_after_its_secret::<false>(5, 7, 9), 0);

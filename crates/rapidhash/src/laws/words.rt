@@ -7,7 +7,7 @@ ghost use Rattle.rapidhash_portable.specs.declared.form.Form.TheVariants.{V1};
 ghost use Rattle.rapidhash_portable.specs.Form.{micro, nano, v2, v3};
 ghost use Rattle.rapidhash.specs.Laws.{HashIsOfWords, HashesAreOfWords, SameWords};
 
-/// Whether two messages are equal, which they are exactly if their lengths and the words that a
+/// Returns whether two messages are equal. They are exactly if their lengths and the words that a
 /// form reads are.
 fn same_words(x: &[u8], y: &[u8]) -> bool
     ensures words { (form : Form) → (IsTrue result ↔ SameWords form x.now y.now) }
@@ -18,9 +18,9 @@ fn same_words(x: &[u8], y: &[u8]) -> bool
     x == y
 }
 
-/// Whether two messages have the same length and the same words, as V1 reads them: they do exactly
-/// if they are equal. With any options, seed and secrets, V1 of either is a formula over its length
-/// and these words.
+/// Returns whether two messages have the same length and the same words, as V1 reads them: they do
+/// exactly if they are equal. With any options, seed and secrets, V1 of either is a formula over
+/// its length and these words.
 ///
 /// ```
 /// assert!(!same_words_v1::<false>(b"left", b"lift"));
@@ -33,7 +33,7 @@ pub fn same_words_v1<const V1_BUG: bool>(x: &[u8], y: &[u8]) -> bool
     same_words(x, y)
 }
 
-/// As [`same_words_v1`], of V2 by its minor number: 0, 1 or 2.
+/// Returns the same as [`same_words_v1`] for V2 with its minor number: 0, 1 or 2.
 ///
 /// ```
 /// assert!(!same_words_v2::<2>(b"left", b"lift"));
@@ -47,7 +47,7 @@ pub fn same_words_v2<const MINOR: u8>(x: &[u8], y: &[u8]) -> bool
     same_words(x, y)
 }
 
-/// As [`same_words_v1`], of V3.
+/// Returns the same as [`same_words_v1`] for V3.
 ///
 /// ```
 /// assert!(same_words_v3(b"left", b"left"));
@@ -60,7 +60,7 @@ pub fn same_words_v3(x: &[u8], y: &[u8]) -> bool
     same_words(x, y)
 }
 
-/// As [`same_words_v1`], of V3 micro.
+/// Returns the same as [`same_words_v1`] for V3 micro.
 ///
 /// ```
 /// assert!(!same_words_micro(b"left", b"lift"));
@@ -73,7 +73,7 @@ pub fn same_words_micro(x: &[u8], y: &[u8]) -> bool
     same_words(x, y)
 }
 
-/// As [`same_words_v1`], of V3 nano.
+/// Returns the same as [`same_words_v1`] for V3 nano.
 ///
 /// ```
 /// assert!(!same_words_nano(b"left", b"lift"));

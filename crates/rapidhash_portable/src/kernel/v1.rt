@@ -30,7 +30,7 @@ pub fn hash<const AVALANCHE: bool, const COMPACT: bool, const PROTECTED: bool, c
     close_short::<AVALANCHE, PROTECTED>(bytes, short_words_v1(bytes), seed, secrets)
 }
 
-/// The hash of at most 16 bytes, made of their two words.
+/// Returns the hash of at most 16 bytes from their two words.
 #[inline(always)]
 #[tactic(auto, using(crate::proofs::Cases::short))]
 fn close_short<const AVALANCHE: bool, const PROTECTED: bool>(
@@ -48,7 +48,7 @@ fn close_short<const AVALANCHE: bool, const PROTECTED: bool>(
     close::<AVALANCHE, PROTECTED>(words, seed ^ len, second, (first ^ len, second))
 }
 
-/// The hash above 16 bytes. A message that has no row makes no call.
+/// Returns the hash above 16 bytes. A message that has no row makes no call.
 #[inline(always)]
 #[tactic(auto, using(crate::proofs::Cases::no_rows), unfolding(crate::specs::Form::shape_of))]
 fn long<const AVALANCHE: bool, const COMPACT: bool, const PROTECTED: bool, const V1_BUG: bool>(
@@ -69,7 +69,7 @@ fn long<const AVALANCHE: bool, const COMPACT: bool, const PROTECTED: bool, const
     }
 }
 
-/// The hash of a message that has a row, out of line.
+/// Returns the hash of a message that has a row, out of line.
 #[cold]
 #[inline(never)]
 #[tactic(auto, using(crate::proofs::Cases::tests), unfolding(crate::specs::Form::shape_of))]
@@ -87,8 +87,8 @@ fn with_rows<const AVALANCHE: bool, const COMPACT: bool, const PROTECTED: bool, 
     close_tail::<AVALANCHE, PROTECTED>(tail, bytes, len, joined, secrets)
 }
 
-/// The hash of `len` bytes, more than 16, made of the joined lanes, the tail, and bytes that end in
-/// the message's last 16.
+/// Returns the hash of `len` bytes, more than 16, from the joined lanes, the tail, and bytes that
+/// end in the message's last 16.
 #[inline(always)]
 pub(crate) fn close_tail<const AVALANCHE: bool, const PROTECTED: bool>(
     tail: &[u8],
@@ -112,7 +112,7 @@ pub(crate) fn close_tail<const AVALANCHE: bool, const PROTECTED: bool>(
     close::<AVALANCHE, PROTECTED>(last_16(ending), seed, s[1], (s[0] ^ len, s[1]))
 }
 
-/// The length of the longest message without a row.
+/// Returns the length of the longest message without a row.
 #[inline(always)]
 #[tactic(auto, using(crate::proofs::Cases::tests))]
 fn longest_rowless<const V1_BUG: bool>() -> usize

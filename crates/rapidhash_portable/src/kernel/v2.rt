@@ -31,7 +31,7 @@ pub fn hash<const MINOR: u8, const AVALANCHE: bool, const COMPACT: bool, const P
     close_short::<AVALANCHE, PROTECTED>(bytes, short_words_v2::<MINOR>(bytes), seed, secrets)
 }
 
-/// The hash of at most 16 bytes, made of their two words.
+/// Returns the hash of at most 16 bytes from their two words.
 #[inline(always)]
 #[tactic(auto, using(crate::proofs::Cases::short))]
 fn close_short<const AVALANCHE: bool, const PROTECTED: bool>(
@@ -49,7 +49,7 @@ fn close_short<const AVALANCHE: bool, const PROTECTED: bool>(
     close::<AVALANCHE, PROTECTED>(words, seed ^ len, second, (ALTERNATING_BITS ^ len, second))
 }
 
-/// The hash above 16 bytes. A message that has no row makes no call.
+/// Returns the hash above 16 bytes. A message that has no row makes no call.
 #[inline(always)]
 fn long<const MINOR: u8, const AVALANCHE: bool, const COMPACT: bool, const PROTECTED: bool>(
     bytes: &[u8],
@@ -69,7 +69,7 @@ fn long<const MINOR: u8, const AVALANCHE: bool, const COMPACT: bool, const PROTE
     }
 }
 
-/// The hash above 16 bytes of a message that has no row.
+/// Returns the hash above 16 bytes of a message that has no row.
 #[inline(always)]
 fn without_rows<const MINOR: u8, const AVALANCHE: bool, const PROTECTED: bool>(
     bytes: &[u8],
@@ -88,7 +88,7 @@ fn without_rows<const MINOR: u8, const AVALANCHE: bool, const PROTECTED: bool>(
     close_long::<AVALANCHE, PROTECTED>(bytes, len, seed, secrets)
 }
 
-/// The hash of a message that has a row, out of line.
+/// Returns the hash of a message that has a row, out of line.
 #[cold]
 #[inline(never)]
 #[tactic(auto, using(crate::proofs::Cases::tests), unfolding(crate::specs::Form::shape_of))]
@@ -106,8 +106,8 @@ fn with_rows<const MINOR: u8, const AVALANCHE: bool, const COMPACT: bool, const 
     close_tail::<AVALANCHE, PROTECTED>(tail, bytes, len, joined, secrets)
 }
 
-/// The hash of `len` bytes that have a row, made of the joined lanes, the tail, and bytes that end
-/// in the message's last 16.
+/// Returns the hash of `len` bytes that have a row, from the joined lanes, the tail, and bytes that
+/// end in the message's last 16.
 #[inline(always)]
 pub(crate) fn close_tail<const AVALANCHE: bool, const PROTECTED: bool>(
     tail: &[u8],
@@ -128,8 +128,8 @@ pub(crate) fn close_tail<const AVALANCHE: bool, const PROTECTED: bool>(
     close_long::<AVALANCHE, PROTECTED>(ending, len, seed, secrets)
 }
 
-/// The hash of `len` bytes, more than 16, made of the seed after all pairs, and bytes that end in
-/// the message's last 16.
+/// Returns the hash of `len` bytes, more than 16, from the seed after all pairs, and bytes that end
+/// in the message's last 16.
 #[inline(always)]
 fn close_long<const AVALANCHE: bool, const PROTECTED: bool>(
     ending: &[u8],
@@ -150,7 +150,7 @@ fn close_long<const AVALANCHE: bool, const PROTECTED: bool>(
     )
 }
 
-/// The length of the longest message without a row.
+/// Returns the length of the longest message without a row.
 #[inline(always)]
 #[tactic(auto, using(crate::proofs::Cases::tests))]
 fn longest_rowless<const MINOR: u8>() -> usize
@@ -159,7 +159,7 @@ fn longest_rowless<const MINOR: u8>() -> usize
     if MINOR == 0 { 56 } else { 64 }
 }
 
-/// The index of the secret for the third pair of such a message.
+/// Returns the index of the secret for the third pair of a message without a row.
 #[inline(always)]
 #[tactic(auto, using(crate::proofs::Cases::tests))]
 fn last_place<const MINOR: u8>() -> usize

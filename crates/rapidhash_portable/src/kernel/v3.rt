@@ -37,8 +37,8 @@ pub fn hash<const LANES: usize, const AVALANCHE: bool, const COMPACT: bool, cons
     close_short::<LANES, AVALANCHE, PROTECTED>(bytes, short_words_v3(bytes), seed, secrets)
 }
 
-/// The hash of at most 16 bytes, made of their two words. From 4 bytes on the length is mixed into
-/// the seed.
+/// Returns the hash of at most 16 bytes from their two words. From 4 bytes on the length is mixed
+/// into the seed.
 #[inline(always)]
 #[tactic(auto, using(crate::proofs::Cases::short))]
 fn close_short<const LANES: usize, const AVALANCHE: bool, const PROTECTED: bool>(
@@ -58,7 +58,7 @@ fn close_short<const LANES: usize, const AVALANCHE: bool, const PROTECTED: bool>
     close::<AVALANCHE, PROTECTED>(words, start, second, (ALTERNATING_BITS, second ^ n))
 }
 
-/// The hash above 16 bytes.
+/// Returns the hash above 16 bytes.
 #[inline(always)]
 #[tactic(auto, using(crate::proofs::Cases::no_rows))]
 fn long<const LANES: usize, const AVALANCHE: bool, const COMPACT: bool, const PROTECTED: bool>(
@@ -80,7 +80,7 @@ fn long<const LANES: usize, const AVALANCHE: bool, const COMPACT: bool, const PR
     }
 }
 
-/// The hash above 16 bytes, out of line.
+/// Returns the hash above 16 bytes, out of line.
 #[cold]
 #[inline(never)]
 #[tactic(auto, unfolding(crate::specs::Form::shape_of))]
@@ -99,8 +99,8 @@ fn with_rows<const LANES: usize, const AVALANCHE: bool, const COMPACT: bool, con
     close_tail::<AVALANCHE, PROTECTED>(tail, bytes, joined, secrets)
 }
 
-/// The hash above 16 bytes, made of the joined lanes, the tail, and bytes that end in the message's
-/// last 16.
+/// Returns the hash above 16 bytes, from the joined lanes, the tail, and bytes that end in the
+/// message's last 16.
 #[inline(always)]
 pub(crate) fn close_tail<const AVALANCHE: bool, const PROTECTED: bool>(
     tail: &[u8],

@@ -1,43 +1,41 @@
 //! Two rows at once leave the same lanes as one after another.
 
+ghost use Rattle.std.specs.Prelude.{◌≤◌};
+
 use super::{fold_row, fold_two_rows, fold_two_rows_by_lane};
 use crate::secrets::DEFAULT_RAPID_SECRETS;
+use std::process::Abort;
 
-/// The bytes `i mod 251`.
-fn counted() -> [u8; 224] {
-    let mut bytes = [0; 224];
-    for i in 0..224 {
-        bytes[i] = (i % 251) as u8;
+/// Compares the lanes after two rows of `WIDTH` pairs, of the bytes `i mod 251`.
+fn two_rows<const WIDTH: usize, const PROTECTED: bool>(rt: &impl Abort)
+    requires { WIDTH ≤ 7 }
+{
+    let (mut start, mut rows) = ([0; WIDTH], [0; 224]);
+    for i in 0..WIDTH {
+        start[i] = i as u64 + 1;
     }
-    bytes
+    for i in 0..224 {
+        rows[i] = (i % 251) as u8;
+    }
+    let secrets = &DEFAULT_RAPID_SECRETS.secrets;
+    let (mut one, mut two, mut by_lane) = (start, start, start);
+    fold_row::<WIDTH, WIDTH, PROTECTED>(&mut one, &rows, secrets);
+    fold_row::<WIDTH, WIDTH, PROTECTED>(&mut one, &rows[16 * WIDTH..], secrets);
+    fold_two_rows::<WIDTH, WIDTH, PROTECTED>(&mut two, &rows, secrets);
+    fold_two_rows_by_lane::<WIDTH, WIDTH, PROTECTED>(&mut by_lane, &rows, secrets);
+    assert!(rt; one != start);
+    assert!(rt; two == one);
+    assert!(rt; by_lane == one);
 }
 
-/// The lanes after two rows of 7 pairs, of the turn that V2 and V3 unroll.
+/// The iteration that V2 and V3 unroll.
 #[test]
 fn two_rows_of_seven(rt: HostRuntime) {
-    let (rows, secrets) = (counted(), DEFAULT_RAPID_SECRETS.secrets);
-    let start = [1, 2, 3, 4, 5, 6, 7];
-    let (mut one, mut two, mut by_lane) = (start, start, start);
-    fold_row::<7, 7, false>(&mut one, &rows, &secrets);
-    fold_row::<7, 7, false>(&mut one, &rows[112..], &secrets);
-    fold_two_rows::<7, 7, false>(&mut two, &rows, &secrets);
-    fold_two_rows_by_lane::<7, 7, false>(&mut by_lane, &rows, &secrets);
-    assert!(rt; one != start);
-    assert!(rt; two == one);
-    assert!(rt; by_lane == one);
+    two_rows::<7, false>(&rt);
 }
 
-/// The lanes after two rows of 3 pairs, of the turn that V1 unrolls.
+/// The iteration that V1 unrolls.
 #[test]
 fn two_rows_of_three(rt: HostRuntime) {
-    let (rows, secrets) = (counted(), DEFAULT_RAPID_SECRETS.secrets);
-    let start = [1, 2, 3];
-    let (mut one, mut two, mut by_lane) = (start, start, start);
-    fold_row::<3, 3, true>(&mut one, &rows, &secrets);
-    fold_row::<3, 3, true>(&mut one, &rows[48..], &secrets);
-    fold_two_rows::<3, 3, true>(&mut two, &rows, &secrets);
-    fold_two_rows_by_lane::<3, 3, true>(&mut by_lane, &rows, &secrets);
-    assert!(rt; one != start);
-    assert!(rt; two == one);
-    assert!(rt; by_lane == one);
+    two_rows::<3, true>(&rt);
 }

@@ -10,9 +10,9 @@ use super::{DEFAULT_SECRETS, chain, cpp_seed_of, reseed_of, seed_of};
 #[repr(C)]
 #[derive(Debug, Clone, Copy, PartialEq, Eq, Hash)]
 pub struct RapidSecrets {
-    /// What every lane starts from.
+    /// The start value of every lane.
     pub seed: u64,
-    /// What the words of a message are mixed with.
+    /// The words that a message's words are mixed with.
     pub secrets: [u64; 3],
 }
 

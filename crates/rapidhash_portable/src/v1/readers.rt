@@ -109,7 +109,7 @@ pub fn rapidhash_v1_file_inline<R: Read, const PROTECTED: bool>(
     next_of::<R, PROTECTED>(data, len, seed, s).map_err(Stop::into_error)
 }
 
-/// The body of every hash here.
+/// Returns the hash: the body of every public call here.
 fn next_of<R: Read, const PROTECTED: bool>(
     reader: &mut R,
     len: u64,
@@ -128,8 +128,8 @@ fn next_of<R: Read, const PROTECTED: bool>(
     Ok(hash::<MIXED, UNROLLED, PROTECTED, false>(bytes, seed, secrets))
 }
 
-/// The hash of more bytes than the short buffer holds. It is out of line because of its large
-/// buffer.
+/// Returns the hash of more bytes than the short buffer holds. It is out of line because of its
+/// large buffer.
 #[inline(never)]
 fn long<R: Read, const PROTECTED: bool>(
     reader: &mut R,

@@ -120,7 +120,7 @@ pub fn rapidhash_v2_file_inline<R: Read, const MINOR: u8, const PROTECTED: bool>
     next_of::<R, MINOR, PROTECTED>(data, len, seed, s).map_err(Stop::into_error)
 }
 
-/// The body of every hash here.
+/// Returns the hash: the body of every public call here.
 fn next_of<R: Read, const MINOR: u8, const PROTECTED: bool>(
     reader: &mut R,
     len: u64,
@@ -141,8 +141,8 @@ fn next_of<R: Read, const MINOR: u8, const PROTECTED: bool>(
     Ok(hash::<MINOR, MIXED, UNROLLED, PROTECTED>(bytes, seed, secrets))
 }
 
-/// The hash of more bytes than the short buffer holds. It is out of line because of its large
-/// buffer.
+/// Returns the hash of more bytes than the short buffer holds. It is out of line because of its
+/// large buffer.
 #[inline(never)]
 fn long<R: Read, const MINOR: u8, const PROTECTED: bool>(
     reader: &mut R,

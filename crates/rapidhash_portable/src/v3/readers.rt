@@ -10,7 +10,7 @@ ghost use Rattle.rapidhash_portable.specs.Lanes.{IsLaneCount};
 ghost use Rattle.rapidhash_portable.specs.Reading.{HashesAll, HashesKnown, MarksFailures};
 ghost use Rattle.rapidhash_portable.specs.Hash.{default_hash, seeded_hash};
 ghost use Rattle.rapidhash_portable.specs.Source.{is_marked, reader_of};
-ghost use Rattle.rapidhash_portable.specs.Stream.{StreamStandsFor, secrets_of};
+ghost use Rattle.rapidhash_portable.specs.Stream.{StreamRepresents, secrets_of};
 
 use super::stream::RapidStreamHasherLanes;
 use crate::reader::Source;
@@ -48,7 +48,7 @@ pub fn rapidhash_v3_source<R: Read, const PROTECTED: bool>(
         (λ _. is_marked source.new) (seeded_hash v3 (options true PROTECTED) secrets.now) }
     ensures mark { MarksFailures result (is_marked source.new) ErrorKind.Other }
 {
-    rapidhash_v3_source_sized::<R, BUFFER, PROTECTED>(source, secrets)
+    rapidhash_v3_source_lanes::<R, 7, BUFFER, PROTECTED>(source, secrets)
 }
 
 /// Returns the hash of [`rapidhash_v3_source`], with a buffer of `SIZE` bytes on the stack: no read
@@ -117,15 +117,15 @@ pub fn rapidhash_v3_source_lanes<
     }
 }
 
-/// The loop of every hash here, from a hasher of no bytes. Short reads gather in the buffer until
-/// it is more than half full, so that no read requests less than half of it. The loop is out of
-/// line because of its buffer.
+/// Returns the hash with a hasher of no bytes: the loop of every public call here. Short reads
+/// gather in the buffer until it is more than half full, so that no read requests less than half of
+/// it. The loop is out of line because of its buffer.
 #[inline(never)]
 fn read_all<R: Read, const LANES: usize, const SIZE: usize, const PROTECTED: bool>(
     source: &mut Source<R>,
     mut hasher: RapidStreamHasherLanes<'_, LANES, true, PROTECTED>,
 ) -> io::Result<u64>
-    requires empty { StreamStandsFor PROTECTED hasher [] }
+    requires empty { StreamRepresents PROTECTED hasher [] }
     requires room { 0 < SIZE }
     requires few { SIZE < 2 ^ 63 }
     ensures all { HashesAll
@@ -168,7 +168,7 @@ fn read_all<R: Read, const LANES: usize, const SIZE: usize, const PROTECTED: boo
 pub fn rapidhash_v3_file<R: Read + Drop>(data: R) -> io::Result<u64>
     ensures { HashesKnown (R.remaining «data») result (default_hash v3 standard) }
 {
-    rapidhash_v3_file_inline::<R, false>(data, RapidSecrets::default_ref())
+    rapidhash_v3_file_lanes::<R, 7, BUFFER, false>(data, RapidSecrets::default_ref())
 }
 
 /// Returns the hash of all that a reader has, with the caller's seed and secrets.
@@ -180,7 +180,7 @@ pub fn rapidhash_v3_file_seeded<R: Read + Drop>(data: R, secrets: &RapidSecrets)
     ensures { HashesKnown (R.remaining «data») result
         (seeded_hash v3 standard secrets.now) }
 {
-    rapidhash_v3_file_inline::<R, false>(data, secrets)
+    rapidhash_v3_file_lanes::<R, 7, BUFFER, false>(data, secrets)
 }
 
 /// Returns the hash of all that a reader has; `PROTECTED` mixes each product with its factors.
@@ -196,7 +196,7 @@ pub fn rapidhash_v3_file_inline<R: Read + Drop, const PROTECTED: bool>(
     ensures { HashesKnown (R.remaining «data») result
         (seeded_hash v3 (options true PROTECTED) secrets.now) }
 {
-    rapidhash_v3_file_sized::<R, BUFFER, PROTECTED>(data, secrets)
+    rapidhash_v3_file_lanes::<R, 7, BUFFER, PROTECTED>(data, secrets)
 }
 
 /// Returns the hash of [`rapidhash_v3_file_inline`], with a buffer of `SIZE` bytes on the stack: no

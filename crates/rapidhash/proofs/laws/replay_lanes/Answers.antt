@@ -2,7 +2,7 @@ use Rattle.std.proofs.Common.{◌≡◌, ◌+◌, ◌++◌, ◌∷◌, [], not, 
 use Rattle.rapidhash_portable.specs.declared.form.Form.TheVariants.{V3}
 use Rattle.rapidhash_portable.specs.Form.{options}
 use Rattle.rapidhash_portable.specs.Hash.{seeded_hash}
-use Rattle.rapidhash_portable.specs.Stream.{StreamStandsFor, secrets_of}
+use Rattle.rapidhash_portable.specs.Stream.{StreamRepresents, secrets_of}
 use Rattle.rapidhash.specs.Replay.{finishes_from}
 use Rattle.rapidhash.proofs.ReplayLemmas.{finishes_from-step}
 use Rattle.rapidhash.proofs.laws.replay_lanes.Goals as goal
@@ -27,7 +27,7 @@ loop-op-preserved g c =
             kept = ap secrets_of w.hasher-is ∙ w.write.ensures.secrets ∙ kept;
             message = (
               y,
-              subst (λ h. StreamStandsFor P h y) (sym w.hasher-is) (w.write.ensures.adds x message.1),
+              subst (λ h. StreamRepresents P h y) (sym w.hasher-is) (w.write.ensures.adds x message.1),
               message.2
                   ∙ ap (λ a. items ++ a) (finishes_from-step g.row.LANES chosen secrets x ops i _ _ (omega arith) w.in-Write.is)
                   ∙ ap (λ v. v.items ++ finishes_from g.row.LANES chosen secrets y (drop (i + 1) ops)) (sym w.answers-is),
@@ -41,7 +41,7 @@ loop-op-preserved g c =
             kept = ap secrets_of w.hasher-is ∙ kept;
             message = (
               x,
-              subst (λ h. StreamStandsFor P h x) (sym w.hasher-is) message.1,
+              subst (λ h. StreamRepresents P h x) (sym w.hasher-is) message.1,
               message.2
                   ∙ ap (λ a. items ++ a) (finishes_from-step g.row.LANES chosen secrets x ops i _ _ (omega arith) w.in-Finish.is)
                   ∙ ap (λ h. items ++ h ∷ rest) (sym hash)
@@ -55,7 +55,7 @@ loop-op-preserved g c =
             kept = ap secrets_of w.hasher-is ∙ w.reset.ensures.secrets ∙ kept;
             message = (
               [],
-              subst (λ h. StreamStandsFor P h []) (sym w.hasher-is) w.reset.ensures.empty,
+              subst (λ h. StreamRepresents P h []) (sym w.hasher-is) w.reset.ensures.empty,
               message.2
                   ∙ ap (λ a. items ++ a) (finishes_from-step g.row.LANES chosen secrets x ops i _ _ (omega arith) w.in-Reset.is)
                   ∙ ap (λ v. v.items ++ finishes_from g.row.LANES chosen secrets [] (drop (i + 1) ops)) (sym w.answers-is),

@@ -40,7 +40,7 @@ impl<
     ghost use Rattle.rapidhash.specs.States.{secrets_of_state, seed_of_state};
     ghost use Rattle.rapidhash_portable.specs.GlobalSecrets.{secrets_of, seed_of};
 
-    /// A state of the seed and the secrets of `secrets`.
+    /// Returns a state with the seed and the secrets of `secrets`.
     #[inline(always)]
     pub fn new(secrets: &'s GlobalSecrets) -> Self
         ensures seed { seed_of_state result ≡ seed_of secrets.now }

@@ -42,7 +42,7 @@ impl<
     ghost use Rattle.rapidhash_portable.specs.GlobalSecrets.{secrets_of};
     ghost use Rattle.rapidhash_portable.specs.SeedSource.{Draws};
 
-    /// A state of the next seed of `source` and of the secrets of `secrets`.
+    /// Returns a state with the next seed of `source` and the secrets of `secrets`.
     #[inline(always)]
     pub fn new(secrets: &'s GlobalSecrets, source: &mut SeedSource) -> Self
         ensures seed { Draws source.old source.new (seed_of_state result) }

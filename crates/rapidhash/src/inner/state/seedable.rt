@@ -47,8 +47,8 @@ impl<
     ghost use Rattle.rapidhash_portable.specs.GlobalSecrets.{secrets_of};
     ghost use Rattle.rapidhash_portable.specs.SeedSource.{Draws};
 
-    /// A state of the secrets of `secrets`, and of a seed made of `seed` as
-    /// `v3::RapidSecrets::seed_cpp` makes it.
+    /// Returns a state with the secrets of `secrets`, and with the seed that
+    /// `v3::RapidSecrets::seed_cpp` derives from `seed`.
     #[inline(always)]
     pub fn new(seed: u64, secrets: &'s GlobalSecrets) -> Self
         ensures seed { seed_of_state result ≡ cpp_seeded seed 2 }
@@ -57,7 +57,7 @@ impl<
         State::custom(RapidSecrets::seed_cpp(seed).seed, secrets.get())
     }
 
-    /// A state of the next seed of `source` and of the secrets of `secrets`.
+    /// Returns a state with the next seed of `source` and the secrets of `secrets`.
     #[inline(always)]
     pub fn random(secrets: &'s GlobalSecrets, source: &mut SeedSource) -> Self
         ensures seed { Draws source.old source.new (seed_of_state result) }
@@ -66,8 +66,8 @@ impl<
         State::custom(source.next(), secrets.get())
     }
 
-    /// A state of the default seed and the default secrets, the same in every run of every program.
-    /// Anyone who knows them can find keys that all have the same hash.
+    /// Returns a state with the default seed and the default secrets, the same in every run of
+    /// every program. Anyone who knows them can find keys that all have the same hash.
     #[inline(always)]
     pub fn fixed() -> Self
         ensures seed { seed_of_state result ≡ default_seed }
@@ -77,7 +77,7 @@ impl<
         State::custom(default.seed, &default.secrets)
     }
 
-    /// A state of a seed and secrets as they are.
+    /// Returns a state with the given seed and secrets.
     #[inline(always)]
     pub fn custom(seed: u64, secrets: &'s [u64; 7]) -> Self
         ensures seed { seed_of_state result ≡ seed }
@@ -86,7 +86,7 @@ impl<
         State::of(seed, secrets)
     }
 
-    /// The same as [`SeedableState::custom`].
+    /// Returns the same state as [`SeedableState::custom`].
     #[inline(always)]
     pub fn with_seed(seed: u64, secrets: &'s [u64; 7]) -> Self
         ensures seed { seed_of_state result ≡ seed }

@@ -4,7 +4,7 @@ ghost use Rattle.std.specs.Prelude.{◌≡◌, ◌==◌, ◌&&◌, [], nat_eq};
 ghost use Rattle.std.specs.Cmp.Lexicographic.{pointwise};
 ghost use Rattle.std.specs.Cmp.Rules.{comparing};
 ghost use Rattle.std.proofs.Common.{rules};
-ghost use Rattle.rapidhash.specs.RapidHasher.{Stands, fresh};
+ghost use Rattle.rapidhash.specs.RapidHasher.{Represents, fresh};
 
 use crate::inner::hasher::RapidHasher;
 
@@ -16,7 +16,7 @@ pub(crate) struct Seeded<'s> {
 }
 
 impl<'s> Seeded<'s> {
-    /// A hasher of the seed and the secrets that has absorbed nothing.
+    /// Returns a hasher with the seed and the secrets that has absorbed nothing.
     #[inline(always)]
     pub(crate) fn hasher<
         const AVALANCHE: bool,
@@ -25,7 +25,7 @@ impl<'s> Seeded<'s> {
         const PROTECTED: bool,
     >(&self) -> RapidHasher<'s, AVALANCHE, SPONGE, COMPACT, PROTECTED>
         ensures value { result ≡ fresh self.now.seed self.now.secrets }
-        ensures stands { Stands result self.now.seed [] }
+        ensures represents { Represents result self.now.seed [] }
     {
         RapidHasher::from_parts(self.seed, self.secrets)
     }

@@ -28,14 +28,14 @@ impl Model for Count {
 }
 
 impl Count {
-    /// None.
+    /// Returns a count of none.
     fn new() -> Count
         ensures { result.steps ≡ 0 }
     {
         Count {}
     }
 
-    /// One more than before.
+    /// Returns one more than before.
     fn after(_before: &Count) -> Count
         ensures { result.steps ≡ _before.now.steps + 1 }
     {
@@ -137,7 +137,7 @@ impl Folded {
         *self = Folded::new(seed);
     }
 
-    /// The XOR of the first `LANES` lanes.
+    /// Returns the XOR of the first `LANES` lanes.
     #[inline(always)]
     pub(crate) fn joined<const LANES: usize>(&self) -> u64
         requires { LANES ≤ 7 }

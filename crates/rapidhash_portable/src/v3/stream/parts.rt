@@ -25,11 +25,11 @@ pub(crate) struct Parts<'a> {
     pub(crate) any: bool,
     /// The last 16 folded bytes, and then the new ones.
     pub(crate) kept: [u8; 128],
-    /// How many bytes are new: a whole chunk of them is folded when a further byte comes.
+    /// The number of new bytes. A whole chunk of them is folded when a further byte follows.
     pub(crate) len: usize,
 }
 
-/// The 16 bytes from `from` on.
+/// Returns the 16 bytes from `from` on.
 #[inline(always)]
 fn sixteen(bytes: &[u8], from: usize) -> [u8; 16]
     requires { from + 16 ≤ length bytes.now }
@@ -70,15 +70,15 @@ fn copy_piece(room: &mut [u8], piece: &[u8])
 }
 
 impl<'a> Parts<'a> {
-    ghost use Rattle.rapidhash_portable.specs.Stream.{PartsStandFor};
+    ghost use Rattle.rapidhash_portable.specs.Stream.{PartsRepresent};
 
     /// Adds a piece.
     #[inline(always)]
     pub(crate) fn write<const LANES: usize, const PROTECTED: bool>(&mut self, piece: &[u8])
         requires lanes { IsLaneCount LANES }
         requires fits { self.old.len ≤ 16 * LANES }
-        ensures adds { (x : List ℕ) → PartsStandFor PROTECTED LANES self.old x →
-            PartsStandFor PROTECTED LANES self.new (x ++ piece.now) }
+        ensures adds { (x : List ℕ) → PartsRepresent PROTECTED LANES self.old x →
+            PartsRepresent PROTECTED LANES self.new (x ++ piece.now) }
         ensures secrets { self.new.secrets.now ≡ self.old.secrets.now }
         ensures fits { self.new.len ≤ 16 * LANES }
     {
@@ -99,8 +99,8 @@ impl<'a> Parts<'a> {
         requires lanes { IsLaneCount LANES }
         requires fits { self.old.len ≤ 16 * LANES }
         requires past { 16 * LANES - self.old.len < length piece.now }
-        ensures adds { (x : List ℕ) → PartsStandFor PROTECTED LANES self.old x →
-            PartsStandFor PROTECTED LANES self.new (x ++ piece.now) }
+        ensures adds { (x : List ℕ) → PartsRepresent PROTECTED LANES self.old x →
+            PartsRepresent PROTECTED LANES self.new (x ++ piece.now) }
         ensures secrets { self.new.secrets.now ≡ self.old.secrets.now }
         ensures fits { self.new.len ≤ 16 * LANES }
     {
@@ -125,15 +125,15 @@ impl<'a> Parts<'a> {
         self.len = rest.len();
     }
 
-    /// The hash of the message that was written. A message without a folded chunk is in the buffer
-    /// as a whole.
+    /// Returns the hash of the message. A message without a folded chunk is in the buffer as a
+    /// whole.
     #[inline(always)]
     pub(crate) fn finish<const LANES: usize, const AVALANCHE: bool, const PROTECTED: bool>(
         &self,
     ) -> u64
         requires lanes { IsLaneCount LANES }
         requires fits { self.now.len ≤ 16 * LANES }
-        ensures { (x : List ℕ) → PartsStandFor PROTECTED LANES self.now x →
+        ensures { (x : List ℕ) → PartsRepresent PROTECTED LANES self.now x →
             result
             ≡ seeded_hash (V3 LANES) (options AVALANCHE PROTECTED) self.now.secrets.now x }
     {
@@ -151,7 +151,7 @@ impl<'a> Parts<'a> {
     /// Starts again with no bytes.
     #[inline(always)]
     pub(crate) fn reset<const LANES: usize, const PROTECTED: bool>(&mut self)
-        ensures empty { PartsStandFor PROTECTED LANES self.new [] }
+        ensures empty { PartsRepresent PROTECTED LANES self.new [] }
         ensures count { self.new.folded.count.steps ≡ 0 }
         ensures secrets { self.new.secrets.now ≡ self.old.secrets.now }
         ensures len { self.new.len ≡ 0 }

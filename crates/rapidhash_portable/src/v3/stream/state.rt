@@ -18,12 +18,12 @@ pub(crate) struct State<'a, const LANES: usize> {
 }
 
 impl<'a, const LANES: usize> State<'a, LANES> {
-    ghost use Rattle.rapidhash_portable.specs.Stream.{PartsStandFor};
+    ghost use Rattle.rapidhash_portable.specs.Stream.{PartsRepresent};
 
     #[inline(always)]
     pub(crate) fn write<const PROTECTED: bool>(&mut self, piece: &[u8])
-        ensures adds { (x : List ℕ) → PartsStandFor PROTECTED LANES self.old.parts x →
-            PartsStandFor PROTECTED LANES self.new.parts (x ++ piece.now) }
+        ensures adds { (x : List ℕ) → PartsRepresent PROTECTED LANES self.old.parts x →
+            PartsRepresent PROTECTED LANES self.new.parts (x ++ piece.now) }
         ensures secrets { self.new.parts.secrets.now ≡ self.old.parts.secrets.now }
     {
         self.parts.write::<LANES, PROTECTED>(piece);
@@ -31,7 +31,7 @@ impl<'a, const LANES: usize> State<'a, LANES> {
 
     #[inline(always)]
     pub(crate) fn finish<const AVALANCHE: bool, const PROTECTED: bool>(&self) -> u64
-        ensures { (x : List ℕ) → PartsStandFor PROTECTED LANES self.now.parts x →
+        ensures { (x : List ℕ) → PartsRepresent PROTECTED LANES self.now.parts x →
             result
             ≡ seeded_hash (V3 LANES) (options AVALANCHE PROTECTED) self.now.parts.secrets.now x }
     {
@@ -40,7 +40,7 @@ impl<'a, const LANES: usize> State<'a, LANES> {
 
     #[inline(always)]
     pub(crate) fn reset<const PROTECTED: bool>(&mut self)
-        ensures empty { PartsStandFor PROTECTED LANES self.new.parts [] }
+        ensures empty { PartsRepresent PROTECTED LANES self.new.parts [] }
         ensures count { self.new.parts.folded.count.steps ≡ 0 }
         ensures secrets { self.new.parts.secrets.now ≡ self.old.parts.secrets.now }
     {

@@ -1,7 +1,7 @@
 use Rattle.std.proofs.Common.{◌≡◌, ◌+◌, ◌-◌, ◌++◌, false, take, drop, subst, sym, ap, ◌∙◌, arith}
 use Rattle.std.proofs.lemmas.List.{take_all}
 use Rattle.std.proofs.Math.Seq.{take-add}
-use Rattle.rapidhash_portable.specs.Stream.{StreamStandsFor}
+use Rattle.rapidhash_portable.specs.Stream.{StreamRepresents}
 use Rattle.test_effects.proofs.counts.after_single_bytes.Goals as goal
 
 pub loop-at-init : goal.loop-at-init
@@ -13,10 +13,10 @@ loop-at-preserved g c =
     let at = c.loop-at.at in
     let one : at + 1 - at ≡ 1 = omega arith in
     let more : take at bytes ++ take (at + 1 - at) (drop at bytes) ≡ take (at + 1) bytes = ap (λ n. take at bytes ++ take n (drop at bytes)) one ∙ sym (take-add at 1 bytes) in
-    subst (StreamStandsFor false c.write.new.self) more (c.write.ensures.adds (take at bytes) c.loop-at.invariant)
+    subst (StreamRepresents false c.write.new.self) more (c.write.ensures.adds (take at bytes) c.loop-at.invariant)
 
 pub returns : goal.returns
 returns g c =
     let whole = take_all c.loop-at.at c.args.bytes.now (omega arith) in
-    let stands = subst (StreamStandsFor false c.loop-at.hasher) whole c.loop-at.invariant in
+    let stands = subst (StreamRepresents false c.loop-at.hasher) whole c.loop-at.invariant in
     record { stands = stands; steps = stands.steps }

@@ -1,6 +1,6 @@
 use Rattle.std.proofs.Common.{◌≡◌, ◌/◌, ◌≤◌, false, length, not, nat_eq, take}
 use Rattle.rapidhash_portable.specs.Source.{is_marked, reader_of}
-use Rattle.rapidhash_portable.specs.Stream.{StreamStandsFor, secrets_of}
+use Rattle.rapidhash_portable.specs.Stream.{StreamRepresents, secrets_of}
 use Rattle.rapidhash_portable.proofs.ReadingLemmas.{HaveRead}
 use Rattle.rapidhash_portable.proofs.v3.readers.read_all.Given as goal
 
@@ -10,5 +10,5 @@ invariant-loop-turn g l = record {
   secrets : secrets_of l.hasher ≡ secrets_of l.fn.hasher;
   size : length l.buffer ≡ g.row.SIZE;
   within : l.at ≤ g.row.SIZE / 2;
-  read : HaveRead (g.R.Read.remaining (reader_of l.fn.source)) (g.R.Read.remaining (reader_of l.source)) (λ x. StreamStandsFor (not (nat_eq g.row.PROTECTED 0)) l.hasher x) (take l.at l.buffer) l._turn;
+  read : HaveRead (g.R.Read.remaining (reader_of l.fn.source)) (g.R.Read.remaining (reader_of l.source)) (λ x. StreamRepresents (not (nat_eq g.row.PROTECTED 0)) l.hasher x) (take l.at l.buffer) l._turn;
 }

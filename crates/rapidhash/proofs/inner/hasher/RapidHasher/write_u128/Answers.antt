@@ -1,9 +1,9 @@
 use Rattle.std.proofs.Common.{rules}
-use Rattle.rapidhash.proofs.HasherLemmas.{stands-wide}
+use Rattle.rapidhash.proofs.HasherLemmas.{represents-wide}
 use Rattle.rapidhash.proofs.inner.hasher.RapidHasher.write_u128.Goals as goal
 
 pub returns : goal.returns
 returns g c = record {
   secrets = search rules;
-  stands = λ start items h. stands-wide _ _ _ _ _ _ _ _ _ _ (search rules) (search rules) h;
+  represents = λ start items h. represents-wide _ _ _ _ _ _ _ _ _ _ (search rules) (search rules) h;
 }

@@ -5,7 +5,7 @@ use Rattle.std.proofs.lemmas.Slice.{overwrites}
 use Rattle.rapidhash_portable.specs.Stream.{folded_bytes}
 use Rattle.rapidhash_portable.proofs.FoldedLemmas.{PrefixIsFolded-left}
 use Rattle.rapidhash_portable.proofs.ListLemmas.{before-chunk, before-piece}
-use Rattle.rapidhash_portable.proofs.StreamLemmas.{PartsStandFor-rest, Running-filled, buffered-append, filled_chunk, length-buffered}
+use Rattle.rapidhash_portable.proofs.StreamLemmas.{PartsRepresent-rest, Running-filled, buffered-append, filled_chunk, length-buffered}
 use Rattle.rapidhash_portable.proofs.v3.stream.parts.Parts.write_past.Goals as goal
 use Rattle.rapidhash_portable.proofs.v3.stream.parts.Parts.write_past.Goals.{then-end-ge16, else-end-ge16}
 
@@ -47,4 +47,4 @@ returns-clause-adds g c = λ x h.
     let et : put_mid 16 (16 + length tail - 16) kept' c.copy_from_slice-3.new.self ≡ put_mid 16 (16 + length tail - 16) kept' tail = ap (λ (l : List ℕ). put_mid 16 (16 + length tail - 16) kept' l) c.copy_from_slice-3.ensures.after in
     let lk : length kept ≡ 128 = search (rules, overwrites) in
     let lk' : length kept' ≡ 128 = search (rules, overwrites) in
-    PartsStandFor-rest _ (record s { folded = _; any = true; kept = kept }) (x ++ d) c.if-end-ge16.carried tail kept' _ 16 (16 + length tail - 16) c.requires.lanes running c.fold_chunks-rest.ensures.all less refl lk sixteen carried ec lk' et
+    PartsRepresent-rest _ (record s { folded = _; any = true; kept = kept }) (x ++ d) c.if-end-ge16.carried tail kept' _ 16 (16 + length tail - 16) c.requires.lanes running c.fold_chunks-rest.ensures.all less refl lk sixteen carried ec lk' et

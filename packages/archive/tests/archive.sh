@@ -1,0 +1,100 @@
+#!/usr/bin/env bash
+# Builds the archive for users without the kit, unpacks it in a temporary directory, and uses its contents.
+. "$(dirname "$0")/../../../tests/cases.sh"
+needs_the_toolchain
+
+# What a developer's builds have left in the directories must not be packed.
+makes_the_archive() {
+  local left=("$top"/packages/rust{,/tools}/target/left)
+  for file in "${left[@]}"; do install -D /dev/null "$file"; done
+  make -s -C "$top" dist </dev/null && rm -f "${left[@]}" && tar -C "$room" -xzf "$top"/build/yervound-*.tar.gz &&
+    mv "$room"/yervound-* "$room/unpacked" && [ -z "$(find "$room/unpacked" -name left)" ] && has_the_licences "$room/unpacked"
+}
+
+# Compiles the check of the library and runs it with a vector file: FILE
+checks_vectors() {
+  cc -O2 -DRAPIDHASH_LINK -I"$room/unpacked/include" "$room/unpacked/check_vectors.c" \
+    "$room/unpacked/lib/librapidhash_c.a" -o "$room/check_vectors" && "$room/check_vectors" "$1"
+}
+
+# Checks that every case of the vector file agrees. Each of the eight calls has 445 cases up to 8193 bytes.
+agrees_with_the_vectors() {
+  checks_vectors "$room/unpacked/rapidhash_vectors.tsv" &&
+    awk -F '\t' '
+      /^#/ || $4 == "hash" || $3 ~ /^zeros/ { next }
+      { cases[$1]++ }
+      length($3) / 2 > longest[$1] { longest[$1] = length($3) / 2 }
+      END { for (call in cases) full += cases[call] == 445 && longest[call] == 8193; exit full != 8 }
+    ' "$room/unpacked/rapidhash_vectors.tsv"
+}
+
+# Checks that the program reports a wrong hash in the file.
+tells_a_wrong_vector() {
+  sed '$ s/[0-8]$/9/; t; $ s/9$/8/' "$room/unpacked/rapidhash_vectors.tsv" >"$room/turned" &&
+    ! checks_vectors "$room/turned"
+}
+
+# Checks that a program finds the Rust crate in the unpacked archive.
+builds_the_rust_crate() {
+  mkdir -p "$room/first/src" && cd "$room/first" &&
+    printf '[package]\nname = "first"\nedition = "2021"\n[dependencies]\n%s\n' \
+      "yervound-rapidhash = { path = \"$room/unpacked/packages/rust\" }" >Cargo.toml &&
+    echo 'fn main() { println!("{}", rapidhash::v3::rapidhash_v3(b"hello")) }' >src/main.rs &&
+    [ "$(cargo run --quiet --offline)" = 3327445792987248966 ]
+}
+
+# Builds the first program with the header alone, with the command on its page.
+builds_with_the_header() {
+  cd "$room/unpacked" && blocks C.md c hello >hello.c && blocks C.md sh Ipackages >commands &&
+    [ "$(bash -e commands)" = 3327445792987248966 ]
+}
+
+# Checks that the JavaScript binding contains its module.
+loads_the_module() {
+  node -e "import('$room/unpacked/packages/javascript/rapidhash.mjs').then(({ loadSync }) =>
+    process.exit(loadSync().v3('hello') === 3327445792987248966n ? 0 : 1))"
+}
+
+# Checks that pip finds the wheel for this Python.
+installs_a_wheel() {
+  /usr/bin/python3 -m venv "$room/environment" && cd "$room" &&
+    environment/bin/pip install --quiet --no-index --find-links unpacked/wheels yervound-rapidhash &&
+    [ "$(environment/bin/python -c 'import rapidhash; print(rapidhash.v3(b"hello"))')" = 3327445792987248966 ]
+}
+
+# Checks that the archive has what it names in place of each target of make that a page of it runs.
+has_what_make_builds() {
+  local target path
+  cd "$room/unpacked" || return
+  grep -rhoE --include='*.md' '\bmake (-C "\$YERVOUND" )?(install|wheel|npm|jar|postgresql|library|sqlite|page)\b' . |
+    sed 's/.* //' | sort -u >"$room/targets"
+  [ "$(wc -l <"$room/targets")" -ge 5 ] || return
+  while read -r target; do
+    for path in $(grep "^| \`make $target\` | " README.md | cut -d '|' -f 3 | grep -oE '`[^`]+`' | tr -d '`'); do
+      [ -e "$path" ] && : >"$room/$target.found" || return
+    done
+    [ -e "$room/$target.found" ] || { echo "make $target"; return 1; }
+  done <"$room/targets"
+}
+
+# Checks that a tree with a new file is refused before anything is built.
+refuses_changes() {
+  git clone -q -s "$top" "$room/changed" && touch "$room/changed/new" && ! make -s -C "$room/changed" release >"$room/said" 2>&1 &&
+    grep -x 'make release: the tree has changes: commit them first' "$room/said" && [ ! -e "$room/changed/build" ]
+}
+
+try release_of_a_changed_tree refuses_changes
+try archive makes_the_archive
+try results_of_make has_what_make_builds
+try program prints_the_known_hash "$room/unpacked"
+try vectors agrees_with_the_vectors
+try wrong_vector tells_a_wrong_vector
+# The files for pkg-config and CMake find the library in the unpacked archive.
+try library builds_by_pkg_config "$room/unpacked/lib"
+try_with cmake cmake builds_by_cmake "$room/unpacked"
+try rust_crate builds_the_rust_crate
+try header builds_with_the_header
+try_with module node loads_the_module
+try wheel installs_a_wheel
+
+finish

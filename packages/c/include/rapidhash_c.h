@@ -1,0 +1,600 @@
+/* rapidhash: fast, non-cryptographic 64-bit hashes in one header, with nothing to build or link.
+ *
+ *     uint64_t hash = rapidhash_v3("hello", 5);
+ *
+ * The header works with C99 to C23 and C++11 to C++23, with every compiler, on machines of 32 and 64 bits and of either
+ * byte order. Its names do not clash with those of the C++ library's rapidhash.h. For C++ there is also rapidhash.hpp.
+ *
+ * Linking. A program that defines RAPIDHASH_LINK before it includes the header gets declarations only. It links
+ * with -lrapidhash_c (pkg-config: rapidhash_c), which on x86-64-v2 Linux can be the formally verified library.
+ *
+ * Values. A hash is the same on every run and every machine, and will not change in any later version. To store one,
+ * write its canonical bytes: rapidhash_to_canonical.
+ *
+ * Security. These hashes are not cryptographic. The default secrets are public, so messages can be found that collide
+ * under every seed word. If others choose the messages, use rapidhash_make_secrets with a random number.
+ *
+ * Threads and memory. The functions allocate no memory, keep no global state, and are thread-safe. They call no
+ * functions but memcpy and memset.
+ *
+ * Preconditions of every hash function:
+ * - `bytes` points to `len` readable bytes, and `len` is below 2^63. If `len` is 0, `bytes` may be any pointer, even
+ *   NULL.
+ * - `secrets` is not NULL.
+ * - Nothing writes to the bytes or the secrets during the call.
+ */
+#ifndef RAPIDHASH_C_H
+#define RAPIDHASH_C_H
+
+#if !defined(__cplusplus) && !defined(_MSC_VER) && (!defined(__STDC_VERSION__) || __STDC_VERSION__ < 199901L)
+#error "rapidhash_c.h needs C99 or C++11"
+#endif
+#include <stdbool.h>
+#include <stddef.h>
+#include <stdint.h>
+#include <string.h>
+#ifdef _MSC_VER
+#include <intrin.h>
+#endif
+
+/* The version of this header. The hashes are those of the Rust crate rapidhash 4.5.1. */
+#define RAPIDHASH_C_VERSION_MAJOR 1
+#define RAPIDHASH_C_VERSION_MINOR 0
+#define RAPIDHASH_C_VERSION_STRING "1.0"
+#define RAPIDHASH_C_VERSION_NUMBER (100 * RAPIDHASH_C_VERSION_MAJOR + RAPIDHASH_C_VERSION_MINOR)
+
+/* The functions are inlined by default and only declared with RAPIDHASH_LINK. With RAPIDHASH_IMPLEMENTATION they are
+ * external symbols: packages/c/rapidhash_c.c builds the library in this way. */
+#if defined(RAPIDHASH_LINK) || defined(RAPIDHASH_IMPLEMENTATION)
+#define RAPIDHASH_API extern
+#else
+#define RAPIDHASH_API static inline
+#endif
+#ifdef __cplusplus
+extern "C" {
+#endif
+
+/* Returns the version of the library that the program is running with. It differs from RAPIDHASH_C_VERSION_NUMBER if
+ * the shared library and this header come from different versions. */
+RAPIDHASH_API uint32_t rapidhash_c_version(void);
+
+/* A seed and secrets for V1. */
+struct rapidhash_v1_secrets {
+    uint64_t seed;
+    uint64_t secrets[3];
+};
+
+/* A seed and secrets for every other version. */
+struct rapidhash_secrets {
+    uint64_t seed;
+    uint64_t secrets[7];
+};
+
+/* Derives a seed and secrets from `number`, as the Rust crate's RapidSecrets::seed does. Use a random number if
+ * collisions must be hard to predict. Make the secrets once and reuse them.
+ *
+ * `secrets` must not be NULL. Its previous contents are ignored, and nothing else may access it during the call. */
+RAPIDHASH_API void rapidhash_v1_make_secrets(uint64_t number, struct rapidhash_v1_secrets *secrets);
+RAPIDHASH_API void rapidhash_make_secrets(uint64_t number, struct rapidhash_secrets *secrets);
+
+/* Sets the default secrets and a seed derived from the word `seed`, as the Rust crate's RapidSecrets::seed_cpp does.
+ * According to that crate, the C++ library derives its seed in the same way. The default seed is that of word 0, and in
+ * V1 that of 0xbdd89aa982704029. The preconditions are those of rapidhash_make_secrets.
+ *
+ * Security: a seed word does not stop an attacker, since the default secrets are public. */
+RAPIDHASH_API void rapidhash_v1_seed_secrets(uint64_t seed, struct rapidhash_v1_secrets *secrets);
+RAPIDHASH_API void rapidhash_seed_secrets(uint64_t seed, struct rapidhash_secrets *secrets);
+
+/* Returns the hash with the default seed and secrets. In the Rust crate: rapidhash_v1, rapidhash_v2_inline (with the
+ * minor number and AVALANCHE), rapidhash_v3, and the inline functions of micro and nano. */
+RAPIDHASH_API uint64_t rapidhash_v1(const void *bytes, size_t len);
+RAPIDHASH_API uint64_t rapidhash_v2_0(const void *bytes, size_t len);
+RAPIDHASH_API uint64_t rapidhash_v2_1(const void *bytes, size_t len);
+RAPIDHASH_API uint64_t rapidhash_v2_2(const void *bytes, size_t len);
+RAPIDHASH_API uint64_t rapidhash_v3(const void *bytes, size_t len);
+RAPIDHASH_API uint64_t rapidhash_v3_micro(const void *bytes, size_t len);
+RAPIDHASH_API uint64_t rapidhash_v3_nano(const void *bytes, size_t len);
+
+/* Returns the hash with the default secrets and a seed derived from the word `seed`, as in rapidhash_seed_secrets.
+ * Messages can be found that collide under every seed word. */
+RAPIDHASH_API uint64_t rapidhash_v1_with_seed(const void *bytes, size_t len, uint64_t seed);
+RAPIDHASH_API uint64_t rapidhash_v2_0_with_seed(const void *bytes, size_t len, uint64_t seed);
+RAPIDHASH_API uint64_t rapidhash_v2_1_with_seed(const void *bytes, size_t len, uint64_t seed);
+RAPIDHASH_API uint64_t rapidhash_v2_2_with_seed(const void *bytes, size_t len, uint64_t seed);
+RAPIDHASH_API uint64_t rapidhash_v3_with_seed(const void *bytes, size_t len, uint64_t seed);
+RAPIDHASH_API uint64_t rapidhash_v3_micro_with_seed(const void *bytes, size_t len, uint64_t seed);
+RAPIDHASH_API uint64_t rapidhash_v3_nano_with_seed(const void *bytes, size_t len, uint64_t seed);
+
+/* Returns the hash with the caller's seed and secrets. */
+RAPIDHASH_API uint64_t rapidhash_v1_seeded(const void *bytes, size_t len, const struct rapidhash_v1_secrets *secrets);
+RAPIDHASH_API uint64_t rapidhash_v2_0_seeded(const void *bytes, size_t len, const struct rapidhash_secrets *secrets);
+RAPIDHASH_API uint64_t rapidhash_v2_1_seeded(const void *bytes, size_t len, const struct rapidhash_secrets *secrets);
+RAPIDHASH_API uint64_t rapidhash_v2_2_seeded(const void *bytes, size_t len, const struct rapidhash_secrets *secrets);
+RAPIDHASH_API uint64_t rapidhash_v3_seeded(const void *bytes, size_t len, const struct rapidhash_secrets *secrets);
+RAPIDHASH_API uint64_t rapidhash_v3_micro_seeded(
+    const void *bytes, size_t len, const struct rapidhash_secrets *secrets);
+RAPIDHASH_API uint64_t rapidhash_v3_nano_seeded(const void *bytes, size_t len, const struct rapidhash_secrets *secrets);
+
+/* Returns the protected V3 hash, which XORs the factors into each product. It differs from V3. */
+RAPIDHASH_API uint64_t rapidhash_v3_protected(const void *bytes, size_t len);
+RAPIDHASH_API uint64_t rapidhash_v3_protected_with_seed(const void *bytes, size_t len, uint64_t seed);
+RAPIDHASH_API uint64_t rapidhash_v3_protected_seeded(
+    const void *bytes, size_t len, const struct rapidhash_secrets *secrets);
+
+/* A streaming hasher for V3, micro, or nano: hashes a message in pieces. Call a _start function before any other, and
+ * treat the fields as private. It can live on the stack or in an array and be copied with =. It refers to its secrets,
+ * which must stay at the same address while the stream or a copy of it is in use. One thread at a time. */
+struct rapidhash_stream {
+    const struct rapidhash_secrets *secrets;
+    uint64_t lane[7];
+    unsigned char any;
+    unsigned char kept[128];
+    size_t len;
+    size_t lanes;
+};
+
+/* Appends the next `len` bytes to the message. */
+RAPIDHASH_API void rapidhash_stream_write(struct rapidhash_stream *stream, const void *bytes, size_t len);
+
+/* Returns the hash of the message so far: that of rapidhash_v3_seeded, or of micro or nano, for the whole message.
+ * Does not modify the stream: more bytes may follow. */
+RAPIDHASH_API uint64_t rapidhash_stream_finish(const struct rapidhash_stream *stream);
+
+/* Empties the message but keeps the secrets and the version. */
+RAPIDHASH_API void rapidhash_stream_reset(struct rapidhash_stream *stream);
+
+/* Starts a stream with 7, 5, or 3 lanes. Call one of the three functions below instead. */
+static inline void rapidhash_stream_start(
+    struct rapidhash_stream *stream, size_t lanes, const struct rapidhash_secrets *secrets)
+{
+    memset(stream, 0, sizeof *stream);
+    stream->secrets = secrets;
+    stream->lanes = lanes;
+    rapidhash_stream_reset(stream);
+}
+
+/* Starts an empty stream, whose hash will be that of rapidhash_v3_seeded, or of micro or nano. */
+static inline void rapidhash_v3_start(struct rapidhash_stream *stream, const struct rapidhash_secrets *secrets)
+{ rapidhash_stream_start(stream, 7, secrets); }
+static inline void rapidhash_v3_micro_start(struct rapidhash_stream *stream, const struct rapidhash_secrets *secrets)
+{ rapidhash_stream_start(stream, 5, secrets); }
+static inline void rapidhash_v3_nano_start(struct rapidhash_stream *stream, const struct rapidhash_secrets *secrets)
+{ rapidhash_stream_start(stream, 3, secrets); }
+
+/* Writes a hash as 8 bytes, most significant first, the same on every machine. `bytes` must have room for 8 bytes. */
+static inline void rapidhash_to_canonical(uint64_t hash, unsigned char *bytes)
+{ for (int at = 7; at >= 0; at--, hash >>= 8) bytes[at] = (unsigned char)(hash & 255); }
+
+/* Returns the hash that rapidhash_to_canonical wrote into these 8 bytes. */
+static inline uint64_t rapidhash_from_canonical(const unsigned char *bytes)
+{
+    uint64_t hash = 0;
+    for (int at = 0; at < 8; at++) hash = hash << 8 | bytes[at];
+    return hash;
+}
+
+#ifndef RAPIDHASH_LINK
+/* All names from here on that end with an underscore are private. docs/ALGORITHM.md has the algorithm and its terms.
+ *
+ * A function with FOLD is inlined into a caller whose constant arguments choose its code. Messages above 16 bytes leave
+ * the caller for a function with APART; those with rows, which need all registers, for another one. */
+#if defined(__GNUC__)
+#define RAPIDHASH_FOLD static inline __attribute__((always_inline, unused))
+#define RAPIDHASH_APART static __attribute__((noinline, unused))
+#elif defined(_MSC_VER)
+#define RAPIDHASH_FOLD static __forceinline
+#define RAPIDHASH_APART static __declspec(noinline) inline
+#else
+#define RAPIDHASH_FOLD static inline
+#define RAPIDHASH_APART static
+#endif
+
+/* A debug build may define this as assert. It states the bounds that every load and copy relies on. */
+#ifndef RAPIDHASH_ASSERT
+#define RAPIDHASH_ASSERT(condition) ((void)0)
+#endif
+/* Loads and the product. They depend on the machine, and nothing else does. A test replaces them by those of a file. */
+#ifdef RAPIDHASH_PRIMITIVES
+#include RAPIDHASH_PRIMITIVES
+#else
+#if defined(_MSC_VER) || (defined(__BYTE_ORDER__) && __BYTE_ORDER__ == __ORDER_LITTLE_ENDIAN__)
+#define RAPIDHASH_C_LITTLE(bits, word) word
+#elif defined(__GNUC__) && defined(__BYTE_ORDER__) && __BYTE_ORDER__ == __ORDER_BIG_ENDIAN__
+#define RAPIDHASH_C_LITTLE(bits, word) __builtin_bswap##bits(word)
+#endif
+
+/* Returns the little-endian number of 4 bytes. A compiler that does not define its byte order composes it. */
+RAPIDHASH_FOLD uint64_t rapidhash_load4_(const uint8_t *p)
+{
+#ifdef RAPIDHASH_C_LITTLE
+    uint32_t word;
+    memcpy(&word, p, sizeof word);
+    return RAPIDHASH_C_LITTLE(32, word);
+#else
+    return p[0] | (uint64_t)p[1] << 8 | (uint64_t)p[2] << 16 | (uint64_t)p[3] << 24;
+#endif
+}
+
+/* Returns the little-endian number of 8 bytes. */
+RAPIDHASH_FOLD uint64_t rapidhash_load8_(const uint8_t *p)
+{
+#ifdef RAPIDHASH_C_LITTLE
+    uint64_t word;
+    memcpy(&word, p, sizeof word);
+    return RAPIDHASH_C_LITTLE(64, word);
+#else
+    return rapidhash_load4_(p) | rapidhash_load4_(p + 4) << 32;
+#endif
+}
+
+/* Sets the halves of the 128-bit product. WebAssembly has a 128-bit type, but its product is a call. */
+RAPIDHASH_FOLD void rapidhash_multiply_(uint64_t a, uint64_t b, uint64_t *low, uint64_t *high)
+{
+#if defined(__SIZEOF_INT128__) && !defined(__wasm__) && !defined(RAPIDHASH_NO_INT128)
+    __extension__ typedef unsigned __int128 rapidhash_product_;
+    const rapidhash_product_ product = (rapidhash_product_)a * b;
+    *low = (uint64_t)product;
+    *high = (uint64_t)(product >> 64);
+#elif defined(_MSC_VER) && defined(_M_X64) && !defined(RAPIDHASH_NO_INT128)
+    *low = _umul128(a, b, high);
+#elif defined(_MSC_VER) && defined(_M_ARM64) && !defined(RAPIDHASH_NO_INT128)
+    *low = a * b;
+    *high = __umulh(a, b);
+#else
+    const uint64_t half = 0xffffffff, a0 = a & half, a1 = a >> 32, b0 = b & half, b1 = b >> 32;
+    const uint64_t bottom = a0 * b0, cross = a1 * b0, middle = (bottom >> 32) + (cross & half) + a0 * b1;
+#if UINTPTR_MAX > 0xffffffff || defined(__wasm__)
+    *low = a * b;
+#else
+    *low = middle << 32 | (bottom & half);
+#endif
+    *high = a1 * b1 + (cross >> 32) + (middle >> 32);
+#endif
+}
+#endif /* RAPIDHASH_PRIMITIVES */
+
+/* The default seed and secrets, V1's default seed, and the word of alternating bits. */
+static const struct rapidhash_secrets rapidhash_default_ = {UINT64_C(0x422765567d8fbfd6), {
+    UINT64_C(0x2d358dccaa6c78a5), UINT64_C(0x8bb84b93962eacc9), UINT64_C(0x4b33a62ed433d4a3),
+    UINT64_C(0x4d5a2da51de1aa47), UINT64_C(0xa0761d6478bd642f), UINT64_C(0xe7037ed1a0b428db),
+    UINT64_C(0x90ed1765281c388c)}};
+#define RAPIDHASH_C_V1_SEED UINT64_C(0x763305bbe7bea536)
+#define RAPIDHASH_C_BITS UINT64_C(0xaaaaaaaaaaaaaaaa)
+/* Returns the XOR of both halves of a product. With `guard`, the factors are XORed into it. */
+RAPIDHASH_FOLD uint64_t rapidhash_mix_(bool guard, uint64_t a, uint64_t b)
+{
+    uint64_t low, high;
+    rapidhash_multiply_(a, b, &low, &high);
+    return guard ? low ^ a ^ high ^ b : low ^ high;
+}
+
+/* Folds a pair of words into a lane. */
+RAPIDHASH_FOLD uint64_t rapidhash_fold_(bool guard, const uint8_t *p, uint64_t secret, uint64_t lane)
+{ return rapidhash_mix_(guard, rapidhash_load8_(p) ^ secret, rapidhash_load8_(p + 8) ^ lane); }
+
+/* Returns the hash of the close's factors and of the words that the avalanche mixes in. */
+RAPIDHASH_FOLD uint64_t rapidhash_close_(bool guard, uint64_t a, uint64_t b, uint64_t x, uint64_t y)
+{
+    uint64_t low, high;
+    rapidhash_multiply_(a, b, &low, &high);
+    return rapidhash_mix_(guard, (guard ? low ^ a : low) ^ x, (guard ? high ^ b : high) ^ y);
+}
+
+/* Folds `count` rows, 1 or 2, of 3, 5, or 7 lanes. */
+RAPIDHASH_FOLD void rapidhash_row_(
+    int lanes, int count, bool guard, uint64_t *lane, const uint8_t *p, const uint64_t *s)
+{
+#define RAPIDHASH_C_LANE(i) \
+    lane[i] = rapidhash_fold_(guard, p + 16 * i, s[i], lane[i]); \
+    if (count == 2) lane[i] = rapidhash_fold_(guard, p + 16 * (lanes + i), s[i], lane[i])
+    RAPIDHASH_C_LANE(0); RAPIDHASH_C_LANE(1); RAPIDHASH_C_LANE(2);
+    if (lanes > 3) { RAPIDHASH_C_LANE(3); RAPIDHASH_C_LANE(4); }
+    if (lanes > 5) { RAPIDHASH_C_LANE(5); RAPIDHASH_C_LANE(6); }
+#undef RAPIDHASH_C_LANE
+}
+
+/* Folds all rows that at least `least` bytes follow. Returns the position after them; `n` becomes the rest's length. */
+RAPIDHASH_FOLD const uint8_t *rapidhash_rows_(
+    int lanes, size_t least, bool guard, uint64_t *lane, const uint8_t *p, size_t *n, const uint64_t *s)
+{
+    const size_t row = 16 * (size_t)lanes;
+#if defined(__GNUC__) && !defined(__clang__)
+    const bool twice = lanes == 3; /* GCC has too few registers for two rows of more lanes. */
+#else
+    const bool twice = true;
+#endif
+    for (; twice && *n >= 2 * row + least; *n -= 2 * row, p += 2 * row)
+        rapidhash_row_(lanes, 2, guard, lane, p, s);
+    for (; *n >= row + least; *n -= row, p += row)
+        rapidhash_row_(lanes, 1, guard, lane, p, s);
+    RAPIDHASH_ASSERT(*n < row + least);
+    return p;
+}
+
+/* Returns the XOR of all lanes. */
+RAPIDHASH_FOLD uint64_t rapidhash_join_(int lanes, const uint64_t *lane)
+{
+    const uint64_t three = lane[0] ^ lane[1] ^ lane[2], five = lanes > 3 ? three ^ lane[3] ^ lane[4] : three;
+    return lanes > 5 ? five ^ lane[5] ^ lane[6] : five;
+}
+
+/* Sets the last two words of 1 to 16 bytes, in V1 of 1 to 3. V1, V2.0, and V2.1 join up to 3 bytes in one word. */
+RAPIDHASH_FOLD void rapidhash_words_(int shift, bool joined, const uint8_t *p, size_t n, uint64_t *a, uint64_t *b)
+{
+    RAPIDHASH_ASSERT(n <= 16);
+    if (n >= 4) {
+        *a = n >= 8 ? rapidhash_load8_(p) : rapidhash_load4_(p);
+        *b = n >= 8 ? rapidhash_load8_(p + n - 8) : rapidhash_load4_(p + n - 4);
+    } else if (n > 0) {
+        *a = (uint64_t)p[0] << shift | (joined ? (uint64_t)p[n / 2] << 32 : 0) | p[n - 1];
+        *b = joined ? 0 : p[n / 2];
+    }
+}
+
+/* V1 has 3 lanes, V2 above its limit 7, then rows of three. Returns the hash of their tail, at the end of n bytes. */
+RAPIDHASH_FOLD uint64_t rapidhash_tail_v1_v2_(
+    uint64_t before, const uint8_t *p, size_t t, uint64_t seed, const uint64_t *s, uint64_t x)
+{
+    RAPIDHASH_ASSERT(t <= 48);
+    if (t > 16) seed = rapidhash_fold_(false, p, s[2], seed ^ before);
+    if (t > 32) seed = rapidhash_fold_(false, p + 16, s[2], seed);
+    p += t;
+    return rapidhash_close_(false, rapidhash_load8_(p - 16) ^ s[1], rapidhash_load8_(p - 8) ^ seed, x, s[1]);
+}
+
+RAPIDHASH_APART uint64_t rapidhash_rows_v1_(const uint8_t *p, size_t n, uint64_t seed, const uint64_t *s)
+{
+    uint64_t lane[3] = {seed, seed, seed};
+    size_t t = n;
+    p = rapidhash_rows_(3, 0, false, lane, p, &t, s);
+    return rapidhash_tail_v1_v2_(s[1], p, t, rapidhash_join_(3, lane), s, s[0] ^ n);
+}
+
+RAPIDHASH_APART uint64_t rapidhash_long_v1_(const uint8_t *p, size_t n, uint64_t seed, const uint64_t *s)
+{ return n > 48 ? rapidhash_rows_v1_(p, n, seed, s) : rapidhash_tail_v1_v2_(s[1], p, n, seed, s, s[0] ^ n); }
+
+RAPIDHASH_FOLD uint64_t rapidhash_v1_(const uint8_t *p, size_t n, uint64_t seed, const uint64_t *s)
+{
+    uint64_t a = 0, b = 0;
+    seed ^= n;
+    if (n > 16) return rapidhash_long_v1_(p, n, seed, s);
+    if (n >= 4) {
+        a = rapidhash_load4_(p) << 32 | rapidhash_load4_(p + n - 4);
+        b = n >= 8 ? rapidhash_load4_(p + 4) << 32 | rapidhash_load4_(p + n - 8) : a;
+    } else {
+        rapidhash_words_(56, true, p, n, &a, &b);
+    }
+    return rapidhash_close_(false, a ^ s[1], b ^ seed, s[0] ^ n, s[1]);
+}
+
+RAPIDHASH_APART uint64_t rapidhash_rows_v2_(const uint8_t *p, size_t n, uint64_t seed, const uint64_t *s)
+{
+    uint64_t lane[7] = {seed, seed, seed, seed, seed, seed, seed}, others = 0;
+    size_t t = n;
+    if (n >= 112) {
+        p = rapidhash_rows_(7, 0, false, lane, p, &t, s);
+        others = lane[3] ^ lane[4] ^ lane[5] ^ lane[6];
+    }
+    p = rapidhash_rows_(3, 0, false, lane, p, &t, s);
+    return rapidhash_tail_v1_v2_(0, p, t, rapidhash_join_(3, lane) ^ others, s, RAPIDHASH_C_BITS ^ n);
+}
+
+RAPIDHASH_FOLD uint64_t rapidhash_v2_(int minor, const uint8_t *p, size_t n, uint64_t seed, const uint64_t *s)
+{
+    uint64_t a = 0, b = 0;
+    seed ^= n;
+    if (n > 16) {
+        if (n > (minor == 0 ? 56 : 64)) return rapidhash_rows_v2_(p, n, seed, s);
+        seed = rapidhash_fold_(false, p, s[0], seed);
+        if (n > 32) seed = rapidhash_fold_(false, p + 16, s[1], seed);
+        if (n > 48) seed = rapidhash_fold_(false, p + 32, s[minor == 2 ? 1 : 0], seed);
+        a = rapidhash_load8_(p + n - 16);
+        b = rapidhash_load8_(p + n - 8);
+    } else {
+        rapidhash_words_(56, minor < 2, p, n, &a, &b);
+    }
+    return rapidhash_close_(false, a ^ s[1], b ^ seed, RAPIDHASH_C_BITS ^ n, s[1]);
+}
+
+/* V3, micro, and nano have 7, 5, and 3 lanes. Returns the hash of their tail, which ends 16 bytes or more. */
+RAPIDHASH_FOLD uint64_t rapidhash_tail_v3_(
+    int lanes, bool guard, const uint8_t *p, size_t t, uint64_t seed, const uint64_t *s)
+{
+    RAPIDHASH_ASSERT(t > 0 && t <= 16 * (size_t)lanes);
+    if (t > 16) seed = rapidhash_fold_(guard, p, s[2], seed);
+    if (t > 32) seed = rapidhash_fold_(guard, p + 16, s[2], seed);
+    if (lanes > 3 && t > 48) seed = rapidhash_fold_(guard, p + 32, s[1], seed);
+    if (lanes > 3 && t > 64) seed = rapidhash_fold_(guard, p + 48, s[1], seed);
+    if (lanes > 5 && t > 80) seed = rapidhash_fold_(guard, p + 64, s[2], seed);
+    if (lanes > 5 && t > 96) seed = rapidhash_fold_(guard, p + 80, s[1], seed);
+    p += t;
+    return rapidhash_close_(guard, rapidhash_load8_(p - 16) ^ t ^ s[1], rapidhash_load8_(p - 8) ^ seed,
+                            RAPIDHASH_C_BITS, s[1] ^ t);
+}
+
+#define RAPIDHASH_C_LONG(form, lanes, guard) \
+    RAPIDHASH_APART uint64_t rapidhash_rows_##form##_(const uint8_t *p, size_t n, uint64_t seed, const uint64_t *s) \
+    { \
+        uint64_t lane[7] = {seed, seed, seed, seed, seed, seed, seed}; \
+        p = rapidhash_rows_(lanes, 1, guard, lane, p, &n, s); \
+        return rapidhash_tail_v3_(lanes, guard, p, n, rapidhash_join_(lanes, lane), s); \
+    } \
+    RAPIDHASH_APART uint64_t rapidhash_long_##form##_(const uint8_t *p, size_t n, uint64_t seed, const uint64_t *s) \
+    { \
+        return n > 16 * lanes ? rapidhash_rows_##form##_(p, n, seed, s) \
+                              : rapidhash_tail_v3_(lanes, guard, p, n, seed, s); \
+    }
+RAPIDHASH_C_LONG(v3, 7, false)
+RAPIDHASH_C_LONG(micro, 5, false)
+RAPIDHASH_C_LONG(nano, 3, false)
+RAPIDHASH_C_LONG(protected, 7, true)
+
+RAPIDHASH_FOLD uint64_t rapidhash_v3_(
+    int lanes, bool guard, const uint8_t *p, size_t n, uint64_t seed, const uint64_t *s)
+{
+    uint64_t a = 0, b = 0;
+    if (n > 16)
+        return guard        ? rapidhash_long_protected_(p, n, seed, s)
+               : lanes == 7 ? rapidhash_long_v3_(p, n, seed, s)
+               : lanes == 5 ? rapidhash_long_micro_(p, n, seed, s)
+                            : rapidhash_long_nano_(p, n, seed, s);
+    rapidhash_words_(45, false, p, n, &a, &b);
+    if (n >= 4) seed ^= n;
+    return rapidhash_close_(guard, a ^ s[1], b ^ seed, RAPIDHASH_C_BITS, s[1] ^ n);
+}
+
+/* Returns the premix of a word with the default secret `i`. */
+RAPIDHASH_FOLD uint64_t rapidhash_premix_(uint64_t x, int i)
+{
+    x ^= rapidhash_mix_(false, x ^ rapidhash_default_.secrets[2], rapidhash_default_.secrets[i]);
+    x |= (x & UINT64_C(0xffff) << 48) == 0 ? UINT64_C(1) << 63 : 0;
+    x |= (x & UINT64_C(0xffff) << 24) == 0 ? UINT64_C(1) << 31 : 0;
+    x |= (x & 0xffff) == 0 ? 1 : 0;
+    return x;
+}
+
+/* Returns the seed of a seed word. V1 mixes it with secret 0, and the other versions with secret 2. */
+RAPIDHASH_FOLD uint64_t rapidhash_seed_(uint64_t word, int i)
+{ return word ^ rapidhash_mix_(false, word ^ rapidhash_default_.secrets[i], rapidhash_default_.secrets[1]); }
+
+/* Sets `count` secrets, the first made from the seed and each other from the one before. Returns the seed. */
+RAPIDHASH_FOLD uint64_t rapidhash_chain_(uint64_t number, int count, uint64_t *secrets)
+{
+    const uint64_t seed = rapidhash_premix_(number, 0);
+    for (int i = 0; i < count; i++) secrets[i] = rapidhash_premix_(i == 0 ? seed : secrets[i - 1], i);
+    return seed;
+}
+
+/* Copies up to 128 bytes: the first and the last of them, which may overlap. Copies of fixed sizes need no call. */
+RAPIDHASH_FOLD void rapidhash_copy_(uint8_t *to, const uint8_t *from, size_t n)
+{
+#define RAPIDHASH_C_ENDS(size) (memcpy(to, from, size), memcpy(to + n - size, from + n - size, size))
+    RAPIDHASH_ASSERT(n <= 128);
+    if (n > 64) RAPIDHASH_C_ENDS(64);
+    else if (n > 32) RAPIDHASH_C_ENDS(32);
+    else if (n > 16) RAPIDHASH_C_ENDS(16);
+    else if (n >= 8) RAPIDHASH_C_ENDS(8);
+    else if (n >= 4) RAPIDHASH_C_ENDS(4);
+    else if (n > 0) to[0] = from[0], to[n / 2] = from[n / 2], to[n - 1] = from[n - 1];
+#undef RAPIDHASH_C_ENDS
+}
+
+/* Appends a piece that does not fit: fills the buffer and folds it, then folds in place each row of the piece that a
+ * further byte follows. The buffer, `kept`, then has the last 16 folded bytes and the rest. */
+RAPIDHASH_FOLD void rapidhash_past_(int lanes, struct rapidhash_stream *stream, const uint8_t *p, size_t n)
+{
+    const size_t row = 16 * (size_t)lanes, room = row - stream->len;
+    const uint64_t *const s = stream->secrets->secrets;
+    uint8_t *const kept = stream->kept, carried[16];
+    const uint8_t *rest = p + room;
+    uint64_t lane[7];
+    RAPIDHASH_ASSERT(stream->len <= row && n > room);
+    memcpy(lane, stream->lane, sizeof lane);
+    rapidhash_copy_(kept + 16 + stream->len, p, room);
+    rapidhash_row_(lanes, 1, false, lane, kept + 16, s);
+    n -= room;
+    rest = rapidhash_rows_(lanes, 1, false, lane, rest, &n, s);
+    memcpy(carried, rest == p + room ? kept + row : rest - 16, 16);
+    memcpy(kept, carried, 16);
+    rapidhash_copy_(kept + 16, rest, n);
+    memcpy(stream->lane, lane, sizeof lane);
+    stream->any = 1;
+    stream->len = n;
+}
+
+#define RAPIDHASH_C_PAST(lanes) \
+    RAPIDHASH_APART void rapidhash_past_##lanes##_(struct rapidhash_stream *stream, const uint8_t *p, size_t n) \
+    { rapidhash_past_(lanes, stream, p, n); }
+RAPIDHASH_C_PAST(7)
+RAPIDHASH_C_PAST(5)
+RAPIDHASH_C_PAST(3)
+
+/* Returns the hash of a stream. A message without a folded row is in the buffer as a whole. */
+RAPIDHASH_FOLD uint64_t rapidhash_finish_(int lanes, const struct rapidhash_stream *stream)
+{
+    const uint8_t *const p = stream->kept + 16;
+    const uint64_t *const s = stream->secrets->secrets;
+    RAPIDHASH_ASSERT(stream->len <= 16 * (size_t)lanes);
+    return stream->any ? rapidhash_tail_v3_(lanes, false, p, stream->len, rapidhash_join_(lanes, stream->lane), s)
+                       : rapidhash_v3_(lanes, false, p, stream->len, stream->secrets->seed, s);
+}
+
+/* Returns the hash of a form: 1 is V1, 20 to 22 are V2; V3, micro, and nano are their lanes, and 70 is protected V3. */
+RAPIDHASH_FOLD uint64_t rapidhash_form_(int form, const void *bytes, size_t n, uint64_t seed, const uint64_t *s)
+{
+    const uint8_t *const p = (const uint8_t *)bytes;
+    return form == 1    ? rapidhash_v1_(p, n, seed, s)
+           : form == 70 ? rapidhash_v3_(7, true, p, n, seed, s)
+           : form >= 20 ? rapidhash_v2_(form - 20, p, n, seed, s)
+                        : rapidhash_v3_(form, false, p, n, seed, s);
+}
+
+/* Defines the three hashes of a form: its name, its number, the struct of its secrets, its default seed, and the secret
+ * that a seed word is mixed with. */
+#define RAPIDHASH_C_FORM(name, form, own, default_seed, i) \
+    RAPIDHASH_API uint64_t name(const void *bytes, size_t len) \
+    { return rapidhash_form_(form, bytes, len, default_seed, rapidhash_default_.secrets); } \
+    RAPIDHASH_API uint64_t name##_with_seed(const void *bytes, size_t len, uint64_t seed) \
+    { return rapidhash_form_(form, bytes, len, rapidhash_seed_(seed, i), rapidhash_default_.secrets); } \
+    RAPIDHASH_API uint64_t name##_seeded(const void *bytes, size_t len, const struct own *secrets) \
+    { return rapidhash_form_(form, bytes, len, secrets->seed, secrets->secrets); }
+RAPIDHASH_C_FORM(rapidhash_v1, 1, rapidhash_v1_secrets, RAPIDHASH_C_V1_SEED, 0)
+RAPIDHASH_C_FORM(rapidhash_v2_0, 20, rapidhash_secrets, rapidhash_default_.seed, 2)
+RAPIDHASH_C_FORM(rapidhash_v2_1, 21, rapidhash_secrets, rapidhash_default_.seed, 2)
+RAPIDHASH_C_FORM(rapidhash_v2_2, 22, rapidhash_secrets, rapidhash_default_.seed, 2)
+RAPIDHASH_C_FORM(rapidhash_v3, 7, rapidhash_secrets, rapidhash_default_.seed, 2)
+RAPIDHASH_C_FORM(rapidhash_v3_micro, 5, rapidhash_secrets, rapidhash_default_.seed, 2)
+RAPIDHASH_C_FORM(rapidhash_v3_nano, 3, rapidhash_secrets, rapidhash_default_.seed, 2)
+RAPIDHASH_C_FORM(rapidhash_v3_protected, 70, rapidhash_secrets, rapidhash_default_.seed, 2)
+
+RAPIDHASH_API uint32_t rapidhash_c_version(void) { return RAPIDHASH_C_VERSION_NUMBER; }
+RAPIDHASH_API void rapidhash_v1_make_secrets(uint64_t number, struct rapidhash_v1_secrets *secrets)
+{ secrets->seed = rapidhash_chain_(number, 3, secrets->secrets); }
+RAPIDHASH_API void rapidhash_make_secrets(uint64_t number, struct rapidhash_secrets *secrets)
+{ secrets->seed = rapidhash_chain_(number, 7, secrets->secrets); }
+
+RAPIDHASH_API void rapidhash_v1_seed_secrets(uint64_t seed, struct rapidhash_v1_secrets *secrets)
+{
+    secrets->seed = rapidhash_seed_(seed, 0);
+    memcpy(secrets->secrets, rapidhash_default_.secrets, sizeof secrets->secrets);
+}
+RAPIDHASH_API void rapidhash_seed_secrets(uint64_t seed, struct rapidhash_secrets *secrets)
+{
+    *secrets = rapidhash_default_;
+    secrets->seed = rapidhash_seed_(seed, 2);
+}
+
+RAPIDHASH_API void rapidhash_stream_write(struct rapidhash_stream *stream, const void *bytes, size_t len)
+{
+    const uint8_t *const p = (const uint8_t *)bytes;
+    RAPIDHASH_ASSERT(stream->lanes == 7 || stream->lanes == 5 || stream->lanes == 3);
+    if (len <= 16 * stream->lanes - stream->len) {
+        rapidhash_copy_(stream->kept + 16 + stream->len, p, len);
+        stream->len += len;
+    } else if (stream->lanes == 7)
+        rapidhash_past_7_(stream, p, len);
+    else if (stream->lanes == 5)
+        rapidhash_past_5_(stream, p, len);
+    else
+        rapidhash_past_3_(stream, p, len);
+}
+
+RAPIDHASH_API uint64_t rapidhash_stream_finish(const struct rapidhash_stream *stream)
+{
+    return stream->lanes == 7   ? rapidhash_finish_(7, stream)
+           : stream->lanes == 5 ? rapidhash_finish_(5, stream)
+                                : rapidhash_finish_(3, stream);
+}
+
+RAPIDHASH_API void rapidhash_stream_reset(struct rapidhash_stream *stream)
+{
+    for (int i = 0; i < 7; i++) stream->lane[i] = stream->secrets->seed;
+    stream->any = 0;
+    stream->len = 0;
+}
+
+#endif /* RAPIDHASH_LINK */
+#ifdef __cplusplus
+}
+#endif
+#endif

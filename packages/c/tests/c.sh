@@ -1,0 +1,237 @@
+#!/usr/bin/env bash
+# Builds the C library, static and shared, and tests it and the bindings built on it:
+# - the code of the header by each compiler, C and C++ standard, and option, with all vectors
+# - the names that the two files define, and every call from C and C++
+# - the manual, the hashes compared with those of the Rust crate, and the Go package, also for other machines
+# - the library that cc alone compiles from the header
+# Languages that are missing on this machine are skipped and not counted.
+. "$(dirname "$0")/../../../tests/cases.sh"
+needs_the_toolchain
+header=$top/packages/c/include/rapidhash_c.h
+archive=$top/crates/rapidhash_c/out/librapidhash_c.a
+shared=$top/build/librapidhash_c.so.1
+vectors=("$room/rapidhash_vectors.tsv" "$top/crates/test_replay/data/secrets.tsv")
+
+# Lays out the two files of a library in the temporary directory as if installed, with the vectors.
+lay_out() {
+  make -s -C "$top" install PREFIX="$room" && cp "$archive" "$room/lib" &&
+    cp "$shared" "$room/lib/librapidhash_c.so.1" &&
+    python3 "$top/scripts/vectors.py" "$top/crates/test_replay/data" >"$room/rapidhash_vectors.tsv"
+}
+
+# Checks that a compiler accepts the header without a warning, and that its code has the values of the vectors:
+# COMPILER STANDARD
+is_the_library() {
+  "$1" "-std=$2" -x "${2//[0-9]*/}" -O2 -pedantic -Wall -Wextra -Wconversion -Wshadow -Werror -I"$top/packages/c/include" \
+    "$top/packages/c/tests/c_library.c" -o "$room/c_library" && "$room/c_library" "${vectors[@]}"
+}
+
+# Checks the code of the header as another compiler, machine, or option chooses it: COMPILER ARGUMENT..
+has_the_values() {
+  "$@" -I"$top/packages/c/include" "$top/packages/c/tests/c_library.c" -o "$room/c_library" &&
+    "$room/c_library" "${vectors[@]}"
+}
+
+# Prints the names that the header declares but does not define if a program links the library.
+declared() {
+  cc -E -P -DRAPIDHASH_LINK "$header" | grep -oE '^extern .* rapidhash_[a-z0-9_]+\(' | sed 's/.* //; s/(//' | sort
+}
+
+# Checks that a file defines the names of the header and no others: SUFFIX-OF-EACH-NAME NM-ARGUMENT..
+defines_the_header() {
+  declared | sed "s/\$/$1/" >"$room/declared"
+  # Fewer names mean that this test cannot read the layout of the header.
+  [ "$(wc -l <"$room/declared")" -gt 20 ] &&
+    nm "${@:2}" --defined-only --extern-only --format=posix >"$room/nm" &&
+    awk 'NF > 1 && $2 != "A" { sub(/@@RAPIDHASH_1[.][0-9]+$/, "@@RAPIDHASH_1", $1); print $1 }' "$room/nm" |
+    sort | diff "$room/declared" -
+}
+
+# Programs find each name under its first release. The C library provides every undefined name of the shared library.
+needs_the_c_library_alone() {
+  [ "$(readelf -dW "$shared" | grep NEEDED | grep -o '\[.*')" = '[libc.so.6]' ] &&
+    [ "$(nm -D --undefined-only "$shared" | awk '{ print $2 }')" = memmove@GLIBC_2.2.5 ]
+}
+
+# Checks that no relocation changes the code, and that no page is both writable and executable. The tables of the
+# dynamic linker must be read-only after it has filled them.
+keeps_code_and_data_apart() {
+  readelf -dW "$shared" >"$room/dynamic" && readelf -lW "$shared" >"$room/segments" &&
+    ! grep TEXTREL "$room/dynamic" && grep -q BIND_NOW "$room/dynamic" && grep -q GNU_RELRO "$room/segments" &&
+    grep -E '^ *GNU_STACK .* RW +0' "$room/segments" && ! grep -E ' RWE ' "$room/segments"
+}
+
+# Checks that the link keeps the unwind tables of an archive that has some. The kit writes none.
+keeps_unwind_tables() {
+  echo 'int rapidhash_probe(int number) { return number; }' >"$room/probe.c" &&
+    cc -O2 -fPIC -fasynchronous-unwind-tables -c "$room/probe.c" -o "$room/probe.o" &&
+    ar rc "$room/probe.a" "$room/probe.o" &&
+    make -s -C "$top" archive="$room/probe.a" shared="$room/probe.so" "$room/probe.so" &&
+    readelf -lW "$room/probe.so" | grep GNU_EH_FRAME
+}
+
+# Builds and runs a program of every call of the library, linked with an archive: COMPILER ARGUMENT..
+calls_from_c() {
+  "$@" -DRAPIDHASH_LINK -O2 -Wall -Wextra -Werror -I"$top/packages/c/include" "$top/packages/c/tests/c_library.c" -x none "$archive" \
+    -o "$room/c_library" && "$room/c_library" "${vectors[@]}" &&
+    nm --defined-only "$room/c_library" | grep ' T rapidhash_v3$'
+}
+
+# Tests the whole C++ header with the vectors, in a program without exceptions: COMPILER STANDARD
+calls_from_cpp() {
+  "$1" "-std=$2" -O2 -Wall -Wextra -Wpedantic -Werror -fno-exceptions -I"$top/packages/c/include" "$top/packages/c/tests/cpp_header.cpp" \
+    -o "$room/cpp_header" && "$room/cpp_header" "$room/rapidhash_vectors.tsv"
+}
+
+# Prints the functions in a text without comments: the return type, name, and parameters of each.
+signatures() {
+  tr -s ' \n' ' ' | grep -oE '(void|uint64_t|uint32_t) rapidhash_[a-z0-9_]+\([^()]*\)' | sed 's/( /(/' | sort
+}
+
+# Checks that the manual page has each function of the header with the same signature, and no other.
+manual_has_the_header() {
+  cc -E -P -DRAPIDHASH_LINK "$header" | signatures >"$room/signatures" &&
+    [ "$(wc -l <"$room/signatures")" -gt "$(declared | wc -l)" ] &&
+    mandoc -Tascii "$top/packages/c/rapidhash_c.3" | sed 's|.\x08||g' | signatures | diff "$room/signatures" -
+}
+
+# Runs the example on the manual page, built with the command on the page.
+manual_example_runs() {
+  local command
+  command=$(sed -n 's/^\.BR "\(cc .*\)" \.$/\1/p' "$top/packages/c/rapidhash_c.3" | sed 's/\\-/-/g') &&
+    sed -n '/^\.EX/,/^\.EE/ { /^\.E[XE]/d; s/\\e/\\/g; p }' "$top/packages/c/rapidhash_c.3" >"$room/hello.c" &&
+    (cd "$room" && export PKG_CONFIG_PATH=$room/lib/pkgconfig && bash -c "$command" &&
+      [ "$(LD_LIBRARY_PATH=$room/lib ./a.out | sort | uniq -c | xargs)" = '2 3327445792987248966' ])
+}
+
+# Builds the hashes of the Rust crate for a C program. The crate is the .rlib that RAPIDHASH_RLIB names, or else cargo
+# builds it from the directory rust.
+build_rust() {
+  local rlib=${RAPIDHASH_RLIB:-$room/cargo/release/librapidhash.rlib}
+  [ -f "$rlib" ] || cargo build --release --offline --quiet --manifest-path "$top/packages/rust/Cargo.toml" \
+    --target-dir "$room/cargo" || return 1
+  rustc -O --edition 2021 --crate-type staticlib "$top/packages/c/tests/fuzz.rs" --extern "rapidhash=$rlib" -o "$room/librust.a"
+}
+
+# Builds packages/c/tests/fuzz.c with the Rust crate: COMPILER ARGUMENT..
+beside_rust() {
+  "$@" -Wall -Wextra -Werror "-I$top/packages/c/include" -x c "$top/packages/c/tests/fuzz.c" -x none "$archive" "$room/librust.a" \
+    -lpthread -ldl -lm -o "$room/beside_rust"
+}
+
+# Compares the hashes of ten million random messages by the archive.
+random_messages() {
+  build_rust && beside_rust cc -O2 -DMESSAGES=10000000 -DRAPIDHASH_LINK && "$room/beside_rust"
+}
+
+# Prints the instructions of a hash of 16, 100, and 4,096 bytes: EXPRESSION SEED
+instructions() {
+  local length
+  printf '%s\n' '#include <stdlib.h>' '#include "rapidhash_c.h"' 'struct rapidhash_secrets secrets;' \
+    'uint64_t rust_hash(uint32_t, const void *, size_t, const struct rapidhash_secrets *);' \
+    "__attribute__((noinline)) uint64_t counted(const void *bytes, size_t length) { return $1; }" \
+    "int main(int count, char **words) { rapidhash_seed_secrets($2, &secrets);" \
+    'return counted(calloc(4096, 1), atoi(words[count - 1])) == 7; }' >"$room/counted.c" &&
+    cc -O2 -DRAPIDHASH_LINK "-I$top/packages/c/include" "$room"/{counted.c,librust.a} "$archive" -lpthread -ldl -lm -o "$room/counted" &&
+    for length in 16 100 4096; do
+      valgrind --tool=callgrind --callgrind-out-file=/dev/null --toggle-collect=counted "$room/counted" "$length" 2>&1
+    done | sed -n 's/.*Collected : //p' | xargs
+}
+
+# Compares the instructions of the archive with stored counts. In Rust, the compact code of an odd seed has others.
+counts_instructions() {
+  local name form counts call
+  build_rust && while read -r name form counts; do
+    call="rust_hash($form, bytes, length, &secrets)"
+    diff <(instructions "rapidhash_$name(bytes, length)" 0) - <<<"$counts" &&
+      [ "$(instructions "$call" 0)" != "$([ "$form" = 5 ] || [ "$form" = 3 ] || instructions "$call" 1)" ] || return 1
+  done <<<$'v2_2 22 31 110 2090\nv3 7 35 121 2074\nv3_micro 5 35 112 1960\nv3_nano 3 35 102 2011\nv3_protected 70 40 141 3008'
+}
+
+# Compares the header's hashes of a million inputs from libFuzzer, or of as many as fit into RAPIDHASH_FUZZ_SECONDS.
+fuzz() {
+  local runs=-runs=1000000
+  [ -z "${RAPIDHASH_FUZZ_SECONDS:-}" ] || runs=-max_total_time=$RAPIDHASH_FUZZ_SECONDS
+  beside_rust clang -O1 -fsanitize=fuzzer,address,undefined -fno-sanitize-recover=all &&
+    (cd "$room" && ./beside_rust -max_len=1200 -len_control=0 "$runs")
+}
+
+# Copies the repository and runs make there without the Rattle toolchain and without cargo: ARGUMENT..
+make_by_cc_alone() {
+  if [ ! -d "$room/bare" ]; then
+    mkdir "$room/bare" && (cd "$top" && git ls-files -z | xargs -0 cp --parents -t "$room/bare") || return 1
+  fi
+  make -s -C "$room/bare" kit= tools= "$@"
+}
+
+builds_from_the_header() {
+  [ "$(make_by_cc_alone 2>&1)" = \
+    'make: rt is not on PATH: building with cc the library alone, which is not the proved build' ] &&
+    make_by_cc_alone install PREFIX="$room/usr" && [ ! -e "$room/usr/bin" ]
+}
+
+# Compiles and runs the programs of docs/C.md and docs/CPP.md with the headers alone, as the pages say.
+first_program_runs() {
+  blocks "$top/docs/C.md" c hello >"$room/bare/hello.c" && blocks "$top/docs/C.md" sh Ipackages >"$room/commands" &&
+    blocks "$top/docs/CPP.md" cpp hello >"$room/bare/hello.cpp" && cd "$room/bare" &&
+    [ "$(bash -e "$room/commands")" = 3327445792987248966 ] &&
+    c++ -O2 -Ipackages/c/include hello.cpp -o hello_cpp && [ "$(./hello_cpp)" = 3327445792987248966 ] &&
+    blocks "$top/docs/C.md" c assert >seeds.c && cc -std=c99 -Ipackages/c/include seeds.c -o seeds && ./seeds &&
+    blocks "$top/docs/CPP.md" cpp assert >seeds.cpp && c++ -std=c++11 -Ipackages/c/include seeds.cpp -o seeds && ./seeds
+}
+
+# Tests the library that cc compiles from the header: it replaces the proved one on other machines.
+test_library_of_the_header() {
+  local archive=$room/usr/lib/librapidhash_c.a shared=$room/usr/lib/librapidhash_c.so.1
+  try header_build builds_from_the_header
+  try header_first_program first_program_runs
+  try header_names defines_the_header '' "$archive"
+  try header_names_of_the_shared_library defines_the_header @@RAPIDHASH_1 -D "$shared"
+  try header_soname bash -c 'readelf -dW "$1" | grep -F "SONAME" | grep -F "[librapidhash_c.so.1]"' - "$shared"
+  try header_archive calls_from_c cc -std=c99
+  try header_shared builds_by_pkg_config "$room/usr/lib"
+  try_with header_cmake cmake builds_by_cmake "$room/usr"
+  try header_uninstall make_by_cc_alone uninstall PREFIX="$room/usr"
+  try header_nothing_left bash -c '[ -z "$(find "$1" ! -type d)" ]' - "$room/usr"
+}
+
+prepare_by make -s -C "$top"
+prepare_by lay_out
+
+for compiler in gcc clang; do
+  for standard in c99 c11 c17 c2x c++11 c++17 c++20; do
+    try_with "header_${standard}_$compiler" "$compiler" is_the_library "$compiler" "$standard"
+  done
+done
+try header_c89 bash -c 'cc -std=c89 -fsyntax-only "$1" 2>&1 | grep -m 1 error: | grep "needs C99 or C++11"' - "$header"
+try header_without_int128 has_the_values cc -O2 -DRAPIDHASH_NO_INT128
+try header_with_assertions has_the_values cc -O3 -include assert.h -DRAPIDHASH_ASSERT=assert
+try_with header_with_sanitizers clang has_the_values clang -O1 -fsanitize=address,undefined -fno-sanitize-recover=all
+try_with header_tcc tcc has_the_values tcc
+if cc -m32 -x c - -o "$room/probe" 2>/dev/null <<<'#include <stdio.h>
+int main(void) { return 0; }'; then
+  try header_32_bits has_the_values cc -m32 -O2
+else
+  skip header_32_bits 'no libraries of 32 bits'
+fi
+try names_of_the_archive defines_the_header '' "$archive"
+try names_of_the_shared_library defines_the_header @@RAPIDHASH_1 -D "$shared"
+try needed_library needs_the_c_library_alone
+try build_id bash -c 'readelf -n "$1" | grep -E "^ *Build ID: [0-9a-f]{40}\$"' - "$shared"
+try code_and_data keeps_code_and_data_apart
+try unwind_tables keeps_unwind_tables
+try c_archive calls_from_c cc -std=c99
+try cpp_archive calls_from_c c++ -x c++
+for standard in c++11 c++17 c++20; do
+  try_with "cpp_header_$standard" g++ calls_from_cpp g++ "$standard"
+  try_with "cpp_header_${standard}_clang" clang++ calls_from_cpp clang++ "$standard"
+done
+try manual_and_header manual_has_the_header
+try example_of_the_manual manual_example_runs
+try_with random_messages rustc random_messages
+try_with instructions rustc counts_instructions
+try_with fuzz clang fuzz
+
+test_library_of_the_header
+
+finish

@@ -1,0 +1,325 @@
+/* Calls every function of the C library and compares the results with those of the Rust crate rapidhash 4.5.1. Two
+ * arguments name a file that scripts/vectors.py wrote and the file of secrets in crates/test_replay/data, whose values it
+ * also compares. Prints each value that differs. The last line counts the values, and the exit status is 1 if one
+ * differs. */
+#include <inttypes.h>
+#include <stdio.h>
+#include <stdlib.h>
+#include <string.h>
+
+#include "rapidhash_c.h"
+
+/* The bytes 0 to 119. The three V2 versions differ at 60 bytes, and V3, micro, and nano differ at 120 bytes. */
+static uint8_t bytes[120];
+static uint8_t large[1000000];
+
+/* A seed and secrets that all differ, so that each must arrive in its own place. */
+static const struct rapidhash_secrets own = {1, {2, 3, 5, 7, 11, 13, 17}};
+
+static int passed, failed;
+
+static void compare(const char *name, const char *what, uint64_t value, uint64_t known)
+{
+    if (value == known) {
+        passed++;
+    } else {
+        failed++;
+        printf("FAILED %s %.60s: %" PRIu64 ", and %" PRIu64 " is right\n", name, what, value, known);
+    }
+}
+
+struct form {
+    const char *name; /* as in the file */
+    size_t len;
+    uint64_t (*hash)(const void *, size_t);
+    uint64_t (*with_seed)(const void *, size_t, uint64_t);
+    uint64_t (*seeded)(const void *, size_t, const struct rapidhash_secrets *);
+    uint64_t of_default;
+};
+
+#define FORM(name, len, hash, of_default) {name, len, hash, hash##_with_seed, hash##_seeded, of_default}
+static const struct form forms[] = {
+    FORM("v2_0", 60, rapidhash_v2_0, 13186137053657766175u),
+    FORM("v2_1", 60, rapidhash_v2_1, 13012060828128651499u),
+    FORM("v2_2", 60, rapidhash_v2_2, 6181707366222537282u),
+    FORM("v3", 120, rapidhash_v3, 7088138960297660729u),
+    FORM("v3_micro", 120, rapidhash_v3_micro, 3055975138125564292u),
+    FORM("v3_nano", 120, rapidhash_v3_nano, 3778853990780631382u),
+    FORM("v3_protected", 120, rapidhash_v3_protected, 4753706306364957255u),
+};
+
+static void check_form(const struct form *form)
+{
+    struct rapidhash_secrets secrets;
+
+    compare(form->name, "with the default secrets", form->hash(bytes, form->len), form->of_default);
+    rapidhash_seed_secrets(0, &secrets);
+    compare(form->name, "with the secrets of word 0", form->seeded(bytes, form->len, &secrets), form->of_default);
+    compare(form->name, "with the seed word 0", form->with_seed(bytes, form->len, 0), form->of_default);
+}
+
+/* The secrets of V1 have a different type. */
+static void check_v1(void)
+{
+    const uint64_t of_default = 13504714392771582078u, default_word = 0xbdd89aa982704029u;
+    struct rapidhash_v1_secrets secrets;
+
+    compare("v1", "with the default secrets", rapidhash_v1(bytes, 60), of_default);
+    compare("v1", "with its default word", rapidhash_v1_with_seed(bytes, 60, default_word), of_default);
+    rapidhash_v1_seed_secrets(default_word, &secrets);
+    compare("v1", "with the secrets of its default word", rapidhash_v1_seeded(bytes, 60, &secrets), of_default);
+    compare("v1", "of a line", rapidhash_v1("something\n", 10), 15965596575264898037u);
+}
+
+static void check_made_secrets(void)
+{
+    static const struct rapidhash_secrets known = {0x6d95b902ea9b0223u, {
+        0x4e6220ca4fb6cfceu, 0x192d182c120632f7u, 0xf457c94ec4a04866u, 0x4197ccbf5bf8f9d7u,
+        0xfe96dfa00f02022du, 0x7c8eb6ba6268e054u, 0x6333af257102a99eu}};
+    struct rapidhash_v1_secrets of_v1;
+    struct rapidhash_secrets of_others;
+
+    rapidhash_v1_make_secrets(0x12345678, &of_v1);
+    compare("v1", "seed and secrets that are made", memcmp(&of_v1, &known, sizeof of_v1) == 0, 1);
+    rapidhash_make_secrets(0x12345678, &of_others);
+    compare("all but v1", "seed and secrets that are made", memcmp(&of_others, &known, sizeof known) == 0, 1);
+}
+
+struct stream_form {
+    const char *name;
+    void (*start)(struct rapidhash_stream *, const struct rapidhash_secrets *);
+    uint64_t (*hash)(const void *, size_t);
+    uint64_t (*seeded)(const void *, size_t, const struct rapidhash_secrets *);
+    uint64_t of_large;
+};
+
+static const struct stream_form stream_forms[] = {
+    {"v3", rapidhash_v3_start, rapidhash_v3, rapidhash_v3_seeded, 3141031059669918984u},
+    {"micro", rapidhash_v3_micro_start, rapidhash_v3_micro, rapidhash_v3_micro_seeded, 3665126695038604524u},
+    {"nano", rapidhash_v3_nano_start, rapidhash_v3_nano, rapidhash_v3_nano_seeded, 13390060429168413506u},
+};
+
+/* Writes pieces of 1, 2, 3 bytes, and so on, after a reset of a stream that had other bytes. Requests the hash after
+ * each piece, which changes nothing. */
+static void check_uneven_pieces(const struct stream_form *form)
+{
+    const uint64_t known = form->seeded(bytes, sizeof bytes, &own);
+    struct rapidhash_stream stream;
+    size_t at, size;
+
+    form->start(&stream, &own);
+    rapidhash_stream_write(&stream, bytes, 100);
+    rapidhash_stream_reset(&stream);
+    for (at = 0, size = 1; at < sizeof bytes; at += size, size++) {
+        if (size > sizeof bytes - at)
+            size = sizeof bytes - at;
+        rapidhash_stream_write(&stream, bytes + at, size);
+        (void)rapidhash_stream_finish(&stream);
+    }
+    compare(form->name, "in uneven pieces", rapidhash_stream_finish(&stream), known);
+    compare(form->name, "finished again", rapidhash_stream_finish(&stream), known);
+}
+
+/* Alternates the writes to both streams, so that each would disturb the other if they shared anything. */
+static void check_copy(const struct stream_form *form)
+{
+    const uint64_t known = form->seeded(bytes, sizeof bytes, &own);
+    struct rapidhash_stream first, second;
+
+    form->start(&first, &own);
+    rapidhash_stream_write(&first, bytes, 60);
+    second = first;
+    rapidhash_stream_write(&first, bytes + 60, 30);
+    rapidhash_stream_write(&second, bytes + 60, 60);
+    rapidhash_stream_write(&first, bytes + 90, 30);
+    compare(form->name, "that was copied", rapidhash_stream_finish(&first), known);
+    compare(form->name, "of the copy", rapidhash_stream_finish(&second), known);
+}
+
+static void check_large(const struct stream_form *form)
+{
+    static const size_t sizes[] = {8, 64, 112, 1024, 65536, sizeof large};
+    struct rapidhash_secrets secrets;
+    struct rapidhash_stream stream;
+    char what[40];
+    size_t i, at;
+
+    compare(form->name, "of a large message", form->hash(large, sizeof large), form->of_large);
+    rapidhash_seed_secrets(0, &secrets);
+    form->start(&stream, &secrets);
+    for (i = 0; i < sizeof sizes / sizeof sizes[0]; i++) {
+        rapidhash_stream_reset(&stream);
+        for (at = 0; at < sizeof large; at += sizes[i])
+            rapidhash_stream_write(&stream, large + at, sizes[i] < sizeof large - at ? sizes[i] : sizeof large - at);
+        snprintf(what, sizeof what, "in pieces of %lu bytes", (unsigned long)sizes[i]);
+        compare(form->name, what, rapidhash_stream_finish(&stream), form->of_large);
+    }
+}
+
+/* Checks that a stream hashes a large piece in place. It copies only the bytes that fill its buffer. Here these are the
+ * first chunk of 112 bytes, and at the end the last 2 bytes with the 16 before them. After these 18 bytes, the buffer
+ * still has the bytes of the first chunk. It would have those of the third if the stream copied each chunk. No contract
+ * states this. */
+static void check_copied_bytes(void)
+{
+    const size_t len = 3 * 112 + 2;
+    struct rapidhash_stream stream;
+    size_t i, differing = 0;
+
+    rapidhash_v3_start(&stream, &own);
+    rapidhash_stream_write(&stream, large, len);
+    for (i = 0; i < sizeof stream.kept; i++)
+        differing += stream.kept[i] != (i < 18 ? large[len - 18 + i] : large[i - 16]);
+    compare("v3", "bytes that differ in the buffer", differing, 0);
+}
+
+/* Checks that the most significant byte comes first, even if it is above 127. */
+static void check_canonical(void)
+{
+    static const unsigned char known[8] = {0xf0, 0x1e, 0xd2, 0x3c, 0xb4, 0x5a, 0x96, 0x78};
+    unsigned char stored[8];
+
+    rapidhash_to_canonical(0xf01ed23cb45a9678u, stored);
+    compare("canonical bytes", "stored", memcmp(stored, known, sizeof known) == 0, 1);
+    compare("canonical bytes", "read", rapidhash_from_canonical(known), 0xf01ed23cb45a9678u);
+}
+
+/* Compares the hashes of a case by its form and by the rule of its secrets. */
+static void check_case(const char *name, const char *rule, const void *message, size_t len, uint64_t known)
+{
+    const char *at = strchr(rule, ':');
+    uint64_t words[8] = {0};
+    struct rapidhash_v1_secrets of_v1;
+    struct rapidhash_secrets secrets;
+    size_t i;
+
+    for (i = 0; at != NULL && i < 8; i++) {
+        words[i] = strtoull(at + 1, NULL, 10);
+        at = strchr(at + 1, ',');
+    }
+    memcpy(&of_v1, words, sizeof of_v1);
+    memcpy(&secrets, words, sizeof secrets);
+    for (i = 0; strcmp(name, "v1") != 0 && strcmp(forms[i].name, name) != 0; i++)
+        ;
+    if (strncmp(rule, "make:", 5) == 0) {
+        rapidhash_v1_make_secrets(words[0], &of_v1);
+        rapidhash_make_secrets(words[0], &secrets);
+    } else if (strncmp(rule, "word:", 5) == 0) {
+        rapidhash_v1_seed_secrets(words[0], &of_v1);
+        rapidhash_seed_secrets(words[0], &secrets);
+        compare(name, rule, name[1] == '1' ? rapidhash_v1_with_seed(message, len, words[0])
+                                           : forms[i].with_seed(message, len, words[0]), known);
+    }
+    if (strcmp(rule, "default") == 0)
+        compare(name, rule, name[1] == '1' ? rapidhash_v1(message, len) : forms[i].hash(message, len), known);
+    else
+        compare(name, rule, name[1] == '1' ? rapidhash_v1_seeded(message, len, &of_v1)
+                                           : forms[i].seeded(message, len, &secrets), known);
+}
+
+/* Without optimizations, most versions take a minute for a message above 4 GiB, and V3 alone hashes one. */
+#ifdef __OPTIMIZE__
+#define IS_FAST 1
+#else
+#define IS_FAST 0
+#endif
+
+/* Compares the cases of a file. Each message is in memory of its length, so that a tool sees each read past its end.
+ * Bytes of 0 that nobody writes need no memory. */
+static void check_vectors(const char *path)
+{
+    static char line[20000], name[20], secrets[200], digits[17000];
+    uint64_t known, cases = 0;
+    FILE *const file = fopen(path, "r");
+
+    while (file != NULL && fgets(line, sizeof line, file) != NULL) {
+        unsigned long long len;
+        unsigned char *message;
+        size_t i;
+        unsigned byte;
+
+        if (line[0] == '#' || sscanf(line, "%19s %199s %16999s %" SCNu64, name, secrets, digits, &known) != 4)
+            continue;
+        cases++;
+        if (sscanf(digits, "zeros:%llu", &len) != 1)
+            len = strlen(digits) / 2;
+        message = NULL;
+        if (len <= SIZE_MAX && (IS_FAST || len < sizeof line || strcmp(name, "v3") == 0))
+            message = (unsigned char *)calloc((size_t)len, 1);
+        if (message == NULL && len > 0) {
+            printf("skipped %s of %s: no memory or no time for it\n", name, digits);
+            continue;
+        }
+        for (i = 0; sscanf(digits + 2 * i, "%2x", &byte) == 1; i++)
+            message[i] = (unsigned char)byte;
+        check_case(name, secrets, message, (size_t)len, known);
+        free(message);
+    }
+    compare(path, "cases", cases, 3568);
+    if (file != NULL)
+        fclose(file);
+}
+
+/* Compares the seed and secrets of each case of a file that the library has a call for. */
+static void check_file_of_secrets(const char *path)
+{
+    static char line[500], form[8], call[24];
+    uint64_t number, cases = 0;
+    FILE *const file = fopen(path, "r");
+
+    while (file != NULL && fgets(line, sizeof line, file) != NULL) {
+        struct rapidhash_v1_secrets of_v1;
+        struct rapidhash_secrets others;
+        char *text;
+        int i, read = 0;
+
+        if (sscanf(line, "%7[^\t]\t%23[^\t]\t%" SCNu64 "%n", form, call, &number, &read) != 3
+            || (strcmp(call, "seed") != 0 && strcmp(call, "seed_cpp") != 0))
+            continue;
+        if (strcmp(form, "v1") == 0) {
+            (strcmp(call, "seed") == 0 ? rapidhash_v1_make_secrets : rapidhash_v1_seed_secrets)(number, &of_v1);
+            others.seed = of_v1.seed;
+            memcpy(others.secrets, of_v1.secrets, sizeof of_v1.secrets);
+        } else {
+            (strcmp(call, "seed") == 0 ? rapidhash_make_secrets : rapidhash_seed_secrets)(number, &others);
+        }
+        text = line + read;
+        for (i = 0; i < (strcmp(form, "v1") == 0 ? 4 : 8); i++)
+            compare("secrets", line, i == 0 ? others.seed : others.secrets[i - 1], strtoull(text, &text, 10));
+        cases++;
+    }
+    compare(path, "cases", cases, 411);
+    if (file != NULL)
+        fclose(file);
+}
+
+int main(int count, char **words)
+{
+    size_t i;
+
+    for (i = 0; i < sizeof bytes; i++)
+        bytes[i] = (uint8_t)i;
+    for (i = 0; i < sizeof large; i++)
+        large[i] = (uint8_t)(i % 251);
+    compare("the library", "version", rapidhash_c_version(), RAPIDHASH_C_VERSION_NUMBER);
+    if (sizeof(size_t) == 8)
+        compare("a stream", "size", sizeof(struct rapidhash_stream), 216);
+    compare("v3", "of no bytes", rapidhash_v3(NULL, 0), 232177599295442350u);
+    check_v1();
+    for (i = 0; i < sizeof forms / sizeof forms[0]; i++)
+        check_form(&forms[i]);
+    check_made_secrets();
+    for (i = 0; i < sizeof stream_forms / sizeof stream_forms[0]; i++) {
+        check_uneven_pieces(&stream_forms[i]);
+        check_copy(&stream_forms[i]);
+        check_large(&stream_forms[i]);
+    }
+    check_copied_bytes();
+    check_canonical();
+    if (count > 1)
+        check_vectors(words[1]);
+    if (count > 2)
+        check_file_of_secrets(words[2]);
+    printf("%d passed, %d failed\n", passed, failed);
+    return failed != 0;
+}

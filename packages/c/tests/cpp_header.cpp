@@ -1,0 +1,253 @@
+/* Calls everything in rapidhash.hpp and compares the results with those of the Rust crate rapidhash 4.5.1. They are in
+ * a file that scripts/vectors.py wrote, whose name is the argument, and in packages/c/tests/c_library.c. Prints each value that
+ * differs. The last line counts the values, and the exit status is 1 if one differs. */
+#include <rapidhash.hpp>
+
+#include <cstdio>
+#include <cstdlib>
+#include <fstream>
+#include <functional>
+#include <iterator>
+#include <memory>
+#include <numeric>
+#include <sstream>
+#include <unordered_map>
+#include <unordered_set>
+#include <vector>
+#if __cplusplus >= 201703L
+#include <string_view>
+#endif
+#if __cplusplus >= 202002L
+#include <span>
+#endif
+
+static int passed, failed;
+
+static void compare(const std::string &name, std::uint64_t value, std::uint64_t known)
+{
+    if (value == known) {
+        passed++;
+    } else {
+        failed++;
+        std::printf("FAILED %s: %llu, and %llu is right\n", name.c_str(), static_cast<unsigned long long>(value),
+                    static_cast<unsigned long long>(known));
+    }
+}
+
+static const std::uint64_t hash_of_hello = 3327445792987248966U;
+static const rapidhash::secrets own = {1, {2, 3, 5, 7, 11, 13, 17}};
+
+/* Returns the bytes 0 to 119. */
+static std::vector<unsigned char> counted()
+{
+    std::vector<unsigned char> message(120);
+
+    std::iota(message.begin(), message.end(), 0);
+    return message;
+}
+
+/* Finds whether hash can be called with a text and a number, which could be its length or a seed. */
+template <class Number, class = void> struct takes_a_number : std::false_type {};
+template <class Number>
+struct takes_a_number<Number, decltype(void(rapidhash::hash("hello", std::declval<Number>())))> : std::true_type {};
+static_assert(takes_a_number<rapidhash::seed>::value, "the test sees a call that compiles");
+static_assert(!takes_a_number<int>::value && !takes_a_number<std::size_t>::value, "a number is no length of a text");
+
+/* Only a range of bytes converts to bytes, and a length does not convert to a seed. */
+using rapidhash::bytes;
+static_assert(!std::is_convertible<std::wstring, bytes>::value, "a wide string is no bytes");
+static_assert(!std::is_convertible<std::vector<std::uint16_t>, bytes>::value, "numbers of 16 bits are no bytes");
+static_assert(!std::is_convertible<std::nullptr_t, bytes>::value, "nothing is no text");
+static_assert(!std::is_convertible<int, rapidhash::seed>::value, "a number is no seed");
+static_assert(std::is_copy_assignable<rapidhash::stream>::value, "a stream can be copied");
+static_assert(noexcept(rapidhash::hasher()(std::string())), "a hasher throws nothing");
+
+static void check_texts()
+{
+    const std::string text = "hello";
+    const std::vector<signed char> vector(text.begin(), text.end());
+    const std::array<unsigned char, 5> array = {{'h', 'e', 'l', 'l', 'o'}};
+
+    compare("a literal", rapidhash::hash("hello"), hash_of_hello);
+    compare("a string", rapidhash::hash(text), hash_of_hello);
+    compare("a vector", rapidhash::hash(vector), hash_of_hello);
+    compare("an array", rapidhash::hash(array), hash_of_hello);
+    compare("a pointer and a length", rapidhash::hash({"hello, world", 5}), hash_of_hello);
+    compare("a part of a string", rapidhash::hash({text.data(), 5}), hash_of_hello);
+    compare("no bytes", rapidhash::hash(std::string()), 232177599295442350U);
+    compare("no bytes at no address", rapidhash::hash({nullptr, 0}), 232177599295442350U);
+#if __cplusplus >= 201703L
+    compare("a view", rapidhash::hash(std::string_view("hello, world").substr(0, 5)), hash_of_hello);
+    const std::array<std::byte, 5> plain = {{std::byte{0x68}, std::byte{0x65}, std::byte{0x6c}, std::byte{0x6c},
+                                             std::byte{0x6f}}};
+    compare("an array of std::byte", rapidhash::hash(plain), hash_of_hello);
+#endif
+#if __cplusplus >= 202002L
+    compare("a span", rapidhash::hash(std::as_bytes(std::span(text))), hash_of_hello);
+    compare("a text of UTF-8", rapidhash::hash(std::u8string_view(u8"hello")), hash_of_hello);
+#endif
+}
+
+static void check_defaults()
+{
+    compare("a hasher", rapidhash::hasher()("hello"), static_cast<std::size_t>(hash_of_hello));
+    compare("a stream", rapidhash::stream().update("hel").update("lo!", 2).finish(), hash_of_hello);
+}
+
+/* Checks that a copy has its own secrets: the first stream gets other secrets and is then destroyed. */
+static void check_copies()
+{
+    const std::vector<unsigned char> message = counted();
+    const std::uint64_t known = rapidhash::hash(message, own);
+    std::unique_ptr<rapidhash::stream> first(new rapidhash::stream(own));
+    rapidhash::stream assigned;
+
+    first->update(message.data(), 60);
+    rapidhash::stream copy(*first);
+    assigned = *first;
+    *first = rapidhash::stream(rapidhash::seed(1)).update("other");
+    first.reset();
+    compare("a copied stream", copy.update(message.data() + 60, 60).finish(), known);
+    compare("an assigned stream", assigned.update(message.data() + 60, 60).finish(), known);
+    assigned.reset();
+    compare("a stream after a reset", assigned.update(message).finish(), known);
+}
+
+static void check_tables()
+{
+    std::unordered_map<std::string, int, rapidhash::hasher> counts;
+    std::unordered_set<std::string, rapidhash::hasher> names(0, rapidhash::hasher(rapidhash::make_secrets(1)));
+
+    for (int number = 0; number < 1000; number++) {
+        counts[std::to_string(number % 100)]++;
+        names.insert(std::to_string(number));
+    }
+    compare("the keys of a map", counts.size(), 100);
+    compare("a value of a map", static_cast<std::uint64_t>(counts["77"]), 10);
+    compare("the keys of a set", names.size(), 1000);
+    compare("a key that is not there", names.count("1000"), 0);
+#if __cplusplus >= 202002L
+    std::unordered_map<std::string, int, rapidhash::hasher, std::equal_to<>> found(counts.begin(), counts.end());
+    compare("a key by a view", found.count(std::string_view("77")), 1);
+    compare("a key by a text", static_cast<std::uint64_t>(found.find("77")->second), 10);
+#endif
+}
+
+static void check_stored()
+{
+    const std::array<unsigned char, 8> known = {{0x2e, 0x2d, 0x76, 0x51, 0xb4, 0x5f, 0x79, 0x46}};
+    std::uint64_t read = 7;
+
+    compare("bytes", rapidhash::to_canonical(hash_of_hello) == known && rapidhash::to_canonical(~0ULL)[0] == 255, 1);
+    compare("a hash of bytes", rapidhash::from_canonical(known), hash_of_hello);
+    compare("digits", rapidhash::to_hex(0x0e2d7a115cd0b9f6U) == "0e2d7a115cd0b9f6", 1);
+    for (const char *wrong : {"", "0e2d7a115cd0b9f", "0e2d7a115cd0b9f66", "0e2d7a115cd0b9fg", "0e2d7a115cd0b9f/",
+                              "0e2d7a115cd0b9f:", "0e2d7a115cd0b9f@", "0e2d7a115cd0b9f`", "0e2d7a115cd0b9fG",
+                              " 0e2d7a115cd0b9f", "0x2d7a115cd0b9f6"})
+        compare(std::string("what are no digits: ") + wrong, rapidhash::from_hex(wrong, read), 0);
+    compare("15 digits before another one", rapidhash::from_hex({"0e2d7a115cd0b9f6", 15}, read), 0);
+    compare("the hash after that", read, 7);
+    compare("a hash of digits", rapidhash::from_hex("0e2d7a115cd0b9f6", read) ? read : 0, 0x0e2d7a115cd0b9f6U);
+    compare("digits in upper case", rapidhash::from_hex(std::string("ABCDEF0123456789"), read) ? read : 0,
+            0xabcdef0123456789U);
+}
+
+/* Checks a case of the file with secrets in each way: whole, with a hasher, and in pieces of 1, 2, 3 bytes, and so on.
+ * The two last may have a seed. */
+template <class Start>
+static void check_case(const std::string &name, const Start &start, const std::string &message, std::uint64_t known)
+{
+    rapidhash::stream pieces(start);
+
+    compare(name, rapidhash::hash(message, start), known);
+    compare(name + ", by a hasher", rapidhash::hasher(start)(message), static_cast<std::size_t>(known));
+    for (std::size_t at = 0, size = 1; at < message.size(); at += size, size++) {
+        if (size > message.size() - at)
+            size = message.size() - at;
+        pieces.update(message.data() + at, size);
+    }
+    compare(name + ", in pieces", pieces.finish(), known);
+}
+
+/* Checks a case of the file with the secrets that its rule names. */
+static void check_rule(const std::string &rule, const std::string &message, std::uint64_t known)
+{
+    const std::string name = "a vector of " + std::to_string(message.size()) + " bytes with " + rule;
+    std::istringstream list(rule.substr(rule.find(':') + 1));
+    std::vector<std::uint64_t> words;
+
+    for (std::string word; std::getline(list, word, ',');)
+        words.push_back(std::strtoull(word.c_str(), nullptr, 10));
+    if (rule == "default")
+        compare(name, rapidhash::hash(message), known);
+    if (rule.compare(0, 5, "make:") == 0) {
+        check_case(name, rapidhash::make_secrets(words[0]), message, known);
+    } else if (words.size() == 8) {
+        check_case(name, rapidhash::secrets{words[0], {words[1], words[2], words[3], words[4], words[5], words[6],
+                                                       words[7]}}, message, known);
+    } else {
+        check_case(name, rapidhash::seed(words[0]), message, known);
+        check_case(name, rapidhash::seed_secrets(rapidhash::seed(words[0])), message, known);
+    }
+}
+
+/* Checks the hash of so many bytes of 0, which need no memory if nobody writes them. */
+static void check_zeros(unsigned long long size, std::uint64_t known)
+{
+    void *const zeros = size <= SIZE_MAX ? std::calloc(static_cast<std::size_t>(size), 1) : nullptr;
+    struct {
+        const char *at;
+        std::size_t count;
+        const char *data() const { return at; }
+        std::size_t size() const { return count; }
+    } const range = {static_cast<const char *>(zeros), static_cast<std::size_t>(size)};
+
+    if (zeros == nullptr)
+        std::printf("skipped zeros:%llu: no memory for it\n", size);
+    else
+        for (std::uint64_t value : {rapidhash::hash({zeros, range.count}), rapidhash::hash(range),
+                                    rapidhash::stream().update(zeros, range.count).finish()})
+            compare("zeros", value, known);
+    std::free(zeros);
+}
+
+static void check_vectors(const char *path)
+{
+    std::ifstream file(path);
+    std::uint64_t cases = 0;
+
+    for (std::string line; std::getline(file, line);) {
+        std::istringstream fields(line);
+        std::string version, rule, digits, value, message;
+        if (!(fields >> version >> rule >> digits >> value) || version != "v3")
+            continue;
+        const std::uint64_t known = std::strtoull(value.c_str(), nullptr, 10);
+        std::uint64_t read = ~known;
+        char hex[17];
+        std::snprintf(hex, sizeof hex, "%016llx", static_cast<unsigned long long>(known));
+        compare("digits", rapidhash::to_hex(known) == hex && rapidhash::from_hex(hex, read) ? read : ~known, known);
+        cases++;
+        if (digits.compare(0, 6, "zeros:") == 0) {
+            check_zeros(std::strtoull(digits.c_str() + 6, nullptr, 10), known);
+            continue;
+        }
+        for (std::size_t at = 0; digits != "-" && at < digits.size(); at += 2)
+            message += static_cast<char>(std::strtoul(digits.substr(at, 2).c_str(), nullptr, 16));
+        check_rule(rule, message, known);
+    }
+    compare("the vectors of V3", cases, 446);
+}
+
+int main(int count, char **words)
+{
+    if (count != 2)
+        return 2;
+    check_texts();
+    check_defaults();
+    check_copies();
+    check_tables();
+    check_stored();
+    check_vectors(words[1]);
+    std::printf("%d passed, %d failed\n", passed, failed);
+    return failed != 0;
+}

@@ -1,0 +1,150 @@
+/* Compares every form of the C library with the Rust crate, with the default secrets, a seed word, and derived secrets.
+ * Also compares streams in pieces that the input determines. The message ends before an inaccessible page, so a read
+ * past its end is also an error. packages/c/tests/c.sh builds the program in two ways: with the header's code and sanitizers
+ * for the inputs of libFuzzer, and with the proved archive and MESSAGES for this number of random messages. */
+#include <stdbool.h>
+#include <stdio.h>
+#include <stdlib.h>
+#include <sys/mman.h>
+
+#include "rapidhash_c.h"
+
+/* An input is a head and the message. The head has the kind of secrets, their number, and the lengths of pieces. */
+enum { HEAD = 16, ROOM = 1 << 20, PAGE = 1 << 12 };
+
+/* The seed word of V1's default seed. */
+static const uint64_t word_of_v1 = 0xbdd89aa982704029;
+
+typedef uint64_t plain(const void *, size_t);
+typedef uint64_t with_seed(const void *, size_t, uint64_t);
+typedef uint64_t seeded(const void *, size_t, const struct rapidhash_secrets *);
+
+uint64_t rust_hash(uint32_t form, const void *bytes, size_t len, const struct rapidhash_secrets *secrets);
+uint64_t rust_hash_v1(const void *bytes, size_t len, const struct rapidhash_v1_secrets *secrets);
+void rust_secrets(
+    bool made, uint64_t number, struct rapidhash_v1_secrets *of_v1, struct rapidhash_secrets *others);
+
+static const struct {
+    uint32_t form;
+    plain *plain;
+    with_seed *with_seed;
+    seeded *seeded;
+} forms[] = {
+    {20, rapidhash_v2_0, rapidhash_v2_0_with_seed, rapidhash_v2_0_seeded},
+    {21, rapidhash_v2_1, rapidhash_v2_1_with_seed, rapidhash_v2_1_seeded},
+    {22, rapidhash_v2_2, rapidhash_v2_2_with_seed, rapidhash_v2_2_seeded},
+    {7, rapidhash_v3, rapidhash_v3_with_seed, rapidhash_v3_seeded},
+    {5, rapidhash_v3_micro, rapidhash_v3_micro_with_seed, rapidhash_v3_micro_seeded},
+    {3, rapidhash_v3_nano, rapidhash_v3_nano_with_seed, rapidhash_v3_nano_seeded},
+    {70, rapidhash_v3_protected, rapidhash_v3_protected_with_seed, rapidhash_v3_protected_seeded},
+};
+
+static void check(bool holds, const char *what, uint32_t form, size_t len)
+{
+    if (!holds) {
+        fprintf(stderr, "%s of form %u differs at %zu bytes\n", what, form, len);
+        abort();
+    }
+}
+
+/* Copies the message, so that it ends before an inaccessible page. */
+static const uint8_t *place(const uint8_t *bytes, size_t len)
+{
+    static uint8_t *end;
+    if (!end) {
+        uint8_t *room = mmap(NULL, ROOM + PAGE, PROT_READ | PROT_WRITE, MAP_PRIVATE | MAP_ANONYMOUS, -1, 0);
+        if (room == MAP_FAILED || mprotect(room + ROOM, PAGE, PROT_NONE))
+            abort();
+        end = room + ROOM;
+    }
+    return memcpy(end - len, bytes, len);
+}
+
+/* Hashes a message in pieces, with the lengths in the head. */
+static uint64_t in_pieces(
+    uint32_t lanes, const uint8_t *head, const uint8_t *bytes, size_t len, const struct rapidhash_secrets *secrets)
+{
+    struct rapidhash_stream stream;
+    rapidhash_stream_start(&stream, lanes, secrets);
+    for (size_t at = 0, turn = 0; at < len; turn++) {
+        size_t wanted = head[9 + turn % 7] * (turn % 3 + 1) + (turn % 7 == 6), rest = len - at;
+        size_t piece = wanted < rest ? wanted : rest;
+        rapidhash_stream_write(&stream, bytes + at, piece);
+        at += piece;
+    }
+    return rapidhash_stream_finish(&stream);
+}
+
+static void check_v1(bool made, uint64_t number, const uint8_t *bytes, size_t len)
+{
+    struct rapidhash_v1_secrets secrets, theirs;
+    struct rapidhash_secrets others;
+    (made ? rapidhash_v1_make_secrets : rapidhash_v1_seed_secrets)(number, &secrets);
+    rust_secrets(made, number, &theirs, &others);
+    check(!memcmp(&secrets, &theirs, sizeof secrets), "a secret", 1, 0);
+    uint64_t hash = rust_hash_v1(bytes, len, &secrets);
+    check(rapidhash_v1_seeded(bytes, len, &secrets) == hash, "a hash", 1, len);
+    check(made || rapidhash_v1_with_seed(bytes, len, number) == hash, "a seed word", 1, len);
+    check(made || number != word_of_v1 || rapidhash_v1(bytes, len) == hash, "a plain hash", 1, len);
+}
+
+int LLVMFuzzerTestOneInput(const uint8_t *data, size_t size)
+{
+    struct rapidhash_v1_secrets of_v1;
+    struct rapidhash_secrets secrets, theirs;
+    uint64_t number;
+    if (size < HEAD || size > ROOM)
+        return 0;
+    bool made = data[0] % 2;
+    uint32_t lanes = 3 + 2 * (data[9] % 3);
+    memcpy(&number, data + 1, 8);
+    size_t len = size - HEAD;
+    const uint8_t *bytes = place(data + HEAD, len);
+    check_v1(made, number, bytes, len);
+    (made ? rapidhash_make_secrets : rapidhash_seed_secrets)(number, &secrets);
+    rust_secrets(made, number, &of_v1, &theirs);
+    check(!memcmp(&secrets, &theirs, sizeof secrets), "a secret", 7, 0);
+    for (size_t i = 0; i < sizeof forms / sizeof *forms; i++) {
+        uint32_t form = forms[i].form;
+        uint64_t hash = rust_hash(form, bytes, len, &secrets);
+        check(forms[i].seeded(bytes, len, &secrets) == hash, "a hash", form, len);
+        check(made || forms[i].with_seed(bytes, len, number) == hash, "a seed word", form, len);
+        check(made || number || forms[i].plain(bytes, len) == hash, "a plain hash", form, len);
+        check(form != lanes || in_pieces(form, data, bytes, len, &secrets) == hash, "a stream", form, len);
+    }
+    return 0;
+}
+
+#ifdef MESSAGES
+static uint64_t state = 1;
+
+static uint64_t random_word(void)
+{
+    uint64_t word = state += 0x9e3779b97f4a7c15;
+    word = (word ^ word >> 30) * 0xbf58476d1ce4e5b9;
+    word = (word ^ word >> 27) * 0x94d049bb133111eb;
+    return word ^ word >> 31;
+}
+
+/* Messages have up to 300 bytes, but one in 1,024 is longer. Half have random bytes, and half have words of zeros or
+ * ones. One in four has the default secrets. */
+int main(void)
+{
+    static uint64_t pool[1 << 17];
+    static uint8_t input[HEAD + 70000];
+    for (size_t i = 0; i < sizeof pool / 8; i++)
+        pool[i] = i % 8192 < 4096 ? random_word() : -(random_word() & 1);
+    for (long turn = 0; turn < MESSAGES; turn++) {
+        uint64_t word = random_word(), number = word % 8 ? random_word() : 0;
+        size_t size = HEAD + random_word() % (turn % 1024 ? 301 : 70001 - HEAD);
+        if (word % 8 == 1)
+            number = word_of_v1;
+        memcpy(input, (uint8_t *)pool + random_word() % (sizeof pool - size), size);
+        input[0] = word % 8 < 2 ? 0 : (uint8_t)(word >> 8);
+        memcpy(input + 1, &number, 8);
+        LLVMFuzzerTestOneInput(input, size);
+    }
+    printf("%ld messages agree\n", (long)MESSAGES);
+    return 0;
+}
+#endif

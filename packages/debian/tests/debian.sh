@@ -1,0 +1,126 @@
+#!/usr/bin/env bash
+# Builds the Debian packages. Installs, uses, and removes them in a root that contains only the C library. It is skipped
+# if not run as root, or without the programs that build and check packages.
+. "$(dirname "$0")/../../../tests/cases.sh"
+packages=$top/build/debian
+root=$room/root
+library=$root/usr/lib/x86_64-linux-gnu
+names='librapidhash-c-dev librapidhash-c1 postgresql-15-rapidhash rapidhash-tools sqlite3-rapidhash'
+
+# Checks that the source package, unpacked elsewhere, builds the same bytes with Debian's tools alone, and no other
+# files.
+packs_the_same_bytes() {
+  make -s -C "$top" deb && cd "$packages" && sha256sum ./*.deb >"$room/sums" && mkdir "$room/elsewhere" &&
+    cp ./*.dsc ./*.tar.xz "$room/elsewhere" && cd "$room/elsewhere" && dpkg-source -x ./*.dsc bare &&
+    (cd bare && env -i PATH=/usr/bin:/bin dpkg-buildpackage -b -us -uc) && sha256sum --check "$room/sums" &&
+    diff <(printf '%s_1.0.0_amd64.deb\n' $names) <(printf '%s\n' *.deb) &&
+    [ "$(for deb in *.deb; do dpkg-deb --field "$deb" Multi-Arch; done | xargs)" = 'same same no foreign no' ]
+}
+
+# Runs dpkg in the root with all packed files, even those that the machine omits from its own packages: ARGUMENT..
+in_the_root() {
+  dpkg --root="$root" --log="$room/dpkg.log" --path-include='/usr/*' "$@"
+}
+
+listed() {
+  (cd "$root" && find . -path ./var -prune -o -print | sort)
+}
+
+# Checks that each package names the package that it requires.
+needs_others() {
+  mkdir -p "$library" "$root/usr/lib64" "$root"/var/lib/dpkg/{info,updates} && ln -s usr/lib usr/lib64 "$root" &&
+    touch "$root/var/lib/dpkg/status" && listed >"$room/bare" || return 1
+  ! in_the_root --install "$packages"/*.deb 2>"$room/refused" &&
+    sed -nE 's/^ ([^: ]*).* depends on (.* \(.?=) .*/\1: \2/p' "$room/refused" | sort | diff - <(printf '%s\n' \
+      'librapidhash-c-dev: librapidhash-c1 (=' 'librapidhash-c1: libc6 (>=' 'postgresql-15-rapidhash: libc6 (>=' \
+      'rapidhash-tools: libc6 (>=' 'rapidhash-tools: libgcc-s1 (>=')
+}
+
+installs() {
+  dpkg --status libc6 libgcc-s1 postgresql-15 >>"$root/var/lib/dpkg/status" && in_the_root --configure --pending &&
+    cp -L /lib64/ld-linux-x86-64.so.2 "$root/lib64" && cp -L /lib/x86_64-linux-gnu/lib{c.so.6,gcc_s.so.1} "$library"
+}
+
+prints_the_known_hashes() {
+  echo something >"$root/file" && [ "$(chroot "$root" rapidhash --v1 /file)" = 15965596575264898037 ] &&
+    [ "$(chroot "$root" rapidsum /file)" = 'a1266b469390773a  /file' ]
+}
+
+# Checks that the machine code and the constants are those that make built, whatever was stripped.
+keeps_the_code() {
+  local built packed
+  code() { readelf -x .text -x .rodata "$1" | grep '^  0x'; }
+  while read -r built packed; do
+    code "$packages/source/build/$built" >"$room/code" && code "$root/usr/$packed" | diff "$room/code" - || return 1
+  done <<'FILES'
+cargo/release/rapidhash bin/rapidhash
+cargo/release/rapidsum bin/rapidsum
+header/librapidhash_c.so.1 lib/x86_64-linux-gnu/librapidhash_c.so.1
+rapidhash.so lib/sqlite3/rapidhash.so
+postgresql/rapidhash.so lib/postgresql/15/lib/rapidhash.so
+FILES
+}
+
+# Links a program of every call and checks the dependency that its own package would have.
+links_by_pkg_config() {
+  builds_by_pkg_config "$library" && cp "$room/c_library" "$root" && chroot "$root" /c_library &&
+    cd "$packages/source" && dpkg-shlibdeps -O -Sdebian/librapidhash-c1 "$root/c_library" |
+    tee /dev/stderr | grep 'librapidhash-c1 (>= 1\.0\.0)'
+}
+
+# Checks that the package has what CREATE EXTENSION reads. packages/postgresql/tests/postgresql.py runs the same
+# library.
+has_the_extension_of_postgresql() {
+  cd "$root/usr/share/postgresql/15/extension" && ls rapidhash* | diff - <(printf '%s\n' rapidhash{--1.0.sql,.control}) &&
+    cmp rapidhash--1.0.sql "$top/packages/postgresql/rapidhash--1.0.sql"
+}
+
+loads_into_sqlite() {
+  sqlite3 :memory: ".load $root/usr/lib/sqlite3/rapidhash" "SELECT rapidhash_v3('hello')" |
+    grep -x 3327445792987248966
+}
+
+# Checks that programs and exports have a manual page, and that completions are where Debian's shells search.
+has_manuals_and_completions() {
+  cd "$root/usr/share" && ls man/man1/rapid{hash,sum}.1.gz bash-completion/completions/rapid{hash,sum} \
+    zsh/vendor-completions/_rapid{hash,sum} fish/vendor_completions.d/rapid{hash,sum}.fish &&
+    nm -D --defined-only "$library/librapidhash_c.so.1" | sed -nE 's/.* T (.*)@@.*/\1/p' >"$room/exports" &&
+    [ "$(wc -l <"$room/exports")" -gt 20 ] && while read -r export; do
+    zcat "man/man3/$export.3.gz" | cmp - "$top/packages/c/rapidhash_c.3" || return 1
+  done <"$room/exports"
+}
+
+# Checks that each package has the notice and the text of the licence of which Debian has no copy.
+has_the_licences_of_debian() {
+  local name
+  for name in $names; do
+    cd "$root/usr/share/doc/$name" && cmp NOTICE "$top/NOTICE" &&
+      grep -x ' 2024 Liam Gray <gmail@liamg.me>' copyright &&
+      sed -nE '/^License: Expat$/,/^$/ s/^ \.?//p' copyright | diff - <(tail -n +5 "$top/LICENSE-MIT") || return 1
+  done
+}
+
+leaves_nothing() {
+  in_the_root --purge $names && (cd "$root" && rm file c_library lib64/ld-linux-x86-64.so.2) &&
+    rm "$library"/lib{c.so.6,gcc_s.so.1} && listed | diff "$room/bare" -
+}
+
+for program in dpkg-buildpackage dh lintian cc /usr/bin/cargo cmake sqlite3 pg_config; do
+  command -v "$program" >/dev/null || skip_all "no $program"
+done
+[ "$(id -u)" -eq 0 ] || skip_all 'not run as root'
+try packages packs_the_same_bytes
+try lintian lintian --allow-root --fail-on error,warning "$packages"/*.changes
+try dependencies needs_others
+try install installs
+try programs prints_the_known_hashes
+try code keeps_the_code
+try pkg_config links_by_pkg_config
+try cmake builds_by_cmake "$root/usr"
+try sqlite loads_into_sqlite
+try postgresql has_the_extension_of_postgresql
+try manuals_and_completions has_manuals_and_completions
+try licences has_the_licences_of_debian
+try purge leaves_nothing
+
+finish

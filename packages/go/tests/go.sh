@@ -1,0 +1,24 @@
+#!/usr/bin/env bash
+# shellcheck disable=SC2317 # The cases are called by their names.
+# Tests the Go package over all vectors, also under emulation on other machines, and by the commands on its page.
+. "$(dirname "$0")/../../../tests/cases.sh"
+export GOCACHE=$room/go GOPROXY=off
+export RAPIDHASH_VECTORS=$room/rapidhash_vectors.tsv RAPIDHASH_SECRETS=$top/crates/test_replay/data/secrets.tsv
+
+command -v go >/dev/null || skip_all 'no go'
+cd "$top/packages/go" && python3 "$top/scripts/vectors.py" "$top/crates/test_replay/data" >"$RAPIDHASH_VECTORS" || exit 1
+try licences has_the_licences .
+try layout bash -c '[ -z "$(gofmt -l .)" ]'
+# The functions, methods, and types of the release.
+try names bash -c '[ "$(go doc -all | grep -cE "^(func|type) ")" -eq 56 ]'
+try tests env CGO_ENABLED=0 go test -count 1 .
+try race go test -count 1 -short -race .
+try fuzz go test -run - -fuzz FuzzPieces -fuzztime 20000x .
+try 386 env GOARCH=386 go test -count 1 .
+try_with arm64 qemu-aarch64 env GOARCH=arm64 go test -count 1 -short -exec qemu-aarch64 .
+try_with s390x qemu-s390x env GOARCH=s390x go test -count 1 -short -exec qemu-s390x .
+for os in linux windows darwin; do try "vet_$os" env GOOS="$os" GOARCH=amd64 go vet .; done
+try vet_formulas go vet -tags formulas ./...
+try page works_as_its_page_says README.md
+
+finish

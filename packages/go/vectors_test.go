@@ -1,0 +1,154 @@
+package rapidhash
+
+import (
+	"bufio"
+	"encoding/hex"
+	"errors"
+	"fmt"
+	"os"
+	"strconv"
+	"strings"
+	"testing"
+)
+
+// call has the functions of a version: those with the default seed and secrets, with a seed word, and with secrets.
+type call struct {
+	plain     func([]byte) uint64
+	word      func([]byte, uint64) uint64
+	text      func(string) uint64
+	seeded    func([]byte, *Secrets) uint64
+	start     func(*Secrets) *Stream
+	startWord func(uint64) *Stream
+}
+
+var calls = map[string]call{
+	"v1":           {V1, V1WithSeed, V1String, nil, nil, nil},
+	"v2_0":         {V2_0, V2_0WithSeed, V2_0String, V2_0Seeded, nil, nil},
+	"v2_1":         {V2_1, V2_1WithSeed, V2_1String, V2_1Seeded, nil, nil},
+	"v2_2":         {V2_2, V2_2WithSeed, V2_2String, V2_2Seeded, nil, nil},
+	"v3":           {V3, V3WithSeed, V3String, V3Seeded, NewV3, NewV3WithSeed},
+	"v3_micro":     {V3Micro, V3MicroWithSeed, V3MicroString, V3MicroSeeded, NewV3Micro, NewV3MicroWithSeed},
+	"v3_nano":      {V3Nano, V3NanoWithSeed, V3NanoString, V3NanoSeeded, NewV3Nano, NewV3NanoWithSeed},
+	"v3_protected": {V3Protected, V3ProtectedWithSeed, V3ProtectedString, V3ProtectedSeeded, nil, nil},
+}
+
+// check compares the hashes of a message with the secrets of a rule, and of streams that write it, with a known hash.
+func (call call) check(t *testing.T, name, rule string, message []byte, known uint64) {
+	kind, list, _ := strings.Cut(rule, ":")
+	words := make([]uint64, 8)
+	for at, digits := range strings.Split(list, ",") {
+		if number, err := strconv.ParseUint(digits, 10, 64); err == nil {
+			words[at] = number
+		} else if kind != "default" {
+			t.Fatal(name, rule, err)
+		}
+	}
+	secrets, secretsV1 := Secrets{words[0], *(*[7]uint64)(words[1:])}, SecretsV1{words[0], *(*[3]uint64)(words[1:])}
+	switch kind {
+	case "default":
+		secrets, secretsV1 = *SeedSecrets(0), *SeedSecretsV1(v1Word)
+		compare(t, name, call.plain(message), known)
+		compare(t, name+" of a string", call.text(string(message)), known)
+	case "word":
+		secrets, secretsV1 = *SeedSecrets(words[0]), *SeedSecretsV1(words[0])
+		compare(t, name+" with "+rule, call.word(message, words[0]), known)
+		if call.startWord != nil {
+			compare(t, name+" in pieces with "+rule, inPieces(t, call.startWord(words[0]), message), known)
+		}
+		if name == "v3" {
+			compare(t, "string with "+rule, V3StringWithSeed(string(message), words[0]), known)
+		}
+	case "make":
+		secrets, secretsV1 = *MakeSecrets(words[0]), *MakeSecretsV1(words[0])
+	}
+	if call.seeded == nil {
+		compare(t, name+" with "+rule, V1Seeded(message, &secretsV1), known)
+	} else {
+		compare(t, name+" with "+rule, call.seeded(message, &secrets), known)
+	}
+	if call.start != nil {
+		compare(t, name+" in pieces with "+rule, inPieces(t, call.start(&secrets), message), known)
+	}
+	if name == "v3" {
+		compare(t, "string with "+rule, V3StringSeeded(string(message), &secrets), known)
+	}
+}
+
+// inPieces returns the hash of a message in pieces of 1, 2, 3 bytes, and so on. It saves and restores the stream after
+// each piece.
+func inPieces(t *testing.T, stream *Stream, message []byte) uint64 {
+	for size := 1; len(message) > 0; size++ {
+		if size > len(message) {
+			size = len(message)
+		}
+		stream.Write(message[:size])
+		message = message[size:]
+		saved, err := stream.MarshalBinary()
+		stream = new(Stream)
+		if err != nil || stream.UnmarshalBinary(saved) != nil {
+			t.Fatal(err, stream.UnmarshalBinary(saved))
+		}
+	}
+	if digits := hex.EncodeToString(stream.Sum(nil)); digits != fmt.Sprintf("%016x", stream.Sum64()) {
+		t.Errorf("%s are not the digits of %x", digits, stream.Sum64())
+	}
+	return stream.Sum64()
+}
+
+// checkZeros compares the hash of so many bytes of 0, whole and in a stream. If none is written, they need no memory,
+// except for the race detector: so -short leaves them out.
+func (call call) checkZeros(t *testing.T, name, digits string, known uint64) {
+	size, err := strconv.Atoi(digits)
+	if testing.Short() || errors.Is(err, strconv.ErrRange) {
+		t.Log("skipped zeros:" + digits)
+		return
+	}
+	zeros := make([]byte, size)
+	compare(t, name+" of zeros", call.plain(zeros), known)
+	if call.start != nil {
+		stream := call.start(nil)
+		if count, err := stream.Write(zeros); count != size || err != nil {
+			t.Error(count, err)
+		}
+		compare(t, name+" of zeros in a stream", stream.Sum64(), known)
+	}
+}
+
+// TestVectors compares all values of the Rust crate that scripts/vectors.py writes. RAPIDHASH_VECTORS names their file.
+func TestVectors(t *testing.T) {
+	name, isNamed := os.LookupEnv("RAPIDHASH_VECTORS")
+	if !isNamed {
+		t.Skip("RAPIDHASH_VECTORS names no file")
+	}
+	file, err := os.Open(name)
+	if err != nil {
+		t.Fatal(err)
+	}
+	defer file.Close()
+	count := 0
+	lines := bufio.NewScanner(file)
+	lines.Buffer(nil, 1<<20)
+	for lines.Scan() {
+		words := strings.Split(lines.Text(), "\t")
+		if strings.HasPrefix(words[0], "#") || words[0] == "version" {
+			continue
+		}
+		count++
+		known, err := strconv.ParseUint(words[3], 10, 64)
+		if err != nil {
+			t.Fatal(err)
+		}
+		if _, digits, isZeros := strings.Cut(words[2], ":"); isZeros {
+			calls[words[0]].checkZeros(t, words[0], digits, known)
+			continue
+		}
+		message, err := hex.DecodeString(strings.TrimPrefix(words[2], "-"))
+		if err != nil {
+			t.Fatal(err)
+		}
+		calls[words[0]].check(t, words[0], words[1], message, known)
+	}
+	if count != 3568 {
+		t.Errorf("%d vectors, and 3568 are known", count)
+	}
+}

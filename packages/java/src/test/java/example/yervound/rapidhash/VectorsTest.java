@@ -1,0 +1,155 @@
+package example.yervound.rapidhash;
+
+import static org.junit.Assert.assertEquals;
+import static org.junit.Assert.assertNotNull;
+import static org.junit.Assert.assertTrue;
+
+import java.io.IOException;
+import java.nio.ByteBuffer;
+import java.nio.channels.FileChannel;
+import java.nio.file.Files;
+import java.nio.file.Path;
+import java.nio.file.StandardOpenOption;
+import java.util.Arrays;
+import java.util.Map;
+import java.util.Set;
+import java.util.stream.Collectors;
+import org.junit.Test;
+
+/** Compares all values of the Rust crate. Two environment variables name their files. */
+public class VectorsTest {
+    private static final Set<Rapidhash> STREAMED = Set.of(Rapidhash.V3, Rapidhash.V3_MICRO, Rapidhash.V3_NANO);
+
+    private static Iterable<String[]> lines(String variable) throws IOException {
+        String name = System.getenv(variable);
+        assertNotNull(variable + " names no file", name);
+        return Files.lines(Path.of(name)).filter(line -> !line.startsWith("#")).skip(1).map(line -> line.split("\t"))
+            .collect(Collectors.toList());
+    }
+
+    private static byte[] bytesOf(String digits) {
+        byte[] bytes = new byte[digits.length() / 2];
+        for (int at = 0; at < bytes.length; at++) {
+            bytes[at] = (byte) Integer.parseInt(digits.substring(2 * at, 2 * at + 2), 16);
+        }
+        return bytes;
+    }
+
+    /** Compares the hashes of the file that scripts/vectors.py writes, from each kind of memory and in pieces. */
+    @Test
+    public void hashes() throws IOException {
+        Map<String, Rapidhash> versions = Messages.versions();
+        int count = 0;
+        for (String[] words : lines("RAPIDHASH_VECTORS")) {
+            Rapidhash version = versions.get(words[0]);
+            long known = Long.parseUnsignedLong(words[3]);
+            if (words[2].startsWith("zeros:") && STREAMED.contains(version)) {
+                assertEquals(known, ofZeros(version.stream(), Long.parseLong(words[2].substring(6))));
+            } else if (!words[2].startsWith("zeros:")) {
+                compare(version, bytesOf(words[2].replace("-", "")), words[1], known);
+            }
+            assertEquals(words[3], Rapidhash.toDecimal(known));
+            assertEquals(String.format("%016x", known), Rapidhash.toHex(known));
+            count++;
+        }
+        assertEquals(3568, count);
+    }
+
+    private static void compare(Rapidhash version, byte[] message, String rule, long known) {
+        String[] parts = rule.replace("default", "default:0").split(":");
+        long[] words = Arrays.stream(parts[1].split(",")).mapToLong(Long::parseUnsignedLong).toArray();
+        if (parts[0].equals("make")) {
+            compare(version, message, Secrets.make(words[0]), known);
+        } else if (parts[0].equals("own")) {
+            compare(version, message, Secrets.of(words[0], Arrays.copyOfRange(words, 1, 8)), known);
+        } else if (parts[0].equals("word")) {
+            compareSeed(version, message, words[0], known);
+        } else {
+            assertEquals(known, version.hash(message));
+            assertEquals(known, version.hash(Messages.padded(message), 3, message.length));
+            for (ByteBuffer buffer : Messages.buffers(message)) {
+                assertEquals(known, version.hash(buffer));
+            }
+            compareSeed(version, message, version == Rapidhash.V1 ? 0xbdd89aa982704029L : 0, known);
+        }
+    }
+
+    private static void compareSeed(Rapidhash version, byte[] message, long seed, long known) {
+        assertEquals(known, version.hash(message, seed));
+        assertEquals(known, version.hash(Messages.padded(message), 3, message.length, seed));
+        for (ByteBuffer buffer : Messages.buffers(message)) {
+            assertEquals(known, version.hash(buffer, seed));
+        }
+        if (STREAMED.contains(version)) {
+            assertEquals(known, inPieces(version.stream(seed), message));
+        }
+        compare(version, message, Messages.ofSeed(version, seed), known);
+    }
+
+    private static void compare(Rapidhash version, byte[] message, Secrets secrets, long known) {
+        assertEquals(known, version.hash(message, secrets));
+        assertEquals(known, version.hash(Messages.padded(message), 3, message.length, secrets));
+        for (ByteBuffer buffer : Messages.buffers(message)) {
+            assertEquals(known, version.hash(buffer, secrets));
+        }
+        if (STREAMED.contains(version)) {
+            assertEquals(known, inPieces(version.stream(secrets), message));
+        }
+    }
+
+    /** Returns the hash of so many bytes of 0, which no array can have. */
+    private static long ofZeros(RapidhashStream stream, long length) {
+        byte[] zeros = new byte[1 << 20];
+        for (long left = length; left > 0; left -= zeros.length) {
+            stream.update(zeros, 0, (int) Math.min(left, zeros.length));
+        }
+        return stream.getValue();
+    }
+
+    /** Compares the hashes of the longest buffer, a file without blocks. The values are those of the Rust crate. */
+    @Test
+    public void longestBuffer() throws IOException {
+        Path file = Files.createTempFile("zeros", null);
+        try (FileChannel channel = FileChannel.open(file, StandardOpenOption.READ, StandardOpenOption.WRITE)) {
+            channel.write(ByteBuffer.allocate(1), Integer.MAX_VALUE - 1L);
+            ByteBuffer zeros = channel.map(FileChannel.MapMode.READ_ONLY, 0, Integer.MAX_VALUE);
+            assertEquals(1341893928005486386L, Rapidhash.V1.hash(zeros));
+            assertEquals(Long.parseUnsignedLong("17332495739427886321"), Rapidhash.V2_2.hash(zeros));
+            assertEquals(Long.parseUnsignedLong("11522169431647323224"), Rapidhash.V3.hash(zeros));
+            RapidhashStream stream = Rapidhash.V3.stream();
+            stream.update(zeros);
+            assertEquals(Long.parseUnsignedLong("11522169431647323224"), stream.getValue());
+        } finally {
+            Files.delete(file);
+        }
+    }
+
+    /** Returns the hash of a message in pieces of 1, 2, 3 bytes, and so on. */
+    private static long inPieces(RapidhashStream stream, byte[] message) {
+        for (int at = 0, size = 1; at < message.length; at += size++) {
+            stream.update(message, at, Math.min(size, message.length - at));
+        }
+        return stream.getValue();
+    }
+
+    /** Compares the secrets of numbers and seed words up to 2^64 - 1. */
+    @Test
+    public void secrets() throws IOException {
+        int count = 0;
+        for (String[] words : lines("RAPIDHASH_SECRETS")) {
+            long number = Long.parseUnsignedLong(words[2]);
+            Secrets found = words[0].equals("v1") ? Secrets.ofSeedV1(number) : Secrets.ofSeed(number);
+            if (words[1].equals("seed")) {
+                found = Secrets.make(number);
+            } else if (!words[1].equals("seed_cpp")) {
+                continue;
+            }
+            long[] known = Arrays.stream(words[3].split(" ")).mapToLong(Long::parseUnsignedLong).toArray();
+            assertEquals(known[0], found.seed());
+            long[] first = Arrays.copyOf(found.secrets(), known.length - 1);
+            assertEquals(Arrays.toString(Arrays.copyOfRange(known, 1, known.length)), Arrays.toString(first));
+            count++;
+        }
+        assertTrue(count + " lines, and 360 are known", count >= 360);
+    }
+}

@@ -1,0 +1,85 @@
+#!/usr/bin/env bash
+# Builds the jar of the Java package with `make jar`, and tests it as a module, with JUnit over all vectors, and by the
+# commands on its page. Also compiles the program that computes formulas.
+. "$(dirname "$0")/../../../tests/cases.sh"
+folder=$top/packages/java
+jar=$top/build/yervound-rapidhash-1.0.0.jar
+junit=/usr/share/java/junit4.jar:/usr/share/java/hamcrest.jar
+package=example.yervound.rapidhash
+export RAPIDHASH_VECTORS=$room/rapidhash_vectors.tsv RAPIDHASH_SECRETS=$top/crates/test_replay/data/secrets.tsv
+
+write_vectors() {
+  python3 "$top/scripts/vectors.py" "$top/crates/test_replay/data" >"$RAPIDHASH_VECTORS"
+}
+
+# Compiles all sources in directories, without a warning: OUTPUT CLASSPATH DIRECTORY..
+compile() {
+  find "${@:3}" -name '*.java' >"$room/sources" && [ -s "$room/sources" ] &&
+    javac --release 11 -Xlint:all -Xdoclint:all,-missing -Werror -d "$1" -cp "$2" "@$room/sources"
+}
+
+# Compiles the package with the random functions in place of its loads and its product.
+compiles_formulas() {
+  mkdir "$room/formulas" && cp -r "$folder/src/main/java/." "$folder/src/formulas/java/." "$room/formulas" &&
+    rm "$room/formulas/module-info.java" && compile "$room/subject" "$room" "$room/formulas" &&
+    head -c 32768 /dev/zero | java -cp "$room/subject" "$package.Formulas"
+}
+
+# Prints the hash of hello in a program that requires the module.
+runs_as_a_module() {
+  mkdir "$room/module" && echo "module first { requires $package; }" >"$room/module/module-info.java" &&
+    cat >"$room/module/First.java" <<JAVA && javac -p "$jar" -d "$room/module" "$room"/module/*.java &&
+package first;
+
+import $package.Rapidhash;
+
+class First {
+    public static void main(String[] words) {
+        System.out.println(Rapidhash.toDecimal(Rapidhash.V3.hash("hello".getBytes())));
+    }
+}
+JAVA
+    [ "$(java -p "$jar:$room/module" -m first/first.First)" = 3327445792987248966 ]
+}
+
+# Tests the classes in the jar: TEST
+passes() {
+  java -ea -cp "$jar:$room/tests:$junit" org.junit.runner.JUnitCore "$package.$1"
+}
+
+# Checks that the module has the version of the pom, and that its users need no other package.
+pom_is_current() {
+  local version
+  version=$(jar -f "$jar" -d | sed -n "s/^$package@\\([0-9.]*\\) .*/\\1/p") && [[ $(<"$folder/pom.xml") == *"
+  <groupId>example.yervound</groupId>
+  <artifactId>yervound-rapidhash</artifactId>
+  <version>$version</version>"* ]] &&
+    [ "$(grep -c '<artifactId>' "$folder/pom.xml")" -eq $((1 + $(grep -cx ' *<scope>test</scope>' "$folder/pom.xml"))) ]
+}
+
+contains_the_licences() {
+  (cd "$room" && jar -xf "$jar" META-INF) && has_the_licences "$room/META-INF"
+}
+
+# Checks that the classes have the number of public types and members that the package had at its release.
+has_its_names() {
+  jar -tf "$jar" | sed -n 's|^\(example/.*\)\.class$|\1|p' | xargs javap -cp "$jar" -public >"$room/names" &&
+    cat "$room/names" && [ "$(grep -c '\bpublic ' "$room/names")" -eq 42 ]
+}
+
+[ -f /usr/share/java/junit4.jar ] && command -v javac >/dev/null || skip_all 'no javac or no junit4'
+prepare_by make -s -C "$top" jar
+prepare_by write_vectors
+prepare_by compile "$room/tests" "$jar:$junit" "$folder/src/test"
+
+try java_licences contains_the_licences
+try java_module runs_as_a_module
+try java_pom pom_is_current
+try java_names has_its_names
+for test in "$folder"/src/test/java/example/yervound/rapidhash/*Test.java; do
+  try "java_$(basename "$test" .java)" passes "$(basename "$test" .java)"
+done
+try java_formulas compiles_formulas
+try java_page works_as_its_page_says "$folder/README.md"
+
+finish

@@ -1,0 +1,151 @@
+// Runs known.mjs, refused.mjs, and vectors.mjs in the browser that BROWSER names, and uses the page packages/javascript/page
+// there. SERVER has both, as `first/suite.html` and `browser`. The files are in FILES. The hashes of `large` are those
+// of the Rust crate, and the hashes of the others come from TOOL, the program rapidhash.
+import assert from "node:assert/strict";
+import { execFileSync } from "node:child_process";
+import { writeFileSync } from "node:fs";
+import { join } from "node:path";
+import { after, before, test } from "node:test";
+
+import { browse, waitFor } from "./driver.mjs";
+
+const { BROWSER, SERVER, FILES, TOOL, SCREENSHOT } = process.env;
+const hashesOfLarge = {
+  v1: "15984905982109241549", v2_0: "4230584181448816188", v2_1: "4230584181448816188",
+  v2_2: "4230584181448816188", v3: "17274253787457370873", v3Micro: "463558115858540857",
+  v3Nano: "4447162916058394582", v3Protected: "7403770911747945897",
+};
+const options = {
+  v1: ["--v1"], v2_0: ["--v2.0"], v2_1: ["--v2.1"], v2_2: ["--v2.2"], v3: ["--v3"], v3Micro: ["--v3-micro"],
+  v3Nano: ["--v3-nano"], v3Protected: ["--v3", "--protected"],
+};
+
+/** Returns the hashes of a file, keyed by version. */
+function hashesOf(name) {
+  const hash = (words) => execFileSync(TOOL, [...words, join(FILES, name)], { encoding: "utf8" }).trim();
+  return Object.fromEntries(Object.entries(options).map(([version, words]) => [version, hash(words)]));
+}
+
+// Returns the page's content for each file: how it ended, its progress, and both columns of each version.
+const look = `return Object.fromEntries([...document.querySelectorAll("article")].map((article) => [
+  article.querySelector("h2").textContent, {
+    end: article.dataset.end, part: article.querySelector("progress").value,
+    state: article.querySelector(".state").textContent,
+    rows: Object.fromEntries([...article.querySelectorAll("tbody tr")].map((row) =>
+      [row.dataset.version, [...row.querySelectorAll("td")].map((cell) => cell.textContent)])) }]))`;
+
+let browser;
+before(async () => {
+  browser = await browse(BROWSER);
+  await browser.open(`${SERVER}/browser/index.html`);
+});
+after(() => browser?.end());
+
+async function choose(...names) {
+  await browser.type(await browser.find("#files"), names.map((name) => join(FILES, name)).join("\n"));
+}
+
+/** Returns the page's content for a file that has ended, after at most this number of seconds. */
+function ended(name, seconds = 20) {
+  return waitFor(`the end of ${name}`, seconds, async () => {
+    const file = (await browser.run(look))[name];
+    return file?.end && file;
+  });
+}
+
+function compare(rows, wanted) {
+  const decimals = Object.fromEntries(Object.entries(rows).map(([version, [, decimal]]) => [version, decimal]));
+  assert.deepEqual(decimals, wanted);
+  for (const [digits, decimal] of Object.values(rows))
+    assert.equal(digits, BigInt(decimal).toString(16).padStart(16, "0"));
+}
+
+test("two chosen files, one of 200 MB, as it goes", async () => {
+  const hashes = { large: hashesOfLarge, double: hashesOf("double") };
+  await choose("large", "double");
+  const halfway = await waitFor("a part of double", 120, async () => {
+    const { double } = await browser.run(look);
+    return (double?.part > 0 || double?.end) && double;
+  });
+  assert.ok(halfway.part < 1);
+  assert.match(halfway.state, /^\d[\d,]+ of 200,000,000 bytes$/);
+  assert.match(halfway.rows.v3[0], /^[0-9a-f]{16}$/);
+  assert.notEqual(halfway.rows.v3[1], hashes.double.v3);
+  assert.deepEqual(halfway.rows.v1, ["", ""]);
+  for (const [name, wanted] of Object.entries(hashes)) {
+    const file = await ended(name, 120);
+    assert.equal(file.end, "done");
+    assert.equal(file.part, 1);
+    compare(file.rows, wanted);
+  }
+  if (SCREENSHOT) writeFileSync(SCREENSHOT, Buffer.from(await browser.picture(), "base64"));
+});
+
+/** Drops a file with the text "hello". */
+function drop(name) {
+  return browser.run(`const files = new DataTransfer();
+    files.items.add(new File(["hello"], arguments[0]));
+    document.body.dispatchEvent(
+      new DragEvent("drop", { dataTransfer: files, bubbles: true, cancelable: true }))`, name);
+}
+
+test("a dropped file", async () => {
+  await drop("dropped");
+  const { end, rows } = await ended("dropped");
+  assert.equal(end, "done");
+  assert.deepEqual(rows.v3, ["2e2d7651b45f7946", "3327445792987248966"]);
+});
+
+test("an empty file", async () => {
+  await choose("empty");
+  const { part, rows } = await ended("empty");
+  assert.equal(part, 1);
+  assert.equal(rows.v3[1], "232177599295442350");
+  assert.equal(rows.v1[1], "6516417773221693515");
+});
+
+test("a file of more than 1 GiB", async () => {
+  await choose("long");
+  const { end, rows } = await ended("long", 120);
+  assert.equal(end, "done");
+  const wanted = hashesOf("long");
+  for (const version of ["v3", "v3Micro", "v3Nano"]) assert.equal(rows[version][1], wanted[version]);
+  for (const version of ["v1", "v2_0", "v2_1", "v2_2", "v3Protected"])
+    assert.deepEqual(rows[version], ["needs the whole file in memory: only up to 1 GiB here", ""]);
+});
+
+test("stopped files", async () => {
+  await choose("long", "double");
+  await waitFor("two buttons", 10,
+    () => browser.run(`return document.querySelectorAll("article button").length === 2`));
+  await browser.run(`for (const button of document.querySelectorAll("article button")) button.click()`);
+  await drop("next");
+  await ended("next");
+  // The files of this choice are above the earlier files with the same names.
+  for (const name of ["long", "double"]) {
+    const shown = await browser.run(`const all = [...document.querySelectorAll("article")]
+      .filter((article) => article.querySelector("h2").textContent === arguments[0]);
+      return [all.length, all[0].dataset.end, all[0].querySelector("button")]`, name);
+    assert.deepEqual(shown, [2, "stopped", null]);
+  }
+});
+
+test("keys and names", async () => {
+  await browser.open(`${SERVER}/browser/index.html`);
+  await browser.type(await browser.find("body"), "\ue004");
+  assert.equal(await browser.run("return document.activeElement.id"), "files");
+  assert.match(await browser.label(await browser.find("#files")), /^Drop files .* or choose them:/);
+  await choose("empty");
+  await ended("empty");
+  assert.equal(await browser.label(await browser.find("progress")), "Progress of empty");
+  assert.equal(await browser.label(await browser.find("table")), "Hashes of empty");
+  assert.equal(await browser.run(`return document.querySelector("[role=status]").textContent`), "empty: done");
+});
+
+test("the package in a browser", async () => {
+  console.log(browser.version);
+  await browser.open(`${SERVER}/first/suite.html`);
+  const results = await waitFor("the suite", 120, () => browser.run("return window.results"));
+  assert.deepEqual(results.filter(({ fault }) => fault), []);
+  assert.ok(results.length >= 20);
+});

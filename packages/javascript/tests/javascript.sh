@@ -1,0 +1,103 @@
+#!/usr/bin/env bash
+# Builds the JavaScript package, installs it from an empty directory with the commands on its page, and tests the
+# installed copy. The cases cover Node, the types, and browsers, with the page packages/javascript/page. Missing
+# programs are named, and their cases are not counted.
+. "$(dirname "$0")/../../../tests/cases.sh"
+needs_the_toolchain
+# Prevents all requests to a registry, including those that npm makes by itself.
+export npm_config_offline=true npm_config_audit=false npm_config_update_notifier=false
+
+# Checks that the package has all of its files and no others, with the licences of the repository.
+has_its_files() {
+  local folder=$room/first/node_modules/yervound-rapidhash
+  has_the_licences "$folder" && (cd "$folder" && LC_ALL=C ls) | diff - <(
+    printf '%s\n' LICENSE-APACHE LICENSE-MIT NOTICE README.md arguments.mjs index.d.cts index.d.ts library.mjs \
+      module.mjs package.json rapidhash.cjs rapidhash.mjs stream.mjs
+  ) && cd "$room/first" && node -p 'const its = require("yervound-rapidhash/package.json");
+    `${its.license}, ${its.engines.node}, ${its.sideEffects}`' | grep -x 'MIT OR Apache-2.0, >=18, false'
+}
+
+# Lays out the tests beside the installed package, with the files that they read.
+lay_out() {
+  cp "$top"/packages/javascript/tests/*.m* "$top/build/rapidhash.wasm" "$room/first" &&
+    python3 "$top/scripts/vectors.py" "$top/crates/test_replay/data" >"$room/first/rapidhash_vectors.tsv" &&
+    seq 1 20000000 | head -c 100000000 >"$room/first/large"
+}
+
+# Runs the page's program over a file. A comment that begins with a hash is its wanted value.
+runs_the_page() {
+  cd "$room/first" && { echo 'import { equal } from "node:assert"; const file = new Blob(["hello"]);' &&
+    blocks "$top/packages/javascript/README.md" js loadSync; } |
+    sed -E 's,^([a-z].*\)); *// ([0-9]+n|"[0-9a-f]+").*,equal(\1\, \2);,' >page.mjs &&
+    [ "$(grep -c '^equal' page.mjs)" = 3 ] && node page.mjs
+}
+
+runs_in_node() {
+  cd "$room/first" && node --test "$1.mjs"
+}
+
+# Runs the tests over the file that `require` reads.
+runs_required() {
+  cp -r "$room/first" "$room/required" && cd "$room/required" &&
+    sed -i 's|"./rapidhash.mjs"|"./rapidhash.cjs"|' node_modules/yervound-rapidhash/package.json &&
+    rm node_modules/yervound-rapidhash/*.mjs && node --test known.mjs && node --test refused.mjs
+}
+
+# Bundles a program without a rule and runs the result, a script for browsers: COMMAND.., which writes bundle/main.js
+bundles() {
+  cd "$room/first" && rm -rf bundle && mkdir -p src &&
+    echo 'import { loadSync } from "yervound-rapidhash"; console.log(`${loadSync().v3("hello")}`)' >src/index.js &&
+    "$@" && ls bundle | diff - <(echo main.js) && ! grep -E 'require\("|node:' bundle/main.js &&
+    node bundle/main.js | grep -x 3327445792987248966
+}
+
+# Compiles with all checks of tsc: ARGUMENT..
+compiles() {
+  cd "$room/first" && tsc --noEmit --strict --target es2020 --module node16 --moduleResolution node16 "$@"
+}
+
+# Starts a server for the temporary directory and stores its address in the variable `server`.
+serve() {
+  python3 -u -m http.server 0 --bind 127.0.0.1 --directory "$room" >>"$room/server.log" 2>&1 &
+  until server=$(grep -oE 'http://127[.0-9]+:[0-9]+' "$room/server.log"); do
+    kill -0 "$!" && sleep 0.1 || return 1
+  done
+}
+
+# Lays out the files that are served to both browsers: the tests beside the package, and the page.
+lay_out_for_browsers() {
+  make -s -C "$top" tool page && cp "$top"/packages/javascript/tests/browsers/* "$room/first" && cp -r "$top/build/browser" "$room" &&
+    serve && mkdir "$room/files" && cd "$room/files" && mv ../first/large . && cat large large >double &&
+    truncate -s 1073741825 long && : >empty
+}
+
+# Tests the package and the page in a browser. The page requests only its own files from its server: PROGRAM
+works_in_a_browser() {
+  : >"$room/server.log"
+  cd "$room/first" && BROWSER=$1 SERVER=$server FILES=$room/files TOOL=$top/crates/rapidhash_cli/out/rapidhash_cli \
+    timeout 300 node --test page.test.mjs && grep -q '"GET /browser/page.mjs HTTP' "$room/server.log" &&
+    ! grep '" [0-9]* -$' "$room/server.log" |
+    grep -vE '"GET /(browser/[a-z]+\.(html|mjs|css)|first/.*) HTTP/1\.1" (200|304) -$'
+}
+
+for program in node npm; do
+  command -v "$program" >/dev/null || skip_all "no $program"
+done
+try install works_as_its_page_says "$top/packages/javascript/README.md"
+try files has_its_files
+try lay_out lay_out
+try page runs_the_page
+for name in known refused vectors node; do
+  try "node_$name" runs_in_node "$name"
+done
+try node_require runs_required
+try_with esbuild esbuild bundles esbuild src/index.js --bundle --outfile=bundle/main.js
+try_with webpack webpack bundles webpack --mode production --output-path bundle
+try_with types tsc compiles --lib es2020,dom types.mts
+try_with types_alone tsc compiles --lib es2020 node_modules/yervound-rapidhash/index.d.ts
+# Each browser, if the program that drives it is installed.
+try lay_out_for_browsers lay_out_for_browsers
+try_with chromium chromedriver works_in_a_browser chromium
+try_with firefox-esr firefox-esr works_in_a_browser firefox-esr
+jobs -p | xargs kill
+finish

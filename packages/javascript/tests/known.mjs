@@ -1,0 +1,221 @@
+// Compares the package with known values of the Rust crate rapidhash 4.5.1, in Node and in browsers.
+// packages/javascript/tests/javascript.sh runs it in a directory in which the package is installed.
+import assert from "node:assert/strict";
+import { test } from "node:test";
+
+import { hex, load, loadSync } from "yervound-rapidhash";
+
+const library = loadSync();
+const { v1, v2_0, v2_1, v2_2, v3, v3Micro, v3Nano, v3Protected, V3, V3Micro, V3Nano } = library;
+const data = Uint8Array.from({ length: 120 }, (_, at) => at);
+const short = data.subarray(0, 60);
+const own = BigUint64Array.of(1n, 2n, 3n, 5n, 7n, 11n, 13n, 17n);
+// V3, micro, and nano hash a longer message in pieces of this size.
+const piece = 131072;
+const encoder = new TextEncoder();
+
+test("default secrets", () => {
+  assert.equal(v1("something\n"), 15965596575264898037n);
+  assert.equal(v1(short), 13504714392771582078n);
+  assert.equal(v2_0(short), 13186137053657766175n);
+  assert.equal(v2_1(short), 13012060828128651499n);
+  assert.equal(v2_2(short), 6181707366222537282n);
+  assert.equal(v3(data), 7088138960297660729n);
+  assert.equal(v3(data.buffer), 7088138960297660729n);
+  assert.equal(v3Micro(data), 3055975138125564292n);
+  assert.equal(v3Nano(data), 3778853990780631382n);
+  assert.equal(v3Protected(data), 4753706306364957255n);
+  assert.equal(v3(new Uint8Array(0)), 232177599295442350n);
+});
+
+test("made secrets", () => {
+  const made = library.makeSecrets(0x12345678);
+  assert.equal(made[0], 0x6d95b902ea9b0223n);
+  assert.equal(made[7], 0x6333af257102a99en);
+  assert.deepEqual(library.makeSecretsV1(0x12345678), made.slice(0, 4));
+});
+
+// Hashes a message in pieces. The first has 1 byte, and `grow` returns the size of the next from the last.
+function inPieces(hasher, message, grow) {
+  for (let at = 0, size = 1; at < message.length; at += size, size = grow(size))
+    hasher.update(message.subarray(at, at + size));
+  return hasher.digest();
+}
+
+test("uneven pieces", () => {
+  for (const [Stream, whole] of [[V3, v3], [V3Micro, v3Micro], [V3Nano, v3Nano]]) {
+    const value = whole(data, { secrets: own });
+    const hasher = new Stream({ secrets: own }).update(short).reset();
+    assert.equal(inPieces(hasher, data, (size) => size + 1), value);
+    assert.equal(hasher.digest(), value);
+  }
+});
+
+test("whole as in pieces, at each length", () => {
+  for (const length of [0, 1, 112, 113, 65537, piece, piece + 1, 1000000]) {
+    const message = Uint8Array.from({ length }, (_, at) => at % 251);
+    for (const [whole, Stream] of [[v3, V3], [v3Micro, V3Micro], [v3Nano, V3Nano]]) {
+      const hash = whole(message, { seed: 5n });
+      assert.equal(inPieces(new Stream({ seed: 5n }), message, (size) => 3 * size + 1), hash);
+      assert.notEqual(whole(message, { seed: 6n }), hash);
+    }
+  }
+});
+
+test("long messages", () => {
+  const message = Uint8Array.from({ length: 1000000 }, (_, at) => at % 251);
+  assert.equal(v3(message), 3141031059669918984n);
+  const zeros = new Uint8Array(140000000);
+  assert.equal(v1(zeros), 15042570400923500380n);
+  assert.equal(v2_2(zeros), 1949155381881807616n);
+  assert.equal(v1(short), 13504714392771582078n);
+  assert.equal(new V3().update(message).digest(), 3141031059669918984n);
+});
+
+test("hashers do not disturb each other", () => {
+  const [left, right] = [new V3({ seed: 1n }), new V3({ secrets: own })];
+  for (let at = 0; at < 120; at += 10)
+    for (const hasher of [left, right]) hasher.update(data.subarray(at, at + 10));
+  assert.equal(left.digest(), 8806718467852582029n);
+  assert.equal(right.digest(), 13105958653737073913n);
+});
+
+test("a hasher keeps its secrets when the caller's change", () => {
+  const secrets = own.slice();
+  const hasher = new V3({ secrets }).update(data);
+  secrets.fill(0n);
+  assert.equal(hasher.digest(), 13105958653737073913n);
+});
+
+test("a clone goes on alone", () => {
+  for (const Stream of [V3, V3Micro, V3Nano]) {
+    const first = new Stream({ seed: 9 }).update("left ");
+    const second = first.clone().update("lift");
+    first.update("left");
+    assert.ok(second instanceof Stream);
+    assert.equal(first.digest(), new Stream({ seed: 9 }).update("left left").digest());
+    assert.equal(second.digest(), new Stream({ seed: 9 }).update("left lift").digest());
+    assert.notEqual(first.digest(), second.digest());
+  }
+});
+
+test("views of all kinds", () => {
+  const { buffer } = Uint8Array.from({ length: 400 }, (_, at) => at);
+  const views = [buffer, new Uint32Array(buffer), new Float64Array(buffer, 8, 20)];
+  for (const view of [...views, new DataView(buffer, 3, 50), new Uint8Array(buffer, 5, 7)]) {
+    const bytes = new Uint8Array(buffer, view.byteOffset ?? 0, view.byteLength);
+    assert.equal(v3(view), v3(bytes.slice()));
+    assert.equal(new V3().update(view).digest(), v3(bytes.slice()));
+  }
+});
+
+test("strings are their UTF-8", () => {
+  const texts = ["", "a", "na\u00efve", "\x7f\x80", "a".repeat(32), "a".repeat(33),
+    "\u03bb \u2192 \u{1d6cc}", "\u2192".repeat(43690), "\u2192".repeat(43691), "\u2192".repeat(piece),
+    "\u{1d6cc}".repeat(100000), "a".repeat(1000000)];
+  // The memory of these calls has not grown yet.
+  const { v1, v2_0, v2_1, v2_2, v3, v3Micro, v3Nano, v3Protected, V3 } = loadSync();
+  assert.equal(v3("hello"), 3327445792987248966n);
+  for (const text of texts) {
+    const bytes = encoder.encode(text);
+    for (const call of [v3, v3Micro, v3Nano, v3Protected, v1, v2_0, v2_1, v2_2])
+      assert.equal(call(text), call(bytes));
+    assert.equal(v3(text, { seed: 3n }), v3(bytes, { seed: 3n }));
+    assert.equal(new V3({ seed: 3n }).update(text).digest(), v3(bytes, { seed: 3n }));
+  }
+  assert.equal(v3("\ud800"), v3("\ufffd"));
+});
+
+test("hexadecimal digits", () => {
+  assert.equal(hex(0xabcn), "0000000000000abc");
+  assert.equal(hex(2n ** 64n - 1n), "ffffffffffffffff");
+  assert.equal(hex(v3("hello")), "2e2d7651b45f7946");
+  for (const [hash, name] of [[-1n, "RangeError"], [2n ** 64n, "RangeError"], ["1", "TypeError"]])
+    assert.throws(() => hex(hash), { name, message: /^hash must be/ });
+});
+
+test("a hash as digits, without a BigInt", () => {
+  assert.equal(library.v3Hex("hello"), "2e2d7651b45f7946");
+  assert.equal(library.v3Hex(""), "0338dc4be2cecdae");
+  const versions = Object.keys(library).filter((name) => name.endsWith("Hex")).map((name) => name.slice(0, -3));
+  assert.equal(versions.length, 8);
+  const long = new Uint8Array(piece + 1).fill(7);
+  for (const version of versions)
+    for (const message of [data, "text", long])
+      assert.equal(library[`${version}Hex`](message, { seed: 1n }), hex(library[version](message, { seed: 1n })));
+  for (const Stream of [V3, V3Micro, V3Nano]) {
+    const hasher = new Stream({ seed: 7 }).update(long);
+    assert.equal(hasher.digest("hex"), hex(hasher.digest()));
+  }
+});
+
+test("a saved state", async () => {
+  const other = await load();
+  for (const name of ["V3", "V3Micro", "V3Nano"])
+    for (const length of [0, 1, 48, 49, 120]) {
+      const first = new library[name]({ secrets: own }).update(data.subarray(0, length));
+      const saved = first.save();
+      const rest = data.subarray(length);
+      const hash = new library[name]({ secrets: own }).update(data).digest();
+      for (const loaded of [new library[name]().load(saved), new other[name]({ seed: 9 }).load(saved.slice().buffer)])
+        assert.equal(loaded.update(rest).digest(), hash);
+      assert.equal(first.update(rest).digest(), hash);
+      assert.deepEqual(new library[name]({ secrets: own }).update(data.subarray(0, length)).save(), saved);
+    }
+});
+
+// The state is that of the C header in memory with 32-bit addresses, least significant byte first, after its secrets.
+test("each byte of a saved state", () => {
+  const known = new DataView(new ArrayBuffer(288));
+  const bytes = new Uint8Array(known.buffer);
+  bytes.set([0x79, 0x72, 0x68, 1, 7]);
+  // After the secrets, the lanes are still the seed. No row is folded, so the first 16 kept bytes are 0.
+  own.forEach((word, at) => known.setBigUint64(8 + 8 * at, word, true));
+  for (let lane = 0; lane < 7; lane++) known.setBigUint64(80 + 8 * lane, own[0], true);
+  bytes.set(data.subarray(0, 20), 137 + 16);
+  known.setUint32(268, 20, true);
+  known.setUint32(272, 7, true);
+  known.setBigUint64(280, v3(bytes.subarray(0, 280)), true);
+  assert.deepEqual(new V3({ secrets: own }).update(data.subarray(0, 20)).save(), bytes);
+});
+
+test("streams of the web", async () => {
+  const parts = () => new ReadableStream({
+    start(controller) {
+      for (let at = 0; at < 120; at += 7) controller.enqueue(data.subarray(at, at + 7));
+      controller.close();
+    },
+  });
+  for (const [Stream, whole] of [[V3, v3], [V3Micro, v3Micro], [V3Nano, v3Nano]]) {
+    const value = whole(data, { secrets: own });
+    const hasher = new Stream({ secrets: own });
+    assert.equal((await hasher.updateFrom(parts())).digest(), value);
+    // As in an engine in which streams have no iterator.
+    const { getReader } = ReadableStream.prototype;
+    const stream = parts();
+    await hasher.reset().updateFrom({ getReader: () => getReader.call(stream) });
+    assert.equal(hasher.digest(), value);
+    assert.equal((await hasher.reset().updateFrom(new Blob([data]).stream())).digest(), value);
+  }
+});
+
+test("many pieces, and empty ones", async () => {
+  async function* pieces() {
+    for (let at = 0; at < 140000; at++) yield at % 2 ? "x" : "";
+  }
+  const rest = pieces();
+  const reader = { read: () => rest.next(), cancel: () => rest.return() };
+  for (const source of [pieces(), { getReader: () => reader }])
+    assert.equal((await new V3().updateFrom(source)).digest(), v3("x".repeat(70000)));
+});
+
+test("both starts, alone and side by side", async () => {
+  const other = await load();
+  assert.deepEqual(Object.keys(other), Object.keys(library));
+  assert.equal(Object.keys(library).length, 24);
+  assert.equal(other.v3("hello"), 3327445792987248966n);
+  const [left, right] = [new V3().update("hel"), new other.V3().update("hel")];
+  assert.equal(left.update("lo").digest(), right.update("lo").digest());
+  await assert.rejects(load(new Uint8Array(8)), { name: "CompileError", message: /./ });
+  assert.throws(() => loadSync(new Uint8Array(8)), { name: "CompileError", message: /./ });
+});

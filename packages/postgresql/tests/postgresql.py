@@ -1,0 +1,167 @@
+#!/usr/bin/env python3
+"""Builds the PostgreSQL extension with the commands on its page and installs it into a copy of the server. Starts the
+copy as a user without rights and tests each function. The machine's own server is not affected. The values are those of
+the Rust crate."""
+
+import os
+import re
+import shutil
+import subprocess
+import sys
+from pathlib import Path
+
+sys.path.append(str(Path(__file__).parents[3] / "tests"))
+from cases import ROOM, TOP, blocks, compare, finish, shell, skip_all, tell  # noqa: E402
+from sql import BINDINGS, DIGITS, HELLO, NOTHING, TEXT, TEXT_HASH, VERSIONS  # noqa: E402
+from sql import every_vector, lines_with_results, unpack  # noqa: E402
+
+PAGE = "packages/postgresql/README.md"
+# The directory of its databases, which also contains its socket.
+DATA = ROOM / "data"
+NOBODY = "setpriv --reuid=65534 --regid=65534 --clear-groups " if os.geteuid() == 0 else ""
+FUNCTIONS = """SELECT prokind, proisstrict, count(*), bool_and(provolatile = 'i' AND proparallel = 's')
+    FROM pg_proc WHERE proname LIKE 'rapidhash%' GROUP BY 1, 2 ORDER BY 1, 2"""
+STORED = """CREATE TABLE stored (word text); ALTER TABLE stored ALTER word SET STORAGE {0};
+    INSERT INTO stored SELECT repeat('hello', {1}); SELECT rapidhash_v3(word) = rapidhash_v3(repeat('hello', {1})),
+    pg_column_size(word) < octet_length(word) FROM stored; DROP TABLE stored"""
+# The server stores a value compressed, in pieces, or with a shorter header.
+STORAGES = (("EXTENDED", 100000, "t"), ("EXTERNAL", 100000, "f"), ("PLAIN", 1, "f"))
+
+
+def folders_of_the_server():
+    """Returns the directories of the machine's server, or nothing if the server or its headers are missing."""
+    if not all(map(shutil.which, ("pg_config", "cc", "psql", "setpriv"))):
+        return []
+    found = [Path(shell(f"pg_config --{name}")[1].strip()) for name in ("pgxs", "bindir", "sharedir")]
+    return found[1:] if found[0].exists() and (found[1] / "initdb").exists() else []
+
+
+def ask(query):
+    """Returns the resulting lines of a query, or its error."""
+    words = ["psql", "-XAtq", "-h", DATA, "-U", "test", "-d", "postgres", "-v", "ON_ERROR_STOP=1", "-f", "-"]
+    done = subprocess.run(words, input=query, stdout=subprocess.PIPE, stderr=subprocess.STDOUT, text=True)
+    return done.stdout.splitlines()
+
+
+def literal(message):
+    return f"'\\x{message.hex()}'::bytea"
+
+
+def install():
+    """Runs the commands of the page. The second installs into the copy."""
+    words = {"PGHOST": str(DATA), "PGUSER": "test", "PGDATABASE": "postgres", "DESTDIR": str(ROOM)}
+    [commands] = blocks(PAGE, "sh")
+    status, printed = shell(commands.replace("sudo ", ""), ROOM, **words)
+    compare("three_commands", (commands in BINDINGS, commands.count("\n"), status, printed.splitlines()[-2:]),
+            (True, 3, 0, ["CREATE EXTENSION", str(HELLO)]))
+
+
+def unpacked_archive():
+    """Checks that the command on the archive's page builds and installs the same functions."""
+    place = ROOM / "unpacked"
+    status, printed = shell(unpack(place, "postgresql").replace("sudo ", ""), place, DESTDIR=str(place))
+    names = [shell(f"nm -D --defined-only {folder}/rapidhash.so | cut -d ' ' -f 2-") for folder in (
+        TOP / "build/postgresql", next(place.glob("usr/**/rapidhash.so"), place).parent)]
+    tell("unpacked_archive", *[printed[-600:]] * (status != 0 or names[0] != names[1]))
+
+
+def vectors():
+    """Tests each message as a bytea, and a message of 8 bytes also as a bigint."""
+    queries = []
+    for name, words, message, wanted in every_vector():
+        number = f"'{int.from_bytes(message[:8], 'little', signed=True)}'::bigint"
+        for value in (literal(message), number)[:2 if len(message) == 8 else 1]:
+            queries.append(f"SELECT (h, rapidhash_hex(h)) = ({wanted}, '{wanted % 2**64:016x}') "
+                           f"FROM (SELECT {name}({', '.join([value, *map(str, words)])}) AS h) AS found;")
+    found = ask("\n".join(queries))
+    tell("vectors", *[query for query, line in zip(queries, found) if line != "t"])
+    compare("count_of_vectors", len(found), 3032 + 16)
+
+
+def types():
+    compare("types", ask(f"SELECT rapidhash_v3('{TEXT}'), rapidhash_v3('{TEXT}'::text), rapidhash_v3(''), "
+                         "rapidhash_v3(''::bytea), rapidhash_v3(42), rapidhash_v3((-42)::smallint)"),
+            [f"{TEXT_HASH}|{TEXT_HASH}|{NOTHING}|{NOTHING}|5044168950324010207|2463112363380910024"])
+    compare("null", ask("SELECT rapidhash_v3(NULL::text), rapidhash_v3('a', NULL), rapidhash_v3_seeded(1, NULL), "
+                         "rapidhash_v3(NULL::text, 1), rapidhash_hex(NULL)"), ["||||"])
+    numbers = ", ".join(f"({number})" for number in DIGITS)
+    compare("hex", ask(f"SELECT rapidhash_hex(column1) FROM (VALUES {numbers}) numbers"), list(DIGITS.values()))
+    for error in ("rapidhash_v3(1.5)", "rapidhash_v3(1.5::real)", "rapidhash_v3_seeded('a')"):
+        compare(f"refuses {error}", [line.split("ERROR: ")[1].split("(")[0] for line in ask(f"SELECT {error}")[:1]],
+                [f" function {error.split('(')[0]}"])
+    for storage, count, is_compressed in STORAGES:
+        compare(f"storage {storage}", ask(STORED.format(storage, count)), [f"t|{is_compressed}"])
+
+
+def aggregates():
+    """Tests the aggregates on 300,000 rows, in an order different from the table's, and over windows."""
+    ask("CREATE TABLE many AS SELECT place, place % 3 AS part, 'user:' || place AS word "
+        "FROM generate_series(0, 299999) place ORDER BY reverse(place::text)")
+    whole = "string_agg(word, '' ORDER BY place)"
+    for version in VERSIONS[4:7]:
+        for seed in ("", ", 1", ", 4294967296", ", -1"):
+            agg = f"rapidhash_{version}_agg"
+            found = ask(f"SELECT part, {agg}(word{seed} ORDER BY place) = rapidhash_{version}({whole}{seed}), "
+                        f"{agg}(word::bytea{seed} ORDER BY place) = rapidhash_{version}({whole}{seed}) "
+                        "FROM many GROUP BY part ORDER BY part")
+            compare(f"{agg}{seed}", found, [f"{part}|t|t" for part in range(3)])
+            compare(f"{agg}{seed} of integers", ask(f"SELECT {agg}(n::bigint{seed} ORDER BY n DESC) = rapidhash_{version}("
+                f"'\\x01{'00' * 7}fe{'ff' * 7}'::bytea{seed}) FROM (VALUES (1), (-2)) v(n)"), ["t"])
+    values = "(VALUES (1, 'x', NULL), (2, 'hel', 0), (3, NULL, 0), (4, 'lo', 0)) v(place, word, seed)"
+    compare("nulls", ask(f"SELECT rapidhash_v3_agg(word, seed ORDER BY place), rapidhash_v3_agg(word) FILTER (WHERE "
+                         f"word IS NULL), rapidhash_v3_agg(word) FILTER (WHERE false) FROM {values}"), [f"{HELLO}||"])
+    for frame in ("", " ROWS 1 PRECEDING"):
+        query = f"""SELECT rapidhash_v3_agg(word) OVER rows = rapidhash_v3(string_agg(word, '') OVER rows)
+            FROM {values} WINDOW rows AS (ORDER BY place{frame})"""
+        compare(f"window{frame}", ask(query), ["t"] * 4)
+    # Each row is compressed, so its bytes are in memory that the server frees before the next row.
+    ask("CREATE TABLE compressed AS SELECT repeat('hello', 600) AS word FROM generate_series(1, 3)")
+    compare("compressed_rows", ask("SELECT rapidhash_v3_agg(word) = rapidhash_v3(repeat('hello', 1800)) "
+                                   "FROM compressed; DROP TABLE compressed"), ["t"])
+    found = ask("SELECT rapidhash_v3_nano_agg(1, place::bigint << 32) FROM many")[:1]
+    compare("other_seed", [line.partition("ERROR:  ")[2] for line in found],
+            ["rapidhash_v3_nano_agg: the seed must be the same in every row"])
+    ask("DROP TABLE many")
+
+
+def rest():
+    # The calls and rapidhash_hex, the aggregates, and the functions that these are made of.
+    compare("functions", ask(FUNCTIONS), ["a|f|18|t", "f|f|19|t", "f|t|73|t"])
+    compare("index", ask("CREATE TABLE words (word text); CREATE INDEX ON words (rapidhash_v3(word, 1))"), [])
+    for query, wanted in lines_with_results(PAGE):
+        compare(query, ask(query), [wanted])
+    [query] = re.findall(r"^SELECT .*_agg.*;$", blocks(PAGE, "sql")[0], re.M)
+    compare("rows_in_order", ask(query), [str(HELLO)])
+    ask("DROP TABLE words; DROP EXTENSION rapidhash; CREATE ROLE owner; GRANT CREATE ON DATABASE postgres TO owner")
+    query = "SET ROLE owner; CREATE SCHEMA one; CREATE SCHEMA two; CREATE EXTENSION rapidhash SCHEMA one; RESET ROLE; "
+    query += "ALTER EXTENSION rapidhash SET SCHEMA two; SELECT two.rapidhash_v3('hello')"
+    compare("owner_and_schema", ask(query), [str(HELLO)])
+    compare("dropped", ask(f"DROP EXTENSION rapidhash; {FUNCTIONS}"), [])
+
+
+def start(binaries, shared):
+    """Starts a copy of the server and returns the command that stops it."""
+    ROOM.chmod(0o755)
+    for folder in (binaries.parent, shared):
+        shutil.copytree(folder, ROOM / folder.relative_to("/"))
+    DATA.mkdir()
+    if NOBODY:
+        shutil.chown(DATA, 65534, 65534)
+    run = f"{NOBODY}env -i LC_ALL=C.UTF-8 {ROOM / binaries.relative_to('/')}"
+    options = f"-c listen_addresses= -c unix_socket_directories={DATA} -c fsync=off"
+    status, printed = shell(f"{run}/initdb -D {DATA} --no-sync --auth=trust -E UTF8 -U test && "
+                            f"{run}/pg_ctl -D {DATA} -w -l {DATA}/log -o '{options}' start", "/")
+    tell("server", *printed.splitlines()[-5:] * (status != 0))
+    return f"{run}/pg_ctl -D {DATA} -m fast stop"
+
+
+folders = folders_of_the_server()
+if not folders:
+    skip_all("no server with its headers, or no cc, psql or setpriv")
+stop = start(*folders)
+try:
+    for step in (install, unpacked_archive, vectors, types, aggregates, rest):
+        step()
+finally:
+    shell(stop, "/")
+finish()

@@ -1,0 +1,115 @@
+#!/usr/bin/env bash
+# Builds the Python package from source, installs it in fresh environments without a network, and tests the installed
+# copy. RAPIDHASH_TEST_PYTHONS can name further interpreters with setuptools and wheel, which build and test the source
+# distribution. Missing programs are named, and their cases are not counted.
+. "$(dirname "$0")/../../../tests/cases.sh"
+# The Python for which Debian has the packages that build wheels.
+python=/usr/bin/python3
+unset PYTHONPATH
+export PIP_NO_INDEX=1 PIP_DISABLE_PIP_VERSION_CHECK=1 CFLAGS='-Wall -Wextra -Werror'
+
+# Runs the commands on the package's page in a fresh environment.
+installs_as_the_page_says() {
+  "$python" -m venv "$room/fresh" && PATH=$room/fresh/bin:$PATH works_as_its_page_says "$top/packages/python/README.md" &&
+    echo hello >data.bin && blocks "$top/packages/python/README.md" python import |
+    sed -E 's/^(rapidhash.*\)) +# ([0-9]{16,}|".*"|array.*)/assert \1 == \2/; 1s/^/from array import array; /' >page.py &&
+    [ "$(grep -c '^assert' page.py)" = 3 ] && "$room/fresh/bin/python" page.py
+}
+
+# Checks that the wheel has its files, the licences of the repository, and no other files.
+has_its_files() {
+  "$python" -m zipfile -e "$top"/build/wheels/*-cp311-abi3-linux_x86_64.whl "$room/files" && cd "$room/files" &&
+    has_the_licences yervound_rapidhash-*.dist-info && [ "$(grep -cxE \
+    'Name: yervound-rapidhash|License: MIT OR Apache-2\.0|Requires-Python: >=3\.8' ./*.dist-info/METADATA)" -eq 3 ] &&
+    ls | diff - <(printf '%s\n' rapidhash yervound_rapidhash-1.0.0.dist-info) &&
+    LC_ALL=C ls rapidhash | diff - <(printf '%s\n' __init__.py __init__.pyi _extension.abi3.so _secrets.py py.typed)
+}
+
+# Checks that the extension needs the C library of the system alone, and exports nothing but its start.
+exports_its_start_alone() {
+  cd "$room/files/rapidhash" && nm -D --defined-only _extension.abi3.so | cut -d ' ' -f 3 |
+    diff - <(echo PyInit__extension) && ! ldd _extension.abi3.so | grep rapidhash_c
+}
+
+# Lays out the sources as in the repository, where a build must leave nothing, and the tests away from them.
+lay_out() {
+  mkdir -p "$room/source" "$room/tests" && cd "$top" && cp LICENSE-* NOTICE "$room/source" &&
+    git ls-files packages/python packages/c/include | xargs cp --parents -t "$room/source" &&
+    (cd "$room/source" && find . | sort) >"$room/listed" && cp packages/python/tests/test_*.py "$room/tests" &&
+    python3 scripts/vectors.py crates/test_replay/data >"$room/tests/rapidhash_vectors.tsv"
+}
+
+leaves_nothing() {
+  (cd "$room/source" && find . | sort) | diff "$room/listed" -
+}
+
+# Installs from the directory, as pip install ./bindings/python does, with Debian's setuptools.
+installs_from_source() {
+  "$python" -m venv --system-site-packages "$room/compiled" &&
+    "$room/compiled/bin/pip" install --no-build-isolation "$room/source/packages/python" && leaves_nothing &&
+    cd / && "$room/compiled/bin/python" -c 'import rapidhash; print(rapidhash.v3(b"hello"))' | grep -x 3327445792987248966
+}
+
+# Checks that an installation fails, installs nothing and leaves nothing: WORD-IN-ITS-ERROR ARGUMENT..
+fails_and_leaves_nothing() {
+  rm -rf "$room/empty" && "$python" -m venv "${@:2:1}" "$room/empty" &&
+    ! "$room/empty/bin/pip" install "${@:3}" "$room/source/packages/python" >"$room/refused" 2>&1 &&
+    grep -e "$1" "$room/refused" && leaves_nothing &&
+    (cd / && ! "$room/empty/bin/python" -c 'import rapidhash' 2>/dev/null)
+}
+
+without_a_compiler() {
+  CC=$room/no-compiler fails_and_leaves_nothing "$room/no-compiler" --system-site-packages --no-build-isolation
+}
+
+without_the_header() {
+  mv "$room/source/packages/c/include" "$room" && sed -i '/include/d' "$room/listed" &&
+    fails_and_leaves_nothing 'packages/c/include/rapidhash_c.h' --system-site-packages --no-build-isolation
+}
+
+# Builds the source distribution with another interpreter and runs all tests: PYTHON
+works_with() {
+  local folder name
+  folder=$(mktemp -d -p "$room") &&
+    "$1" -m pip wheel --no-deps --no-build-isolation -w "$folder" "$top"/build/wheels/*.tar.gz &&
+    "$1" -m zipfile -e "$folder"/yervound_rapidhash-*.whl "$folder" && cd "$room/tests" &&
+    for name in test_{rapidhash,package,buffers,columns,vectors}.py; do
+      PYTHONPATH=$folder "$1" -B "$name" || return 1
+    done
+}
+
+# Runs a test file with the installed wheel: FILE
+runs_installed() {
+  cd "$room/tests" && "$room/fresh/bin/python" -B "$1.py"
+}
+
+accepts_the_types() {
+  cd "$room/tests" && mypy --strict --no-error-summary --cache-dir "$room/mypy" \
+    --python-executable "$room/fresh/bin/python" test_types.py
+}
+
+# Checks that the types match the package.
+types_are_those_of_the_package() {
+  cd "$room/files" && MYPYPATH=$room/files PYTHONPATH=$room/files "$python" -m mypy.stubtest rapidhash
+}
+
+"$python" -c 'import ensurepip, setuptools, wheel' 2>/dev/null || skip_all 'no ensurepip, setuptools or wheel'
+try install installs_as_the_page_says
+try files has_its_files
+try exports exports_its_start_alone
+try lay_out lay_out
+for name in rapidhash package buffers columns vectors; do
+  try "$name" runs_installed "test_$name"
+done
+try_with types mypy accepts_the_types
+try_with types_of_the_package mypy types_are_those_of_the_package
+try from_source installs_from_source
+try no_compiler without_a_compiler
+# Without a network, pip cannot get setuptools.
+try no_setuptools fails_and_leaves_nothing setuptools --symlinks
+try no_header without_the_header
+for other in ${RAPIDHASH_TEST_PYTHONS:-}; do
+  try "$other" works_with "$other"
+done
+
+finish

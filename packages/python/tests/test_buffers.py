@@ -1,0 +1,158 @@
+"""Tests buffers, files, and memory maps with an installed copy of the package. packages/python/tests/python.sh runs it per wheel."""
+
+import hashlib
+import io
+import mmap
+import os
+import sys
+import tempfile
+import threading
+import time
+import tracemalloc
+import unittest
+
+import rapidhash
+
+DATA = bytes(range(120))
+KNOWN = 7088138960297660729  # The V3 hash of DATA by the Rust crate, as in test_rapidhash.py
+
+
+def lets_others_run(call):
+    """Returns whether a call lets another thread run. The switch interval is too long for the thread to preempt it."""
+    count, done, interval = [0], threading.Event(), sys.getswitchinterval()
+
+    def other():
+        while not done.is_set():
+            count[0] += 1
+            time.sleep(0)
+
+    sys.setswitchinterval(1000)
+    thread = threading.Thread(target=other)
+    try:
+        thread.start()
+        before = count[0]
+        return any(call() is not None and count[0] != before for _ in range(1000))
+    finally:
+        done.set()
+        sys.setswitchinterval(interval)
+        thread.join()
+
+
+class Long(bytes):
+    """Bytes that report a wrong length."""
+
+    def __len__(self):
+        return 1 << 40
+
+
+class Short(io.RawIOBase):
+    """A file that returns seven bytes per read."""
+
+    def __init__(self, data):
+        super().__init__()
+        self.rest, self.at = data, 0
+
+    def readable(self):
+        return True
+
+    def readinto(self, buffer):
+        given = self.rest[self.at:self.at + 7]
+        self.at += 7
+        buffer[:len(given)] = given
+        return len(given)
+
+
+class Counted(io.BytesIO):
+    """A file that counts its reads, of which one may fail."""
+
+    def __init__(self, data, failing=0):
+        super().__init__(data)
+        self.reads, self.failing = 0, failing
+
+    def readinto(self, buffer):
+        self.reads += 1
+        if self.reads == self.failing:
+            raise OSError("the third read failed")
+        return super().readinto(buffer)
+
+
+class Buffers(unittest.TestCase):
+    def test_views(self):
+        whole = memoryview(b"ab" + DATA + b"c")
+        for view in (whole[2:122], whole[2:122].cast("B", [10, 12]), memoryview(bytearray(whole))[2:122]):
+            self.assertEqual((rapidhash.v3(view), rapidhash.V3(view).intdigest()), (KNOWN, KNOWN))
+        with self.assertRaises(BufferError):
+            rapidhash.V3().update(whole[::2])
+        long = Long(DATA)
+        self.assertEqual((rapidhash.v3(long), rapidhash.V3(long).intdigest()), (KNOWN, KNOWN))
+        whole.release()
+        with self.assertRaises(ValueError):
+            rapidhash.v3(whole)
+
+    def test_other_threads_run_meanwhile(self):
+        data, hasher = bytes(1 << 24), rapidhash.V3()
+        self.assertTrue(lets_others_run(lambda: rapidhash.v3(data)))
+        self.assertTrue(lets_others_run(lambda: hasher.update(data)))
+        self.assertFalse(lets_others_run(lambda: (rapidhash.v3(DATA), hasher.update(DATA))))
+
+
+class Files(unittest.TestCase):
+    def test_files(self):
+        with tempfile.NamedTemporaryFile() as file:
+            file.write(DATA)
+            file.flush()
+            for buffering in (0, -1):
+                with open(file.name, "rb", buffering) as opened:
+                    self.assertEqual(rapidhash.file_digest(opened).intdigest(), KNOWN)
+                    self.assertEqual(rapidhash.file_digest(opened).intdigest(), rapidhash.v3(b""))
+                    opened.seek(7)
+                    self.assertEqual(rapidhash.file_digest(opened).intdigest(), rapidhash.v3(DATA[7:]))
+            with open(file.name, encoding="latin-1") as text, self.assertRaises(ValueError):
+                rapidhash.file_digest(text)
+
+    def test_what_reads_otherwise(self):
+        self.assertEqual(rapidhash.file_digest(Short(DATA)).intdigest(), KNOWN)
+        begun = io.BytesIO(b"before" + DATA)
+        begun.seek(6)
+        self.assertEqual(rapidhash.file_digest(begun).intdigest(), KNOWN)
+        long = bytes(range(251)) * 5000
+        self.assertEqual(rapidhash.file_digest(Short(long[:500_000])).intdigest(), rapidhash.v3(long[:500_000]))
+        counted = Counted(long)
+        self.assertEqual(rapidhash.file_digest(counted).intdigest(), rapidhash.v3(long))
+        self.assertLess(counted.reads, 10)
+        with self.assertRaisesRegex(OSError, "^the third read failed$"):
+            rapidhash.file_digest(Counted(long, 3))
+
+    def test_hashers(self):
+        made = rapidhash.file_digest(io.BytesIO(DATA), lambda: rapidhash.V3Micro(seed=1))
+        self.assertEqual((type(made), made.intdigest()), (rapidhash.V3Micro, 13208658450986943527))
+        self.assertEqual(rapidhash.file_digest(io.BytesIO(b"abc"), hashlib.sha256).digest(),
+                         hashlib.sha256(b"abc").digest())
+        if hasattr(hashlib, "file_digest"):
+            self.assertEqual(hashlib.file_digest(io.BytesIO(DATA), rapidhash.V3).intdigest(), KNOWN)
+
+    def test_a_file_that_is_not_ready(self):
+        out, into = os.pipe()
+        os.set_blocking(out, False)
+        os.write(into, DATA)
+        with open(out, "rb", 0) as file, open(into, "wb", 0), self.assertRaises(BlockingIOError):
+            rapidhash.file_digest(file)
+
+    def test_a_map_of_a_file_is_not_copied(self):
+        with tempfile.TemporaryFile() as file:
+            file.write(DATA)
+            file.flush()
+            with mmap.mmap(file.fileno(), 0, access=mmap.ACCESS_READ) as small:
+                self.assertEqual((rapidhash.v3(small), rapidhash.V3(small).intdigest()), (KNOWN, KNOWN))
+            file.truncate(1 << 24)
+            with mmap.mmap(file.fileno(), 0, access=mmap.ACCESS_READ) as large:
+                tracemalloc.start()
+                try:
+                    self.assertEqual(rapidhash.v3(large), rapidhash.V3(large).intdigest())
+                    self.assertLess(tracemalloc.get_traced_memory()[1], 1 << 16)
+                finally:
+                    tracemalloc.stop()
+
+
+if __name__ == "__main__":
+    unittest.main()

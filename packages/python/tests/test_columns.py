@@ -1,0 +1,180 @@
+"""Tests the hashes of many messages in one call with an installed copy of the package."""
+
+import array
+import contextlib
+import ctypes
+import mmap
+import sys
+import unittest
+
+import rapidhash
+
+VERSIONS = "v1", "v2_0", "v2_1", "v2_2", "v3", "v3_micro", "v3_nano", "v3_protected"
+SEEDS = 0, 1, 2**32, 2**63, 2**64 - 1
+ITEMS = [bytes(range(size)) for size in range(200)]
+WHOLE = b"".join(ITEMS)
+OFFSETS = [sum(range(size)) for size in range(201)]
+
+
+def ways(items, **words):
+    """Yields the hashes of messages of equal lengths or of any lengths, in each way."""
+    whole = b"".join(items)
+    offsets = [sum(map(len, items[:at])) for at in range(len(items) + 1)]
+    yield rapidhash.each(items, **words)
+    yield rapidhash.each(iter(items), **words)
+    yield rapidhash.each(tuple(map(bytearray, items)), **words)
+    for kind in "ilqILQ":
+        yield rapidhash.each_slice(whole, array.array(kind, offsets), **words)
+    if len(set(map(len, items))) == 1:
+        yield rapidhash.each_row(whole, len(items[0]), **words)
+
+
+class Columns(unittest.TestCase):
+    def test_they_have_the_hashes_of_the_calls(self):
+        for version in VERSIONS:
+            call, made = getattr(rapidhash, version), rapidhash.make_secrets(2**40 + 1, 1 if version == "v1" else 3)
+            for words in ({}, {"secrets": made}, *({"seed": seed} for seed in SEEDS)):
+                for items in (ITEMS, [ITEMS[1]] * 3, [ITEMS[11], ITEMS[150][:11]], [ITEMS[150]] * 9):
+                    wanted = array.array("Q", (call(item, **words) for item in items))
+                    for found in ways(items, version=version, **words):
+                        self.assertEqual(found, wanted, (version, words))
+
+    def test_known_values(self):
+        self.assertEqual(list(rapidhash.each(["hello", b"", memoryview(b"hello")])),
+                         [3327445792987248966, 232177599295442350, 3327445792987248966])
+        self.assertEqual(list(rapidhash.each_row(b"hellohello", 5)), [3327445792987248966] * 2)
+        self.assertEqual(list(rapidhash.each_slice("hello", array.array("i", [0, 0, 5]))),
+                         [232177599295442350, 3327445792987248966])
+
+    def test_offsets_need_not_start_at_0(self):
+        found = rapidhash.each_slice(memoryview(WHOLE), memoryview(array.array("q", OFFSETS))[100:])
+        self.assertEqual(found, rapidhash.each(ITEMS[100:]))
+        self.assertEqual(rapidhash.each_slice(b"ab", (ctypes.c_int32 * 2)(1, 2)), rapidhash.each([b"b"]))
+
+    def test_places_above_2_to_the_31_and_32(self):
+        for kind, start in (("I", 2**31), ("L", 2**32), ("q", 2**32)):
+            with mmap.mmap(-1, start + 8) as data:
+                found = rapidhash.each_slice(data, array.array(kind, [start, start + 5]))
+            self.assertEqual(found, rapidhash.each([bytes(5)]))
+        with mmap.mmap(-1, 2**32 + 10) as data:
+            half, data[-1] = len(data) // 2, 1
+            with memoryview(data) as view, view[:half] as left, view[half:] as right:
+                self.assertEqual(list(rapidhash.each_row(data, half)), [rapidhash.v3(left), rapidhash.v3(right)])
+        self.assertEqual(rapidhash.v3(bytes(2**32 + 5)), 8938949028826169308)  # As in scripts/vectors.py.
+
+    def test_nothing_to_hash(self):
+        empty = array.array("Q")
+        for found in (rapidhash.each([]), rapidhash.each_row(b"", 4), rapidhash.each_slice(b"", array.array("i")),
+                      rapidhash.each_slice(b"", array.array("i", [0])), rapidhash.each([], out=empty)):
+            self.assertEqual(found, empty)
+
+    def test_a_long_column(self):
+        whole, places = array.array("I", range(100_000)).tobytes(), range(0, 400_000, 4)
+        items = [whole[at:at + 4] for at in places]
+        wanted = array.array("Q", map(rapidhash.v3, items))
+        self.assertEqual(rapidhash.each_row(whole, 4), wanted)
+        self.assertEqual(rapidhash.each_slice(whole, array.array("i", [*places, 400_000])), wanted)
+        for kind in (list, tuple, iter):
+            self.assertEqual(rapidhash.each(kind(items)), wanted)
+        self.assertEqual(rapidhash.each([bytes(200_000), "x" * 200_000]),
+                         array.array("Q", [rapidhash.v3(bytes(200_000)), rapidhash.v3(b"x" * 200_000)]))
+
+
+class Out(unittest.TestCase):
+    def test_the_room_of_the_caller(self):
+        room, wanted = array.array("Q", [7]) * 202, rapidhash.each(ITEMS)
+        part = memoryview(room)[1:201]
+        self.assertIs(rapidhash.each(ITEMS, out=part), part)
+        self.assertEqual((room[0], room[1:201], room[201]), (7, wanted, 7))
+        unaligned = memoryview(bytearray(8 * 200 + 1))[1:].cast("Q")
+        self.assertEqual(rapidhash.each_slice(WHOLE, array.array("I", OFFSETS), out=unaligned).tolist(), list(wanted))
+        self.assertEqual(list(rapidhash.each([b"hello"], out=(ctypes.c_uint64 * 1)())), [3327445792987248966])
+        part.release()
+        room.append(1)  # An array refuses this while its buffer is exported.
+
+    def test_wrong_rooms(self):
+        one, two = array.array("Q", [0]), memoryview(array.array("Q", [0, 0]))
+        for call, kind, error in (
+            (lambda: rapidhash.each([b"", b""], out=one), ValueError, "out must have room for exactly 2 hashes"),
+            (lambda: rapidhash.each([], out=one), ValueError, "out must have room for exactly 0 hashes, and it has 1"),
+            (lambda: rapidhash.each_row(b"", 1, out=one), ValueError, "out must have room for exactly 0 hashes"),
+            (lambda: rapidhash.each([b""], out=bytearray(8)), TypeError, "out must be a buffer of unsigned 64-bit"),
+            (lambda: rapidhash.each([b""], out=array.array("q", [0])), TypeError, "out must be a buffer of unsigned"),
+            (lambda: rapidhash.each([b""], out=array.array("d", [0])), TypeError, "out must be a buffer of unsigned"),
+            (lambda: rapidhash.each([b""], out=bytes(8)), BufferError, ""),
+            (lambda: rapidhash.each_row(one, 8, out=one), ValueError, "out must not overlap data"),
+            (lambda: rapidhash.each_slice(b"", two[:2], out=two[1:2]), ValueError, "out must not overlap offsets$"),
+            (lambda: rapidhash.each_slice(one, array.array("i", [0, 1]), out=one), ValueError, "out must not overlap"),
+        ):
+            with self.assertRaisesRegex(kind, f"^{error}"):
+                call()
+
+    def test_buffers_are_released(self):
+        rows, room, offsets = bytearray(16), array.array("Q", [0, 0]), array.array("i", [0, 8, 16])
+        item = bytes(bytearray(8))
+        before = sys.getrefcount(item)
+        for offset in (16, 17):
+            offsets[2] = offset
+            for call in (lambda: rapidhash.each_row(rows, 8, out=room), lambda: rapidhash.each([item, rows], out=room),
+                         lambda: rapidhash.each_slice(rows, offsets, out=room), lambda: rapidhash.each([], out=room)):
+                with contextlib.suppress(ValueError):
+                    call()
+        for buffer in (rows, room, offsets):
+            buffer.append(0)  # Each refuses this while its buffer is exported.
+        self.assertEqual(sys.getrefcount(item), before)
+
+
+class Refused(unittest.TestCase):
+    def test_items(self):
+        for items in ([b"", 7], iter([b"", 7]), (b"", 7)):
+            with self.assertRaisesRegex(TypeError, r"^items\[1\] must be bytes, .* not <class 'int'>$"):
+                rapidhash.each(items)
+        with self.assertRaises(BufferError):
+            rapidhash.each([memoryview(b"abc")[::2]])
+        with self.assertRaises(TypeError):
+            rapidhash.each(7)
+
+    def test_offsets(self):
+        for numbers in ([0, 4], [2, 1], [-1, 2], [0, 3, 2], [0, 2**62], [-2**63, 0], [2**62, 2**62 + 1]):
+            with self.assertRaisesRegex(ValueError, r"^offsets\[\d\] and offsets\[\d\] must ascend from 0 to at most 3"):
+                rapidhash.each_slice(b"abc", array.array("q", numbers))
+        for numbers in ([0, 2**64 - 1], [2**63, 2**63], [2**32, 2**32 + 1]):
+            with self.assertRaisesRegex(ValueError, "^offsets"):
+                rapidhash.each_slice(b"abc", array.array("Q", numbers))
+        with self.assertRaisesRegex(ValueError, r"^offsets\[1\]"):
+            rapidhash.each_slice(b"abc", array.array("I", [0, 1, 2**32 - 1]))
+        for offsets in (b"abcd", array.array("h", [0, 1]), array.array("d", [0, 1]), memoryview(bytes(16)).cast("B")):
+            with self.assertRaisesRegex(TypeError, "^offsets must be a buffer of 32-bit or 64-bit integers$"):
+                rapidhash.each_slice(b"abc", offsets)
+        other = (ctypes.c_int32.__ctype_be__ if sys.byteorder == "little" else ctypes.c_int32.__ctype_le__) * 2
+        with self.assertRaisesRegex(TypeError, "^offsets"):
+            rapidhash.each_slice(b"abc", other(0, 1))
+
+    def test_widths(self):
+        for width in (0, -1, -2**70):
+            with self.assertRaisesRegex(ValueError, "^width must be at least 1"):
+                rapidhash.each_row(b"abc", width)
+        for width in (2, 4, 2**32 + 3, 2**64 + 3):
+            with self.assertRaisesRegex(ValueError, "^data has 3 bytes, which is no multiple of the width"):
+                rapidhash.each_row(b"abc", width)
+        with self.assertRaisesRegex(TypeError, "^width must be an integer"):
+            rapidhash.each_row(b"abc", 1.0)
+
+    def test_the_rest(self):
+        made, made_v1 = rapidhash.make_secrets(1), rapidhash.make_secrets(1, 1)
+        for words, kind, error in (
+            ({"version": "v4"}, ValueError, "version must be the name of a hash, such as 'v3', not 'v4'"),
+            ({"version": 3}, TypeError, "version must be the name"), ({"version": "v3\0"}, ValueError, "version"),
+            ({"seed": -1}, OverflowError, "seed must be"), ({"seed": 2**64}, OverflowError, "seed must be"),
+            ({"seed": "1"}, TypeError, "seed must be"), ({"seed": 1, "secrets": made}, TypeError, "pass either"),
+            ({"secrets": made_v1}, TypeError, "secrets of v3 must"), ({"secrets": bytes(64)}, TypeError, "secrets"),
+            ({"version": "v1", "secrets": made}, TypeError, "secrets of v1 must"),
+        ):
+            for call in (lambda: rapidhash.each([b"a"], **words), lambda: rapidhash.each_row(b"a", 1, **words),
+                         lambda: rapidhash.each_slice(b"a", array.array("i", [0, 1]), **words)):
+                with self.assertRaisesRegex(kind, f"^{error}"):
+                    call()
+
+
+if __name__ == "__main__":
+    unittest.main()

@@ -1,0 +1,137 @@
+//! Uses each part of the interface that differs between the crate `rapidhash` and the proved crate, and maps of other
+//! crates over its states. packages/rust/tests/crate.sh builds it with this package as a patch of crates.io. The expected values
+//! are those of the crate.
+
+use rapidhash::fast::{HashMapExt, HashSetExt, RapidHashMap, RapidHashSet};
+use rapidhash::rng::{RapidRng, rapidrng_fast, rapidrng_time};
+use rapidhash::{fast, quality, v1, v2, v3};
+use std::fs::File;
+use std::hash::BuildHasher;
+use std::io::{Seek, Write};
+
+const HELLO: u64 = v3::rapidhash_v3(b"hello");
+static SEEDED: u64 = v2::rapidhash_v2_2_seeded(b"hello", &v2::DEFAULT_RAPID_SECRETS);
+
+/// The name of a word, by its hash.
+fn named(word: &[u8]) -> &'static str {
+    const CAT: u64 = v1::rapidhash_v1(b"cat");
+    const DOG: u64 = v1::rapidhash_v1(b"dog");
+    match v1::rapidhash_v1(word) {
+        CAT => "cat",
+        DOG => "dog",
+        _ => "none",
+    }
+}
+
+#[test]
+fn hashes_are_constants() {
+    let places = [0u8; (v3::rapidhash_v3(b"hello") % 64) as usize];
+    assert_eq!(HELLO, 3327445792987248966);
+    assert_eq!(places.len() as u64, HELLO % 64);
+    assert_eq!(SEEDED, v2::rapidhash_v2_2(b"hello"));
+    assert_eq!(
+        (named(b"cat"), named(b"dog"), named(b"cow")),
+        ("cat", "dog", "none")
+    );
+}
+
+/// Two types of secrets can both implement a trait.
+trait Named {
+    const NAME: &'static str;
+}
+
+impl Named for v2::RapidSecrets {
+    const NAME: &'static str = "v2";
+}
+
+impl Named for v3::RapidSecrets {
+    const NAME: &'static str = "v3";
+}
+
+#[test]
+fn secrets_of_two_versions() {
+    assert_ne!(v2::RapidSecrets::NAME, v3::RapidSecrets::NAME);
+    let (two, three) = (v2::RapidSecrets::seed(7), v3::RapidSecrets::seed(7));
+    assert_eq!((two.seed, two.secrets), (three.seed, three.secrets));
+    assert_eq!(two.reseed().seed, three.reseed().seed);
+    assert_ne!(
+        v2::RapidSecrets::random().seed,
+        v2::RapidSecrets::random().seed
+    );
+}
+
+/// V1 and V2 hash the rest of a file by its metadata, and report a file that is shorter than that.
+#[test]
+fn files_by_their_metadata() -> std::io::Result<()> {
+    let path = std::env::temp_dir().join(format!("drop_in_{}", std::process::id()));
+    let text = [7u8; 70_000];
+    File::create(&path)?.write_all(&text)?;
+    let mut file = File::open(&path)?;
+    assert_eq!(v1::rapidhash_v1_file(&mut file)?, v1::rapidhash_v1(&text));
+    file.rewind()?;
+    let own = v1::RapidSecrets::seed(3);
+    let hash = v1::rapidhash_v1_file_seeded(&mut file, &own)?;
+    assert_eq!(hash, v1::rapidhash_v1_seeded(&text, &own));
+    file.rewind()?;
+    assert_eq!(
+        v2::rapidhash_v2_2_file(&mut file)?,
+        v2::rapidhash_v2_2(&text)
+    );
+    file.rewind()?;
+    let own = v2::RapidSecrets::seed(3);
+    let hash = v2::rapidhash_v2_file_inline::<1, true>(&mut file, &own)?;
+    assert_eq!(
+        hash,
+        v2::rapidhash_v2_inline::<1, true, false, true>(&text, &own)
+    );
+    // The file is at its end now.
+    let short = v1::rapidhash_v1_file(&mut file).unwrap_err();
+    assert_eq!(short.kind(), std::io::ErrorKind::UnexpectedEof);
+    std::fs::remove_file(&path)
+}
+
+#[test]
+fn generator() {
+    use rand_core::{RngCore, SeedableRng};
+    let (mut ours, mut state) = (RapidRng::seed_from_u64(5), 5);
+    assert_eq!(RngCore::next_u64(&mut ours), rapidrng_fast(&mut state));
+    let mut bytes = [0; 12];
+    RapidRng::from_seed(5u64.to_le_bytes()).fill_bytes(&mut bytes);
+    let mut state = 5;
+    assert_eq!(bytes[..8], rapidrng_fast(&mut state).to_le_bytes());
+    assert_eq!(bytes[8..], rapidrng_fast(&mut state).to_le_bytes()[..4]);
+    assert_eq!(RapidRng::new(1).next_u32(), RapidRng::new(1).next() as u32);
+    let mut seed = 1;
+    assert_ne!(rapidrng_time(&mut seed), rapidrng_time(&mut seed));
+    assert_ne!(RapidRng::default().state(), RapidRng::default().state());
+}
+
+#[test]
+fn maps_by_the_names_of_fast() {
+    let (mut map, mut set) = (RapidHashMap::new(), RapidHashSet::with_capacity(9));
+    map.insert("answer", 42);
+    assert!(set.insert("answer") && map["answer"] == 42 && set.capacity() >= 9);
+}
+
+/// The maps of other crates, over each state.
+#[test]
+fn maps_of_other_crates() {
+    fn check<S: BuildHasher + Clone + Default>(state: &S) {
+        let mut table = hashbrown::HashMap::with_hasher(state.clone());
+        let mut ordered = indexmap::IndexMap::with_hasher(state.clone());
+        for number in 0..20_000u64 {
+            table.insert(number, !number);
+            ordered.insert(format!("key {number}"), number);
+        }
+        for number in 0..20_000u64 {
+            assert_eq!(table.get(&number), Some(&!number));
+            assert_eq!(ordered[&format!("key {number}")], number);
+            assert!(!table.contains_key(&(number + 20_000)));
+        }
+        assert!(ordered.values().copied().eq(0..20_000));
+    }
+    check(&fast::RandomState::new());
+    check(&fast::GlobalState::new());
+    check(&quality::RandomState::new());
+    check(&fast::SeedableState::random());
+}

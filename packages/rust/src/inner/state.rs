@@ -1,0 +1,199 @@
+//! The states that build hashers for a map. Each keeps only a seed and secrets, in the proved
+//! `seeded`. The source of a random seed and of random secrets is outside the proof.
+
+use crate::proved::inner::state::seeded::Seeded;
+use crate::random::{global_seed, next_seed, secrets};
+use crate::secrets::RapidSecrets;
+use std::fmt::{Debug, Formatter, Result};
+use std::hash::BuildHasher;
+
+use super::RapidHasher;
+
+/// Defines a state whose `new` draws the seed with a function.
+macro_rules! random_state {
+    ($(#[$about:meta])* $name:ident, $(#[$new:meta])* $seed:path) => {
+        $(#[$about])*
+        #[derive(Clone, Copy, PartialEq, Eq)]
+        pub struct $name<
+            const AVALANCHE: bool,
+            const SPONGE: bool,
+            const COMPACT: bool,
+            const PROTECTED: bool,
+        > {
+            seeded: Seeded<'static>,
+        }
+
+        impl<const AVALANCHE: bool, const SPONGE: bool, const COMPACT: bool, const PROTECTED: bool>
+            $name<AVALANCHE, SPONGE, COMPACT, PROTECTED>
+        {
+            $(#[$new])*
+            #[must_use]
+            #[inline]
+            pub fn new() -> Self {
+                Self {
+                    seeded: Seeded {
+                        seed: $seed(),
+                        secrets: secrets(),
+                    },
+                }
+            }
+        }
+
+        impl<const AVALANCHE: bool, const SPONGE: bool, const COMPACT: bool, const PROTECTED: bool> Default
+            for $name<AVALANCHE, SPONGE, COMPACT, PROTECTED>
+        {
+            /// Returns the state of `new`.
+            #[inline]
+            fn default() -> Self {
+                Self::new()
+            }
+        }
+
+        impl<const AVALANCHE: bool, const SPONGE: bool, const COMPACT: bool, const PROTECTED: bool>
+            BuildHasher for $name<AVALANCHE, SPONGE, COMPACT, PROTECTED>
+        {
+            type Hasher = RapidHasher<'static, AVALANCHE, SPONGE, COMPACT, PROTECTED>;
+
+            #[inline(always)]
+            fn build_hasher(&self) -> Self::Hasher {
+                self.seeded.hasher()
+            }
+        }
+
+        impl<const AVALANCHE: bool, const SPONGE: bool, const COMPACT: bool, const PROTECTED: bool> Debug
+            for $name<AVALANCHE, SPONGE, COMPACT, PROTECTED>
+        {
+            fn fmt(&self, f: &mut Formatter<'_>) -> Result {
+                f.debug_struct(stringify!($name)).finish_non_exhaustive()
+            }
+        }
+    };
+}
+
+random_state! {
+    /// Builds hashers with the single random seed of this process: all its maps hash in the same way.
+    ///
+    /// ```
+    /// use rapidhash::inner::GlobalState;
+    ///
+    /// let state = GlobalState::<false, true, false, false>::new();
+    /// assert_eq!(state, GlobalState::new());
+    /// ```
+    GlobalState,
+    /// Returns a state with the seed and the secrets of this process.
+    global_seed
+}
+
+random_state! {
+    /// Builds hashers with a random seed and the random secrets of this process. Each state has its own
+    /// seed; two seeds may be equal.
+    ///
+    /// ```
+    /// use rapidhash::inner::RandomState;
+    /// use std::collections::HashMap;
+    ///
+    /// let state = RandomState::<false, true, false, false>::new();
+    /// let mut map = HashMap::with_hasher(state);
+    /// map.insert("answer", 42);
+    /// ```
+    RandomState,
+    /// Returns a state with a new random seed.
+    next_seed
+}
+
+/// Builds hashers with the caller's seed.
+///
+/// ```
+/// use rapidhash::inner::SeedableState;
+/// use rapidhash::v3::RapidSecrets;
+/// use std::collections::HashMap;
+///
+/// let secrets = RapidSecrets::seed(0x1234_5678);
+/// let state = SeedableState::<false, true, false, false>::custom(secrets.seed, &secrets.secrets);
+/// let mut map = HashMap::with_hasher(state);
+/// map.insert("answer", 42);
+/// ```
+#[derive(Clone, Copy, PartialEq, Eq)]
+pub struct SeedableState<
+    's,
+    const AVALANCHE: bool,
+    const SPONGE: bool,
+    const COMPACT: bool = false,
+    const PROTECTED: bool = false,
+> {
+    seeded: Seeded<'s>,
+}
+
+impl<'s, const AVALANCHE: bool, const SPONGE: bool, const COMPACT: bool, const PROTECTED: bool>
+    SeedableState<'s, AVALANCHE, SPONGE, COMPACT, PROTECTED>
+{
+    /// Returns a state with the random secrets of this process and a seed made from `seed` as in
+    /// [`RapidSecrets::seed_cpp`](crate::v3::RapidSecrets::seed_cpp).
+    #[must_use]
+    pub fn new(seed: u64) -> Self {
+        Self::custom(RapidSecrets::seed_cpp(seed).seed, secrets())
+    }
+
+    /// Returns a state with a random seed and the random secrets of this process.
+    #[must_use]
+    #[inline]
+    pub fn random() -> Self {
+        Self::custom(next_seed(), secrets())
+    }
+
+    /// Returns the state with the default seed and secrets, the same in every run of every program.
+    /// Anyone who knows them can find keys that all have the same hash.
+    #[must_use]
+    #[inline]
+    pub fn fixed() -> Self {
+        let default = RapidSecrets::default_ref();
+        Self::custom(default.seed, &default.secrets)
+    }
+
+    /// Returns a state with this seed and these secrets, used as they are. Make them with
+    /// [`RapidSecrets::seed`](crate::v3::RapidSecrets::seed): with small numbers as secrets, many keys have hashes
+    /// that agree in the bits that a map looks at first, and a lookup takes a hundred times as long.
+    #[must_use]
+    #[inline]
+    pub fn custom(seed: u64, secrets: &'s [u64; 7]) -> Self {
+        Self {
+            seeded: Seeded { seed, secrets },
+        }
+    }
+
+    /// Returns the same as [`SeedableState::custom`].
+    #[must_use]
+    #[inline]
+    pub fn with_seed(seed: u64, secrets: &'s [u64; 7]) -> Self {
+        Self::custom(seed, secrets)
+    }
+}
+
+impl<'s, const AVALANCHE: bool, const SPONGE: bool, const COMPACT: bool, const PROTECTED: bool>
+    Default for SeedableState<'s, AVALANCHE, SPONGE, COMPACT, PROTECTED>
+{
+    /// Returns [`SeedableState::random`].
+    #[inline]
+    fn default() -> Self {
+        Self::random()
+    }
+}
+
+impl<'s, const AVALANCHE: bool, const SPONGE: bool, const COMPACT: bool, const PROTECTED: bool>
+    BuildHasher for SeedableState<'s, AVALANCHE, SPONGE, COMPACT, PROTECTED>
+{
+    type Hasher = RapidHasher<'s, AVALANCHE, SPONGE, COMPACT, PROTECTED>;
+
+    #[inline(always)]
+    fn build_hasher(&self) -> Self::Hasher {
+        self.seeded.hasher()
+    }
+}
+
+impl<'s, const AVALANCHE: bool, const SPONGE: bool, const COMPACT: bool, const PROTECTED: bool>
+    Debug for SeedableState<'s, AVALANCHE, SPONGE, COMPACT, PROTECTED>
+{
+    fn fmt(&self, f: &mut Formatter<'_>) -> Result {
+        f.debug_struct("SeedableState").finish_non_exhaustive()
+    }
+}

@@ -1,0 +1,25 @@
+//! The proved sources without their contracts: `scripts/rust_crate` writes every file in `proved/`.
+
+pub mod inner {
+    pub mod hasher;
+    pub mod sponge;
+    pub mod state {
+        pub mod seeded;
+    }
+}
+pub mod kernel;
+#[cfg(feature = "std")]
+pub mod known_length;
+pub mod lanes;
+pub mod memory;
+#[cfg(feature = "std")]
+pub mod reader;
+pub mod rng;
+pub mod secrets;
+pub mod seeding;
+pub mod tail;
+pub mod util;
+pub mod v1;
+pub mod v2;
+pub mod v3;
+pub mod words;

@@ -1,0 +1,106 @@
+// Made by scripts/rust_crate from crates/rapidhash_portable/src/kernel/v3.rt: change that file.
+
+//! V3 of a slice, and its relatives micro and nano, which differ from it in the number of lanes.
+
+use crate::lanes::wide_lanes;
+use crate::tail::{close, fold_tail};
+use crate::util::ALTERNATING_BITS;
+use crate::words::{last_16, short_words_v3};
+
+/// The longest message that makes no call. Longer tails, inlined into a loop, make the shortest
+/// messages slower.
+const LONGEST_INLINED: usize = 80;
+
+const_fn! {
+/// Returns the hash of `bytes` with an odd number of lanes. `AVALANCHE` mixes the last product once
+/// more, `PROTECTED` mixes each product with its factors, and `COMPACT` changes the code but no
+/// value.
+#[inline(always)]
+pub const fn hash<
+    const LANES: usize,
+    const AVALANCHE: bool,
+    const COMPACT: bool,
+    const PROTECTED: bool,
+>(
+    bytes: &[u8],
+    seed: u64,
+    secrets: &[u64; 7],
+) -> u64 {
+    let n = bytes.len();
+    if n > 16 {
+        return long::<LANES, AVALANCHE, COMPACT, PROTECTED>(bytes, seed, secrets);
+    }
+    close_short::<LANES, AVALANCHE, PROTECTED>(bytes, short_words_v3(bytes), seed, secrets)
+}
+}
+
+const_fn! {
+/// Returns the hash of at most 16 bytes from their two words. From 4 bytes on the length is mixed
+/// into the seed.
+#[inline(always)]
+const fn close_short<const LANES: usize, const AVALANCHE: bool, const PROTECTED: bool>(
+    bytes: &[u8],
+    words: (u64, u64),
+    seed: u64,
+    secrets: &[u64; 7],
+) -> u64 {
+    let (n, second) = (bytes.len() as u64, secrets[1]);
+    let start = if n > 3 { seed ^ n } else { seed };
+    close::<AVALANCHE, PROTECTED>(words, start, second, (ALTERNATING_BITS, second ^ n))
+}
+}
+
+const_fn! {
+/// Returns the hash above 16 bytes.
+#[inline(always)]
+const fn long<const LANES: usize, const AVALANCHE: bool, const COMPACT: bool, const PROTECTED: bool>(
+    bytes: &[u8],
+    seed: u64,
+    secrets: &[u64; 7],
+) -> u64 {
+    let n = bytes.len();
+    if n <= LONGEST_INLINED && n <= 16 * LANES {
+        close_tail::<AVALANCHE, PROTECTED>(bytes, bytes, seed, secrets)
+    } else {
+        with_rows::<LANES, AVALANCHE, COMPACT, PROTECTED>(bytes, seed, secrets)
+    }
+}
+}
+
+const_fn! {
+/// Returns the hash above 16 bytes, out of line.
+#[cold]
+#[inline(never)]
+const fn with_rows<
+    const LANES: usize,
+    const AVALANCHE: bool,
+    const COMPACT: bool,
+    const PROTECTED: bool,
+>(
+    bytes: &[u8],
+    seed: u64,
+    secrets: &[u64; 7],
+) -> u64 {
+    let (joined, tail) = wide_lanes::<LANES, 1, COMPACT, PROTECTED>(bytes, seed, secrets);
+    close_tail::<AVALANCHE, PROTECTED>(tail, bytes, joined, secrets)
+}
+}
+
+const_fn! {
+/// Returns the hash above 16 bytes, from the joined lanes, the tail, and bytes that end in the
+/// message's last 16.
+#[inline(always)]
+pub(crate) const fn close_tail<const AVALANCHE: bool, const PROTECTED: bool>(
+    tail: &[u8],
+    ending: &[u8],
+    joined: u64,
+    secrets: &[u64; 7],
+) -> u64 {
+    let (second, third) = (secrets[1], secrets[2]);
+    let table = [third, third, second, second, third, second];
+    let seed = fold_tail::<6, PROTECTED>(tail, &table, joined);
+    let t = tail.len() as u64;
+    let (a, b) = last_16(ending);
+    close::<AVALANCHE, PROTECTED>((a ^ t, b), seed, second, (ALTERNATING_BITS, second ^ t))
+}
+}

@@ -1,0 +1,75 @@
+// Made by scripts/rust_crate from crates/rapidhash_portable/src/secrets/v1.rt: change that file.
+
+//! The seed and the secrets of V1.
+
+use super::{DEFAULT_SECRETS, chain, cpp_seed_of, reseed_of, seed_of};
+
+/// A seed and the three secrets of V1. Make one once and keep it: making it costs four multiplies
+/// or more. It has the layout of C, because the C library accepts it.
+#[repr(C)]
+#[derive(Debug, Clone, Copy, PartialEq, Eq, Hash)]
+pub struct RapidSecrets {
+    /// The start value of every lane.
+    pub seed: u64,
+    /// The words that a message's words are mixed with.
+    pub secrets: [u64; 3],
+}
+
+/// The secrets of [`rapidhash_v1`](crate::v1::rapidhash_v1): `RapidSecrets::seed_cpp(0xbdd89aa982704029)`, as numbers.
+pub const DEFAULT_RAPID_SECRETS: RapidSecrets = RapidSecrets {
+    seed: 0x7633_05bb_e7be_a536,
+    secrets: [
+        0x2d35_8dcc_aa6c_78a5,
+        0x8bb8_4b93_962e_acc9,
+        0x4b33_a62e_d433_d4a3,
+    ],
+};
+
+impl RapidSecrets {
+    /// Returns the default seed and secrets, [`DEFAULT_RAPID_SECRETS`], by reference.
+    #[inline(always)]
+    #[must_use]
+    pub const fn default_ref() -> &'static Self {
+        &DEFAULT_RAPID_SECRETS
+    }
+
+    /// Returns a seed and secrets made from a number. Each has a set bit in its upper, its middle
+    /// and its lower part, so none is 0.
+    ///
+    /// ```
+    /// use rapidhash::v1::{RapidSecrets, rapidhash_v1_seeded};
+    ///
+    /// let secrets = RapidSecrets::seed(0x1234_5678);
+    /// let hash = rapidhash_v1_seeded(b"hello", &secrets);
+    /// ```
+    #[must_use]
+    pub const fn seed(seed: u64) -> Self {
+        let seed = seed_of(seed);
+        RapidSecrets {
+            seed,
+            secrets: chain::<3>(seed),
+        }
+    }
+
+    /// Returns the same secrets with a new seed, made from the old one with V1's last default
+    /// secret.
+    #[must_use]
+    pub const fn reseed(&self) -> Self {
+        RapidSecrets {
+            seed: reseed_of(self.seed, 2),
+            secrets: self.secrets,
+        }
+    }
+
+    /// Returns the default secrets with a seed derived from a number. According to the Rust crate
+    /// rapidhash, the C++ library derives it in the same way.
+    /// Anyone who knows the default secrets can find messages with the same hash for every seed: if
+    /// that matters, see [`RapidSecrets::seed`].
+    #[must_use]
+    pub const fn seed_cpp(seed: u64) -> Self {
+        RapidSecrets {
+            seed: cpp_seed_of(seed, 0),
+            secrets: [DEFAULT_SECRETS[0], DEFAULT_SECRETS[1], DEFAULT_SECRETS[2]],
+        }
+    }
+}

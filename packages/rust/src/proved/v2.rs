@@ -1,0 +1,83 @@
+// Made by scripts/rust_crate from crates/rapidhash_portable/src/v2.rt: change that file.
+
+//! rapidhash V2, in its three minors.
+
+#[cfg(feature = "std")]
+mod readers;
+
+use crate::kernel::v2::hash;
+use crate::kernel::{MIXED, PLAIN, UNROLLED};
+pub use crate::secrets::{DEFAULT_RAPID_SECRETS, RapidSecrets};
+#[cfg(feature = "std")]
+pub use readers::{
+    rapidhash_v2_2_file, rapidhash_v2_2_file_seeded, rapidhash_v2_file_inline, rapidhash_v2_source,
+};
+
+const_fn! {
+/// Returns the hash of `bytes` by V2.2 with the default seed and secrets.
+///
+/// ```
+/// use rapidhash::v2::rapidhash_v2_2;
+///
+/// let bytes: Vec<u8> = (0..60).collect();
+/// assert_eq!(rapidhash_v2_2(&bytes), 6181707366222537282);
+/// ```
+#[inline(always)]
+#[must_use]
+pub const fn rapidhash_v2_2(bytes: &[u8]) -> u64 {
+    rapidhash_v2_inline::<2, MIXED, UNROLLED, PLAIN>(bytes, RapidSecrets::default_ref())
+}
+}
+
+const_fn! {
+/// Returns the hash of `bytes` by V2.2 with the caller's seed and secrets.
+///
+/// ```
+/// use rapidhash::v2::{RapidSecrets, rapidhash_v2_2_seeded};
+///
+/// let secrets = RapidSecrets::seed(0x1234_5678);
+/// let hash = rapidhash_v2_2_seeded(b"hello", &secrets);
+/// ```
+#[inline(always)]
+#[must_use]
+pub const fn rapidhash_v2_2_seeded(bytes: &[u8], secrets: &RapidSecrets) -> u64 {
+    rapidhash_v2_inline::<2, MIXED, UNROLLED, PLAIN>(bytes, secrets)
+}
+}
+
+const_fn! {
+/// Returns the hash of `bytes` with every option.
+///
+/// - `MINOR` is 0, 1 or 2, for V2.0, V2.1 and V2.2.
+/// - `AVALANCHE` mixes the last product once more. Without it the values are not those of the C++
+///   library: leave it out only if what uses the hash mixes by itself.
+/// - `COMPACT` folds one row at a time instead of two: less code, the same value.
+/// - `PROTECTED` mixes each product with its factors, so that bytes which equal a secret cannot
+///   erase what came before them. The value is another, and the call is slower.
+///
+/// ```
+/// use rapidhash::v2::{DEFAULT_RAPID_SECRETS, rapidhash_v2_inline};
+///
+/// let bytes: Vec<u8> = (0..60).collect();
+/// let hash = rapidhash_v2_inline::<0, true, false, false>(&bytes, &DEFAULT_RAPID_SECRETS);
+/// assert_eq!(hash, 13186137053657766175);
+/// ```
+///
+/// # Panics
+///
+/// If `MINOR` is above 2.
+#[inline(always)]
+#[must_use]
+pub const fn rapidhash_v2_inline<
+    const MINOR: u8,
+    const AVALANCHE: bool,
+    const COMPACT: bool,
+    const PROTECTED: bool,
+>(
+    bytes: &[u8],
+    secrets: &RapidSecrets,
+) -> u64 {
+    prove!(MINOR <= 2, "MINOR must be 0, 1 or 2");
+    hash::<MINOR, AVALANCHE, COMPACT, PROTECTED>(bytes, secrets.seed, &secrets.secrets)
+}
+}

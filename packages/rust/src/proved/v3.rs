@@ -1,0 +1,122 @@
+// Made by scripts/rust_crate from crates/rapidhash_portable/src/v3.rt: change that file.
+
+//! rapidhash V3, and its relatives micro and nano, which differ from it in the number of lanes.
+
+#[cfg(feature = "std")]
+mod readers;
+mod stream;
+
+use crate::kernel::v3::hash;
+use crate::kernel::{MIXED, PLAIN, UNROLLED};
+pub use crate::secrets::{DEFAULT_RAPID_SECRETS, RapidSecrets};
+#[cfg(feature = "std")]
+pub use readers::{
+    rapidhash_v3_file, rapidhash_v3_file_inline, rapidhash_v3_file_lanes, rapidhash_v3_file_seeded,
+    rapidhash_v3_file_sized, rapidhash_v3_source, rapidhash_v3_source_lanes,
+    rapidhash_v3_source_sized,
+};
+pub use stream::{
+    RapidStream, RapidStreamHasherInlineMicro, RapidStreamHasherInlineNano,
+    RapidStreamHasherInlineV3, RapidStreamHasherLanes, RapidStreamHasherV3,
+};
+
+const_fn! {
+/// Returns the hash of `bytes` with the default seed and secrets. The value is the same on every
+/// machine and in every version, so it may be stored. It is not cryptographic.
+///
+/// ```
+/// use rapidhash::v3::rapidhash_v3;
+///
+/// assert_eq!(rapidhash_v3(b"hello"), 3327445792987248966);
+/// let shard = rapidhash_v3(b"user:4711") % 64;
+/// ```
+#[inline(always)]
+#[must_use]
+pub const fn rapidhash_v3(bytes: &[u8]) -> u64 {
+    let secrets = RapidSecrets::default_ref();
+    hash::<7, MIXED, UNROLLED, PLAIN>(bytes, secrets.seed, &secrets.secrets)
+}
+}
+
+const_fn! {
+/// Returns the hash of `bytes` with the caller's seed and secrets. Collisions that were prepared
+/// for other secrets fail, but whoever sees hashes may still find these.
+///
+/// ```
+/// use rapidhash::v3::{RapidSecrets, rapidhash_v3_seeded};
+///
+/// let secrets = RapidSecrets::seed(0x1234_5678);
+/// let hash = rapidhash_v3_seeded(b"hello", &secrets);
+/// ```
+#[inline(always)]
+#[must_use]
+pub const fn rapidhash_v3_seeded(bytes: &[u8], secrets: &RapidSecrets) -> u64 {
+    rapidhash_v3_inline::<MIXED, UNROLLED, PLAIN>(bytes, secrets)
+}
+}
+
+const_fn! {
+/// Returns the hash of `bytes` with every option.
+///
+/// - `AVALANCHE` mixes the last product once more. Without it the values are not those of the C++
+///   library: leave it out only if what uses the hash mixes by itself.
+/// - `COMPACT` folds one row at a time instead of two: less code, the same value.
+/// - `PROTECTED` mixes each product with its factors, so that bytes which equal a secret cannot
+///   erase what came before them. The value is another, and the call is slower.
+///
+/// ```
+/// use rapidhash::v3::{DEFAULT_RAPID_SECRETS, rapidhash_v3_inline};
+///
+/// let hash = rapidhash_v3_inline::<true, true, false>(b"hello", &DEFAULT_RAPID_SECRETS);
+/// assert_eq!(hash, 3327445792987248966);
+/// ```
+#[inline(always)]
+#[must_use]
+pub const fn rapidhash_v3_inline<const AVALANCHE: bool, const COMPACT: bool, const PROTECTED: bool>(
+    bytes: &[u8],
+    secrets: &RapidSecrets,
+) -> u64 {
+    hash::<7, AVALANCHE, COMPACT, PROTECTED>(bytes, secrets.seed, &secrets.secrets)
+}
+}
+
+const_fn! {
+/// Returns the hash of `bytes` with five lanes. Up to 80 bytes it is V3's. The options are those of
+/// [`rapidhash_v3_inline`].
+///
+/// ```
+/// use rapidhash::v3::{DEFAULT_RAPID_SECRETS, rapidhash_v3_micro_inline};
+///
+/// let hash = rapidhash_v3_micro_inline::<true, false>(b"hello", &DEFAULT_RAPID_SECRETS);
+/// assert_eq!(hash, 3327445792987248966);
+/// ```
+#[inline(always)]
+#[must_use]
+pub const fn rapidhash_v3_micro_inline<const AVALANCHE: bool, const PROTECTED: bool>(
+    bytes: &[u8],
+    secrets: &RapidSecrets,
+) -> u64 {
+    hash::<5, AVALANCHE, UNROLLED, PROTECTED>(bytes, secrets.seed, &secrets.secrets)
+}
+}
+
+const_fn! {
+/// Returns the hash of `bytes` with three lanes, which has the least code out of line. Up to 48
+/// bytes it is V3's. The options are those of [`rapidhash_v3_inline`], which with `COMPACT` has the
+/// least code in all.
+///
+/// ```
+/// use rapidhash::v3::{DEFAULT_RAPID_SECRETS, rapidhash_v3_nano_inline};
+///
+/// let hash = rapidhash_v3_nano_inline::<true, false>(b"hello", &DEFAULT_RAPID_SECRETS);
+/// assert_eq!(hash, 3327445792987248966);
+/// ```
+#[inline(always)]
+#[must_use]
+pub const fn rapidhash_v3_nano_inline<const AVALANCHE: bool, const PROTECTED: bool>(
+    bytes: &[u8],
+    secrets: &RapidSecrets,
+) -> u64 {
+    hash::<3, AVALANCHE, UNROLLED, PROTECTED>(bytes, secrets.seed, &secrets.secrets)
+}
+}

@@ -1,0 +1,200 @@
+// Made by scripts/rust_crate from crates/rapidhash_portable/src/v3/readers.rt: change that file.
+
+//! V3, micro and nano of all bytes of a reader. The bytes go through a fixed buffer into the stream
+//! hasher; the proofs here use only its contract. Nothing is allocated, and any length is allowed.
+//!
+//! One loop makes all the reads, in `read_all`.
+
+use super::stream::RapidStreamHasherLanes;
+use crate::reader::Source;
+use crate::secrets::RapidSecrets;
+use std::io;
+use std::io::{ErrorKind, Read};
+
+/// The buffer of the calls that name no size, in bytes.
+const BUFFER: usize = 8192;
+
+/// Returns the hash of all that the reader still has, up to the first read that returns 0. It reads
+/// 8192 bytes at a time, into a buffer on the stack.
+///
+/// ```
+/// use rapidhash::reader::Source;
+/// use rapidhash::v3::{DEFAULT_RAPID_SECRETS, rapidhash_v3_source};
+///
+/// let mut source = Source::new(b"hello".as_slice());
+/// let hash = rapidhash_v3_source::<&[u8], false>(&mut source, &DEFAULT_RAPID_SECRETS)?;
+/// assert_eq!(hash, 3327445792987248966);
+/// # Ok::<(), std::io::Error>(())
+/// ```
+///
+/// # Errors
+///
+/// If the source is marked after the call, the error is the reader's own, also for an interrupted
+/// read. Otherwise it is `ErrorKind::Other`: 2^64 - 1 reads returned bytes, and the hash gave up.
+/// After either error the bytes that were read are lost.
+pub fn rapidhash_v3_source<R: Read, const PROTECTED: bool>(
+    source: &mut Source<R>,
+    secrets: &RapidSecrets,
+) -> io::Result<u64> {
+    rapidhash_v3_source_lanes::<R, 7, BUFFER, PROTECTED>(source, secrets)
+}
+
+/// Returns the hash of [`rapidhash_v3_source`], with a buffer of `SIZE` bytes on the stack: no read
+/// requests more.
+///
+/// # Errors
+///
+/// Those of [`rapidhash_v3_source`].
+///
+/// # Panics
+///
+/// If `SIZE` is 0.
+pub fn rapidhash_v3_source_sized<R: Read, const SIZE: usize, const PROTECTED: bool>(
+    source: &mut Source<R>,
+    secrets: &RapidSecrets,
+) -> io::Result<u64> {
+    rapidhash_v3_source_lanes::<R, 7, SIZE, PROTECTED>(source, secrets)
+}
+
+/// Returns the hash of [`rapidhash_v3_source_sized`], with 7, 5 or 3 lanes: V3, micro or nano.
+///
+/// ```
+/// use rapidhash::reader::Source;
+/// use rapidhash::v3::{DEFAULT_RAPID_SECRETS, rapidhash_v3_source_lanes};
+///
+/// let mut source = Source::new(b"hello".as_slice());
+/// let secrets = &DEFAULT_RAPID_SECRETS;
+/// let hash = rapidhash_v3_source_lanes::<&[u8], 5, 65536, false>(&mut source, secrets)?;
+/// assert_eq!(hash, 3327445792987248966);
+/// # Ok::<(), std::io::Error>(())
+/// ```
+///
+/// # Errors
+///
+/// Those of [`rapidhash_v3_source`].
+///
+/// # Panics
+///
+/// If `LANES` is not 7, 5 or 3, or `SIZE` is 0.
+pub fn rapidhash_v3_source_lanes<
+    R: Read,
+    const LANES: usize,
+    const SIZE: usize,
+    const PROTECTED: bool,
+>(
+    source: &mut Source<R>,
+    secrets: &RapidSecrets,
+) -> io::Result<u64> {
+    prove!(SIZE > 0, "SIZE must be at least 1");
+    let hasher = RapidStreamHasherLanes::new(secrets);
+    // No array is larger than `isize::MAX`: the `else` is dead, and spares callers a precondition.
+    if SIZE <= isize::MAX as usize {
+        read_all::<R, LANES, SIZE, PROTECTED>(source, hasher)
+    } else {
+        read_all::<R, LANES, BUFFER, PROTECTED>(source, hasher)
+    }
+}
+
+/// Returns the hash with a hasher of no bytes: the loop of every public call here. Short reads
+/// gather in the buffer until it is more than half full, so that no read requests less than half of
+/// it. The loop is out of line because of its buffer.
+#[inline(never)]
+fn read_all<R: Read, const LANES: usize, const SIZE: usize, const PROTECTED: bool>(
+    source: &mut Source<R>,
+    mut hasher: RapidStreamHasherLanes<'_, LANES, true, PROTECTED>,
+) -> io::Result<u64> {
+    source.clear();
+    let mut room = [0u8; SIZE];
+    let buffer = &mut room[..];
+    let mut at = 0;
+    for _turn in 0..u64::MAX {
+        let n = source.read(&mut buffer[at..])?;
+        if n == 0 {
+            hasher.write(&buffer[..at]);
+            return Ok(hasher.finish());
+        }
+        at += n;
+        if at > SIZE / 2 {
+            hasher.write(&buffer[..at]);
+            at = 0;
+        }
+    }
+    Err(io::Error::from(ErrorKind::Other))
+}
+
+/// Returns the hash of all that a reader has, with the default seed and secrets.
+///
+/// ```
+/// use rapidhash::v3::rapidhash_v3_file;
+///
+/// assert_eq!(rapidhash_v3_file(b"hello".as_slice())?, 3327445792987248966);
+/// # Ok::<(), std::io::Error>(())
+/// ```
+///
+/// # Errors
+///
+/// The reader's own error, or `ErrorKind::Other` after 2^64 - 1 reads that returned bytes.
+pub fn rapidhash_v3_file<R: Read>(data: R) -> io::Result<u64> {
+    rapidhash_v3_file_lanes::<R, 7, BUFFER, false>(data, RapidSecrets::default_ref())
+}
+
+/// Returns the hash of all that a reader has, with the caller's seed and secrets.
+///
+/// # Errors
+///
+/// Those of [`rapidhash_v3_file`].
+pub fn rapidhash_v3_file_seeded<R: Read>(data: R, secrets: &RapidSecrets) -> io::Result<u64> {
+    rapidhash_v3_file_lanes::<R, 7, BUFFER, false>(data, secrets)
+}
+
+/// Returns the hash of all that a reader has; `PROTECTED` mixes each product with its factors.
+///
+///
+/// # Errors
+///
+/// Those of [`rapidhash_v3_file`].
+pub fn rapidhash_v3_file_inline<R: Read, const PROTECTED: bool>(
+    data: R,
+    secrets: &RapidSecrets,
+) -> io::Result<u64> {
+    rapidhash_v3_file_lanes::<R, 7, BUFFER, PROTECTED>(data, secrets)
+}
+
+/// Returns the hash of [`rapidhash_v3_file_inline`], with a buffer of `SIZE` bytes on the stack: no
+/// read requests more.
+///
+/// # Errors
+///
+/// Those of [`rapidhash_v3_file`].
+///
+/// # Panics
+///
+/// If `SIZE` is 0.
+pub fn rapidhash_v3_file_sized<R: Read, const SIZE: usize, const PROTECTED: bool>(
+    data: R,
+    secrets: &RapidSecrets,
+) -> io::Result<u64> {
+    rapidhash_v3_file_lanes::<R, 7, SIZE, PROTECTED>(data, secrets)
+}
+
+/// Returns the hash of [`rapidhash_v3_file_sized`], with 7, 5 or 3 lanes: V3, micro or nano.
+///
+/// # Errors
+///
+/// Those of [`rapidhash_v3_file`].
+///
+/// # Panics
+///
+/// If `LANES` is not 7, 5 or 3, or `SIZE` is 0.
+pub fn rapidhash_v3_file_lanes<
+    R: Read,
+    const LANES: usize,
+    const SIZE: usize,
+    const PROTECTED: bool,
+>(
+    data: R,
+    secrets: &RapidSecrets,
+) -> io::Result<u64> {
+    let mut source = Source::new(data);
+    rapidhash_v3_source_lanes::<R, LANES, SIZE, PROTECTED>(&mut source, secrets)
+}

@@ -1,0 +1,29 @@
+// Made by scripts/rust_crate from crates/rapidhash_portable/src/v3/stream/state.rt: change that file.
+
+//! The data of a stream hasher, and their invariant. The checker accepts no ghost field beside code
+//! that lends an array, so each method here is one line, and all code is in `parts`.
+
+use super::parts::Parts;
+
+/// The data of a stream hasher, of which at most one chunk is buffered.
+#[derive(Clone, Debug)]
+pub(crate) struct State<'a, const LANES: usize> {
+    pub(super) parts: Parts<'a>,
+}
+
+impl<'a, const LANES: usize> State<'a, LANES> {
+    #[inline(always)]
+    pub(crate) fn write<const PROTECTED: bool>(&mut self, piece: &[u8]) {
+        self.parts.write::<LANES, PROTECTED>(piece);
+    }
+
+    #[inline(always)]
+    pub(crate) fn finish<const AVALANCHE: bool, const PROTECTED: bool>(&self) -> u64 {
+        self.parts.finish::<LANES, AVALANCHE, PROTECTED>()
+    }
+
+    #[inline(always)]
+    pub(crate) fn reset<const PROTECTED: bool>(&mut self) {
+        self.parts.reset::<LANES, PROTECTED>();
+    }
+}

@@ -1,0 +1,110 @@
+#!/usr/bin/env bash
+# Checks that the sources of the Rust crate in packages/rust/ are current. Tests its layout and lints, the package that
+# cargo builds, the README's program in its own directory, and the commands of docs/BINDINGS.md. Runs its tests and
+# examples with the machine's compiler and with Debian's. Debian's compiler is skipped if it is not installed.
+. "$(dirname "$0")/../../../tests/cases.sh"
+export CARGO_TARGET_DIR=$room/target CARGO_NET_OFFLINE=true
+
+# Runs Debian's cargo with Debian's compiler: ARGUMENT..
+debian() {
+  env RUSTC=/usr/bin/rustc RUSTDOC=/usr/bin/rustdoc CARGO_TARGET_DIR="$room/debian" /usr/bin/cargo "$@"
+}
+
+# Checks that tests ran and that none failed. A run without tests fails: COMMAND..
+tests_pass() {
+  "$@" >"$room/tests" 2>&1 || { cat "$room/tests"; return 1; }
+  grep -q '^test result: ok\. [1-9]' "$room/tests"
+}
+
+# Checks that the files that scripts/rust_crate writes are those that git marks as generated.
+marks_generated() {
+  grep -rl '^// Made by scripts/rust_crate' src tests tools/src | sort >"$room/made" && [ -s "$room/made" ] &&
+    find src tests tools/src -name '*.rs' | git check-attr --stdin linguist-generated |
+    sed -n 's/: linguist-generated: set$//p' | sort | diff "$room/made" -
+}
+
+# Builds the package, which must contain its licences and no tests.
+packages() {
+  cargo package --allow-dirty && tar -tf "$CARGO_TARGET_DIR"/package/*.crate >"$room/list" &&
+    grep -q '/LICENSE-MIT$' "$room/list" && grep -q '/LICENSE-APACHE$' "$room/list" &&
+    grep -q '/NOTICE$' "$room/list" && ! grep -q '/tests/' "$room/list"
+}
+
+# Runs the first program of the README in a new project, with the dependency that a page names: PAGE COMMAND..
+readme_runs() {
+  local project=$room/project page=$1
+  shift
+  rm -rf "$project" && mkdir -p "$project/src" &&
+    awk '/^```rust$/ { on = 1; next } /^```$/ { if (on) exit } on' README.md >"$project/src/main.rs" &&
+    printf '[package]\nname = "first"\nversion = "0.0.0"\nedition = "2021"\n' >"$project/Cargo.toml" &&
+    blocks "$page" toml dependencies | sed "s|/path/to/yervound|$top|" >>"$project/Cargo.toml" &&
+    (cd "$project" && "$@" run --quiet) >"$room/printed" && [ "$(cat "$room/printed")" = 3327445792987248966 ]
+}
+
+# Links the crate without its default feature into a library with its own handler of panics: a library that uses std has
+# two of them and does not compile.
+needs_core_alone() {
+  local project=$room/bare
+  mkdir -p "$project/src" && printf '%s\n' '[package]' 'name = "bare"' 'version = "0.0.0"' 'edition = "2021"' '[lib]' \
+    'crate-type = ["staticlib"]' '[dependencies]' \
+    "yervound-rapidhash = { path = \"$top/packages/rust\", default-features = false }" \
+    '[profile.dev]' 'panic = "abort"' >"$project/Cargo.toml" &&
+    printf '%s\n' '#![no_std]' '#[panic_handler]' 'fn stop(_: &core::panic::PanicInfo) -> ! { loop {} }' \
+      '#[no_mangle]' 'pub extern "C" fn hello() -> u64 { rapidhash::v3::rapidhash_v3(b"hello") }' >"$project/src/lib.rs" &&
+    (cd "$project" && cargo build)
+}
+
+# Checks what the registry and lawyers read of the manifests: MANIFEST
+has_the_metadata() {
+  grep -qx 'license = "MIT OR Apache-2.0"' "$1" && grep -qx 'rust-version = "1\.[0-9]*"' "$1" &&
+    [ "$(sed -n 's/^categories = //p' Cargo.toml)" = '["algorithms", "data-structures", "no-std"]' ]
+}
+
+# Runs the tests of packages/rust/compat in a project whose dependency is the crate rapidhash, replaced by that package.
+# Debian's directory of crates is its registry.
+drops_in() {
+  local project=$room/drop_in
+  mkdir -p "$project/.cargo" "$project/src" && touch "$project/src/lib.rs" &&
+    printf '[source.crates-io]\nreplace-with = "debian"\n\n[source.debian]\ndirectory = "/usr/share/cargo/registry"\n' \
+      >"$project/.cargo/config.toml" &&
+    printf '%s\n' '[package]' 'name = "first"' 'version = "0.0.0"' 'edition = "2021"' '[dependencies]' \
+      'rapidhash = { version = "4.5.1", features = ["rng_06", "unsafe", "nightly", "getrandom_04"] }' \
+      'rand_core = { version = "0.6", default-features = false }' \
+      'hashbrown = { version = "0.12", default-features = false, features = ["raw"] }' 'indexmap = "1"' \
+      '[[test]]' 'name = "drop_in"' "path = \"$top/packages/rust/compat/tests/drop_in.rs\"" \
+      "$(blocks compat/README.md toml patch | sed "s|/path/to/yervound|$top|")" >"$project/Cargo.toml" &&
+    (cd "$project" && tests_pass cargo test --test drop_in)
+}
+
+cd "$top/packages/rust" || exit 1
+try current "$top/scripts/rust_crate" --check
+try generated marks_generated
+try licences has_the_licences .
+try layout cargo fmt --check
+for features in --all-features --no-default-features; do
+  try "lints_${features#--}" cargo clippy --all-targets "$features" -- -D warnings
+  try "documentation_${features#--}" env RUSTDOCFLAGS='-D warnings' cargo doc --no-deps "$features"
+  try "tests_${features#--}" tests_pass cargo test "$features" --tests
+done
+try tests_in_release tests_pass cargo test --release --tests
+try core_alone needs_core_alone
+for manifest in Cargo.toml compat/Cargo.toml; do try "metadata_of_$manifest" has_the_metadata "$manifest"; done
+try examples tests_pass cargo test --doc
+try pedantic cargo clippy -- -D warnings -W clippy::pedantic
+if [ -d /usr/share/cargo/registry ]; then try drop_in drops_in; else skip drop_in 'no /usr/share/cargo/registry'; fi
+try no_dependency bash -c '[ "$(cargo tree | wc -l)" -eq 1 ]'
+try no_unsafe grep -x '#!\[forbid(unsafe_code)\]' src/lib.rs
+try package packages
+try readme readme_runs README.md cargo
+try readme_of_the_repository readme_runs "$top/README.md" cargo
+if [ -x /usr/bin/rustc ] && [ -x /usr/bin/cargo ]; then
+  try oldest_compiler tests_pass debian test --tests
+  try oldest_compiler_without_std tests_pass debian test --tests --no-default-features
+  try examples_by_the_oldest_compiler tests_pass debian test --doc
+  try readme_by_the_oldest_compiler readme_runs README.md debian
+else
+  skip oldest_compiler 'no /usr/bin/rustc and /usr/bin/cargo'
+fi
+try commands works_as_its_page_says <(sed -n '/^## Rust$/,/^## Python$/p' "$top/docs/BINDINGS.md")
+
+finish

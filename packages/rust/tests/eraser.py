@@ -1,0 +1,172 @@
+#!/usr/bin/env python3
+"""Tests scripts/eraser.py with each ghost form, text that it must keep, and text that it must refuse. Then compares each
+source of the Rust crate with its Rattle source, using separate patterns. Without the known ghost forms and the rows of
+scripts/rust_crate, both must have the same tokens."""
+
+import re
+import runpy
+import sys
+from difflib import unified_diff
+from pathlib import Path
+from types import SimpleNamespace
+
+sys.path[0:0] = [str(Path(__file__).parents[3] / folder) for folder in ("tests", "scripts")]
+from cases import TOP, compare, finish, tell  # noqa: E402
+from eraser import Refused, erase  # noqa: E402
+
+rust_crate = SimpleNamespace(**runpy.run_path(str(TOP / "scripts" / "rust_crate")))
+
+ERASED = {
+    "a clause": ("fn f()\n    requires { 0 < x }\n{ 1 }", "fn f()\n{ 1 }"),
+    "a clause with a name": ("fn f() ensures good { IsGood result } {}", "fn f() {}"),
+    "a clause with a star": ("fn f() ensures* writes_back { sem 𝓛 (x) } {}", "fn f() {}"),
+    "clauses of a method without a body": ("fn f(&self) ensures { x };", "fn f(&self);"),
+    "nested braces": ("fn f() ensures { record { seed = { x } } } { a }", "fn f() { a }"),
+    "a brace in a comment of a clause": ("fn f() ensures { x // }\n } { a }", "fn f() { a }"),
+    "a brace in a string of a clause": ('fn f() ensures { "}" } { a }', "fn f() { a }"),
+    "a ghost import": ("ghost use A.{◌≡◌, B};\nuse c;", "\nuse c;"),
+    "a ghost field": ("struct A { a: u8, ghost fits: { a ≤ 2 }, }", "struct A { a: u8, }"),
+    "a ghost member": ("impl A for B { ghost eq = { λ x y. x }; fn f() {} }", "impl A for B { fn f() {} }"),
+    "a tactic": ("#[inline]\n#[tactic(auto, unfolding(a::b))]\nfn f() {}", "#[inline]\nfn f() {}"),
+    "a tactic of a file": ("//! A.\n#![tactic(auto)]\nmod a;", "//! A.\nmod a;"),
+    "an implementation of Model": ("impl<A> Model for B<A> { ghost view = { x }; } fn f() {}", " fn f() {}"),
+    "the import of Model": ("use std::marker::Model;\nuse a;", "\nuse a;"),
+    "a module of tests": ("fn f() {}\n\n#[cfg(test)]\nmod tests;\n", "fn f() {}\n"),
+    "Drop as a bound": ("fn f<R: Read + Drop>(r: R) {}", "fn f<R: Read>(r: R) {}"),
+    "Drop as the only bound": ("impl<T: Drop> From<T> for P {}", "impl<T> From<T> for P {}"),
+    "Drop in a derive": ("#[derive(Debug, Drop)] struct A;", "#[derive(Debug)] struct A;"),
+}
+KEPT = {
+    "a clause in a string": 'f("requires { x }");',
+    "a clause in a comment": "// ensures { x }\nf();",
+    "a clause in a doc comment": "/// ghost use a;\nfn f() {}",
+    "an implementation": "impl A for B { fn f() {} }",
+    "an attribute": "#[inline(always)] fn f() {}",
+    "a character that is a quote": "let q = '\"'; let b = b'{'; let l: &'a str;",
+    "an escaped quote": 'f("\\"requires {");',
+    "a word with a ghost word in it": "let ensures_all = ghosts;",
+}
+REFUSED = {
+    "a ghost function": "ghost fn f() {}",
+    "a clause without braces": "fn f() requires x;",
+    "a ghost member without an end": "ghost eq = { x } fn f() {}",
+    "a bracket that is not closed": "fn f() requires { ( } {}",
+    "a sign of contracts": "let x = λ y;",
+    "Drop in the front of a derive": "#[derive(Drop, Debug)] struct A;",
+    "a block comment": "/* requires { x } */",
+    "a raw string": 'f(r"requires {");',
+}
+
+# The forms again, each as its tokens with a space after each. GROUP is a group in braces.
+GROUP = r"{ [^{}]*} "
+for _ in range(9):
+    GROUP = rf"{{ (?:[^{{}}]|{GROUP})*}} "
+FORMS = "|".join((
+    rf"(?:requires|ensures) (?:\* )?(?:\w+ )?{GROUP}",
+    "ghost use [^;]*; ",
+    rf"ghost \w+ [:=] {GROUP}[,;] ",
+    r"# (?:! )?\[ tactic [^]]*\] ",
+    rf"impl (?:< [^{{]*?> )?Model (?:< [^{{]*?> )?for [^{{]*{GROUP}",
+    "use std : : marker : : Model ; ",
+    r"# \[ cfg \( test \) \] mod tests ; ",
+    "[+,:] Drop ",
+))
+# What only Rust has, as tokens, and what Rattle has in its place: lints, constant functions, and in files with these
+# other loops and reads. Each rule is applied until it matches no more.
+BODY = rf"(?:[^{{}}]|{GROUP})*"
+RUST = (
+    (r"# \[ must_use \] ", ""),
+    (rf"const_fn ! {{ ([^{{}}]*?)const fn ({BODY})}} ", r"\1fn \2"),
+    (rf"let mut (\w+) = 0 ; while \1 < (\w+) {{ ({BODY}?)\1 \+ = 1 ; }} ", r"for \1 in 0 . . \2 { \3} "),
+    (r"(\w+) \. split_at \( ([^()]*)\) \. 1 ", r"& \1 [ \2. . ] "),
+    (r"crate : : macros : : array \( (\w+) , (\w+) \) ", r"\1 [ \2 . . \2 + N ] . try_into ( ) . unwrap ( ) "),
+    (r"u64 : : from_le_bytes (\( \w+ \[ \w+ \. \. \w+ \+ )N ", r"u64 : : from_le_bytes \g<1>8 "),
+    (r"u32 : : from_le_bytes (\( \w+ \[ \w+ \. \. \w+ \+ )N ", r"u32 : : from_le_bytes \g<1>4 "),
+)
+# Preconditions, of which Rust's callers know only the panic.
+CHECKED = (r"In Rust, if (.*)\. Rattle's checker refuses such a call\.", r"If \1.")
+WORDS = re.compile(r'//[^\n]*|b?"(?:[^"\\]|\\.)*"|\'\\?.\'|\w+|\S', re.DOTALL)
+
+
+def words_of(text):
+    """Returns the tokens and comments of a text, one per line. Brackets in strings and comments do not count."""
+    words = (word.rstrip() for word in WORDS.findall(text))
+    return "".join(f"{re.sub('[][{}();]', '', word) if len(word) > 1 else word}\n" for word in words)
+
+
+def without(pattern, text):
+    return re.sub(f"^(?:{pattern})".replace(" ", "\n"), "", text, flags=re.MULTILINE)
+
+
+def as_in_rattle(rust):
+    """Returns the tokens of a text of Rust, with those of Rattle where RUST has other ones."""
+    text = words_of(rust)
+    for pattern, new in RUST if "const_fn!" in rust else RUST[:1]:
+        pattern, new, before = re.compile(f"^{pattern}".replace(" ", "\n"), re.MULTILINE), new.replace(" ", "\n"), None
+        while text != before:
+            before, text = text, pattern.sub(new, text)
+    return text
+
+
+def difference(rattle, rust, left_out):
+    """Returns the lines in which Rattle's text, without its ghost forms and the omitted items, differs from Rust's."""
+    theirs = without(FORMS, words_of(re.sub(*CHECKED, rattle)))
+    for begin in left_out:
+        words = re.escape(words_of(begin).removesuffix("\n"))
+        rest = "[^;]*; " if begin.startswith("use") else rf"[^{{]*{GROUP}"
+        theirs = without(rf"(?:///.* )*{words}\w* {rest}", theirs)
+    # rustfmt decides whether a comma precedes a closing bracket.
+    texts = [without(r", (?=[]})>] )", text).splitlines() for text in (theirs, as_in_rattle(rust))]
+    return unified_diff(*texts, "Rattle", "Rust", lineterm="")
+
+
+def sources():
+    """Yields each source of the crate and the programs: the name of its file in packages/rust/, Rattle's text with the table's
+    rows, Rust's, and the omitted items."""
+    for crate, name, target in rust_crate.sources(rust_crate.SOURCES, rust_crate.TOOLS):
+        head, _, rust = (TOP / "packages" / "rust" / f"{target}.rs").read_text().partition("\n\n")
+        begins = [begin for file, some, _reason in rust_crate.LEFT_OUT if file == target for begin in some]
+        is_made = head.startswith("// Made by scripts/rust_crate from")
+        yield f"{crate}/{name}", rust_crate.read(crate, name, target), rust if is_made else head, begins
+
+
+def numbers(text):
+    """Returns the long numbers in a text, which a row or a pattern of scripts/rust_crate could mistype."""
+    return set(re.findall(r"\b\d\w{3,}", text))
+
+
+def erased(text):
+    try:
+        return erase(text)
+    except Refused as refused:
+        return refused
+
+
+def assertions():
+    """Yields each test of the crate with the numbers of its assertions in Rattle and in Rust."""
+    for crate, (folder, names) in rust_crate.TESTS.items():
+        for name, _, other in (name.partition(":") for name in names.split()):
+            text = (TOP / "crates" / crate / "src" / f"{name}.rt").read_text()
+            target = f"{folder}/{other or name}"
+            for begin in (begin for file, begins, _reason in rust_crate.LEFT_OUT if file == target for begin in begins):
+                end = "[^;]*;" if begin.startswith("use") else r".*?\n}\n"
+                text = re.sub(re.escape(begin) + end, "", text, count=1, flags=re.DOTALL)
+            rust = (TOP / "packages" / "rust" / f"{target}.rs").read_text()
+            yield target, *(len(re.findall(r"\bassert(?:_eq|_ne)?!\(", it)) for it in (text, rust))
+
+
+for name, (old, new) in ERASED.items():
+    compare(name, erased(old), new)
+for name, text in KEPT.items():
+    compare(f"{name} is kept", erased(text), text)
+for name, text in REFUSED.items():
+    tell(f"{name} is refused", *[f"{erased(text)!r}"] * (not isinstance(erased(text), Refused)))
+for name, wanted, found in assertions():
+    compare(f"{name}.rs has the assertions of its source", found, wanted)
+made = {file for file in TOP.glob("packages/rust/**/*.rs") if file.read_text().startswith("// Made by scripts/")}
+tables = rust_crate.SOURCES, rust_crate.TESTS, rust_crate.TOOLS
+compare("the generated files", made, {TOP / f"packages/rust/{target}.rs" for _, _, target in rust_crate.sources(*tables)})
+for name, rattle, rust, left_out in sources():
+    strange = numbers(rust) - numbers((TOP / "crates" / f"{name.replace('/', '/src/', 1)}.rt").read_text())
+    tell(f"{name}.rs is {name}.rt without its contracts", *difference(rattle, rust, left_out), *sorted(strange))
+finish()

@@ -1,0 +1,12 @@
+// Made by scripts/rust_crate from crates/test_effects/src/readers.rt: change that file.
+
+//! The hashes over a reader: known values, ends and errors, and that a reader's hash is that of its
+//! bytes.
+
+pub(crate) mod asked;
+mod ends;
+mod faults;
+mod known_length;
+mod outcome;
+mod sizes;
+mod to_the_end;

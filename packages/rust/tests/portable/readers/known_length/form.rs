@@ -1,0 +1,138 @@
+// Made by scripts/rust_crate from crates/test_effects/src/readers/known_length/form.rt: change that file.
+
+//! The calls that hash a number of bytes of a reader.
+
+use crate::fakes::CountingReader;
+use crate::readers::outcome::Outcome;
+use rapidhash::reader::Source;
+use rapidhash::{v1, v2};
+use std::io;
+
+/// A call that hashes a number of bytes of a reader. The named calls have default secrets, and the
+/// others those of the seed 3.
+#[derive(Debug, Clone, Copy, PartialEq, Eq)]
+pub(crate) enum Form {
+    V1File,
+    V1FileSeeded,
+    V1FileInline,
+    V1Source,
+    V2File,
+    V2FileSeeded,
+    V20FileInline,
+    V21FileInline,
+    V22FileInline,
+    V20Source,
+    V21Source,
+    V22Source,
+}
+
+/// All of them.
+pub(crate) const FORMS: [Form; 12] = [
+    Form::V1File,
+    Form::V1FileSeeded,
+    Form::V1FileInline,
+    Form::V1Source,
+    Form::V2File,
+    Form::V2FileSeeded,
+    Form::V20FileInline,
+    Form::V21FileInline,
+    Form::V22FileInline,
+    Form::V20Source,
+    Form::V21Source,
+    Form::V22Source,
+];
+
+impl Form {
+    /// The call itself.
+    fn hash(self, reader: &mut CountingReader<'_>, len: u64) -> io::Result<u64> {
+        match self {
+            Form::V1File | Form::V1FileSeeded | Form::V1FileInline | Form::V1Source => {
+                self.hash_v1(reader, len)
+            }
+            Form::V20Source | Form::V21Source | Form::V22Source => self.hash_v2_source(reader, len),
+            _ => self.hash_v2_file(reader, len),
+        }
+    }
+
+    /// The call of V1.
+    fn hash_v1(self, reader: &mut CountingReader<'_>, len: u64) -> io::Result<u64> {
+        let secrets = &v1::RapidSecrets::seed(3);
+        match self {
+            Form::V1FileSeeded => {
+                v1::rapidhash_v1_file_seeded::<CountingReader>(reader, len, secrets)
+            }
+            Form::V1FileInline => {
+                v1::rapidhash_v1_file_inline::<CountingReader, true>(reader, len, secrets)
+            }
+            Form::V1Source => {
+                let mut source = Source::new(reader);
+                v1::rapidhash_v1_source::<&mut CountingReader, true>(&mut source, len, secrets)
+            }
+            _ => v1::rapidhash_v1_file::<CountingReader>(reader, len),
+        }
+    }
+
+    /// The call of V2 of a file.
+    fn hash_v2_file(self, reader: &mut CountingReader<'_>, len: u64) -> io::Result<u64> {
+        let secrets = &v2::RapidSecrets::seed(3);
+        match self {
+            Form::V2FileSeeded => {
+                v2::rapidhash_v2_2_file_seeded::<CountingReader>(reader, len, secrets)
+            }
+            Form::V20FileInline => {
+                v2::rapidhash_v2_file_inline::<CountingReader, 0, true>(reader, len, secrets)
+            }
+            Form::V21FileInline => {
+                v2::rapidhash_v2_file_inline::<CountingReader, 1, false>(reader, len, secrets)
+            }
+            Form::V22FileInline => {
+                v2::rapidhash_v2_file_inline::<CountingReader, 2, true>(reader, len, secrets)
+            }
+            _ => v2::rapidhash_v2_2_file::<CountingReader>(reader, len),
+        }
+    }
+
+    /// The call of V2 of a source.
+    fn hash_v2_source(self, reader: &mut CountingReader<'_>, len: u64) -> io::Result<u64> {
+        let secrets = &v2::RapidSecrets::seed(3);
+        let mut source = Source::new(reader);
+        let source = &mut source;
+        match self {
+            Form::V20Source => {
+                v2::rapidhash_v2_source::<&mut CountingReader, 0, false>(source, len, secrets)
+            }
+            Form::V21Source => {
+                v2::rapidhash_v2_source::<&mut CountingReader, 1, true>(source, len, secrets)
+            }
+            _ => v2::rapidhash_v2_source::<&mut CountingReader, 2, false>(source, len, secrets),
+        }
+    }
+
+    /// The same hash of bytes in memory.
+    pub(crate) fn of_bytes(self, bytes: &[u8]) -> u64 {
+        let one = &v1::RapidSecrets::seed(3);
+        let two = &v2::RapidSecrets::seed(3);
+        match self {
+            Form::V1File => v1::rapidhash_v1(bytes),
+            Form::V1FileSeeded => v1::rapidhash_v1_seeded(bytes, one),
+            Form::V1FileInline | Form::V1Source => {
+                v1::rapidhash_v1_inline::<true, false, true, false>(bytes, one)
+            }
+            Form::V2File => v2::rapidhash_v2_2(bytes),
+            Form::V2FileSeeded => v2::rapidhash_v2_2_seeded(bytes, two),
+            Form::V20FileInline => v2::rapidhash_v2_inline::<0, true, false, true>(bytes, two),
+            Form::V21FileInline => v2::rapidhash_v2_inline::<1, true, false, false>(bytes, two),
+            Form::V22FileInline => v2::rapidhash_v2_inline::<2, true, false, true>(bytes, two),
+            Form::V20Source => v2::rapidhash_v2_inline::<0, true, false, false>(bytes, two),
+            Form::V21Source => v2::rapidhash_v2_inline::<1, true, false, true>(bytes, two),
+            Form::V22Source => v2::rapidhash_v2_inline::<2, true, false, false>(bytes, two),
+        }
+    }
+
+    /// What the call returned, and what it asked a reader for.
+    pub(crate) fn outcome(self, reader: CountingReader<'_>, len: u64) -> Outcome {
+        let mut reader = reader;
+        let returned = self.hash(&mut reader, len);
+        Outcome::new(returned, &reader)
+    }
+}

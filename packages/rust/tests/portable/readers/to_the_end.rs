@@ -1,0 +1,131 @@
+// Made by scripts/rust_crate from crates/test_effects/src/readers/to_the_end.rt: change that file.
+
+//! The hashes of all that a reader has, V3, micro and nano: what each asks its reader for, and what
+//! is returned if a read fails.
+
+mod form;
+
+use crate::fakes::CountingReader;
+use crate::readers::outcome::Outcome;
+use form::{FORMS, Form};
+use rapidhash::reader::Source;
+use rapidhash::rng::RapidRng;
+use rapidhash::v3;
+use std::io::ErrorKind;
+type Fail = Box<dyn std::error::Error>;
+
+/// Hashes ten bytes that come one a read; an eleventh read finds the end. Each read in turn fails:
+/// its own error is returned, the bytes before it are gone, and no read follows.
+fn each_read_fails(form: Form, kind: ErrorKind) {
+    for fails_at in 1..12u64 {
+        let reader = CountingReader::failing(b"something\n", 1, fails_at, kind);
+        let want = Outcome {
+            returned: Err(kind),
+            reads: fails_at,
+            longest: form.size(),
+            left: 11usize.saturating_sub(fails_at as usize),
+        };
+        assert!(form.outcome(reader) == want, "{form:?}");
+    }
+}
+
+/// A failed read is not retried, even if it was only interrupted.
+#[test]
+fn a_failed_read_is_returned_at_once() {
+    for form in FORMS {
+        each_read_fails(form, ErrorKind::BrokenPipe);
+        each_read_fails(form, ErrorKind::Interrupted);
+    }
+}
+
+/// A reader that returns all it is asked for takes one read for each buffer, the last one partly
+/// filled, and one for the end, and each asks for the call's own number of bytes.
+fn reads_of_buffers(form: Form, bytes: &[u8]) {
+    let size = form.size();
+    for n in [0usize, 1, 112, 113, 8191, 8192, 8193, 25000] {
+        let message = &bytes[..n.min(bytes.len())];
+        let want = Outcome {
+            returned: Ok(form.of_bytes(message)),
+            reads: ((n + size - 1) / size) as u64 + 1,
+            longest: size,
+            left: 0,
+        };
+        let reader = CountingReader::new(message, usize::MAX);
+        assert!(form.outcome(reader) == want, "{form:?} {n}");
+    }
+}
+
+/// No read asks for more or less than the size, and none follows the one that returned 0.
+#[test]
+fn each_read_asks_for_the_size() {
+    let bytes = [3; 25000];
+    for form in FORMS {
+        reads_of_buffers(form, &bytes);
+    }
+}
+
+/// A reader of one byte a read takes a read for each byte and one for the end.
+fn reads_of_single_bytes(form: Form, bytes: &[u8]) {
+    for n in [0usize, 1, 16, 17, 113, 9000] {
+        let message = &bytes[..n.min(bytes.len())];
+        let want = Outcome {
+            returned: Ok(form.of_bytes(message)),
+            reads: n as u64 + 1,
+            longest: form.size(),
+            left: 0,
+        };
+        let reader = CountingReader::new(message, 1);
+        assert!(form.outcome(reader) == want, "{form:?} {n}");
+    }
+}
+
+#[test]
+fn no_read_after_the_end() {
+    let bytes = [3; 9000];
+    for form in FORMS {
+        reads_of_single_bytes(form, &bytes);
+    }
+}
+
+/// The first length at which a call over a reader returns another hash than that of the bytes.
+fn first_difference(form: Form, bytes: &[u8]) -> Option<usize> {
+    for n in 0..bytes.len() + 1 {
+        let message = &bytes[..n];
+        let reader = CountingReader::new(message, usize::MAX);
+        if form.outcome(reader).returned != Ok(form.of_bytes(message)) {
+            return Some(n);
+        }
+    }
+    None
+}
+
+/// Each call over a reader returns the hash of its bytes, at every length up to 1024.
+#[test]
+fn compare_rapidhash_file() -> Result<(), Fail> {
+    let mut rng = RapidRng::new(0);
+    let bytes: Vec<u8> = (0..1024u32).map(|_| (rng.next() % 256) as u8).collect();
+    for form in FORMS {
+        assert!(first_difference(form, &bytes).is_none(), "{form:?}");
+    }
+    Ok(())
+}
+
+/// With a seed and secrets of 0 the hash of zeros is made of the length alone: the two halves of
+/// the length times 0xaaaa_aaaa_aaaa_aaaa, by `^`.
+#[test]
+fn lengths_make_the_difference() -> Result<(), Fail> {
+    let secrets = v3::RapidSecrets {
+        seed: 0,
+        secrets: [0; 7],
+    };
+    for (bytes, want) in [
+        (&[0u8; 0][..], 0),
+        (&[0; 1][..], 12297829382473034410),
+        (&[0; 2][..], 6148914691236517205u64),
+    ] {
+        let mut source = Source::new(bytes);
+        assert!(v3::rapidhash_v3_source::<&[u8], false>(&mut source, &secrets)? == want);
+        assert!(v3::rapidhash_v3_file_seeded::<&[u8]>(bytes, &secrets)? == want);
+    }
+    Ok(())
+}

@@ -1,0 +1,135 @@
+// Made by scripts/rust_crate from crates/test_effects/src/readers/to_the_end/form.rt: change that file.
+
+//! The calls that hash all that a reader has.
+
+use crate::fakes::CountingReader;
+use crate::readers::outcome::Outcome;
+use rapidhash::reader::Source;
+use rapidhash::v3;
+use rapidhash::v3::RapidSecrets;
+use std::io;
+
+/// A call that hashes all that a reader has. The named call without a seed has default secrets, and
+/// the others those of the seed 3.
+#[derive(Debug, Clone, Copy, PartialEq, Eq)]
+pub(crate) enum Form {
+    File,
+    FileSeeded,
+    FileInline,
+    FileSizedOne,
+    FileSizedLarge,
+    FileMicro,
+    FileNano,
+    Source,
+    SourceSized,
+    SourceMicro,
+    SourceNano,
+}
+
+/// All of them.
+pub(crate) const FORMS: [Form; 11] = [
+    Form::File,
+    Form::FileSeeded,
+    Form::FileInline,
+    Form::FileSizedOne,
+    Form::FileSizedLarge,
+    Form::FileMicro,
+    Form::FileNano,
+    Form::Source,
+    Form::SourceSized,
+    Form::SourceMicro,
+    Form::SourceNano,
+];
+
+impl Form {
+    /// The call itself.
+    fn hash(self, reader: &mut CountingReader<'_>) -> io::Result<u64> {
+        match self {
+            Form::File => v3::rapidhash_v3_file::<&mut CountingReader>(reader),
+            Form::Source | Form::SourceSized | Form::SourceMicro | Form::SourceNano => {
+                self.hash_of_source(reader)
+            }
+            _ => self.hash_of_file(reader),
+        }
+    }
+
+    /// The call of a file with secrets.
+    fn hash_of_file(self, reader: &mut CountingReader<'_>) -> io::Result<u64> {
+        let secrets = &RapidSecrets::seed(3);
+        match self {
+            Form::FileInline => {
+                v3::rapidhash_v3_file_inline::<&mut CountingReader, true>(reader, secrets)
+            }
+            Form::FileSizedOne => {
+                v3::rapidhash_v3_file_sized::<&mut CountingReader, 1, false>(reader, secrets)
+            }
+            Form::FileSizedLarge => {
+                v3::rapidhash_v3_file_sized::<&mut CountingReader, 10000, true>(reader, secrets)
+            }
+            Form::FileMicro => {
+                v3::rapidhash_v3_file_lanes::<&mut CountingReader, 5, 100, true>(reader, secrets)
+            }
+            Form::FileNano => {
+                v3::rapidhash_v3_file_lanes::<&mut CountingReader, 3, 9000, false>(reader, secrets)
+            }
+            _ => v3::rapidhash_v3_file_seeded::<&mut CountingReader>(reader, secrets),
+        }
+    }
+
+    /// The call of a source.
+    fn hash_of_source(self, reader: &mut CountingReader<'_>) -> io::Result<u64> {
+        let secrets = &RapidSecrets::seed(3);
+        let mut source = Source::new(reader);
+        let source = &mut source;
+        match self {
+            Form::SourceSized => {
+                v3::rapidhash_v3_source_sized::<&mut CountingReader, 113, true>(source, secrets)
+            }
+            Form::SourceMicro => {
+                v3::rapidhash_v3_source_lanes::<&mut CountingReader, 5, 7, false>(source, secrets)
+            }
+            Form::SourceNano => {
+                v3::rapidhash_v3_source_lanes::<&mut CountingReader, 3, 9000, true>(source, secrets)
+            }
+            _ => v3::rapidhash_v3_source::<&mut CountingReader, false>(source, secrets),
+        }
+    }
+
+    /// The same hash of bytes in memory.
+    pub(crate) fn of_bytes(self, bytes: &[u8]) -> u64 {
+        let secrets = &RapidSecrets::seed(3);
+        match self {
+            Form::File => v3::rapidhash_v3(bytes),
+            Form::FileSeeded | Form::FileSizedOne | Form::Source => {
+                v3::rapidhash_v3_seeded(bytes, secrets)
+            }
+            Form::FileInline | Form::FileSizedLarge | Form::SourceSized => {
+                v3::rapidhash_v3_inline::<true, false, true>(bytes, secrets)
+            }
+            Form::FileMicro => v3::rapidhash_v3_micro_inline::<true, true>(bytes, secrets),
+            Form::SourceMicro => v3::rapidhash_v3_micro_inline::<true, false>(bytes, secrets),
+            Form::FileNano => v3::rapidhash_v3_nano_inline::<true, false>(bytes, secrets),
+            Form::SourceNano => v3::rapidhash_v3_nano_inline::<true, true>(bytes, secrets),
+        }
+    }
+
+    /// How many bytes a read asks for: 8192 if the call names no size.
+    pub(crate) fn size(self) -> usize {
+        match self {
+            Form::File | Form::FileSeeded | Form::FileInline | Form::Source => 8192,
+            Form::FileSizedOne => 1,
+            Form::FileSizedLarge => 10000,
+            Form::FileMicro => 100,
+            Form::FileNano | Form::SourceNano => 9000,
+            Form::SourceSized => 113,
+            Form::SourceMicro => 7,
+        }
+    }
+
+    /// What the call returned, and what it asked a reader for.
+    pub(crate) fn outcome(self, reader: CountingReader<'_>) -> Outcome {
+        let mut reader = reader;
+        let returned = self.hash(&mut reader);
+        Outcome::new(returned, &reader)
+    }
+}

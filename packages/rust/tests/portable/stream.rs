@@ -1,0 +1,108 @@
+// Made by scripts/rust_crate from crates/test_effects/src/stream.rt: change that file.
+
+//! The stream hashers: known values, messages cut in two, and sizes in memory.
+
+use rapidhash::v3::{
+    DEFAULT_RAPID_SECRETS, RapidSecrets, RapidStream, RapidStreamHasherInlineMicro,
+    RapidStreamHasherInlineNano, RapidStreamHasherInlineV3, RapidStreamHasherLanes,
+    RapidStreamHasherV3, rapidhash_v3_inline, rapidhash_v3_micro_inline, rapidhash_v3_nano_inline,
+};
+type Fail = Box<dyn std::error::Error>;
+
+/// Eight bytes in one piece, and after a reset in four. The number is the Rust crate's.
+#[test]
+fn test_rapid_stream_hasher() {
+    let bytes = [0, 1, 2, 3, 4, 5, 6, 7];
+    let mut hasher = RapidStreamHasherV3::new(&DEFAULT_RAPID_SECRETS);
+    hasher.write(&bytes);
+    assert!(hasher.finish() == 15732834091190890302);
+    hasher.reset();
+    hasher.write(&bytes[..1]);
+    hasher.write(&bytes[1..3]);
+    hasher.write(&bytes[3..6]);
+    hasher.write(&bytes[6..]);
+    assert!(hasher.finish() == 15732834091190890302);
+}
+
+/// A message in pieces of 50 and 70 bytes, after a reset of a stream that had other bytes.
+fn in_pieces(stream: &mut RapidStream<'_>, bytes: &[u8; 120]) -> u64 {
+    stream.write(b"other bytes");
+    stream.reset();
+    stream.write(&bytes[..50]);
+    stream.write(&bytes[50..]);
+    stream.finish()
+}
+
+/// A stream whose number of lanes is a value. The numbers are the Rust crate's.
+#[test]
+fn streams_of_any_lanes() {
+    let mut bytes = [0u8; 120];
+    for i in 0..120u8 {
+        bytes[i as usize] = i;
+    }
+    let secrets = RapidSecrets {
+        seed: 1,
+        secrets: [2, 3, 5, 7, 11, 13, 17],
+    };
+    let mut stream = RapidStream::new(7, &secrets);
+    assert!(in_pieces(&mut stream, &bytes) == 13105958653737073913);
+    let mut micro = RapidStream::new(5, &secrets);
+    assert!(in_pieces(&mut micro, &bytes) == 5648300410578423183);
+    let mut nano = RapidStream::new(3, &secrets);
+    assert!(in_pieces(&mut nano, &bytes) == 4961128163384780230);
+}
+
+const SECRETS: RapidSecrets = RapidSecrets {
+    seed: 5,
+    secrets: [1, 2, 3, 4, 5, 6, 7],
+};
+
+/// The hashes of two pieces by the three stream hashers, each after a reset.
+fn of_two_pieces(first: &[u8], second: &[u8]) -> [u64; 3] {
+    let mut v3: RapidStreamHasherInlineV3<true, false> = RapidStreamHasherLanes::new(&SECRETS);
+    let mut micro: RapidStreamHasherInlineMicro<false, true> =
+        RapidStreamHasherLanes::new(&SECRETS);
+    let mut nano: RapidStreamHasherInlineNano<true, true> = RapidStreamHasherLanes::new(&SECRETS);
+    v3.write(b"other bytes");
+    micro.write(b"other bytes");
+    nano.write(b"other bytes");
+    v3.reset();
+    micro.reset();
+    nano.reset();
+    for piece in [first, second] {
+        v3.write(piece);
+        micro.write(piece);
+        nano.write(piece);
+    }
+    [v3.finish(), micro.finish(), nano.finish()]
+}
+
+/// For each cut in two, each of the three stream hashers returns its hash of the whole message.
+#[test]
+fn cuts_change_nothing() -> Result<(), Fail> {
+    let bytes: Vec<u8> = (0..338u32).map(|i| (i % 251) as u8).collect();
+    for n in [0, 1, 3, 16, 17, 48, 49, 80, 81, 112, 113, 225, 338usize] {
+        let message = &bytes[..n.min(bytes.len())];
+        let want = [
+            rapidhash_v3_inline::<true, false, false>(message, &SECRETS),
+            rapidhash_v3_micro_inline::<false, true>(message, &SECRETS),
+            rapidhash_v3_nano_inline::<true, true>(message, &SECRETS),
+        ];
+        for at in [0, 1, 16, 48, 80, 111, 112, 113, 224, 225usize] {
+            let (first, second) = message.split_at(at.min(message.len()));
+            assert!(of_two_pieces(first, second) == want, "{n} {at}");
+        }
+    }
+    Ok(())
+}
+
+/// A stream hasher is a reference, seven lanes whatever their number, 128 bytes, a length and a
+/// flag: its count of chunk steps takes no memory.
+#[cfg(target_pointer_width = "64")]
+#[test]
+fn sizes_in_memory() {
+    let size = 8 + 56 + 128 + 8 + 8;
+    assert!(std::mem::size_of::<RapidStreamHasherInlineV3<'static, true, false>>() == size);
+    assert!(std::mem::size_of::<RapidStreamHasherInlineMicro<'static, true, false>>() == size);
+    assert!(std::mem::size_of::<RapidStreamHasherInlineNano<'static, true, false>>() == size);
+}

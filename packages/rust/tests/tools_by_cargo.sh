@@ -1,0 +1,19 @@
+#!/usr/bin/env bash
+# Builds the tools by cargo, checks their lints, and runs the kit's cases over them.
+. "$(dirname "$0")/../../../tests/cases.sh"
+export CARGO_NET_OFFLINE=true
+tools=$top/build/cargo/release
+
+cd "$top/packages/rust/tools" || exit 1
+prepare_by make -s -C "$top" kit= build/cargo/release/rapid{hash,sum}
+try layout cargo fmt --check
+try lints env CARGO_TARGET_DIR="$top/build/cargo" cargo clippy --release -- -D warnings
+try no_unsafe bash -c '[ "$(grep -rlxF "#![forbid(unsafe_code)]" src | wc -l)" -eq 3 ]'
+export RAPIDHASH_TOOL=$tools/rapidhash BUILT=$tools/rapidsum
+for script in end_to_end end_to_end_errors rapidsum; do
+  "$top/packages/tools/tests/$script.sh" >"$room/lines" || failed=$((failed + 1))
+  grep -v '^1\.\.' "$room/lines"
+  cases=$((cases + $(sed -n 's/^1\.\.//p' "$room/lines")))
+done
+
+finish

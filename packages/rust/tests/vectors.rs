@@ -1,0 +1,38 @@
+//! Tests that the crate has the values of the vector files, including those of readers, which need
+//! std. Also tests that random messages have the same hash whole and in pieces.
+#![cfg(feature = "std")]
+
+mod replay;
+
+use std::env;
+use std::path::Path;
+
+#[test]
+fn every_vector_file_is_replayed() {
+    let folder = Path::new(env!("CARGO_MANIFEST_DIR")).join("../../crates/test_replay/data");
+    let (report, good) = replay::folder(&folder);
+    assert!(good, "{}", report.join("\n"));
+    assert_eq!(replay::unknown(&folder), Ok(Vec::new()));
+}
+
+/// A length without its upper bits would be that of five bytes. The bytes are never written, so they
+/// need no memory. The hash is that of upstream.
+#[test]
+#[cfg(all(target_pointer_width = "64", not(debug_assertions)))]
+fn a_message_above_4_gib_has_its_whole_length() {
+    let zeros = vec![0; (1 << 32) + 5];
+    assert_eq!(rapidhash::v3::rapidhash_v3(&zeros), 8938949028826169308);
+    let read = rapidhash::v3::rapidhash_v3_file(zeros.as_slice()).unwrap();
+    assert_eq!(read, 8938949028826169308);
+}
+
+/// There are ten thousand messages, or a million if the environment variable `MESSAGES` is set. Both
+/// checksums are those of the crate rapidhash 4.5.1.
+#[test]
+fn random_messages_have_the_checksums_of_the_crate() {
+    let (count, wanted) = match env::var_os("MESSAGES") {
+        None => (10_000, 0x0566_8d6b_81ca_507d),
+        Some(_) => (1_000_000, 0xd6c1_e773_56fc_7486),
+    };
+    assert_eq!(replay::messages::checksum(count), Ok(wanted));
+}

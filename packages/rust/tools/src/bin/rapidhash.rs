@@ -1,0 +1,88 @@
+// Made by scripts/rust_crate from crates/rapidhash_cli/src/main.rt: change that file.
+
+//! The program: it collects its arguments, does what they ask for, and reports an error in one line
+//! on standard error, with status 1. All rules are in `rapidhash_tool`.
+#![forbid(unsafe_code)]
+
+use rapidhash_tool::kit::HostRuntime;
+use rapidhash_tool::kit::Vec;
+use rapidhash_tool::{CliFault, Plan, RapidhashVersion, plan, run_file, run_help, run_stdin};
+use rapidhash_tool::kit::env;
+use std::fs::{File, Metadata};
+use std::io::{Error, ErrorKind, Write};
+use std::process::ExitCode;
+
+// All arguments, the program's name first. If one is not UTF-8, `env::args` fails and returns none.
+// The error is that of a file that cannot be opened, since such an argument nearly always names a
+// file.
+fn gather(rt: &HostRuntime) -> Result<Vec<String>, CliFault> {
+    let words = match env::args(rt) {
+        Ok(words) => words,
+        Err(error) if error.kind() == ErrorKind::OutOfMemory => return Err(CliFault::Memory),
+        Err(_) => return Err(CliFault::Open),
+    };
+    let words = if let Ok(words) = words.collect(rt.alloc()) {
+        words
+    } else {
+        return Err(CliFault::Memory);
+    };
+    Ok(words)
+}
+
+// How many bytes of the file are hashed, or 0 if the version reads it to its end.
+fn length(version: &RapidhashVersion, file: &File) -> Result<u64, CliFault> {
+    if !version.needs_length() {
+        return Ok(0);
+    }
+    length_of(file.metadata())
+}
+
+fn length_of(metadata: Result<Metadata, Error>) -> Result<u64, CliFault> {
+    match metadata {
+        Ok(found) => Ok(found.len()),
+        Err(_) => Err(CliFault::File),
+    }
+}
+
+fn hash_named(rt: &HostRuntime, version: &RapidhashVersion, path: &str) -> Result<(), CliFault> {
+    let file = if let Ok(file) = File::open(path) {
+        file
+    } else {
+        return Err(CliFault::Open);
+    };
+    let len = length(version, &file)?;
+    run_file(version, file, len, &mut rt.stdout())
+}
+
+fn run(rt: &HostRuntime) -> Result<(), CliFault> {
+    let words = gather(rt)?;
+    match plan(words.as_slice()) {
+        Plan::Help => run_help(&mut rt.stdout())?,
+        Plan::Refused => return Err(CliFault::Versions),
+        Plan::Run {
+            version,
+            file: None,
+        } => run_stdin(rt.alloc(), &version, rt.stdin(), &mut rt.stdout())?,
+        Plan::Run {
+            version,
+            file: Some(place),
+        } => hash_named(rt, &version, words.as_slice()[place].as_str())?,
+    }
+    if rt.stdout().flush().is_err() {
+        return Err(CliFault::Write);
+    }
+    Ok(())
+}
+
+fn main() -> ExitCode {
+    let rt = HostRuntime::new();
+    match run(&rt) {
+        Ok(()) => ExitCode::SUCCESS,
+        Err(fault) => {
+            let text = fault.text();
+            // If standard error cannot be written, the status still reports the error.
+            let _ = rt.eprintln(format_args!("{text}"));
+            ExitCode::FAILURE
+        }
+    }
+}

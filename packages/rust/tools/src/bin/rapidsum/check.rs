@@ -1,0 +1,122 @@
+// Made by scripts/rust_crate from crates/rapidsum/src/check.rt: change that file.
+
+//! Whether files still have the hashes that a list says.
+
+use rapidhash_tool::kit::Vec;
+use crate::algorithm::Algorithm;
+use crate::entry::Entry;
+use crate::problem::Problem;
+use crate::store::{Store, hash_named};
+use rapidhash_tool::kit::alloc::Allocator;
+use std::io;
+use std::io::ErrorKind;
+
+/// The result for one line of a list.
+#[derive(Clone, Copy, PartialEq, Eq)]
+pub enum Verdict {
+    /// The file has the hash of the line.
+    Same,
+    /// It has another hash.
+    Different,
+    /// There is no such file, and such lines are left out.
+    Missing,
+    /// The file could not be opened or read.
+    Unreadable,
+}
+
+impl Verdict {
+    /// Returns whether a check with this verdict passes.
+    pub fn passes(self) -> bool {
+        matches!(self, Verdict::Same | Verdict::Missing)
+    }
+}
+
+/// The results for all lines.
+pub struct Checked<A: Allocator> {
+    /// A verdict for each line, in their order.
+    pub verdicts: Vec<Verdict, A>,
+    /// Whether no line has the verdict `Different` or `Unreadable`.
+    pub passed: bool,
+}
+
+impl<A: Allocator> Checked<A> {
+    /// Returns the number of lines with a verdict.
+    pub fn count(&self, verdict: Verdict) -> usize {
+        self.verdicts
+            .iter()
+            .filter(|other| **other == verdict)
+            .count()
+    }
+}
+
+/// What is informed of each line as it is checked.
+pub trait Report {
+    /// Reports a checked file. The error is that of a file that could not be opened or read.
+    fn tell(
+        &mut self,
+        name: &[u8],
+        verdict: Verdict,
+        error: Option<io::Error>,
+    ) -> Result<(), Problem>;
+}
+
+// The verdict of a line with this hash, from what was found, and the error to show.
+fn verdict_of(
+    found: io::Result<u64>,
+    hash: u64,
+    ignore_missing: bool,
+) -> (Verdict, Option<io::Error>) {
+    match found {
+        Ok(found) if found == hash => (Verdict::Same, None),
+        Ok(_) => (Verdict::Different, None),
+        Err(error) if ignore_missing && error.kind() == ErrorKind::NotFound => {
+            (Verdict::Missing, None)
+        }
+        Err(error) => (Verdict::Unreadable, Some(error)),
+    }
+}
+
+// The verdict of a line, and the error of a file that could not be opened or read.
+fn judge<S: Store, A: Allocator, B: Allocator + Copy>(
+    alloc: B,
+    store: &S,
+    entry: &Entry<A>,
+    given: Algorithm,
+    ignore_missing: bool,
+) -> (Verdict, Option<io::Error>) {
+    let algorithm = match entry.algorithm {
+        Some(own) => own,
+        None => given,
+    };
+    let found = hash_named(alloc, store, entry.name.as_slice(), algorithm);
+    verdict_of(found, entry.hash, ignore_missing)
+}
+
+/// Hashes the file of each line and returns the verdicts. A line that names no version has that of
+/// `given`.
+///
+/// If the bytes of a file are known, its line has the verdict `Same` exactly when their hash is the
+/// line's, unless the file could not be opened or read. All pass exactly when each line has the
+/// verdict `Same`, or, with `ignore_missing`, `Missing`.
+///
+/// # Errors
+///
+/// If an allocation fails, or the report returns an error.
+pub fn check_entries<S: Store, P: Report, A: Allocator, B: Allocator + Copy>(
+    alloc: B,
+    entries: &[Entry<A>],
+    store: &S,
+    given: Algorithm,
+    ignore_missing: bool,
+    report: &mut P,
+) -> Result<Checked<B>, Problem> {
+    let mut verdicts = Vec::new(alloc);
+    let mut passed = true;
+    for entry in entries {
+        let (verdict, error) = judge(alloc, store, entry, given, ignore_missing);
+        report.tell(entry.name.as_slice(), verdict, error)?;
+        passed &= verdict.passes();
+        verdicts.push(verdict)?;
+    }
+    Ok(Checked { verdicts, passed })
+}

@@ -1,0 +1,146 @@
+// Made by scripts/rust_crate from crates/rapidsum/src/line.rt: change that file.
+
+//! The lines that the program prints.
+
+use rapidhash_tool::kit::Vec;
+use crate::algorithm::{Algorithm, Version};
+use crate::names::{needs_escape, push_escaped};
+use rapidhash_tool::kit::hex::encode_to_slice;
+use rapidhash_tool::kit::alloc::{AllocError, Allocator};
+
+/// How a line is laid out.
+#[derive(Clone, Copy, PartialEq, Eq)]
+pub enum Layout {
+    /// The digits, two spaces and the name.
+    Text,
+    /// The digits, a space, an asterisk and the name.
+    Binary,
+    /// The version, the name in parentheses, an equals sign and the digits.
+    Tagged,
+}
+
+/// The layout of each line, and how it ends.
+#[derive(Clone, Copy)]
+pub struct Style {
+    pub layout: Layout,
+    /// A zero byte ends the line instead of a newline, and nothing is escaped.
+    pub zero: bool,
+}
+
+// Adds a number as 16 hexadecimal digits.
+fn push_digits<A: Allocator>(text: &mut Vec<u8, A>, number: u64) -> Result<(), AllocError> {
+    let mut digits = [0u8; 16];
+    let _ = encode_to_slice(number.to_be_bytes(), &mut digits);
+    text.extend_from_slice(&digits)
+}
+
+// A version as a tag has it.
+fn version_text(version: Version) -> &'static [u8] {
+    match version {
+        Version::V1 => b"1",
+        Version::V2Minor0 => b"2.0",
+        Version::V2Minor1 => b"2.1",
+        Version::V2Minor2 => b"2.2",
+        Version::V3 => b"3",
+        Version::V3Micro => b"3-MICRO",
+        Version::V3Nano => b"3-NANO",
+    }
+}
+
+// Adds a seed word as a tag has it.
+fn push_seed<A: Allocator>(text: &mut Vec<u8, A>, seed: Option<u64>) -> Result<(), AllocError> {
+    match seed {
+        None => Ok(()),
+        Some(word) => {
+            text.push(b':')?;
+            push_digits(text, word)
+        }
+    }
+}
+
+// Adds what a tagged line begins with.
+fn push_tag<A: Allocator>(text: &mut Vec<u8, A>, algorithm: Algorithm) -> Result<(), AllocError> {
+    text.extend_from_slice(b"RAPIDHASH-V")?;
+    text.extend_from_slice(version_text(algorithm.version))?;
+    push_seed(text, algorithm.seed)?;
+    Ok(())
+}
+
+// Adds what follows a tag.
+fn push_value<A: Allocator>(
+    line: &mut Vec<u8, A>,
+    hash: u64,
+    text: &[u8],
+) -> Result<(), AllocError> {
+    line.extend_from_slice(b" (")?;
+    line.extend_from_slice(text)?;
+    line.extend_from_slice(b") = ")?;
+    push_digits(line, hash)
+}
+
+// Adds a hash and the text of a name.
+fn push_body<A: Allocator>(
+    line: &mut Vec<u8, A>,
+    layout: Layout,
+    algorithm: Algorithm,
+    hash: u64,
+    text: &[u8],
+) -> Result<(), AllocError> {
+    if layout == Layout::Tagged {
+        push_tag(line, algorithm)?;
+        return push_value(line, hash, text);
+    }
+    push_digits(line, hash)?;
+    line.extend_from_slice(if layout == Layout::Binary {
+        b" *"
+    } else {
+        b"  "
+    })?;
+    line.extend_from_slice(text)
+}
+
+/// Returns the line of a hash and a name, without its newline. A line whose name has an escape
+/// begins with a backslash.
+///
+/// # Errors
+///
+/// If an allocation fails.
+pub fn line_of<A: Allocator + Copy>(
+    alloc: A,
+    layout: Layout,
+    algorithm: Algorithm,
+    hash: u64,
+    name: &[u8],
+) -> Result<Vec<u8, A>, AllocError> {
+    let mut text = Vec::new(alloc);
+    push_escaped(&mut text, name)?;
+    let mut line = Vec::new(alloc);
+    if needs_escape(name) {
+        line.push(b'\\')?;
+    }
+    push_body(&mut line, layout, algorithm, hash, text.as_slice())?;
+    Ok(line)
+}
+
+/// Returns what is printed for a hash and a name.
+///
+/// # Errors
+///
+/// If an allocation fails.
+pub fn sum_of<A: Allocator + Copy>(
+    alloc: A,
+    style: Style,
+    algorithm: Algorithm,
+    hash: u64,
+    name: &[u8],
+) -> Result<Vec<u8, A>, AllocError> {
+    if style.zero {
+        let mut sum = Vec::new(alloc);
+        push_body(&mut sum, style.layout, algorithm, hash, name)?;
+        sum.push(0)?;
+        return Ok(sum);
+    }
+    let mut sum = line_of(alloc, style.layout, algorithm, hash, name)?;
+    sum.push(b'\n')?;
+    Ok(sum)
+}

@@ -1,0 +1,58 @@
+// Made by scripts/rust_crate from crates/rapidsum/src/main.rt: change that file.
+
+//! Prints the hash of each file as a line and checks such lines, as sha256sum does with its own.
+#![forbid(unsafe_code)]
+
+mod algorithm;
+mod arguments;
+mod check;
+mod console;
+mod disk;
+mod entry;
+mod line;
+mod list;
+mod names;
+mod parts;
+mod problem;
+mod runs;
+mod store;
+mod sum;
+mod tag;
+mod words;
+
+use rapidhash_tool::kit::HostRuntime;
+use arguments::{strings_of, texts_of};
+use problem::Problem;
+use std::process::ExitCode;
+use words::command;
+
+// The status that a shell reports for a program ended by the signal SIGPIPE.
+const BROKEN_PIPE: u8 = 141;
+
+// Does what the arguments ask for. Returns whether all files could be read and all checks passed.
+fn run(rt: &HostRuntime) -> Result<bool, Problem> {
+    let texts = texts_of(rt, rt.alloc())?;
+    let words = strings_of(rt.alloc(), texts.as_slice())?;
+    let matches = match command(rt.alloc())?.try_get_matches_from(words.as_slice()) {
+        Ok(matches) => matches,
+        Err(error) => {
+            error.print(rt).map_err(Problem::Write)?;
+            return Ok(error.exit_code() == 0);
+        }
+    };
+    runs::run_files(rt, &matches)
+}
+
+fn main() -> ExitCode {
+    let rt = HostRuntime::new();
+    match run(&rt) {
+        Ok(true) => ExitCode::SUCCESS,
+        Ok(false) => ExitCode::FAILURE,
+        Err(problem) if problem.is_broken_pipe() => ExitCode::from(BROKEN_PIPE),
+        Err(problem) => {
+            // If standard error cannot be written, the status still reports the failure.
+            let _ = rt.eprintln(format_args!("rapidsum: {problem}"));
+            ExitCode::FAILURE
+        }
+    }
+}

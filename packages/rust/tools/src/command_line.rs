@@ -1,0 +1,39 @@
+// Made by scripts/rust_crate from crates/rapidhash_tool/src/command_line.rt: change that file.
+
+//! What the arguments ask for.
+
+use crate::version::{Plan, RapidhashVersion};
+
+/// Returns the plan that the arguments request. The first of them is the program's name.
+///
+/// It is the help if there are no arguments or one of them is `--help` or `-h`. Otherwise those
+/// after the name select the version, and the first of them that does not begin with a hyphen names
+/// the file.
+pub fn plan(args: &[String]) -> Plan {
+    if args.is_empty() || has(args, "--help") || has(args, "-h") {
+        return Plan::Help;
+    }
+    let others = &args[1..];
+    match RapidhashVersion::new(others) {
+        None => Plan::Refused,
+        Some(version) => Plan::Run {
+            version,
+            file: first_plain(others).map(|place| place + 1),
+        },
+    }
+}
+
+// Whether a text is among the arguments.
+pub(crate) fn has(args: &[String], word: &str) -> bool {
+    args.iter().any(|w| w.as_str() == word)
+}
+
+fn begins_with_hyphen(word: &str) -> bool {
+    matches!(word.as_bytes(), [b'-', ..])
+}
+
+// The place of the first argument that does not begin with a hyphen.
+pub(crate) fn first_plain(args: &[String]) -> Option<usize> {
+    args.iter()
+        .position(|word| !begins_with_hyphen(word.as_str()))
+}

@@ -1,0 +1,180 @@
+#!/usr/bin/python3
+"""Builds the SQLite extension with the commands on its page, loads it, and tests each function. The cases cover the
+vectors, types, errors, aggregates, the examples on the page, and each failing allocation. The values are those of the
+Rust crate."""
+
+import shutil
+import sqlite3
+import sys
+from pathlib import Path
+
+sys.path.append(str(Path(__file__).parents[3] / "tests"))
+from cases import ROOM, TOP, blocks, compare, finish, shell, skip_all, tell  # noqa: E402
+from sql import BINDINGS, DIGITS, HELLO, NOTHING, TEXT, TEXT_HASH, VERSIONS  # noqa: E402
+from sql import every_vector, lines_with_results, signed, unpack  # noqa: E402
+
+PAGE = "packages/sqlite/README.md"
+STREAMS = VERSIONS[4:7]
+REAL = "a REAL cannot be hashed: cast it to TEXT, BLOB or INTEGER"
+ERRORS = {
+    "rapidhash_v3(1.5)": f"rapidhash_v3: {REAL}",
+    "rapidhash_v2_0(NULL, 'a')": "rapidhash_v2_0: the seed must be an INTEGER",
+    "rapidhash_v3_nano(1, x'00')": "rapidhash_v3_nano: the seed must be an INTEGER",
+    "rapidhash_v3_seeded(1, 2.0)": "rapidhash_v3_seeded: the number must be an INTEGER",
+    "rapidhash_hex('1')": "rapidhash_hex: the hash must be an INTEGER",
+    "rapidhash_v3_agg(1.5)": f"rapidhash_v3_agg: {REAL}",
+    "rapidhash_v3_micro_agg(NULL, '1')": "rapidhash_v3_micro_agg: the seed must be an INTEGER",
+    "rapidhash_v3_nano_agg(1, place << 32) FROM many": "rapidhash_v3_nano_agg: the seed must be the same in every row",
+    "rapidhash_v3_agg(1) OVER (ROWS 1 PRECEDING) FROM many":
+        "rapidhash_v3_agg: the window must begin with UNBOUNDED PRECEDING",
+    "rapidhash_v3()": "wrong number of arguments to function rapidhash_v3()",
+    "rapidhash_v3_seeded(1)": "wrong number of arguments to function rapidhash_v3_seeded()",
+    "rapidhash_v3_agg(1, 2, 3)": "wrong number of arguments to function rapidhash_v3_agg()",
+}
+MEMORY = """cc -std=c99 -g -Wall -Wextra -Werror -fsanitize=address,undefined -fno-sanitize-recover=all -Ipackages/c/include \
+    packages/sqlite/rapidhash.c packages/sqlite/tests/test_memory.c -lsqlite3 -o "$ROOM/test_memory"
+"$ROOM/test_memory" """
+
+
+def commands():
+    """Runs the commands in an empty directory, that on the archive's page, and make without the toolchain."""
+    [page] = blocks(PAGE, "sh")
+    (ROOM / "first").mkdir()
+    compare("page", (page in BINDINGS, page.count("\n"), shell(page, ROOM / "first")), (True, 2, (0, f"{HELLO}\n")))
+    command = unpack(ROOM, "sqlite")
+    compare("unpacked_archive", shell(f"{command}\n{page.splitlines()[1]}", ROOM), (0, f"{HELLO}\n"))
+    compare("make_without_the_toolchain", shell("make -s -B sqlite", PATH="/usr/bin:/bin"), (0, ""))
+
+
+def opened(encoding="UTF-8"):
+    database = sqlite3.connect(":memory:")
+    database.execute(f"PRAGMA encoding = '{encoding}'")
+    database.enable_load_extension(True)
+    database.load_extension(str(TOP / "build/rapidhash"))
+    return database
+
+
+def ask(database, query, *values):
+    return database.execute(query, values).fetchall()
+
+
+def pieces(message):
+    """Yields a message in pieces of 1, 2, 3 bytes, and so on."""
+    at, size = 0, 1
+    while at < len(message):
+        yield (message[at:at + size],)
+        at, size = at + size, size + 1
+
+
+def vectors(database):
+    """Tests each message as a BLOB, 8 bytes also as an INTEGER, and in pieces if the version has an aggregate."""
+    wrong, counts = [], {"blob": 0, "integer": 0, "pieces": 0}
+
+    def check(kind, call, values, wanted, rest=""):
+        counts[kind] += 1
+        query, found = f"SELECT {call}, rapidhash_hex({call}){rest}", [(wanted, f"{wanted % 2**64:016x}")]
+        wrong.extend([f"{query} {values!r:.60}"] * (ask(database, query, *values) != found))
+
+    database.execute("CREATE TABLE pieces (piece)")
+    for name, words, message, wanted in every_vector():
+        call = f"{name}(?1{', ?2' * len(words)})"
+        check("blob", call, (message, *words), wanted)
+        if len(message) == 8:
+            check("integer", call, (int.from_bytes(message, "little", signed=True), *words), wanted)
+        if name[10:] in STREAMS and message:
+            database.execute("DELETE FROM pieces")
+            database.executemany("INSERT INTO pieces VALUES (?)", pieces(message))
+            check("pieces", f"{name}_agg(piece{', ?1' * len(words)})", words, wanted, " FROM pieces")
+    tell("vectors", *wrong)
+    compare("count_of_vectors", counts, {"blob": 3032, "integer": 16, "pieces": 717})
+
+
+def types(database, name):
+    """Checks which bytes of each type are hashed."""
+    found = ask(database, f"""SELECT rapidhash_v3('hello'), rapidhash_v3('{TEXT}'), rapidhash_v3_agg('{TEXT}'),
+        rapidhash_v3(''), rapidhash_v3(x''), rapidhash_v3(zeroblob(3)) = rapidhash_v3(x'000000'),
+        rapidhash_v3(?) = rapidhash_v3(x'610062'), rapidhash_v3(42), rapidhash_v3(-42),
+        rapidhash_v3(CAST(42 AS TEXT)) = rapidhash_v3(x'3432'), rapidhash_v3(NULL), rapidhash_v3(NULL, 1),
+        rapidhash_v3('a', NULL), rapidhash_v1_seeded(1, NULL), rapidhash_hex(NULL)""", "a\0b")
+    compare(name, found, [(HELLO, TEXT_HASH, TEXT_HASH, NOTHING, NOTHING, 1, 1, 5044168950324010207,
+                           2463112363380910024, 1, None, None, None, None, None)])
+    found = [ask(database, "SELECT rapidhash_hex(?)", number) for number in DIGITS]
+    compare(f"{name}_hex", found, [[(digits,)] for digits in DIGITS.values()])
+
+
+def errors(database):
+    for query, wanted in ERRORS.items():
+        try:
+            found = ask(database, f"SELECT {query}")
+        except sqlite3.OperationalError as error:
+            found = str(error)
+        compare(f"refuses {query}", found, wanted)
+
+
+def aggregates(database):
+    """Tests the aggregates on a hundred thousand rows, in an order different from the table's."""
+    rows = [(place, place % 3, f"user:{place}") for place in range(100_000)]
+    database.executemany("INSERT INTO many VALUES (?, ?, ?)", sorted(rows, key=lambda row: row[2][::-1]))
+
+    def whole(*parts):
+        return ask(database, "SELECT rapidhash_v3(?)", "".join(word for _, part, word in rows if part in parts))[0][0]
+
+    query = "SELECT rapidhash_v3_agg(word) FROM (SELECT word FROM many ORDER BY place)"
+    compare("many_rows", ask(database, query), [(whole(0, 1, 2),)])
+    query = """SELECT DISTINCT part, rapidhash_v3_agg(word) OVER (PARTITION BY part ORDER BY place
+        ROWS BETWEEN UNBOUNDED PRECEDING AND UNBOUNDED FOLLOWING) FROM many ORDER BY part"""
+    compare("windows", ask(database, query), [(part, whole(part)) for part in range(3)])
+    query = "SELECT rapidhash_v3_agg(column1) OVER (ORDER BY column2) FROM (VALUES ('lo', 2), ('hel', 1), (NULL, 0))"
+    compare("running_hash", ask(database, query), [(None,), *ask(database, "SELECT rapidhash_v3('hel')"), (HELLO,)])
+    values = "(VALUES ('a', 'hello'), ('b', NULL), ('b', 'hello'), ('c', NULL))"
+    query = f"SELECT rapidhash_v3_agg(column2) FROM {values} GROUP BY column1"
+    compare("groups_with_nulls", ask(database, query), [(HELLO,), (HELLO,), (None,)])
+    query = "SELECT rapidhash_v3_agg(column1, column2) FROM (VALUES ('x', NULL), ('hel', 0), (NULL, 0), ('lo', 0))"
+    compare("rows_without_a_seed", ask(database, query), [(HELLO,)])
+    compare("no_rows", ask(database, "SELECT rapidhash_v3_agg(1), rapidhash_v3_agg(1, 2) FROM many WHERE 0"),
+            [(None, None)])
+
+
+def schema(database):
+    """Checks that a call may be in an index, and in a view of an untrusted schema."""
+    database.execute("PRAGMA trusted_schema = OFF")
+    database.execute("CREATE INDEX by_hash ON many (rapidhash_v3(word, 1))")
+    database.execute("CREATE VIEW hashes AS SELECT rapidhash_v3_agg(column1) FROM (VALUES ('hello'))")
+    compare("schema", ask(database, "SELECT * FROM hashes"), [(HELLO,)])
+
+
+def page(database):
+    """Checks each line with a result. The query over nodes must assign each line to the same node as the program."""
+    for query, wanted in lines_with_results(PAGE):
+        compare(query, [tuple(map(str, row)) for row in ask(database, query)], [(wanted,)])
+    crate = TOP / "crates/example_shards"
+    database.execute("CREATE TABLE nodes (name)")
+    database.executemany("INSERT INTO nodes VALUES (?)", (("red",), ("blue",)))
+    database.execute("CREATE TABLE lines (line)")
+    database.executemany("INSERT INTO lines VALUES (?)", zip((crate / "stdin").read_text().splitlines()))
+    found = {f"{name}\t{line}" for name, line, _ in ask(database, blocks(PAGE, "sql")[1])}
+    compare("nodes", found, set((crate / "stdout").read_text().splitlines()))
+
+
+if not hasattr(sqlite3.Connection, "enable_load_extension") or not all(map(shutil.which, ("cc", "sqlite3"))):
+    skip_all("no cc or no sqlite3, or this Python loads no extensions")
+commands()
+loaded = opened()
+loaded.execute("CREATE TABLE many (place INTEGER, part INTEGER, word TEXT)")
+vectors(loaded)
+types(loaded, "types")
+types(opened("UTF-16le"), "types_in_utf_16le")
+types(opened("UTF-16be"), "types_in_utf_16be")
+aggregates(loaded)
+errors(loaded)
+schema(loaded)
+page(loaded)
+# The values of the Rust crate for 140 million bytes of 0, as in packages/tools/tests/end_to_end.sh and
+# packages/javascript/tests/javascript.sh.
+query = "SELECT rapidhash_v1(zeroblob(140000000)), rapidhash_v2_2(CAST(zeroblob(140000000) AS TEXT))"
+compare("long_values", ask(loaded, query), [(signed(15042570400923500380), signed(1949155381881807616))])
+compare("names", (ask(loaded, "SELECT count(*) FROM pragma_function_list WHERE name LIKE 'rapidhash%'"),
+                  shell("nm -D --defined-only build/rapidhash.so | cut -d ' ' -f 3")[1]),
+        ([(31,)], "sqlite3_rapidhash_init\n"))
+compare("failing_memory", shell(MEMORY), (0, "every failed allocation ended in SQLITE_NOMEM\n"))
+finish()

@@ -1,0 +1,232 @@
+#!/usr/bin/env bash
+# Installs the programs and the C library into a temporary directory, uses each installed file, and removes the files
+# again. Further cases use directories with other kinds of names.
+. "$(dirname "$0")/../../../tests/cases.sh"
+needs_the_toolchain
+prefix=$room/usr
+cd "$top" || exit 1
+
+# PATH without rt: an installation, perhaps as root, does not need it.
+path=
+while IFS= read -r -d : folder; do
+  [ -x "$folder/rt" ] || path=$path${path:+:}$folder
+done <<<"$PATH:"
+
+builds_nothing_anew() {
+  [ -z "$(make -s -C "$top" 2>&1)" ] && [ -z "$(PATH=$path make -s -j3 -C "$top" 2>&1)" ]
+}
+
+installs() {
+  PATH=$path make -s -C "$top" install "$@"
+}
+
+# Checks that rapidsum prints the line of a known hash and reads it back.
+prints_and_checks_a_sum() {
+  echo something >"$room/file" &&
+    [ "$("$prefix/bin/rapidsum" "$room/file")" = "a1266b469390773a  $room/file" ] &&
+    "$prefix/bin/rapidsum" "$room/file" | "$prefix/bin/rapidsum" --check | grep -qx "$room/file: OK"
+}
+
+# Checks that a file contains every option that the help of a program names: PROGRAM COUNT FILE
+names_every_option() {
+  local option pattern
+  "$prefix/bin/$1" --help | grep -oE '^ .{0,5} --[a-z0-9.-]+' | grep -oE -- '--.*' >"$room/options"
+  while read -r option; do
+    pattern=${option//./[.]}
+    case $3 in
+    */_*) pattern="${pattern}[}'=]*\\[" ;; # In zsh, offered options have a description, but excluded options do not.
+    *) pattern="(^|[^a-z0-9.-]|--)${pattern#--}([^a-z0-9.-]|[.] |\$)" ;;
+    esac
+    sed 's/\\//g' "$3" | grep -qE -e "$pattern" || { echo "no $option in $3" && return 1; }
+  done <"$room/options"
+  [ "$(wc -l <"$room/options")" -eq "$2" ] || { cat "$room/options" && return 1; }
+}
+
+# Checks that a manual page has no formatting faults, and lines of at most 80 bytes: PAGE
+is_a_clean_manual() {
+  [ -z "$(mandoc -Tlint "$prefix/share/man/man${1##*.}/$1" | tee /dev/stderr)" ]
+}
+
+# Checks that the manual's example compares the files a and b correctly, even if neither can be hashed.
+compares_by_the_manual() {
+  local example
+  example=$(sed -n 's/^\.B \(a=\$(.*\)/\1/p' "$prefix/share/man/man1/rapidhash.1" | sed 's/\\(dq/"/g')
+  mkdir "$room/compared" && cd "$room/compared" || return 1
+  compare() { PATH=$prefix/bin:$PATH bash -c "$example"; }
+  ! compare && mkdir a b && ! compare && rmdir a b && echo same >a && echo same >b && compare &&
+    echo other >b && ! compare && rm b && ! compare
+}
+
+is_empty() {
+  [ -z "$(find "$1" ! -type d)" ]
+}
+
+# Prints the names of the files below a directory, such as those that make install copied: DIRECTORY
+listed() {
+  (cd "$1" && find . ! -type d | sort)
+}
+
+# Checks that a directory with spaces and other characters in its name gets the same files, and that they work.
+# Uninstall must remove them and nothing else.
+serves_a_folder_of_any_name() {
+  local place="$room/a folder & |more"
+  installs PREFIX="$place" && diff <(listed "$prefix") <(listed "$place") &&
+    prints_the_known_hash "$place" && builds_by_pkg_config "$place/lib" &&
+    echo mine >"$room/a" && echo mine >"$place/bin/mine" &&
+    make -s -C "$top" uninstall PREFIX="$place" && [ -e "$room/a" ] && [ "$(listed "$place")" = ./bin/mine ]
+}
+
+# Checks that a directory that the pkg-config file cannot name is refused in a single line, before a file is copied.
+refuses() {
+  local said
+  ! said=$(installs DESTDIR="$room/refused" "$@" 2>&1) && [ ! -e "$room/refused" ] &&
+    [ "$(grep -vc '^make: ' <<<"$said")" -eq 1 ] && grep '^make install: ' <<<"$said" &&
+    ! make -s -C "$top" uninstall DESTDIR="$room/refused" "$@"
+}
+
+# Builds and runs the programs of docs/C.md and docs/CPP.md with the commands on the pages and the library below $HOME.
+# README.md also has the commands for the first program.
+runs_as_the_pages_say() (
+  export HOME=$room/home
+  mkdir "$HOME" && installs PREFIX="$HOME/.local" && cd "$HOME" &&
+    blocks "$top/docs/C.md" c hello >hello.c && blocks "$top/docs/CPP.md" cpp hello >hello.cpp &&
+    blocks "$top/docs/C.md" c stdin >hash_file.c && blocks "$top/docs/C.md" sh pkg-config >commands &&
+    blocks "$top/docs/CPP.md" sh pkg-config >>commands &&
+    diff <(head -n 2 commands) <(blocks "$top/README.md" sh pkg-config) && prints_the_hash_of_hello 3
+)
+
+# Checks that the commands print the hash this many times, and that each has a comment that states this: TIMES
+prints_the_hash_of_hello() {
+  local hash=3327445792987248966
+  bash -e commands | tee /dev/stderr | grep -xc "$hash" | grep -x "$1" &&
+    [ "$(grep -cE " # prints ($hash|the same)\$" commands)" = "$1" ]
+}
+
+by_cmake_as_the_page_says() (
+  export HOME=$room/home
+  cd "$HOME" && blocks "$top/docs/CPP.md" cmake project >CMakeLists.txt &&
+    blocks "$top/docs/CPP.md" sh cmake >commands && prints_the_hash_of_hello 1
+)
+
+# Checks that the whole directory can be moved: no file names the place of its installation.
+serves_a_moved_folder() {
+  local place="$room/second place"
+  mv "$room/home/.local" "$place" && ! grep -rlF "$room/home" "$place" && builds_by_pkg_config "$place/lib"
+}
+
+links_both_by_cmake() {
+  builds_by_cmake "$room/second place" &&
+    readelf -d "$room/cmake/c_rapidhash_c" | grep -F '[librapidhash_c.so.1]' &&
+    ! readelf -d "$room/cmake/cpp_rapidhash_c_static" | grep -F librapidhash_c
+}
+
+# Installs below DESTDIR, with separate directories for programs and libraries.
+serves_a_packager() {
+  local stage=$room/stage pc=$room/stage/usr/lib/here/pkgconfig/rapidhash_c.pc
+  local folders=(DESTDIR="$stage" PREFIX=/usr BINDIR=/opt/bin LIBDIR=/usr/lib/here DATADIR=/opt/share)
+  installs "${folders[@]}" || return 1
+  told_folder() { realpath -s "$(pkg-config --variable="$1" "$pc")"; }
+  [ "$(told_folder prefix)" = "$stage/usr" ] && [ "$(told_folder libdir)" = "$stage/usr/lib/here" ] &&
+    [ "$(told_folder includedir)" = "$stage/usr/include" ] && [ -x "$stage/opt/bin/rapidsum" ] &&
+    [ -e "$stage/opt/share/man/man1/rapidhash.1" ] &&
+    make -s -C "$top" uninstall "${folders[@]}" && is_empty "$stage"
+}
+
+# Checks that headers outside PREFIX keep their full path.
+serves_headers_elsewhere() {
+  local stage=$room/elsewhere
+  installs DESTDIR="$stage" PREFIX=/usr INCLUDEDIR='/opt/the headers' &&
+    grep -x 'includedir=/opt/the\\ headers' "$stage/usr/lib/pkgconfig/rapidhash_c.pc" &&
+    grep -F '"/opt/the\ headers"' "$stage/usr/lib/cmake/rapidhash_c/rapidhash_c-config.cmake"
+}
+
+# Checks that nothing is copied if a single product is missing, and that a line names the command to run first.
+wants_a_build_first() {
+  local missing product said
+  mkdir "$room/new" && git ls-files -z | xargs -0 cp --parents -t "$room/new" || return 1
+  for missing in none "${products[@]}"; do
+    for product in "${products[@]}"; do
+      install -D /dev/null "$room/new/$product" || return 1
+    done
+    rm -f "$room/new/$missing"
+    said=$(PATH=$path make -s -C "$room/new" install PREFIX="$room/$missing" 2>&1) && [ "$missing" = none ] && continue
+    [ ! -e "$room/$missing" ] && grep '^make install: .*: run make first$' <<<"$said" || return 1
+  done
+}
+# The products that make install copies, each after the products from which it is built.
+products=(crates/rapidhash_cli/out/rapidhash_cli crates/rapidsum/out/rapidsum
+  crates/rapidhash_c/out/librapidhash_c.a build/librapidhash_c.so.1)
+
+# Checks that make without the kit prints one line, builds the same files by cc and cargo, and installs them, and that
+# make check stops before it installs anything.
+serves_without_the_kit() {
+  local place=$room/without sources=$room/sources
+  mkdir "$sources" && git ls-files -z | xargs -0 cp --parents -t "$sources" && export PATH=$path &&
+    ! make -s -C "$sources" check >"$room/check" 2>&1 && grep -q 'make check-source' "$room/check" &&
+    [ "$(make -s -j3 -C "$sources" 2>&1)" = \
+      'make: rt is not on PATH: building with cc and cargo, which is not the proved build' ] &&
+    [ -z "$(make -s -C "$sources" 2>&1)" ] && make -s -C "$sources" install PREFIX="$place" &&
+    diff <(listed "$prefix") <(listed "$place") && prints_the_known_hash "$place" && builds_by_pkg_config "$place/lib" &&
+    prefix=$place prints_and_checks_a_sum && [ "$(echo something | "$sources/bin/rapidhash" --v1)" = 15965596575264898037 ]
+}
+
+# Checks that a second installation replaces each file, so that a running program keeps the one that it has mapped.
+replaces_files() {
+  find "$prefix" -type f -exec sed -i '$a old' {} + && cp -rl "$prefix" "$room/kept" && installs PREFIX="$prefix" &&
+    [ -z "$(find "$room/kept" -type f -print0 | xargs -0 grep -axL old)" ] && ! grep -raxl old "$prefix"
+}
+
+# Checks that the script itself refuses the characters that the pkg-config file cannot contain. make would expand some.
+refuses_characters() {
+  local character said
+  for character in '#' '$' '\' "'" '"' '`' $'\n' $'\t'; do
+    said=$(PREFIX="$room/a${character}b" BINDIR=/b LIBDIR=/l INCLUDEDIR=/i DATADIR=/d "$top/scripts/install" 2>&1) &&
+      return 1
+    grep '^make install: PREFIX has a character' <<<"$said" || return 1
+  done
+}
+
+# Checks that every user can run the programs and the shared library and read every other file.
+has_the_modes() {
+  [ -z "$(find "$prefix" -type f ! -perm 644 ! -perm 755)" ] &&
+    diff <(find "$prefix" -type f -perm 755 -printf '%f\n' | sort) \
+      <(printf '%s\n' librapidhash_c.so.1 rapidhash rapidsum)
+}
+
+try build make -s -C "$top"
+try build_again builds_nothing_anew
+try install installs PREFIX="$prefix"
+try program prints_the_known_hash "$prefix"
+try program_of_sums prints_and_checks_a_sum
+try shared_library builds_by_pkg_config "$prefix/lib"
+try first_program runs_as_the_pages_say
+try_with first_program_by_cmake cmake by_cmake_as_the_page_says
+try moved_folder serves_a_moved_folder
+try_with cmake cmake links_both_by_cmake
+try licences has_the_licences "$prefix/share/doc/rapidhash"
+try modes has_the_modes
+try files_in_use replaces_files
+try manual is_a_clean_manual rapidhash.1
+try manual_of_sums is_a_clean_manual rapidsum.1
+try manual_of_the_library is_a_clean_manual rapidhash_c.3
+try example_of_the_manual compares_by_the_manual
+cd "$top" || exit 1
+for program in 'rapidhash 8' 'rapidsum 14'; do
+  read -r name count <<<"$program"
+  for place in "man/man1/$name.1" "bash-completion/completions/$name" "zsh/site-functions/_$name" \
+    "fish/vendor_completions.d/$name.fish"; do
+    try "options_in_$(basename "$place")" names_every_option "$name" "$count" "$prefix/share/$place"
+  done
+done
+try folder_of_any_name serves_a_folder_of_any_name
+try relative_folder refuses PREFIX=usr
+try relative_folder_of_libraries refuses PREFIX=/usr LIBDIR=lib
+try folders_of_a_packager serves_a_packager
+try headers_elsewhere serves_headers_elsewhere
+try nothing_built wants_a_build_first
+try characters_of_folders refuses_characters
+try_with without_the_kit cargo eval '(serves_without_the_kit)'
+try uninstall make -s -C "$top" uninstall PREFIX="$prefix"
+try nothing_left is_empty "$prefix"
+
+finish

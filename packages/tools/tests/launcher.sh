@@ -1,0 +1,140 @@
+#!/usr/bin/env bash
+# Runs bin/rapidhash in a small copy of the repository. A script instead of rt builds a program that prints the sources
+# and its arguments, so no case needs a proof.
+. "$(dirname "$0")/../../../tests/cases.sh"
+cd "$room" || exit 1
+
+# The substitute for rt. For the program, it waits for the lock as rt does, reads the text of the sources, runs the file
+# `during`, and builds. For a library, it does nothing.
+mkdir kit
+cat >kit/rt <<'RT'
+#!/bin/sh
+[ "$1" = run ] || exit 0
+exec 9>>../../../lock && flock 9
+echo run >>../../../starts
+text=$(cat ../*/src/*.rt)
+echo 'rt: chose --jobs 4'
+. ../../../during
+mkdir -p out && printf '#!/bin/sh\nprintf "%%s\\n" "%s" "$@"\ncat\nexit 7\n' "$text" >out/rapidhash_cli
+chmod +x out/rapidhash_cli
+RT
+chmod +x kit/rt
+
+# Creates a repository without build results, whose sources are older than the next build. A build also runs these
+# commands: COMMANDS
+new_repository() {
+  chmod -R u+w . && rm -rf repo starts && echo "$1" >during
+  mkdir -p repo/crates/rapidhash_{portable,cli}/src repo/crates/rapidhash_tool
+  (cd "$top" && cp --parents bin/rapidhash Makefile crates.txt packages/*/make.mk "$room/repo")
+  echo first >repo/crates/rapidhash_portable/src/lib.rt
+  find repo -exec touch -d 2020-01-01 {} +
+}
+
+# Runs the launcher and compares its exit status, its output, the number of builds so far, and a pattern for its
+# messages: NAME STATUS OUT BUILDS ERR ARGUMENT..
+tool=repo/bin/rapidhash
+programs=$room/kit:$PATH
+calls() {
+  local status
+  echo input | PATH=$programs "$tool" "${@:6}" >out 2>"$room/log"
+  status=$?
+  # shellcheck disable=SC2053
+  [ "$status" = "$2" ] && [ "$(cat out)" = "$3" ] && [ "$(grep -c . starts)" -eq "$4" ] &&
+    [[ $(cat "$room/log") == $5 ]]
+  tell "$1" $?
+}
+
+told='make: proving and building rapidhash_cli, some minutes the first time'
+new_repository ''
+calls first_call 7 $'first\na  b\n\n\xff\ninput' 1 "$told" 'a  b' '' $'\xff'
+calls second_call_builds_nothing 7 $'first\ninput' 1 ''
+ln -sf ../repo/bin/rapidhash kit/linked
+tool=kit/linked calls call_by_a_link 7 $'first\ninput' 1 ''
+chmod -R a-w repo
+calls read_only_checkout 7 $'first\ninput' 1 ''
+chmod -R u+w repo
+
+echo second >repo/crates/rapidhash_portable/src/lib.rt
+calls edited_source 7 $'second\ninput' 2 "$told"
+mkdir repo/crates/rapidhash_portable/specs && echo >repo/crates/rapidhash_portable/specs/New.antt
+calls new_file 7 $'second\ninput' 3 "$told"
+rm repo/crates/rapidhash_portable/specs/New.antt
+calls removed_file 7 $'second\ninput' 4 "$told"
+touch repo/crates.txt
+calls list_of_crates 7 $'second\ninput' 5 "$told"
+builds=5
+for crate in rapidhash_portable rapidhash_tool rapidhash_cli; do
+  mkdir -p "repo/crates/$crate/proofs"
+  calls "new_folder_of_$crate" 7 $'second\ninput' $((builds += 1)) "$told"
+done
+
+new_repository 'echo third >../rapidhash_portable/src/lib.rt'
+calls edit_during_a_build 7 $'first\ninput' 1 "$told"
+echo >during
+calls call_after_such_an_edit 7 $'third\ninput' 2 "$told"
+
+new_repository 'sleep 1'
+export PATH=$room/kit:$PATH
+echo input | "$tool" >first_out 2>/dev/null &
+sleep 0.5
+echo input | "$tool" other >other_out 2>/dev/null
+wait
+[ "$(cat first_out other_out)" = $'first\ninput\nfirst\nother\ninput' ]
+tell two_first_calls_at_once $?
+
+new_repository 'echo "error: tail.rt:1: not proved"; exit 1'
+calls failed_build 2 '' 1 "$told"$'\nerror: tail.rt:1: not proved'\
+$'\nmake: the build failed; full output: build/rapidhash_cli.log\nmake: \*\*\*'*
+echo 'echo "no room on the device"; exit 1' >during
+calls failed_build_with_no_cause 2 '' 2 "$told"*'no room on the device'*'make: the build failed;'*
+echo >during
+calls call_after_a_failed_build 7 $'first\ninput' 3 "$told"
+echo 'echo "error: two"; exit 1' >during && echo second >repo/crates/rapidhash_portable/src/lib.rt
+calls failed_build_over_a_program 2 '' 4 "$told"$'\nerror: two'*
+echo >during
+MAKEFLAGS=nk calls call_from_a_make_that_builds_nothing 7 $'second\ninput' 5 "$told"
+
+# Prints a crate and those of the repository that it uses, directly or not: CRATE
+used_by() {
+  local used
+  for used in $(sed -nE "s/^$1( staticlib)?: //p" "$top/crates.txt"); do [ ! -d "$top/crates/$used" ] || used_by "$used"; done
+  echo "$1"
+}
+
+# Checks that make builds each product again after an edit of any crate that it uses.
+each_edit_counts() {
+  local crate
+  make -pq -C "$top" >rules 2>/dev/null
+  for crate in rapidhash_c rapidhash_cli rapidsum example_{bloom,perfect,shards,dedupe}; do
+    diff <(used_by "$crate" | sort -u) \
+      <(grep -oE "^crates/$crate/out/[^.]*(\.a)?: .*" rules | grep -oE '[ ]crates/[^/]*/src ' | cut -d / -f 2 | sort -u) || return 1
+  done
+}
+try edits_of_libraries each_edit_counts
+new_repository ''
+mkdir few && ln -s "$(command -v make)" "$(command -v sh)" /usr/bin/{dirname,readlink,find,mkdir,touch,cat,chmod} few
+PATH=$room/few repo/bin/rapidhash >out 2>"$room/log"
+[ $? -eq 2 ] && [ ! -s out ] && [ ! -e starts ] &&
+  grep -qx 'make: neither rt, of the Rattle kit, nor cargo is on PATH' "$room/log"
+tell no_rt_and_no_cargo $?
+
+# Without rt, a substitute for cargo builds, until the kit has built.
+mkdir -p repo/packages/rust/{src,tools/src} && echo one >repo/packages/rust/src/lib.rs && touch -d 2020-01-01 repo/packages/rust/src/lib.rs
+cat >few/cargo <<'CARGO'
+#!/bin/sh
+echo run >>../../../../starts
+mkdir -p "$CARGO_TARGET_DIR/release"
+printf '#!/bin/sh\necho cargo %s "$@"\n' "$(cat ../src/lib.rs)" >"$CARGO_TARGET_DIR/release/rapidhash"
+chmod +x "$CARGO_TARGET_DIR/release/rapidhash"
+CARGO
+chmod +x few/cargo
+of_cargo='make: rt is not on PATH: building with cc and cargo, which is not the proved build'
+programs=$room/few
+calls first_call_by_cargo 0 'cargo one a' 1 "$of_cargo" a
+calls second_call_by_cargo 0 'cargo one' 1 ''
+echo two >repo/packages/rust/src/lib.rs
+calls edited_source_by_cargo 0 'cargo two' 2 "$of_cargo"
+programs=$room/kit:$PATH
+calls the_kit_instead_of_cargo 7 $'first\ninput' 3 "$told"
+
+finish

@@ -1,0 +1,251 @@
+#!/usr/bin/env bash
+# shellcheck disable=SC2317 # The cases are called by their names.
+# Runs crates/rapidsum and sha256sum. In each case, both print the same lines except the hashes, print the same
+# messages except the program's name, and exit with the same status. Further cases test features that sha256sum does not
+# have.
+. "$(dirname "$0")/../../../tests/examples/room.sh"
+export LC_ALL=C
+
+# Creates the files of a case. One of the three names contains a newline, a backslash, and a carriage return.
+files() {
+  printf 'something\n' >first
+  printf 'else\n' >'second name'
+  printf 'something\n' >$'line\nback\\return\r'
+}
+
+# Writes a list of those files with the program.
+list() {
+  "$sum" first 'second name' $'line\nback\\return\r' >list
+}
+
+# Runs a case with a program in its own directory and stores its output and exit status: NAME PROGRAM CASE
+run_case() {
+  mkdir "$room/$1" && cd "$room/$1" || exit 1
+  files
+  sum=$2
+  "$3" >"$room/out.$1" 2>"$room/err.$1"
+  printf 'status %s\n' "$?" >>"$room/out.$1"
+  cd "$room" || exit 1
+  rm -rf "${room:?}/$1"
+  sed -i -E 's/^(\\?)([0-9a-f]{64}|[0-9a-f]{16})( |$)/\1HASH\3/
+    s/^(\\?)(SHA256|RAPIDHASH-V3) (.* =) ([0-9a-f]{64}|[0-9a-f]{16})$/\1TAG \3 HASH/' "$room/out.$1"
+  sed -i -E 's/^[^ ]*(sha256sum|rapidsum): /sum: /; s/ \(os error [0-9]+\)$//
+    s/ SHA256 / /; s/(write error): .*/\1/; s/^(sum: )'"'(.*)': "'/\1\2: /' "$room/err.$1"
+}
+
+# Runs a case with both programs and compares the results: CASE
+beside() {
+  run_case theirs sha256sum "$1"
+  run_case ours "$program" "$1"
+  diff "$room/out.theirs" "$room/out.ours" && diff "$room/err.theirs" "$room/err.ours"
+}
+
+case_sums() { "$sum" first 'second name' $'line\nback\\return\r'; }
+case_sums_of_standard_input() { "$sum" <first && "$sum" - first <first; }
+case_missing_file() { "$sum" first nothing 'second name'; }
+case_folder() { mkdir folder && "$sum" folder first; }
+case_folder_as_input() { "$sum" - first <.; }
+case_name_of_300_bytes() { "$sum" "$(printf %300s '')" first; }
+case_read_fails_later() { failing read:error=EIO:when=2 first "$sum" first 'second name'; }
+case_read_of_input_fails_later() { failing read:error=EIO:when=2 first "$sum" - 'second name' <first; }
+case_words_behind_two_hyphens() { cp first -- -first && "$sum" -- -first; }
+case_full_disk() { "$sum" first >/dev/full; }
+case_full_disk_without_newlines() { "$sum" -z first >/dev/full; }
+case_full_disk_after_a_missing_file() { "$sum" nothing first >/dev/full; }
+# Rust's runtime opens /dev/null for a closed stream.
+[ -n "${BUILT-}" ] || case_no_output() { "$sum" first >&-; }
+case_binary() { "$sum" -b first 'second name' $'line\nback\\return\r'; }
+case_last_of_binary_and_text() { "$sum" -t -b first && "$sum" -b -t first; }
+case_tag() { "$sum" --tag first 'second name' $'line\nback\\return\r'; }
+case_zero() { "$sum" -z first $'line\nback\\return\r' | tr '\0' '\n'; }
+case_zero_with_tags() { "$sum" -z --tag first 'second name' | tr '\0' '\n'; }
+case_check_of_tags() { mv first 'a (b) = c' && "$sum" --tag -- * >.list && "$sum" -c .list; }
+case_check_of_tags_with_carriage_returns() { "$sum" --tag first | sed 's/$/\r/' >crlf && "$sum" -c crlf; }
+case_check_of_a_changed_file_with_a_tag() { "$sum" --tag first >list && echo more >>first && "$sum" -c list; }
+case_check() { list && "$sum" --check list; }
+case_check_of_standard_input() { list && "$sum" -c <list; }
+case_check_of_two_lists() { list && "$sum" -c list list; }
+case_check_with_carriage_returns() { list && sed 's/$/\r/' list >crlf && "$sum" -c crlf; }
+case_check_with_stars() { list && sed 's/  / */' list >stars && head -n 2 stars | "$sum" -c; }
+case_check_of_a_changed_file() { list && echo more >>first && "$sum" -c list; }
+case_check_of_two_changed_files() { list && echo more | tee -a first >>'second name' && "$sum" -c list; }
+case_check_quietly() { list && echo more >>first && "$sum" -c --quiet list; }
+case_check_by_status() { list && echo more >>first && "$sum" -c --status list; }
+case_check_by_status_alone() { list && "$sum" -c --status list; }
+case_check_of_a_missing_file() { list && rm first && "$sum" -c list; }
+case_check_without_missing_files() { list && rm first && "$sum" -c --ignore-missing list; }
+case_check_of_missing_files_alone() { list && rm -- * && "$sum" first; }
+case_check_where_all_are_missing() { list && mv list .list && rm -- * && "$sum" -c --ignore-missing .list; }
+case_check_by_status_where_all_are_missing() {
+  list && mv list .list && rm -- * && "$sum" -c --status --ignore-missing .list
+}
+case_check_of_a_folder() { list && rm first && mkdir first && "$sum" -c list; }
+case_check_of_a_folder_without_missing_files() { list && rm first && mkdir first && "$sum" -c --ignore-missing list; }
+case_check_where_a_read_fails_later() { list && failing read:error=EIO:when=2 first "$sum" -c --ignore-missing list; }
+case_check_of_no_list() { "$sum" -c nothing; }
+case_check_of_an_empty_list() { "$sum" -c /dev/null; }
+case_check_of_malformed_lines() { list && printf 'garbage\n0123\n' >>list && "$sum" -c list; }
+case_check_that_names_malformed_lines() { list && printf 'garbage\n' >>list && "$sum" -c -w list; }
+case_check_strictly() { list && printf 'garbage\n' >>list && "$sum" -c --strict list; }
+case_check_of_malformed_lines_alone() { printf 'garbage\n' >list && "$sum" -c list; }
+case_check_with_comments() { list && printf '# comment\n\n' >>list && "$sum" -c --strict list; }
+case_check_without_a_last_newline() { list && printf %s "$(cat list)" >short && "$sum" -c short; }
+case_check_to_a_full_disk() { list && "$sum" -c list >/dev/full; }
+
+case_unreadable() { chmod 0 first && "${as_user[@]}" "$sum" first 'second name'; }
+case_check_of_an_unreadable_file() { list && chmod 0 first && "${as_user[@]}" "$sum" -c list; }
+
+for case in $(compgen -A function case_); do
+  try "${case#case_}" beside "$case"
+done
+
+cd "$room" || exit 1
+files
+
+# Checks that a command fails with a message that matches a pattern: NAME PATTERN COMMAND..
+says() {
+  local case=$1 pattern=$2
+  shift 2
+  "$@" >out 2>"$room/log"
+  [ $? -eq 1 ] && grep -qi -- "$pattern" "$room/log"
+  tell "$case" $?
+}
+
+# The line of a known hash, which rapidhash prints in decimal.
+answers known_line 'a1266b469390773a  first\n' '' "$program" first
+# Lines from other programs: uppercase digits, a star, leading whitespace, and a carriage return at the end.
+printf '%b\n' 'A1266B469390773A  first' 'a1266b469390773a *first' ' \ta1266b469390773a  first' \
+  'a1266b469390773a  first\r' 'RAPIDHASH-V1 (first) = DD91317EEFDB7BF5\r' >others
+answers lines_of_other_programs 'first: OK\nfirst: OK\nfirst: OK\nfirst: OK\nfirst: OK\n' '' "$program" -c others
+cp first '\x stands for itself'
+cat >malformed <<'LINES'
+# a comment
+
+a1266b469390773  one digit short
+a1266b469390773g  no digit
+a1266b469390773a name
+a1266b469390773a	name
+a1266b469390773a
+\a1266b469390773a  a backslash at the end\
+\a1266b469390773a  \x is no escape
+RAPIDHASH-V4 (name) = a1266b469390773a
+RAPIDHASH-V3:7 (name) = a1266b469390773a
+RAPIDHASH-V3 (name = a1266b469390773a
+RAPIDHASH-V3
+a1266b469390773a  \x stands for itself
+LINES
+"$program" -c -w malformed >out 2>"$room/log"
+sed -n 's/.*malformed: \([0-9]*\): .*/\1/p' "$room/log" | cmp - <(seq 3 13) && grep -qxF '\\\x stands for itself: OK' out
+tell each_malformed_line_is_named $?
+
+# The values of the Rust crate for 57, 58 and 128 bytes, with the default seed and with seed words.
+while IFS=$'\t' read -r version rule message hash; do
+  version=${version/2_/2.} version=${version/3_/3-} word=${rule#word:} file=of_${#message} hash=$(printf %016x "$hash")
+  perl -e 'print pack "H*", $ARGV[0]' "$message" >"$file"
+  if [ "$rule" = default ]; then
+    answers "version_$version" "$hash  $file\n" '' "$program" -a "$version" "$file"
+  else
+    answers "seed_of_$version" "RAPIDHASH-${version^^}:$(printf %016x "$word") ($file) = $hash\n" '' \
+      "$program" --seed "$word" --tag --algorithm "$version" "$file"
+    cat out >>list_of_all
+    echo "$file: OK" >>wanted_of_all
+  fi
+done < <(python3 "$top/scripts/vectors.py" "$top/crates/test_replay/data" |
+  grep -E '^v[^p]+'$'\t''(default|word:[0-9]+)'$'\t''(.{114}|.{116}|.{256})'$'\t')
+cp wanted_of_all wanted
+prints a_list_of_all_versions "$program" -c list_of_all
+"$program" --seed 1 first >list
+answers check_with_a_seed 'first: OK\n' '' "$program" --seed 1 -c list
+says check_without_the_seed 'did NOT match' "$program" -c list
+printf 'RAPIDHASH-V9 (first) = a1266b469390773a\n' >list
+says unknown_version_in_a_list 'no properly formatted' "$program" -c list
+
+# Names that are not UTF-8, and one with a character that encodes such a byte. Cargo's build hashes all files. The kit's
+# reports the former and hashes the last, and such a name in a list counts as a file that cannot be read.
+names=($'x\xff' $'\xe9t\xe9' $'\xf4\x8f\xbf\xbf')
+for name in "${names[@]}"; do cp first "$name"; done
+printf 'a1266b469390773a  %s\n' "${names[@]}" >wanted
+"$program" "${names[@]}" >list 2>"$room/log"
+status=$?
+if [ -n "${BUILT-}" ]; then
+  [ "$status" -eq 0 ] && cmp wanted list && "$program" -c --status list
+  tell names_that_are_not_utf_8 $?
+else
+  [ "$status" -eq 1 ] && tail -n 1 wanted | cmp - list &&
+    printf 'rapidsum: %s: the name is not UTF-8\n' "${names[@]:0:2}" | cmp - "$room/log"
+  tell names_that_are_not_utf_8 $?
+  says name_in_a_list_that_is_not_utf_8 UTF-8 "$program" -c wanted
+  [ "$(grep -c 'FAILED open or read$' out)" -eq 2 ]
+  tell the_name_cannot_be_read $?
+fi
+
+# Compares what this build and the kit's print for all pairs of these words.
+as_by_the_kit() {
+  local one two words=(--tag -c --text -bt --zero -a --seed=2 --seed --algorithm=v9 --quiet -w first - -- --chek -x --help
+    -V --tag=5 --see -é '' v2.1 -az --=)
+  mkdir kit && cp "$kit" "kit/${program##*/}" || return 1
+  for one in "${words[@]}"; do
+    for two in "${words[@]}"; do
+      "$program" "$one" "$two" >ours 2>&1 <first; echo $? >>ours
+      "kit/${program##*/}" "$one" "$two" >theirs 2>&1 <first; echo $? >>theirs
+      diff theirs ours || return 1
+    done
+  done
+}
+kit=$top/crates/rapidsum/out/rapidsum
+if [ -n "${BUILT-}" ] && [ -x "$kit" ]; then try pairs_of_words as_by_the_kit; fi
+
+# As SIGPIPE does in sha256sum.
+runs closed_pipe 141 '' '' to_a_closed_pipe "$program" first first
+for words in '--tag -c' '--tag --text' '--zero -c' '--binary -c' '--text -c' '-a v9' '--seed=-1' '--seed 1 --seed 2'; do
+  # shellcheck disable=SC2086
+  says "refuses ${words// /_}" "for more information, try '--help'" "$program" $words first
+done
+says list_that_is_a_folder '.: Is a directory' "$program" -c .
+says list_of_which_a_read_fails 'list: Input/output error' failing read:error=EIO:when=2 list "$program" -c list
+runs rest_of_a_short_write 0 $'b469390773a  first\n' '' failing write:retval=5:when=1 out "$program" first
+says option_without_check --check "$program" --quiet first
+says unknown_option unknown "$program" --unknown
+
+# A list larger than the available memory, and the same file as input, which is read in pieces.
+head -c 67108864 /dev/zero | tr '\0' 'x' >large
+says memory_refused memory in_kibibytes 32768 "$program" -c large
+try large_file in_kibibytes 32768 "$program" large
+try reads_in_pieces reads_in 1025 large "$program" large
+
+# What cargo's build has in place of parts of the kit: reads to the end, lists, and arguments.
+if [ -n "${BUILT-}" ]; then
+  head -c 60000 large >small
+  try reads_of_a_small_file reads_in 5 small "$program" -a v1 small
+  runs interrupted_read 0 $'dd91317eefdb7bf5  first\n' '' failing read:error=EINTR:when=1 first "$program" -a v1 first
+  runs long_input 0 $'d0c1f214a7d9bf5c  -\n' '' "$program" -a v1 < <(head -c 140000000 /dev/zero)
+  yes 'a1266b469390773a  first' | head -n 70000 >long_list
+  try long_list bash -c '[ "$("$1" -c long_list | wc -l)" -eq 70000 ]' - "$program"
+  try many_names bash -c '[ "$("$1" $(yes first | head -n 70000) | wc -l)" -eq 70000 ]' - "$program"
+fi
+
+# A file above 4 GiB, read in pieces by all versions. The values are the Rust crate's.
+truncate -s 4294967301 sparse
+while read -r version hash; do
+  answers "large_file_by_$version" "$hash  sparse\n" '' in_kibibytes 32768 "$program" -a "$version" sparse
+done <<'VALUES'
+v1 46bf5aab7e2f6ab2
+v2.0 7e49682204c90431
+v2.1 7e49682204c90431
+v2.2 7e49682204c90431
+v3 7c0d86c7f881bfdc
+v3-micro 262c44b87d43134e
+v3-nano 6199e94d31d7c7aa
+VALUES
+while printf x >>sparse; do :; done &
+says file_that_grows 'sparse: the file grew while it was read' "$program" -a v1 sparse
+kill $!
+
+# Only a terminal shows the progress of a large file.
+truncate -s 300000000 sparse
+script -qec "$program sparse" log </dev/null >/dev/null 2>&1
+grep -q '128 MiB.*256 MiB' log && grep -qP '\r\x1b\[Kc266dafd0143ba3a  sparse' log
+tell progress_on_a_terminal_is_erased $?
+answers no_progress_elsewhere 'c266dafd0143ba3a  sparse\n' '' "$program" sparse
+
+finish

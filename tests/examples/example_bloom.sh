@@ -1,0 +1,46 @@
+#!/usr/bin/env bash
+# shellcheck disable=SC2094 # A list that a program reads twice.
+# Runs crates/example_bloom as its users do, on valid and invalid input.
+. "$(dirname "$0")/room.sh"
+
+# Does the same as prints, but up to a hundred of the ten thousand lines may be found: NAME COMMAND..
+mostly_absent() {
+  local case=$1
+  shift
+  "$@" <even >out 2>"$room/log" && [ ! -s "$room/log" ] && [ "$(grep -c '^maybe ' out)" -le 100 ] &&
+    sed 's/^maybe /no /' out | cmp - wanted
+  tell "$case" $?
+}
+
+seq 1 2 19999 >odd
+seq 2 2 20000 >even
+printf 'pear\n\nplum' >fruit
+
+sed 's/^/maybe /' odd >wanted
+prints every_key_is_found "$program" odd <odd
+cat odd even >both
+sed 's/^/maybe /' both >wanted
+prints every_key_of_two_lists_is_found "$program" --one-in 5 even odd <both
+sed 's/^/no /' even >wanted
+prints no_other_key_is_found "$program" --one-in 4294967295 odd <even
+mostly_absent at_most_one_in_100_other_keys_is_found "$program" odd
+split -n l/20 odd part.
+mostly_absent at_most_one_in_100_with_20_lists "$program" part.*
+answers last_lines_without_a_newline 'maybe plum\nmaybe \nno fig\n' 'plum\n\nfig' "$program" --one-in 1000000 fruit
+printf '\377\n' >bytes
+answers lines_that_are_not_utf_8 'maybe \377\nno \376\n' '\377\n\376\n' "$program" --one-in 1000000 bytes
+answers an_empty_list_has_no_line 'no fig\nno \n' 'fig\n\n' "$program" /dev/null
+answers no_line_is_asked '' '' "$program" fruit
+answers a_return_is_a_part_of_its_line 'maybe \nno pear\r\n' '\npear\r\n' "$program" --one-in 4294967295 fruit
+
+exec </dev/null
+fault no_list_is_named 2 'missing LIST argument' "$program"
+fault no_list_after_a_rate 2 'missing LIST argument' "$program" --one-in 10
+for rate in 1 4294967296 many ''; do
+  # shellcheck disable=SC2086
+  fault "a_rate_of_${rate:-nothing}" 2 '--one-in requires a number from 2 to 4294967295' "$program" --one-in $rate
+done
+fault unknown_option 2 "unknown option '--rate'" "$program" --rate 5 fruit
+refuses_lists
+
+finish

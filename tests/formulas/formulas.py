@@ -1,0 +1,71 @@
+#!/usr/bin/env python3
+"""Compares each implementation of the hashes with the definition as formulas: see tests/formulas/main.rs. The
+definition is the program of crates/test_definitions, which is proved equal to it, without its contracts and over random
+loads and a random product. Prints how many formulas were compared per implementation."""
+
+import re
+import shutil
+import sys
+from pathlib import Path
+
+sys.path[0:0] = [str(Path(__file__).parents[2] / folder) for folder in ("tests", "scripts")]
+from cases import ROOM, TOP, finish, shell, skip, tell  # noqa: E402
+from eraser import erase  # noqa: E402
+
+FOLDER = TOP / "tests" / "formulas"
+C = ("-std=c99 -Wall -Wextra -Werror -Wno-unused-function '-DRAPIDHASH_PRIMITIVES=\"primitives.h\"' -include assert.h"
+     " -DRAPIDHASH_ASSERT=assert -I$YERVOUND/packages/c/include -I$YERVOUND/tests/formulas $YERVOUND/tests/formulas/subject.c")
+RUST = "rustc -O --edition 2021 --extern rapidhash=librapidhash.rlib $YERVOUND/tests/formulas/subject.rs"
+JAVA = ("mkdir java && cp -r $YERVOUND/packages/java/src/main/java/. $YERVOUND/packages/java/src/formulas/java/. java &&"
+        " rm java/module-info.java && javac --release 11 -d classes $(find java -name '*.java')")
+GO = ("(cd $YERVOUND/packages/go && GOCACHE=$OLDPWD/cache GOPROXY=off go build -tags formulas -o $OLDPWD/go"
+      " ./internal/formulas)")
+# The subjects: name, kind, the program that it needs, and the commands that build and run it in the directory ROOM.
+SUBJECTS = [
+    ("c_gcc", "native", "gcc", f"gcc -O2 {C} -o c_gcc", "./c_gcc"),
+    ("c_clang", "native", "clang", f"clang -O1 -fsanitize=address,undefined {C} -o c_clang", "./c_clang"),
+    ("c_tcc", "native", "tcc", f"tcc {C} -o c_tcc", "./c_tcc"),
+    ("rust", "kernels", "rustc", f"{RUST} -o rust", "./rust"),
+    ("go", "native", "go", GO, "./go"),
+    ("java", "native", "javac", JAVA, "java -cp classes example.yervound.rapidhash.Formulas"),
+    ("java_direct", "native", "javac", "true", "java -cp classes example.yervound.rapidhash.Formulas direct"),
+]
+
+
+def build_definition():
+    """Builds the program that compares, with the definition in it."""
+    folder = ROOM / "definition"
+    folder.mkdir()
+    sources = {"rapidhash_portable": "form", "test_definitions": "forms walk hashes secrets"}
+    for crate, names in sources.items():
+        for name in names.split():
+            text = erase((TOP / "crates" / crate / "src" / f"{name}.rt").read_text())
+            (folder / f"{name}.rs").write_text(text.replace("rapidhash_portable::", "crate::"))
+    for name in ("util", "main"):
+        shutil.copy(FOLDER / f"{name}.rs", folder)
+    return shell("rustc -O --edition 2021 -A dead_code definition/main.rs -o compare", ROOM)
+
+
+def build_crate():
+    """Builds the Rust crate over random reads and a random product, which no constant function can call."""
+    folder = shutil.copytree(TOP / "packages" / "rust" / "src", ROOM / "crate")
+    for path in folder.rglob("*.rs"):
+        path.write_text(re.sub(r"\bconst fn\b", "fn", path.read_text()))
+    shutil.copy(FOLDER / "util.rs", folder / "proved")
+    return shell("rustc -O --edition 2021 --crate-type rlib --crate-name rapidhash --cap-lints allow"
+                 " --cfg 'feature=\"std\"' crate/lib.rs", ROOM)
+
+
+for build in (build_definition, build_crate):
+    status, output = build()
+    if status:
+        tell(build.__name__, output[-2000:])
+        finish()
+for name, kind, program, build, run in SUBJECTS:
+    if not shutil.which(program):
+        skip(name, f"no {program}")
+        continue
+    status, output = shell(f"{build} && ./compare {kind} {run}", ROOM)
+    tell(name, *[output[-2000:]] * (status != 0))
+    print("#", *output.splitlines()[-1:])
+finish()

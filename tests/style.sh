@@ -1,0 +1,74 @@
+#!/usr/bin/env bash
+# Refuses lines over 100 columns in source files, which the layout tool accepts. Also refuses contracts that name a
+# private field, which the checker accepts, although no caller can see the field. Checks the scripts with the linters of
+# their languages, and the newest commits.
+. "$(dirname "$0")/cases.sh"
+needs_the_toolchain
+cd "$top" || exit 1
+
+# Columns are characters. The layout tool keeps a `ghost use` on a single line, so its width has no limit.
+narrow() {
+  [ "$(LC_ALL=C.UTF-8 grep -cE '^.$' <<<λ)" = 1 ] && [ -n "$(git ls-files '*.rt')" ] &&
+    ! git ls-files -z '*.rt' | LC_ALL=C.UTF-8 xargs -0 grep -nHE '^.{101,}$' -- | grep -vE '^[^:]*:[0-9]+: *ghost use '
+}
+
+# Checks that a crate's contracts name no private field: the checker warns of each and counts them. It runs in a copy,
+# because rt check locks a crate and its dependencies. So crates with the same library could not be checked in parallel.
+hides_its_fields() {
+  local copy=$room/$1 status=1
+  mkdir "$copy" && cp crates.txt HANDLES "$copy" &&
+    cp -r --parents crates/*/src crates/*/specs crates/*/proofs crates/*/out/rlib "$copy" &&
+    (cd "$copy/crates/$1" && rt check --only '' --private-fields) >"$copy.log" 2>&1 &&
+    grep -q '^private fields: 0 found$' "$copy.log" && status=0
+  rm -rf "$copy"
+  [ "$status" -eq 0 ] || grep -E 'is a private field of|^private fields: ' "$copy.log" || tail -n 5 "$copy.log"
+  return "$status"
+}
+
+scripts_in() {
+  git grep -lE "^#!.*$1|^# shellcheck shell=$1" -- . ':!*.md'
+}
+
+lints_shell() {
+  scripts_in bash | xargs shellcheck --external-sources --source-path=SCRIPTDIR --severity=warning
+}
+
+lints_python() {
+  { scripts_in python && git ls-files '*.py'; } | sort -u | xargs pyflakes3
+}
+
+# Checks that the doc comment of each public function of the product begins with a verb, such as "Returns".
+begins_with_verbs() {
+  git ls-files -z 'crates/rapid*/src/*.rt' | xargs -0 awk '
+    /^ *\/\/\// { if (!word) word = $2; next }
+    / *pub .*fn / && word && word !~ /^[A-Z][a-z]+s$/ { print FILENAME ":" FNR ": " word; found = 1 }
+    !/^ *#\[/ { word = "" }
+    END { exit found }'
+}
+
+# Checks that each subject names an area and has at most 72 characters.
+has_short_subjects() {
+  ! git log -20 --no-merges --format=%s | grep -vE '^[A-Za-z0-9_/, .-]+: .+' &&
+    ! git log -20 --no-merges --format=%s | grep -E '.{73}'
+}
+
+try columns narrow
+try shell_scripts lints_shell
+try python_scripts lints_python
+try verbs begins_with_verbs
+try commits has_short_subjects
+# Proves the two large libraries, rapidhash_portable and rapidhash, so that no copy must prove them.
+(cd crates/rapidhash && rt lib >/dev/null 2>&1) || echo 'rapidhash is not built'
+# The library crates of the product.
+mapfile -t crates < <(git ls-files 'crates/rapidhash*/src/lib.rt' | cut -d / -f 2)
+# A file CRATE.ended exists only after the crate's check has ended.
+export room
+export -f hides_its_fields
+# shellcheck disable=SC2016
+printf '%s\0' "${crates[@]}" | xargs -0 -I CRATE -P "$(nproc)" bash -c \
+  'hides_its_fields "$1" >"$room/$1.found"; echo $? >"$room/$1.ended"' - CRATE
+for crate in "${crates[@]}"; do
+  try "private_fields_of_$crate" bash -c 'cat "$1.found" && exit "$(cat "$1.ended")"' - "$room/$crate"
+done
+
+finish
