@@ -64,7 +64,6 @@ mapfile -t crates < <(git ls-files 'crates/rapidhash*/src/lib.rt' | cut -d / -f 
 # A file CRATE.ended exists only after the crate's check has ended.
 export room
 export -f hides_its_fields
-# shellcheck disable=SC2016
 printf '%s\0' "${crates[@]}" | xargs -0 -I CRATE -P "$(nproc)" bash -c \
   'hides_its_fields "$1" >"$room/$1.found"; echo $? >"$room/$1.ended"' - CRATE
 for crate in "${crates[@]}"; do

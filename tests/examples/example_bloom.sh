@@ -1,5 +1,4 @@
 #!/usr/bin/env bash
-# shellcheck disable=SC2094 # A list that a program reads twice.
 # Runs crates/example_bloom as its users do, on valid and invalid input.
 . "$(dirname "$0")/room.sh"
 
@@ -37,7 +36,6 @@ exec </dev/null
 fault no_list_is_named 2 'missing LIST argument' "$program"
 fault no_list_after_a_rate 2 'missing LIST argument' "$program" --one-in 10
 for rate in 1 4294967296 many ''; do
-  # shellcheck disable=SC2086
   fault "a_rate_of_${rate:-nothing}" 2 '--one-in requires a number from 2 to 4294967295' "$program" --one-in $rate
 done
 fault unknown_option 2 "unknown option '--rate'" "$program" --rate 5 fruit

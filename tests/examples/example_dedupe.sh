@@ -37,7 +37,6 @@ answers long_files 'odd/copy\nodd/zeros\n\n' '' "$program" odd
 # Files in two file systems have the same inode number.
 if unshare -rm true 2>/dev/null; then
   mkdir one two
-  # shellcheck disable=SC2016
   unshare -rm bash -c 'mount -t tmpfs none one && mount -t tmpfs none two && echo same >one/file &&
     echo same >two/file && [ "$(stat -c %i one/file)" = "$(stat -c %i two/file)" ] && "$1" one two' - "$program" |
     cmp -s - <(printf 'one/file\ntwo/file\n\n')

@@ -1,5 +1,4 @@
 #!/usr/bin/env bash
-# shellcheck disable=SC2094 # A list that a program reads twice.
 # Runs crates/example_perfect as its users do, on valid and invalid input.
 . "$(dirname "$0")/room.sh"
 

@@ -18,7 +18,6 @@ prints() {
 
 # Does the same with the file wanted and standard input as printf formats: NAME WANTED INPUT COMMAND..
 answers() {
-  # shellcheck disable=SC2059
   printf "$2" >wanted && printf "$3" >input
   prints "$1" "${@:4}" <input
 }

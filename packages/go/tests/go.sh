@@ -1,5 +1,4 @@
 #!/usr/bin/env bash
-# shellcheck disable=SC2317 # The cases are called by their names.
 # Tests the Go package over all vectors, also under emulation on other machines, and by the commands on its page.
 . "$(dirname "$0")/../../../tests/cases.sh"
 export GOCACHE=$room/go GOPROXY=off

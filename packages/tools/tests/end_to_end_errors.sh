@@ -49,7 +49,6 @@ by_the_kit runs closed_output 1 '' "$write_fault" to_no_output "$tool" --v1 <som
 runs reader_gone 1 '' "$write_fault" to_a_closed_pipe "$tool" --v1 <something
 runs rest_of_a_short_write 0 "${known_by_v3:5}"$'\n' '' failing write:retval=5:when=1 out "$program" something
 # If standard error also refuses the text, the exit status still reports the failure.
-# shellcheck disable=SC2317
 to_a_full_error() { "$@" 2>/dev/full; }
 runs full_error 1 '' '' to_a_full_error "$tool" --v1 --v3
 

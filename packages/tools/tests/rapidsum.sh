@@ -1,5 +1,4 @@
 #!/usr/bin/env bash
-# shellcheck disable=SC2317 # The cases are called by their names.
 # Runs crates/rapidsum and sha256sum. In each case, both print the same lines except the hashes, print the same
 # messages except the program's name, and exit with the same status. Further cases test features that sha256sum does not
 # have.
@@ -198,7 +197,6 @@ if [ -n "${BUILT-}" ] && [ -x "$kit" ]; then try pairs_of_words as_by_the_kit; f
 # As SIGPIPE does in sha256sum.
 runs closed_pipe 141 '' '' to_a_closed_pipe "$program" first first
 for words in '--tag -c' '--tag --text' '--zero -c' '--binary -c' '--text -c' '-a v9' '--seed=-1' '--seed 1 --seed 2'; do
-  # shellcheck disable=SC2086
   says "refuses ${words// /_}" "for more information, try '--help'" "$program" $words first
 done
 says list_that_is_a_folder '.: Is a directory' "$program" -c .
