@@ -16,13 +16,6 @@ tests_pass() {
   grep -q '^test result: ok\. [1-9]' "$room/tests"
 }
 
-# Checks that the files that scripts/rust_crate writes are those that git marks as generated.
-marks_generated() {
-  grep -rl '^// Made by scripts/rust_crate' src tests tools/src | sort >"$room/made" && [ -s "$room/made" ] &&
-    find src tests tools/src -name '*.rs' | git check-attr --stdin linguist-generated |
-    sed -n 's/: linguist-generated: set$//p' | sort | diff "$room/made" -
-}
-
 # Builds the package, which must contain its licences and no tests.
 packages() {
   cargo package --allow-dirty && tar -tf "$CARGO_TARGET_DIR"/package/*.crate >"$room/list" &&
@@ -78,11 +71,10 @@ drops_in() {
 
 cd "$top/packages/rust" || exit 1
 try current "$top/scripts/rust_crate" --check
-try generated marks_generated
 try licences has_the_licences .
-try layout cargo fmt --check
+try_with layout cargo-fmt cargo fmt --check
 for features in --all-features --no-default-features; do
-  try "lints_${features#--}" cargo clippy --all-targets "$features" -- -D warnings
+  try_with "lints_${features#--}" cargo-clippy cargo clippy --all-targets "$features" -- -D warnings
   try "documentation_${features#--}" env RUSTDOCFLAGS='-D warnings' cargo doc --no-deps "$features"
   try "tests_${features#--}" tests_pass cargo test "$features" --tests
 done
@@ -90,8 +82,12 @@ try tests_in_release tests_pass cargo test --release --tests
 try core_alone needs_core_alone
 for manifest in Cargo.toml compat/Cargo.toml; do try "metadata_of_$manifest" has_the_metadata "$manifest"; done
 try examples tests_pass cargo test --doc
-try pedantic cargo clippy -- -D warnings -W clippy::pedantic
-if [ -d /usr/share/cargo/registry ]; then try drop_in drops_in; else skip drop_in 'no /usr/share/cargo/registry'; fi
+try_with pedantic cargo-clippy cargo clippy -- -D warnings -W clippy::pedantic
+if [ -d /usr/share/cargo/registry ] && [ "$(command -v rustc)" != /usr/bin/rustc ]; then
+  try drop_in drops_in
+else
+  skip drop_in "no /usr/share/cargo/registry, or no rustc but Debian's"
+fi
 try no_dependency bash -c '[ "$(cargo tree | wc -l)" -eq 1 ]'
 try no_unsafe grep -x '#!\[forbid(unsafe_code)\]' src/lib.rs
 try package packages

@@ -6,8 +6,8 @@ tools=$top/build/cargo/release
 
 cd "$top/packages/rust/tools" || exit 1
 prepare_by make -s -C "$top" kit= build/cargo/release/rapid{hash,sum}
-try layout cargo fmt --check
-try lints env CARGO_TARGET_DIR="$top/build/cargo" cargo clippy --release -- -D warnings
+try_with layout cargo-fmt cargo fmt --check
+try_with lints cargo-clippy env CARGO_TARGET_DIR="$top/build/cargo" cargo clippy --release -- -D warnings
 try no_unsafe bash -c '[ "$(grep -rlxF "#![forbid(unsafe_code)]" src | wc -l)" -eq 3 ]'
 export RAPIDHASH_TOOL=$tools/rapidhash BUILT=$tools/rapidsum
 for script in end_to_end end_to_end_errors rapidsum; do
