@@ -111,23 +111,16 @@ test:
 	@rt all test
 	@prove --exec "" packages/tools/tests tests/examples
 
-# The bench and the arguments for each file of figures. A bench that fails leaves the figures unchanged.
-bench: $(patsubst %,bench/%.tsv,slices speed rust c java files memory tool packages)
+# Each file of figures has a bench with its name, except as stated. A bench that fails leaves the figures unchanged.
+bench: $(patsubst %,bench/%.tsv,slices speed rust c java files memory tool packages size)
 	@bench/figures --write
 
 bench/slices.tsv: measured = slices default seeded
 bench/speed.tsv: measured = slices v3 plot
-bench/rust.tsv: measured = rust
-bench/c.tsv: measured = c
-bench/java.tsv: measured = java
-bench/files.tsv: measured = files
-bench/memory.tsv: measured = memory
-bench/tool.tsv: measured = tool
-bench/packages.tsv: measured = packages
 
 .PHONY: always
 bench/%.tsv: always
-	@mkdir -p build && bench/$(measured) >build/$*.tsv && mv build/$*.tsv $@
+	@mkdir -p build && bench/$(or $(measured),$*) >build/$*.tsv && mv build/$*.tsv $@
 
 # scripts/install reads the directories from variables, so that the shell interprets none of their characters.
 folders = PREFIX BINDIR LIBDIR INCLUDEDIR DATADIR DESTDIR

@@ -1,5 +1,5 @@
-//! Does the work of the programs of `bench/slices` with a crate: `FORM LENGTH PLACE NUMBER PASSES REPEATS [call]`. With
-//! the feature `seeded`, the secrets are the program's own.
+//! Does the work of the programs of `bench/slices` with a crate: `FORM LENGTH PLACE NUMBER PASSES REPEATS`. With the
+//! feature `seeded`, the secrets are the program's own.
 
 use rapidhash::rng::RapidRng;
 use rapidhash::{v1, v2, v3};
@@ -44,25 +44,11 @@ fn hash<const FORM: u8>(text: &[u8], secrets: &Secrets) -> u64 {
 }
 
 #[inline(never)]
-fn call<const FORM: u8, const PLACE: u64>(text: &[u8], secrets: &Secrets) -> u64 {
-    hash::<FORM>(text, secrets) ^ PLACE
-}
-
-#[inline(never)]
-fn hash_all<const FORM: u8, const CALL: bool, const PLACE: u64>(
-    list: &[&[u8]],
-    secrets: &Secrets,
-    passes: u64,
-    sum: u64,
-) -> u64 {
+fn hash_all<const FORM: u8, const PLACE: u64>(list: &[&[u8]], secrets: &Secrets, passes: u64, sum: u64) -> u64 {
     let mut sum = (0..PLACE).fold(sum, |sum, _| (sum ^ sum / 128).wrapping_mul(3));
     for _ in 0..passes {
         for text in list {
-            let hash = match CALL {
-                true => call::<FORM, PLACE>(text, secrets),
-                false => hash::<FORM>(text, secrets),
-            };
-            sum = (sum ^ hash).wrapping_mul(3);
+            sum = (sum ^ hash::<FORM>(text, secrets)).wrapping_mul(3);
         }
     }
     sum
@@ -74,35 +60,27 @@ struct Row<'x> {
     secrets: Secrets,
     passes: u64,
     place: u64,
-    is_call: bool,
 }
 
 impl Row<'_> {
     fn work(&self, form: &str, sum: u64) -> u64 {
         match form {
-            "v1" => self.by_form::<V1>(sum),
-            "v2.0" => self.by_form::<V2_0>(sum),
-            "v2.1" => self.by_form::<V2_1>(sum),
-            "v2.2" => self.by_form::<V2_2>(sum),
-            "v3" => self.by_form::<V3>(sum),
-            "micro" => self.by_form::<MICRO>(sum),
-            "nano" => self.by_form::<NANO>(sum),
+            "v1" => self.at_place::<V1>(sum),
+            "v2.0" => self.at_place::<V2_0>(sum),
+            "v2.1" => self.at_place::<V2_1>(sum),
+            "v2.2" => self.at_place::<V2_2>(sum),
+            "v3" => self.at_place::<V3>(sum),
+            "micro" => self.at_place::<MICRO>(sum),
+            "nano" => self.at_place::<NANO>(sum),
             _ => panic!("no form {form}"),
         }
     }
 
-    fn by_form<const FORM: u8>(&self, sum: u64) -> u64 {
-        match self.is_call {
-            true => self.at_place::<FORM, true>(sum),
-            false => self.at_place::<FORM, false>(sum),
-        }
-    }
-
-    fn at_place<const FORM: u8, const CALL: bool>(&self, sum: u64) -> u64 {
+    fn at_place<const FORM: u8>(&self, sum: u64) -> u64 {
         let (list, secrets, passes) = (&self.list, &self.secrets, self.passes);
         macro_rules! at_place {
             ($($place:literal)*) => { match self.place {
-                $($place => hash_all::<FORM, CALL, $place>(list, secrets, passes, sum),)*
+                $($place => hash_all::<FORM, $place>(list, secrets, passes, sum),)*
                 place => panic!("no place {place}"),
             } };
         }
@@ -136,7 +114,6 @@ fn main() {
         secrets,
         passes: words[4].parse().unwrap(),
         place: words[2].parse().unwrap(),
-        is_call: words.len() > 6,
     };
     let mut least = u128::MAX;
     for _ in 0..words[5].parse::<u64>().unwrap() {

@@ -1,5 +1,5 @@
 /* Does the work of the programs of bench/slices with XXH3's 64 bits: xxh3_slices FORM LENGTH PLACE NUMBER PASSES
- * REPEATS [call]. The form is ignored. Texts, places, loop, and sum are those of slices.rs. */
+ * REPEATS. The form is ignored. Texts, places, loop, and sum are those of slices.rs. */
 #define _POSIX_C_SOURCE 200809L
 #define XXH_INLINE_ALL
 #include <inttypes.h>
@@ -24,7 +24,6 @@ struct row {
     const struct text *list;
     size_t count;
     uint64_t passes;
-    int is_call;
 };
 
 /* Returns the next word of the generator from which the other programs draw their bytes. */
@@ -40,33 +39,24 @@ static uint64_t added(uint64_t sum, uint64_t hash)
     return (sum ^ hash) * 3;
 }
 
-/* Loops over the texts. The loop is compiled again for each function that it receives. */
-static inline __attribute__((always_inline)) uint64_t fold(
-    struct row row, uint64_t sum, uint64_t (*hash)(struct text))
+/* Loops over the texts. */
+static inline __attribute__((always_inline)) uint64_t fold(struct row row, uint64_t sum)
 {
     for (uint64_t pass = 0; pass < row.passes; pass++) {
         for (size_t at = 0; at < row.count; at++) {
-            sum = added(sum, hash(row.list[at]));
+            sum = added(sum, XXH3_64bits(row.list[at].bytes, row.list[at].length));
         }
     }
     return sum;
 }
 
-static inline __attribute__((always_inline)) uint64_t xxh3(struct text text)
-{
-    return XXH3_64bits(text.bytes, text.length);
-}
-
 /* The loop, once per place, after as many steps as the number of the place. */
 #define AT_PLACE(place)                                                                       \
-    static __attribute__((noinline)) uint64_t call_##place(struct text text) {                \
-        return xxh3(text) ^ (place);                                                          \
-    }                                                                                         \
     static __attribute__((noinline)) uint64_t hash_all_##place(struct row row, uint64_t sum) { \
         for (int step = 0; step < (place); step++) {                                          \
             sum = added(sum, sum / 128);                                                      \
         }                                                                                     \
-        return row.is_call ? fold(row, sum, call_##place) : fold(row, sum, xxh3);             \
+        return fold(row, sum);                                                                \
     }
 
 AT_PLACE(0) AT_PLACE(1) AT_PLACE(2) AT_PLACE(3)
@@ -100,14 +90,10 @@ static uint64_t nanoseconds(void)
     return (uint64_t)now.tv_sec * 1000000000 + (uint64_t)now.tv_nsec;
 }
 
-int main(int count, char **words)
+int main(int count __attribute__((unused)), char **words)
 {
     static uint8_t bytes[BYTES];
     static struct text list[MIXED_TEXTS];
-    if (count < 7 || words[3][0] < '0' || words[3][0] > '7') {
-        fprintf(stderr, "xxh3_slices FORM LENGTH PLACE NUMBER PASSES REPEATS [call]\n");
-        return 2;
-    }
     uint64_t sum = strtoull(words[4], NULL, 10), state = sum;
     /* The other programs draw their secrets here. */
     next_word(&state);
@@ -115,7 +101,7 @@ int main(int count, char **words)
     for (size_t at = 0; at < BYTES; at++) {
         bytes[at] = (uint8_t)next_word(&state);
     }
-    struct row row = {list, texts(list, bytes, words[2], &state), strtoull(words[5], NULL, 10), count > 7};
+    struct row row = {list, texts(list, bytes, words[2], &state), strtoull(words[5], NULL, 10)};
     uint64_t least = UINT64_MAX;
     for (uint64_t repeat = strtoull(words[6], NULL, 10); repeat > 0; repeat--) {
         uint64_t start = nanoseconds();

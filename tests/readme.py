@@ -1,7 +1,7 @@
 #!/usr/bin/env python3
-"""Runs each command of README.md's shell blocks, and the program of docs/RATTLE.md in a new repository with a copy of
-the library. The numbers in docs/PROVED.md are those that the checker prints. The values are those of the Rust crate.
-With the arguments --repository FOLDER, it only writes that repository, for tests/vendor.sh."""
+"""Runs each command of the shell blocks of README.md and docs/COMMANDS.md, and the program of docs/RATTLE.md in a new
+repository with a copy of the library. The numbers in docs/PROVED.md are those that the checker prints. The values are
+those of the Rust crate. With the arguments --repository FOLDER, it only writes that repository, for tests/vendor.sh."""
 
 import os
 import re
@@ -12,7 +12,7 @@ from pathlib import Path
 from cases import ROOM, TOP, blocks, compare, finish, needs_the_toolchain, shell, tell
 
 # Commands that other tests run: the gate itself, and packages/tools/tests/install.sh.
-ELSEWHERE = ('make && make install PREFIX="$HOME/.local"', "make check",
+ELSEWHERE = ('make && make install PREFIX="$HOME/.local"', 'make uninstall PREFIX="$HOME/.local"', "make check",
              'lib="$HOME/.local/lib" && export PKG_CONFIG_PATH="$lib/pkgconfig"',
              'cc hello.c $(pkg-config --cflags --libs rapidhash_c) -Wl,-rpath,"$lib" && ./a.out')
 
@@ -24,20 +24,20 @@ TUTORIAL = "3327445792987248966\n3327445792987248966 3327445792987248966\n148608
 
 
 def run_shell_blocks():
-    """Runs each command in its directory and compares its output with the values in README.md."""
+    """Runs each command in its directory and compares its output with the value on the page."""
     (ROOM / "files").mkdir()
-    for name in ("Makefile", "README.md"):
-        shutil.copy(TOP / name, ROOM / "files")
+    for name in ("Makefile", "README.md", "a.tar", "b.tar", "first.iso", "old.db"):
+        shutil.copy(TOP / ("README.md" if name == "README.md" else "Makefile"), ROOM / "files" / name)
     programs = ROOM / "bin"
     programs.mkdir()
     shell("make -s tool sums")
     for crate, name in (("rapidhash_cli", "rapidhash"), ("rapidsum", "rapidsum")):
         os.symlink(TOP / "crates" / crate / "out" / crate, programs / name)
-    for line in "".join(blocks("README.md", "sh")).splitlines():
+    for line in "".join(blocks("README.md", "sh") + blocks("docs/COMMANDS.md", "sh")).splitlines():
         command, _, comment = line.partition(" #")
         command, said = command.strip(), re.search(r"prints (\d+)", comment)
         if command not in ELSEWHERE:
-            is_program = command.startswith(("rapidhash ", "rapidsum "))
+            is_program = re.search(r"(?<![/\w])rapid(hash|sum)\b", command) is not None
             status, printed = shell(command, ROOM / "files" if is_program else TOP,
                                     PATH=f"{programs}:" * is_program + os.environ["PATH"])
             tell(command, *[printed[-600:]] * (status != 0 or said is not None and printed.strip() != said[1]))

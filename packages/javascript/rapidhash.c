@@ -4,7 +4,7 @@
 
 #define EXPORT(name) __attribute__((export_name(#name), noinline))
 
-/* library.mjs relies on this size, on the place of the secrets, and on the version. */
+/* library.mjs relies on this size, on the offset of the secrets, and on the version. */
 _Static_assert(sizeof(struct rapidhash_stream) == 208 && offsetof(struct rapidhash_stream, secrets) == 0, "layout");
 
 /* The fields of a stream that its saved state must keep within bounds. */

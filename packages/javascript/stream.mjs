@@ -2,14 +2,14 @@
 import { bytesOf, choose, isHex, part, piecesOf, sizeOf } from "./arguments.mjs";
 import { isLong, messageOf, piece, stateSize } from "./library.mjs";
 
-/** The places of fields in a state: the secrets come first, then the stream of the C header. */
+/** The offsets of the fields in a state: the secrets come first, then the stream of the C header. */
 const [atPointer, atAny, atLength, atLanes] = [64, 64 + 64, 64 + 196, 64 + 200];
 /** A saved state: the name and version of its format, the lanes, the state, and the hash of all that. */
 const format = [0x79, 0x72, 0x68, 1];
 const head = 8;
 const savedSize = head + stateSize + 8;
 
-/** Hashes a message in pieces. The state is in the memory until another stream needs the place. */
+/** Hashes a message in pieces. The state stays in the memory until another stream needs the space. */
 export class Stream {
   #library;
   #lanes;

@@ -1,7 +1,7 @@
 /* The hashes of many messages in one call, written to an array of unsigned 64-bit integers. */
 #include "extension.h"
 
-/* Where the hashes go, and the secrets of all messages. `own` has the secrets of a seed. */
+/* The buffer of the hashes, and the secrets of all messages. `own` has the secrets of a seed. */
 struct column {
     uint64_t (*hash)(const void *bytes, size_t len, const void *secrets);
     const void *secrets;
@@ -64,7 +64,7 @@ static int open_column(PyObject *module, PyObject *const *args, size_t count, st
     return 0;
 }
 
-/* Writes the hash of a message to the place `at`, which need not be aligned. */
+/* Writes the hash of a message to `at`, which need not be aligned. */
 static void put(const struct column *column, Py_ssize_t at, const void *bytes, size_t len)
 {
     const uint64_t hash = column->hash(bytes, len, column->secrets);
@@ -102,7 +102,7 @@ static PyObject *item_of(PyObject *items, int is_list, Py_ssize_t at)
 #endif
 }
 
-/* Hashes an item into its place. Returns 0, or -1 with an error set. */
+/* Hashes an item into its element. Returns 0, or -1 with an error set. */
 static int hash_item(const struct column *column, Py_ssize_t at, PyObject *item)
 {
     struct message message;

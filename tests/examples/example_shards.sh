@@ -12,6 +12,8 @@ cut -f1 three | sort | uniq -c | awk '{ count[$2] = $1 }
   END { print "red\t" count["red"]; print "green\t" count["green"]; print "blue\t" count["blue"] }' >wanted
 prints counts_are_those_of_the_lines "$program" --counts red green blue <lines
 
+try page env PATH="$room:$PATH" bash -e <(blocks "$top/docs/EXAMPLES.md" sh "$name")
+
 # If green is removed, the lines of the other nodes stay. If green is added, lines move only to it.
 "$program" red green blue --without green <lines >two
 ! diff three two | grep '^<' | grep -vq '^< green'

@@ -6,7 +6,7 @@
  * byte order. Its names do not clash with those of the C++ library's rapidhash.h. For C++ there is also rapidhash.hpp.
  *
  * Linking. A program that defines RAPIDHASH_LINK before it includes the header gets declarations only. It links
- * with -lrapidhash_c (pkg-config: rapidhash_c), which on x86-64 Linux can be the formally verified library.
+ * with -lrapidhash_c (pkg-config: rapidhash_c), which on x86-64-v2 Linux can be the formally verified library.
  *
  * Values. A hash is the same on every run and every machine, and will not change in any later version. To store one,
  * write its canonical bytes: rapidhash_to_canonical.
@@ -203,7 +203,7 @@ static inline uint64_t rapidhash_from_canonical(const unsigned char *bytes)
 #define RAPIDHASH_C_LITTLE(bits, word) __builtin_bswap##bits(word)
 #endif
 
-/* Returns the little-endian number of 4 bytes. A compiler that does not tell its byte order composes it. */
+/* Returns the little-endian number of 4 bytes. A compiler that does not define its byte order composes it. */
 RAPIDHASH_FOLD uint64_t rapidhash_load4_(const uint8_t *p)
 {
 #ifdef RAPIDHASH_C_LITTLE
@@ -293,7 +293,7 @@ RAPIDHASH_FOLD void rapidhash_row_(
 #undef RAPIDHASH_C_LANE
 }
 
-/* Folds all rows that at least `least` bytes follow. Returns the place after them and sets `n` to what is left. */
+/* Folds all rows that at least `least` bytes follow. Returns the position after them; `n` becomes the rest's length. */
 RAPIDHASH_FOLD const uint8_t *rapidhash_rows_(
     int lanes, size_t least, bool guard, uint64_t *lane, const uint8_t *p, size_t *n, const uint64_t *s)
 {

@@ -24,6 +24,14 @@ lay_out() {
     seq 1 20000000 | head -c 100000000 >"$room/first/large"
 }
 
+# Runs the page's program over a file. A comment that begins with a hash is its wanted value.
+runs_the_page() {
+  cd "$room/first" && { echo 'import { equal } from "node:assert"; const file = new Blob(["hello"]);' &&
+    blocks "$top/packages/javascript/README.md" js loadSync; } |
+    sed -E 's,^([a-z].*\)); *// ([0-9]+n|"[0-9a-f]+").*,equal(\1\, \2);,' >page.mjs &&
+    [ "$(grep -c '^equal' page.mjs)" = 3 ] && node page.mjs
+}
+
 runs_in_node() {
   cd "$room/first" && node --test "$1.mjs"
 }
@@ -78,6 +86,7 @@ done
 try install works_as_its_page_says "$top/packages/javascript/README.md"
 try files has_its_files
 try lay_out lay_out
+try page runs_the_page
 for name in known refused vectors node; do
   try "node_$name" runs_in_node "$name"
 done

@@ -10,7 +10,11 @@ export PIP_NO_INDEX=1 PIP_DISABLE_PIP_VERSION_CHECK=1 CFLAGS='-Wall -Wextra -Wer
 
 # Runs the commands on the package's page in a fresh environment.
 installs_as_the_page_says() {
-  "$python" -m venv "$room/fresh" && PATH=$room/fresh/bin:$PATH works_as_its_page_says "$top/packages/python/README.md"
+  local page=$top/packages/python/README.md
+  "$python" -m venv "$room/fresh" && PATH=$room/fresh/bin:$PATH works_as_its_page_says "$page" &&
+    echo hello >data.bin && blocks "$page" python import | sed -E '1s/^/from array import array; /
+      s/^(rapidhash.*\)) +# ([0-9]{16,}|".*"|array.*)/assert \1 == \2/' >page.py &&
+    [ "$(grep -c '^assert' page.py)" = 3 ] && "$room/fresh/bin/python" page.py
 }
 
 # Checks that the wheel has its files, the licences of the repository, and no other files.

@@ -23,13 +23,14 @@ packages() {
     grep -q '/NOTICE$' "$room/list" && ! grep -q '/tests/' "$room/list"
 }
 
-# Runs the first program of the README in a new project that contains nothing else: COMMAND..
+# Runs the first program of the README in a new project, with the dependency that a page names: PAGE COMMAND..
 readme_runs() {
-  local project=$room/project
+  local project=$room/project page=$1
+  shift
   rm -rf "$project" && mkdir -p "$project/src" &&
     awk '/^```rust$/ { on = 1; next } /^```$/ { if (on) exit } on' README.md >"$project/src/main.rs" &&
-    printf '[package]\nname = "first"\nversion = "0.0.0"\nedition = "2021"\n\n[dependencies]\n%s\n' \
-      "yervound-rapidhash = { path = \"$top/packages/rust\" }" >"$project/Cargo.toml" &&
+    printf '[package]\nname = "first"\nversion = "0.0.0"\nedition = "2021"\n' >"$project/Cargo.toml" &&
+    blocks "$page" toml dependencies | sed "s|/path/to/yervound|$top|" >>"$project/Cargo.toml" &&
     (cd "$project" && "$@" run --quiet) >"$room/printed" && [ "$(cat "$room/printed")" = 3327445792987248966 ]
 }
 
@@ -64,7 +65,7 @@ drops_in() {
       'rand_core = { version = "0.6", default-features = false }' \
       'hashbrown = { version = "0.12", default-features = false, features = ["raw"] }' 'indexmap = "1"' \
       '[[test]]' 'name = "drop_in"' "path = \"$top/packages/rust/compat/tests/drop_in.rs\"" \
-      '[patch.crates-io]' "rapidhash = { path = \"$top/packages/rust/compat\" }" >"$project/Cargo.toml" &&
+      "$(blocks compat/README.md toml patch | sed "s|/path/to/yervound|$top|")" >"$project/Cargo.toml" &&
     (cd "$project" && tests_pass cargo test --test drop_in)
 }
 
@@ -90,12 +91,13 @@ fi
 try no_dependency bash -c '[ "$(cargo tree | wc -l)" -eq 1 ]'
 try no_unsafe grep -x '#!\[forbid(unsafe_code)\]' src/lib.rs
 try package packages
-try readme readme_runs cargo
+try readme readme_runs README.md cargo
+try readme_of_the_repository readme_runs "$top/README.md" cargo
 if [ -x /usr/bin/rustc ] && [ -x /usr/bin/cargo ]; then
   try oldest_compiler tests_pass debian test --tests
   try oldest_compiler_without_std tests_pass debian test --tests --no-default-features
   try examples_by_the_oldest_compiler tests_pass debian test --doc
-  try readme_by_the_oldest_compiler readme_runs debian
+  try readme_by_the_oldest_compiler readme_runs README.md debian
 else
   skip oldest_compiler 'no /usr/bin/rustc and /usr/bin/cargo'
 fi

@@ -1,6 +1,6 @@
 //go:build formulas
 
-// Command formulas computes hashes with random functions in place of the loads and the product, for the comparison with
+// Command formulas computes hashes with random functions instead of the loads and the product, for the comparison with
 // the definition. It reads 32,768 bytes that hold every message, and then records of 20 little-endian words:
 //
 //	form, options, key, seed, seven secrets, offset, length, streamed, four cuts, two unused words

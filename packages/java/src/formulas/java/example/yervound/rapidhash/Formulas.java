@@ -9,7 +9,7 @@ import java.nio.ByteBuffer;
 import java.nio.ByteOrder;
 
 /**
- * Computes hashes with random functions in place of the loads and the product, for the comparison with the definition.
+ * Computes hashes with random functions instead of the loads and the product, for the comparison with the definition.
  *
  * <p>Reads 32,768 bytes that hold every message, and then records of 20 little-endian words: form, options, key, seed,
  * seven secrets, offset, length, streamed, four cuts, and two unused words. Writes the hash for each record, as a

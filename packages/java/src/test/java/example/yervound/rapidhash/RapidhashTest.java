@@ -17,7 +17,7 @@ import org.junit.Test;
 public class RapidhashTest {
     private static final byte[] HELLO = "hello".getBytes(StandardCharsets.UTF_8);
 
-    /** The four lines are those of README.md. */
+    /** The calls are those of README.md. */
     @Test
     public void readme() {
         assertEquals("3327445792987248966", Rapidhash.toDecimal(Rapidhash.V3.hash(HELLO, 0L)));
