@@ -44,7 +44,7 @@ leaves_nothing() {
   (cd "$room/source" && find . | sort) | diff "$room/listed" -
 }
 
-# Installs from the directory, as pip install ./bindings/python does, with Debian's setuptools.
+# Installs from the directory, as pip install ./packages/python does, with Debian's setuptools.
 installs_from_source() {
   "$python" -m venv --system-site-packages "$room/compiled" &&
     "$room/compiled/bin/pip" install --no-build-isolation "$room/source/packages/python" && leaves_nothing &&
