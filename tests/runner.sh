@@ -42,6 +42,12 @@ gate_ends() {
   [ "$?:$(tail -n 1 "$room/said")" = "$(($2 > 0)):$1 passed, $2 failed" ]
 }
 
+# Changes a file in a copy of the repository: tests/pages.py must refuse this case: CASE FILE SED-COMMAND
+pages_refuse() (
+  rm -rf "$room/copy" && git clone -q -s "$top" "$room/copy" && cd "$room/copy" && sed -i "$3" "$2" &&
+    ! tests/pages.py >"$room/said" && grep -x "not ok - $1" "$room/said"
+)
+
 start='. "$(dirname "$0")/cases.sh"; cd "$room"; echo >a'
 try a_failing_case ends 1 $'ok - a\nnot ok - b\n1..2' "$start; try a true; try b sh -c 'echo why; exit 1'; finish"
 try a_skipped_case ends 0 $'ok - a\nok - b # SKIP no nothing\n1..2' "$start; try a true; try_with b nothing true; finish"
@@ -73,6 +79,19 @@ try a_gate_with_a_skipped_script gate_ends 4 1 'echo "1..0 # SKIP no go"'
 for file in .ci/setup bin/{make,rt} packages/one/tests/one.sh; do
   try "a_gate_in_which $file fails" gate_ends 6 1 'printf "ok - a\nok - b\n1..2\n"' "$file"
 done
+while read -r case file edit; do try "pages_refuse $case" pages_refuse "$case" "$file" "$edit"; done <<'EDITS'
+links README.md s|(docs/PROVED.md|(docs/PROVEN.md|
+paths CONTRIBUTING.md s|`tests/style.sh`|`tests/stile.sh`|
+limits docs/LAWS.md 3s|.*|& & &|
+names docs/PROVED.md s|`test_replay`|`test_reply`|g
+vectors crates/test_replay/data/README.md s|`v3.tsv`|`v5.tsv`|
+statements docs/PROVED.md s|= value form|= value from|
+clauses docs/api/v3.md 0,/^Proved:.*≡/s|≡|≤|
+pictures docs/images/lanes.svg s|prefers-color-scheme: dark|prefers-color-scheme: light|
+calls docs/api/v3.md $a one more
+version packages/c/rapidhash_c.3 s|Yervound 1.0|Yervound 1.1|
+figures README.md s|<!-- means -->|<!-- means -->9 |
+EDITS
 
 echo "1..$cases"
 exit "$failed"
