@@ -6,10 +6,10 @@ import datetime
 import math
 import os
 import re
-import statistics
 import subprocess
 import sys
 from pathlib import Path
+from statistics import geometric_mean, median_low
 
 TOP = Path(__file__).resolve().parent.parent
 ROOM = TOP / "build" / "bench"
@@ -134,7 +134,7 @@ class Processors:
         """Returns the time of the fixed loop on a processor now. This program and its children stay there."""
         os.sched_setaffinity(0, {number})
         turns = subprocess.run([self.program], stdout=subprocess.PIPE, check=True).stdout.split()
-        return statistics.median_low(map(int, turns))
+        return median_low(map(int, turns))
 
     def measure(self, work, *words):
         """Returns the result of work(*words) on a processor that was quiet before and after it. If none was quiet in
@@ -171,14 +171,9 @@ def measure(title, unit, rows, work, turns):
     print_table(unit, best)
 
 
-def ratio(times, theirs="crate", ours="ours"):
-    """Returns the ratio of their time to ours."""
-    return times[theirs] / times[ours]
-
-
 def mean_ratio(rows, ours="ours"):
     """Returns the geometric mean of the crate's ratios."""
-    return math.exp(sum(math.log(ratio(times, ours=ours)) for times in rows) / len(rows))
+    return geometric_mean(times["crate"] / times[ours] for times in rows)
 
 
 def print_table(unit, best):
@@ -208,12 +203,6 @@ def alternate(programs, words, turns):
     return best
 
 
-def mean(numbers):
-    """Returns the geometric mean."""
-    logarithms = [math.log(number) for number in numbers]
-    return math.exp(sum(logarithms) / len(logarithms))
-
-
 def print_rows(title, best, ours, others):
     """Prints the rows of alternate: for each length the mean over its loops, and per group the mean of the ratios."""
     print_heading(title)
@@ -225,12 +214,13 @@ def print_rows(title, best, ours, others):
             loops.setdefault(length, []).append(times)
         for length, all_times in loops.items():
             cells = [[times[it] for times in all_times if it in times] for it in (ours, *others)]
-            print(f"{group} {length}, {build}", "ns", *(f"{mean(cell):.2f}" if cell else "" for cell in cells), sep="\t")
+            means = [f"{geometric_mean(cell):.2f}" if cell else "" for cell in cells]
+            print(f"{group} {length}, {build}", "ns", *means, sep="\t")
     for (build, group), rows in sorted(best.items()):
         for other in others:
             ratios = [times[other] / times[ours] for times in rows.values() if other in times]
             if ratios:
-                print(f"# {group}, {build}: mean of {other}/{ours} {mean(ratios):.3f}")
+                print(f"# {group}, {build}: mean of {other}/{ours} {geometric_mean(ratios):.3f}")
 
 
 def read_figures(name):
