@@ -83,7 +83,7 @@ while read -r case file edit; do try "pages_refuse $case" pages_refuse "$case" "
 links README.md s|(docs/PROVED.md|(docs/PROVEN.md|
 paths CONTRIBUTING.md s|`tests/style.sh`|`tests/stile.sh`|
 limits docs/LAWS.md 3s|.*|& & &|
-names docs/PROVED.md s|`test_replay`|`test_reply`|g
+names docs/PROVED.md s|`test_\(replay\)`|`best_\1`|g
 vectors crates/test_replay/data/README.md s|`v3.tsv`|`v5.tsv`|
 statements docs/PROVED.md s|= value form|= value from|
 clauses docs/api/v3.md 0,/^Proved:.*≡/s|≡|≤|
