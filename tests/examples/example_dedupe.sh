@@ -71,10 +71,12 @@ touch odd/$'bad\xff'
   [ "$(cat "$room/log")" = 'example_dedupe: odd: contains a file name that is not valid UTF-8' ]
 tell a_name_below_that_is_not_utf_8 $?
 rm odd/$'bad\xff'
-# The first and the last read of a file that is hashed, and of two that are compared.
+# The first and the last read of a file that is hashed, and of two that are compared. The error of a comparison is
+# reported for the later file, which then has no group.
 for read in 'other 1' 'other 6' 'copy 7' 'copy 10'; do
+  name=${read/copy/zeros}
   failing "read:error=EIO:when=${read#* }" "odd/${read% *}" "$program" odd >out 2>"$room/log"
-  [ $? -eq 1 ] && grep -qxF "example_dedupe: odd/${read% *}: Input/output error (os error 5)" "$room/log" &&
+  [ $? -eq 1 ] && grep -qxF "example_dedupe: odd/${name% *}: Input/output error (os error 5)" "$room/log" &&
     if [[ $read = copy* ]]; then [ ! -s out ]; else cmp out wanted; fi
   tell "failed_read_of_$read" $?
 done

@@ -1,5 +1,5 @@
-//! The hashes for C and for languages that call C: `packages/c/include/rapidhash_c.h` declares them. Each
-//! export calls the library's function and restates its clause.
+//! The hashes for C and for languages that call C: `packages/c/include/rapidhash_c.h` declares
+//! them. Each export calls the library's function and restates its clause.
 #![tactic(auto)]
 
 ghost use Rattle.std.specs.Prelude.{◌≡◌};

@@ -101,8 +101,8 @@ pub const fn rapidhash_v3_micro_inline<const AVALANCHE: bool, const PROTECTED: b
 }
 
 const_fn! {
-/// Returns the hash of `bytes` with three lanes, with less code than V3 and micro. Up to 48 bytes it
-/// equals V3's. The options are those of [`rapidhash_v3_inline`].
+/// Returns the hash of `bytes` with three lanes, with less code than V3 and micro. Up to 48 bytes
+/// it equals V3's. The options are those of [`rapidhash_v3_inline`].
 ///
 /// ```
 /// use rapidhash::v3::{DEFAULT_RAPID_SECRETS, rapidhash_v3_nano_inline};
