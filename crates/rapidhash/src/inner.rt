@@ -9,7 +9,7 @@
 //! - `AVALANCHE` mixes each write of bytes and the hash once more.
 //! - `SPONGE` collects integers and mixes 128 bits at once, instead of one multiply for each.
 //! - `COMPACT` folds one row per iteration instead of two: less code, the same values.
-//! - `PROTECTED` mixes each product with its factors.
+//! - With `PROTECTED`, a key cannot cancel earlier input by containing a secret.
 //!
 //! The values are those of the definition in `specs/Hasher.antt`. The Rust crate may change its own
 //! in-memory values between versions: for hashes that programs of both share over time, use the

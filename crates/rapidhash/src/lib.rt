@@ -1,7 +1,7 @@
 //! The library rapidhash under the names of the Rust crate.
 //!
 //! - [`v1`], [`v2`], [`v3`]: the portable hashes, whose values never change.
-//! - [`reader`]: the reader with a mark that the hashes of a reader take.
+//! - [`reader`]: the reader with an error flag that the hashes of a reader need.
 //! - [`RapidHashMap`] and [`RapidHashSet`]: maps and sets over the fast hasher.
 //! - [`ByteKey`]: a key of bytes, which they hash in one write.
 //! - [`fast`], [`quality`]: the hasher and the states of maps, without and with an avalanche.

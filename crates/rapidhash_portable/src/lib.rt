@@ -2,7 +2,7 @@
 //! its own 16-byte pairs alone (`specs/Hash.antt`).
 //!
 //! - [`v1`] and [`v2`] hold the hashes of a slice and of a reader, [`v3`] those of pieces too.
-//! - [`reader`] holds the reader with a mark that the hashes of a reader take.
+//! - [`reader`] holds the reader with an error flag that the hashes of a reader need.
 //! - [`seeding`] makes secrets and seeds from random words.
 //! - [`util`] holds the reads and the multiply that all of it uses.
 //! - [`form`] holds the types that the definition uses.

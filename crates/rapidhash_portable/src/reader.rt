@@ -94,7 +94,7 @@ impl<R: Read> Source<R> {
         self.reader
     }
 
-    /// Lends the reader to a hash that returns a [`Stop`], which [`Source::settle`] takes.
+    /// Lends the reader to a hash that returns a [`Stop`], which [`Source::settle`] needs.
     pub(crate) fn reader_mut(&mut self) -> &mut R
         ensures value { result.now ≡ reader_of self.old }
         ensures* writes_back { sem 𝓛 (follows (the_row R.row) R.row self.entry.ghost_name

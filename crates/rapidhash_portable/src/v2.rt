@@ -14,7 +14,7 @@ pub use readers::{
     rapidhash_v2_2_file, rapidhash_v2_2_file_seeded, rapidhash_v2_file_inline, rapidhash_v2_source,
 };
 
-/// Returns the hash of `bytes` by V2.2 with the default seed and secrets.
+/// Returns the V2.2 hash of `bytes` with the default seed and secrets.
 ///
 /// ```
 /// use rapidhash::v2::rapidhash_v2_2;
@@ -29,7 +29,7 @@ pub fn rapidhash_v2_2(bytes: &[u8]) -> u64
     rapidhash_v2_inline::<2, MIXED, UNROLLED, PLAIN>(bytes, RapidSecrets::default_ref())
 }
 
-/// Returns the hash of `bytes` by V2.2 with the caller's seed and secrets.
+/// Returns the V2.2 hash of `bytes` with the caller's seed and secrets.
 ///
 /// ```
 /// use rapidhash::v2::{RapidSecrets, rapidhash_v2_2_seeded};
@@ -50,8 +50,8 @@ pub fn rapidhash_v2_2_seeded(bytes: &[u8], secrets: &RapidSecrets) -> u64
 /// - `AVALANCHE` mixes the last product once more. Without it the values are not those of the C++
 ///   library: leave it out only if what uses the hash mixes by itself.
 /// - `COMPACT` folds one row at a time instead of two: less code, the same value.
-/// - `PROTECTED` mixes each product with its factors, so that bytes which equal a secret cannot
-///   erase what came before them. The value is another, and the call is slower.
+/// - With `PROTECTED`, a message cannot cancel its earlier bytes by containing a secret. The hashes
+///   differ from those without it, and hashing is slower.
 ///
 /// ```
 /// use rapidhash::v2::{DEFAULT_RAPID_SECRETS, rapidhash_v2_inline};

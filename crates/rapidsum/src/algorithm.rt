@@ -34,7 +34,7 @@ pub enum Version {
     V3Nano,
 }
 
-/// A version, and the word that its seed is made of instead of the default one.
+/// A version, and the word from which its seed is derived instead of the default word.
 #[derive(Clone, Copy)]
 pub struct Algorithm {
     pub version: Version,

@@ -1,4 +1,4 @@
-//! Whether files still have the hashes that a list says.
+//! Whether files still have the hashes in a list.
 
 ghost use Rattle.std.specs.Prelude.{◌≡◌, IfOk};
 ghost use Rattle.std.specs.List.{list_all};

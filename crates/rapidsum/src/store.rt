@@ -1,4 +1,4 @@
-//! Where files come from, and the hash of one.
+//! Where files come from, and the hash of a file.
 
 ghost use Rattle.std.specs.Prelude.{◌≡◌, ℕ, List, Option, IfOk, IfSome};
 ghost use Rattle.rapidsum.specs.Algorithm.{hash_of};

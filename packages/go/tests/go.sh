@@ -4,6 +4,11 @@
 export GOCACHE=$room/go GOPROXY=off
 export RAPIDHASH_VECTORS=$room/rapidhash_vectors.tsv RAPIDHASH_SECRETS=$top/crates/test_replay/data/secrets.tsv
 
+# Checks that an example, which go test runs, has each line of the page.
+runs_the_page() {
+  blocks README.md go rapidhash | sed 's/^/\t/' >"$room/lines" && [ -s "$room/lines" ] && ! grep -vxFf example_test.go "$room/lines"
+}
+
 command -v go >/dev/null || skip_all 'no go'
 cd "$top/packages/go" && python3 "$top/scripts/vectors.py" "$top/crates/test_replay/data" >"$RAPIDHASH_VECTORS" || exit 1
 try licences has_the_licences .
@@ -18,6 +23,7 @@ try_with arm64 qemu-aarch64 env GOARCH=arm64 go test -count 1 -short -exec qemu-
 try_with s390x qemu-s390x env GOARCH=s390x go test -count 1 -short -exec qemu-s390x .
 for os in linux windows darwin; do try "vet_$os" env GOOS="$os" GOARCH=amd64 go vet .; done
 try vet_formulas go vet -tags formulas ./...
+try lines_of_the_page runs_the_page
 try page works_as_its_page_says README.md
 
 finish

@@ -57,6 +57,14 @@ pom_is_current() {
     [ "$(grep -c '<artifactId>' "$folder/pom.xml")" -eq $((1 + $(grep -cx ' *<scope>test</scope>' "$folder/pom.xml"))) ]
 }
 
+# Checks that a test makes each call of the page, with HELLO as the bytes.
+runs_the_page() {
+  blocks "$folder/README.md" java Rapidhash | sed 's/;.*//; s/\bbytes\b/HELLO/g' >"$room/calls" && [ -s "$room/calls" ] &&
+    while read -r call; do
+      grep -F "$call" "$folder/src/test/java/example/yervound/rapidhash/RapidhashTest.java" || return 1
+    done <"$room/calls"
+}
+
 contains_the_licences() {
   (cd "$room" && jar -xf "$jar" META-INF) && has_the_licences "$room/META-INF"
 }
@@ -80,6 +88,7 @@ for test in "$folder"/src/test/java/example/yervound/rapidhash/*Test.java; do
   try "java_$(basename "$test" .java)" passes "$(basename "$test" .java)"
 done
 try java_formulas compiles_formulas
+try java_calls_of_the_page runs_the_page
 try java_page works_as_its_page_says "$folder/README.md"
 
 finish

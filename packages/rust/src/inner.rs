@@ -6,7 +6,7 @@
 //! - `AVALANCHE` mixes each write of bytes and the hash once more.
 //! - `SPONGE` collects integers and mixes 128 bits at once, instead of one multiply per integer.
 //! - `COMPACT` processes rows one at a time instead of two: less code, the same values.
-//! - `PROTECTED` mixes each product with its factors.
+//! - With `PROTECTED`, a key cannot cancel earlier input by containing a secret.
 //!
 //! The values are those of version 4.5.1 of the crate `rapidhash`, which may change its own. For
 //! hashes that are stored or sent, use the portable ones. On 32-bit machines, a `usize` is absorbed

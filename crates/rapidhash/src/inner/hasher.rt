@@ -51,7 +51,7 @@ impl<
     /// The number that `default_const` and `Default` pass to `new`, for programs that name it.
     pub const DEFAULT_SEED: u64 = 0;
 
-    /// Returns a hasher of the default secrets, and of a seed made of `seed` as
+    /// Returns a hasher of the default secrets, and of a seed derived from `seed` as
     /// `v3::RapidSecrets::seed_cpp` makes it.
     ///
     /// ```

@@ -17,7 +17,7 @@ pub enum Num {
 }
 
 impl Num {
-    /// Returns the integer, whatever its width.
+    /// Returns the integer of any width.
     fn value(self) -> u64
         ensures value { result ≡ value_of self }
         ensures fits { result < 2 ^ width_of self }

@@ -17,7 +17,7 @@ use crate::words::{last_16, short_words_v3};
 const LONGEST_INLINED: usize = 80;
 
 /// Returns the hash of `bytes` with an odd number of lanes. `AVALANCHE` mixes the last product once
-/// more, `PROTECTED` mixes each product with its factors, and `COMPACT` changes the code but no
+/// more, `PROTECTED` XORs the factors into each product, and `COMPACT` changes the code but no
 /// value.
 #[inline(always)]
 pub fn hash<const LANES: usize, const AVALANCHE: bool, const COMPACT: bool, const PROTECTED: bool>(

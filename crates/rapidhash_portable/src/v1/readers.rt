@@ -91,8 +91,7 @@ pub fn rapidhash_v1_file_seeded<R: Read>(
     rapidhash_v1_file_inline::<R, false>(data, len, secrets)
 }
 
-/// Returns the hash of the next `len` bytes of a reader; `PROTECTED` mixes each product with its
-/// factors.
+/// Returns the plain or the protected hash of the next `len` bytes of a reader.
 ///
 /// # Errors
 ///

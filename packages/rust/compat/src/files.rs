@@ -22,7 +22,7 @@ pub fn rapidhash_v1_file_seeded(data: &mut File, secrets: &v1::RapidSecrets) -> 
     rapidhash_v1_file_inline::<false>(data, secrets)
 }
 
-/// Returns the V1 hash of a file; `PROTECTED` mixes each product with its factors.
+/// Returns the plain or the protected V1 hash of a file.
 ///
 /// # Errors
 ///
@@ -53,7 +53,7 @@ pub fn rapidhash_v2_2_file_seeded(data: &mut File, secrets: &v2::RapidSecrets) -
     rapidhash_v2_file_inline::<2, false>(data, secrets)
 }
 
-/// Returns the hash of a file by V2 of a minor version; `PROTECTED` mixes each product with its factors.
+/// Returns the plain or the protected V2 hash of a file, of a minor version.
 ///
 /// # Errors
 ///

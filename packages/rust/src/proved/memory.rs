@@ -15,7 +15,7 @@ const LONGEST_ROWLESS: usize = 48;
 const LONGEST_NARROW: usize = 400;
 
 /// Returns the value of `bytes` with the given seed and secrets. `AVALANCHE` mixes the last product
-/// once more, `PROTECTED` mixes each product with its factors, and `COMPACT` changes the code but
+/// once more, `PROTECTED` XORs the factors into each product, and `COMPACT` changes the code but
 /// no value.
 #[inline(always)]
 pub fn memory_hash<const AVALANCHE: bool, const COMPACT: bool, const PROTECTED: bool>(
@@ -47,7 +47,7 @@ fn long<const AVALANCHE: bool, const COMPACT: bool, const PROTECTED: bool>(
 }
 
 /// Returns the value of a message with a row. Rows of three pairs alone are at most eight, too few
-/// to take two at a time.
+/// to fold two at a time.
 #[inline(never)]
 fn with_rows<const AVALANCHE: bool, const COMPACT: bool, const PROTECTED: bool>(
     bytes: &[u8],

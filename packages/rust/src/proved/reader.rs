@@ -73,7 +73,7 @@ impl<R: Read> Source<R> {
         self.reader
     }
 
-    /// Lends the reader to a hash that returns a [`Stop`], which [`Source::settle`] takes.
+    /// Lends the reader to a hash that returns a [`Stop`], which [`Source::settle`] needs.
     pub(crate) fn reader_mut(&mut self) -> &mut R {
         &mut self.reader
     }

@@ -94,7 +94,7 @@ pub struct RapidRng {
 }
 
 impl RapidRng {
-    /// Returns a generator whose state is `seed`. Two seeds are two places of one cycle.
+    /// Returns a generator whose state is `seed`. Two seeds are two points of the same cycle.
     #[inline]
     #[must_use]
     pub fn new(seed: u64) -> RapidRng {

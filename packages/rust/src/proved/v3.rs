@@ -61,8 +61,8 @@ const_fn! {
 /// - `AVALANCHE` mixes the last product once more. Without it the values are not those of the C++
 ///   library: leave it out only if what uses the hash mixes by itself.
 /// - `COMPACT` folds one row at a time instead of two: less code, the same value.
-/// - `PROTECTED` mixes each product with its factors, so that bytes which equal a secret cannot
-///   erase what came before them. The value is another, and the call is slower.
+/// - With `PROTECTED`, a message cannot cancel its earlier bytes by containing a secret. The hashes
+///   differ from those without it, and hashing is slower.
 ///
 /// ```
 /// use rapidhash::v3::{DEFAULT_RAPID_SECRETS, rapidhash_v3_inline};

@@ -67,7 +67,7 @@ pub enum Plan {
 impl RapidhashVersion {
     /// Returns the version that the arguments after the program's name select: V3 if they name
     /// none, and `None` if they name two. A version named twice counts once, `--protected` may be
-    /// at any place, and all other arguments are ignored, also `--help`.
+    /// at any position, and all other arguments are ignored, also `--help`.
     pub fn new(args: &[String]) -> Option<Self> {
         let protected = has(args, "--protected");
         let mut chosen = None;

@@ -13,7 +13,7 @@ impl<
     const COMPACT: bool,
     const PROTECTED: bool,
 > RapidHasher<'s, AVALANCHE, SPONGE, COMPACT, PROTECTED> {
-    /// Absorbs an integer of 8 bits. With `SPONGE`, two integers of one width that share a block
+    /// Absorbs an integer of 8 bits. With `SPONGE`, two integers of equal width that share a block
     /// hash as the joined one: `write_u8(2)` and `write_u8(1)` as `write_u16(258)`.
     ///
     /// ```

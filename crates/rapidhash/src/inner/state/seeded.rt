@@ -1,4 +1,4 @@
-//! What every state is made of: a seed and secrets.
+//! The content of every state: a seed and secrets.
 
 ghost use Rattle.std.specs.Prelude.{◌≡◌, ◌==◌, ◌&&◌, [], nat_eq};
 ghost use Rattle.std.specs.Cmp.Lexicographic.{pointwise};

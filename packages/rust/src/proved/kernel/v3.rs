@@ -13,7 +13,7 @@ const LONGEST_INLINED: usize = 80;
 
 const_fn! {
 /// Returns the hash of `bytes` with an odd number of lanes. `AVALANCHE` mixes the last product once
-/// more, `PROTECTED` mixes each product with its factors, and `COMPACT` changes the code but no
+/// more, `PROTECTED` XORs the factors into each product, and `COMPACT` changes the code but no
 /// value.
 #[inline(always)]
 pub const fn hash<

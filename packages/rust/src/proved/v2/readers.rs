@@ -47,7 +47,7 @@ pub fn rapidhash_v2_source<R: Read, const MINOR: u8, const PROTECTED: bool>(
     source.settle(answer)
 }
 
-/// Returns the hash of the next `len` bytes of a reader by V2.2, with the default seed and secrets.
+/// Returns the V2.2 hash of the next `len` bytes of a reader, with the default seed and secrets.
 ///
 /// ```
 /// use rapidhash::v2::{rapidhash_v2_2, rapidhash_v2_2_file};
@@ -65,7 +65,7 @@ pub fn rapidhash_v2_2_file<R: Read>(data: &mut R, len: u64) -> io::Result<u64> {
     rapidhash_v2_file_inline::<R, 2, false>(data, len, RapidSecrets::default_ref())
 }
 
-/// Returns the hash of the next `len` bytes of a reader by V2.2, with the caller's seed and
+/// Returns the V2.2 hash of the next `len` bytes of a reader, with the caller's seed and
 /// secrets.
 ///
 /// # Errors
@@ -79,8 +79,7 @@ pub fn rapidhash_v2_2_file_seeded<R: Read>(
     rapidhash_v2_file_inline::<R, 2, false>(data, len, secrets)
 }
 
-/// Returns the hash of the next `len` bytes of a reader; `PROTECTED` mixes each product with its
-/// factors.
+/// Returns the plain or the protected hash of the next `len` bytes of a reader.
 ///
 /// # Errors
 ///

@@ -147,7 +147,7 @@ pub fn rapidhash_v3_file_seeded<R: Read>(data: R, secrets: &RapidSecrets) -> io:
     rapidhash_v3_file_lanes::<R, 7, BUFFER, false>(data, secrets)
 }
 
-/// Returns the hash of all that a reader has; `PROTECTED` mixes each product with its factors.
+/// Returns the plain or the protected hash of all that a reader has.
 ///
 ///
 /// # Errors

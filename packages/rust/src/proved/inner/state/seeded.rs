@@ -1,6 +1,6 @@
 // Made by scripts/rust_crate from crates/rapidhash/src/inner/state/seeded.rt: change that file.
 
-//! What every state is made of: a seed and secrets.
+//! The content of every state: a seed and secrets.
 
 use crate::inner::hasher::RapidHasher;
 

@@ -3,12 +3,12 @@
 //! The lanes of a stream hasher, and how many chunks they have folded.
 //!
 //! No other code can fold a chunk without counting it, or count one without folding it: both are
-//! private here, and only `step`, `step_twice` and `clear` change them. The count takes no memory
+//! private here, and only `step`, `step_twice` and `clear` change them. The count needs no memory
 //! and no time; only contracts see it.
 //!
 //! The speed of large pieces depends on the loop of `fold_chunks`: after a change look at the
 //! machine code with `objdump`. If the lanes are copied from `self` into local variables, the
-//! compiler packs them into vectors and unpacks them, which takes half as long again.
+//! compiler packs them into vectors and unpacks them, which needs half as much time again.
 
 use crate::lanes::{fold_row, fold_two_rows_by_lane, join};
 

@@ -1,6 +1,6 @@
 // Made by scripts/rust_crate from crates/rapidsum/src/check.rt: change that file.
 
-//! Whether files still have the hashes that a list says.
+//! Whether files still have the hashes in a list.
 
 use rapidhash_tool::kit::Vec;
 use crate::algorithm::Algorithm;

@@ -1,6 +1,6 @@
 // Made by scripts/rust_crate from crates/rapidsum/src/store.rt: change that file.
 
-//! Where files come from, and the hash of one.
+//! Where files come from, and the hash of a file.
 
 use crate::algorithm::Algorithm;
 use rapidhash_tool::kit::alloc::Allocator;

@@ -25,7 +25,7 @@ public class RapidhashTest {
         RapidhashStream stream = Rapidhash.V3.stream();
         stream.update(HELLO);
         assertEquals("2e2d7651b45f7946", Rapidhash.toHex(stream.getValue()));
-        assertThrows(IndexOutOfBoundsException.class, () -> Rapidhash.V3.hash(HELLO, 3, 3));
+        assertThrows(IndexOutOfBoundsException.class, () -> Rapidhash.V3.hash(HELLO, 3, HELLO.length));
     }
 
     @Test
