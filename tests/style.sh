@@ -25,6 +25,13 @@ hides_its_fields() {
   return "$status"
 }
 
+# Checks that each file with an interpreter is executable, because the gate runs no other.
+can_be_run() {
+  git grep -lE '^#!/' -- tests packages scripts bench bin .ci ':!*.md' | while read -r file; do
+    [ -x "$file" ] || ! head -c 3 "$file" | grep -q '^#!/' || echo "$file"
+  done >"$room/found" && cat "$room/found" && [ ! -s "$room/found" ]
+}
+
 scripts_in() {
   git grep -lE "^#!.*$1|^# shellcheck shell=$1" -- . ':!*.md'
 }
@@ -53,6 +60,7 @@ has_short_subjects() {
 }
 
 try columns narrow
+try executable_scripts can_be_run
 try shell_scripts lints_shell
 try python_scripts lints_python
 try verbs begins_with_verbs

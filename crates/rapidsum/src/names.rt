@@ -63,8 +63,8 @@ pub fn push_escaped<A: Allocator>(text: &mut Vec<u8, A>, name: &[u8]) -> Result<
     Ok(())
 }
 
-/// Returns the name that an escaped text represents. There is none if a backslash is at the end, or
-/// before a byte that is no letter of an escape.
+/// Returns the name that an escaped text represents. Returns `None` if a backslash is at the end or
+/// before a byte other than the letter of an escape.
 #[tactic(auto, unfolding(crate::specs::Line::unescape_from))]
 pub fn unescape<A: Allocator>(alloc: A, text: &[u8]) -> Result<Option<Vec<u8, A>>, AllocError>
     ensures { IfOk result (λ name.

@@ -16,7 +16,7 @@ pub fn after_one_piece<'a, const LANES: usize>(
     bytes: &[u8],
 ) -> RapidStreamHasherLanes<'a, LANES, true, false>
     requires { IsLaneCount LANES }
-    ensures stands { StreamRepresents false result bytes.now }
+    ensures represents { StreamRepresents false result bytes.now }
     ensures steps { steps_of result ≡ chunk_count LANES (length bytes.now) }
 {
     let mut hasher = RapidStreamHasherLanes::new(secrets);
@@ -30,7 +30,7 @@ pub fn after_single_bytes<'a, const LANES: usize>(
     bytes: &[u8],
 ) -> RapidStreamHasherLanes<'a, LANES, true, false>
     requires { IsLaneCount LANES }
-    ensures stands { StreamRepresents false result bytes.now }
+    ensures represents { StreamRepresents false result bytes.now }
     ensures steps { steps_of result ≡ chunk_count LANES (length bytes.now) }
 {
     let mut hasher = RapidStreamHasherLanes::new(secrets);
@@ -47,7 +47,7 @@ pub fn after_two_pieces<'a, const LANES: usize>(
     second: &[u8],
 ) -> RapidStreamHasherLanes<'a, LANES, true, false>
     requires { IsLaneCount LANES }
-    ensures stands { StreamRepresents false result (first.now ++ second.now) }
+    ensures represents { StreamRepresents false result (first.now ++ second.now) }
     ensures steps { steps_of result
         ≡ chunk_count LANES (length first.now + length second.now) }
 {

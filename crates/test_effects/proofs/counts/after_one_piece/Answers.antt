@@ -3,5 +3,5 @@ use Rattle.test_effects.proofs.counts.after_one_piece.Goals as goal
 
 pub returns : goal.returns
 returns g c =
-    let stands = c.write.ensures.adds [] c.new-hasher.ensures.empty in
-    record { stands = stands; steps = c.write.ensures.count _ stands }
+    let represents = c.write.ensures.adds [] c.new-hasher.ensures.empty in
+    record { represents = represents; steps = c.write.ensures.count _ represents }

@@ -18,5 +18,5 @@ loop-at-preserved g c =
 pub returns : goal.returns
 returns g c =
     let whole = take_all c.loop-at.at c.args.bytes.now (omega arith) in
-    let stands = subst (StreamRepresents false c.loop-at.hasher) whole c.loop-at.invariant in
-    record { stands = stands; steps = stands.steps }
+    let represents = subst (StreamRepresents false c.loop-at.hasher) whole c.loop-at.invariant in
+    record { represents = represents; steps = represents.steps }
