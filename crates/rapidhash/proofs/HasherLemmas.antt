@@ -6,7 +6,7 @@ use Rattle.std.proofs.lemmas.List.Sums.{fold-append}
 use Rattle.std.proofs.lemmas.Bool.{le-leb, lt-leb}
 use Rattle.std.proofs.lemmas.Bool.Decides.{nat_tests}
 use Rattle.rapidhash_portable.specs.declared.form.Options.{Options}
-use Rattle.rapidhash_portable.specs.Memory.{memory_hash}
+use Rattle.rapidhash_portable.specs.InMemory.{core_hash}
 use Rattle.rapidhash.specs.Hasher.{NumbersRepresent, closed, finished, pending, seed_after, step, steps, steps_from, steps_of, width}
 use Rattle.rapidhash.specs.Sponge.{Bytes, IsItem, Item, Num, Wide, block, end_after, end_from, end_of, share}
 use Rattle.rapidhash.proofs.SpongeLemmas.{block_from-behind, block_from-snoc, end_from-grows, end_from-snoc, own_block, share-before}
@@ -126,7 +126,7 @@ represents-number options false s seed v w start xs k n seed' t i d h = rw d (re
 
 -- bytes, which are a step at once
 pub represents-bytes : (options : Options) (sponge : Bool) (s : List ℕ) (seed v w start : ℕ) (xs : List Item) (x : List ℕ) (seed' : ℕ) → IsItem (Bytes x)
-    → seed' ≡ memory_hash options x seed s
+    → seed' ≡ core_hash options x seed s
     → NumbersRepresent options sponge s seed v w start xs → NumbersRepresent options sponge s seed' v w start (xs ++ Bytes x ∷ [])
 represents-bytes options true s seed v w start xs x seed' i d h =
     represents-snoc options s seed v w start xs (Bytes x) seed' v w i d h.bits_are (omega (arith, h.number_is)) h

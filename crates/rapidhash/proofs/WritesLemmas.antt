@@ -4,7 +4,7 @@ use Rattle.std.proofs.lemmas.Nat.{pow-add}
 use Rattle.rapidhash_portable.specs.declared.form.Options.{Options}
 use Rattle.rapidhash.specs.Hasher.{NumbersRepresent}
 use Rattle.rapidhash.specs.Laws.{JoinsWrites, TurnsWrites, item_of, value_of, width_of}
-use Rattle.rapidhash.specs.RapidHasher.{Absorbs, options_of, secrets_of}
+use Rattle.rapidhash.specs.RapidHasher.{Absorbs, options_of, secrets_of_hasher}
 use Rattle.rapidhash.specs.declared.laws.blocks.Num.{Num as Integer}
 use Rattle.rapidhash.specs.declared.inner.hasher.RapidHasher.{RapidHasher}
 use Rattle.rapidhash.specs.Sponge.{IsItem, Item, Num, end_of}
@@ -45,18 +45,18 @@ joins-writes {old = old} {new = new} bits low high is_low is_high is_both first 
   joined = λ start items h room.
       let before = under (second.secrets ∙ first.secrets) h in
       let we : old.sponge.width ≡ (end_of items).1 = h.bits_are in
-      let one = represents-behind _ true (secrets_of new) _ _ _ start items bits low _ _ refl is_low (omega arith) refl refl before in
-      let two = represents-behind _ true (secrets_of new) _ _ _ start _ bits high _ _ refl is_high (omega arith) refl refl one in
+      let one = represents-behind _ true (secrets_of_hasher new) _ _ _ start items bits low _ _ refl is_low (omega arith) refl refl before in
+      let two = represents-behind _ true (secrets_of_hasher new) _ _ _ start _ bits high _ _ refl is_high (omega arith) refl refl one in
       let sum : old.sponge.bits + low * 2 ^ old.sponge.width + high * 2 ^ (old.sponge.width + bits) ≡ old.sponge.bits + (low + high * 2 ^ bits) * 2 ^ old.sponge.width =
       ap (λ power. old.sponge.bits + low * 2 ^ old.sponge.width + high * power) (pow-add 2 old.sponge.width bits) ∙ omega arith in
-      let both = represents-behind _ true (secrets_of new) _ _ _ start items (2 * bits) _ _ _ refl is_both (omega arith) sum (omega arith) before in
+      let both = represents-behind _ true (secrets_of_hasher new) _ _ _ start items (2 * bits) _ _ _ refl is_both (omega arith) sum (omega arith) before in
       represents-same (represents-two items _ _ (second.represents start _ (first.represents start items h))) (represents-two _ _ _ two) both;
 }
 
 -- a write that leaves the last block alone and a write of an integer may change places, where the block has room
 pub turns-writes : {avalanche compact protected after : ℕ} {old mid new : RapidHasher avalanche 1 compact protected} (item : Item) (number : Integer)
-    → ((start bits width : ℕ) (items : List Item) → NumbersRepresent (options_of old) true (secrets_of new) old.seed bits width start items
-    → NumbersRepresent (options_of old) true (secrets_of new) after bits width start (items ++ item ∷ []))
+    → ((start bits width : ℕ) (items : List Item) → NumbersRepresent (options_of old) true (secrets_of_hasher new) old.seed bits width start items
+    → NumbersRepresent (options_of old) true (secrets_of_hasher new) after bits width start (items ++ item ∷ []))
     → IsItem (item_of number) → Absorbs old mid item → Absorbs mid new (item_of number) → TurnsWrites old new item number
 turns-writes {old = old} {new = new} item number absorb is first second = record {
   secrets = second.secrets ∙ first.secrets;
@@ -64,7 +64,7 @@ turns-writes {old = old} {new = new} item number absorb is first second = record
   turned = λ start items h room.
       let before = under (second.secrets ∙ first.secrets) h in
       let we : old.sponge.width ≡ (end_of items).1 = h.bits_are in
-      let behind = represents-behind _ true (secrets_of new) _ _ _ start _ (width_of number) (value_of number) _ _ refl is (omega arith) refl refl (absorb start _ _ _ before) in
-      let ahead = represents-behind _ true (secrets_of new) _ _ _ start items (width_of number) (value_of number) _ _ refl is (omega arith) refl refl before in
+      let behind = represents-behind _ true (secrets_of_hasher new) _ _ _ start _ (width_of number) (value_of number) _ _ refl is (omega arith) refl refl (absorb start _ _ _ before) in
+      let ahead = represents-behind _ true (secrets_of_hasher new) _ _ _ start items (width_of number) (value_of number) _ _ refl is (omega arith) refl refl before in
       represents-same (represents-two items _ _ (second.represents start _ (first.represents start items h))) (represents-two _ _ _ behind) (represents-two _ _ _ (absorb start _ _ _ ahead));
 }

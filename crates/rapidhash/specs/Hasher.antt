@@ -1,7 +1,7 @@
 -- The seed of a hasher after a list of items, and the hash that it returns.
 use Rattle.std.specs.Prelude.{ℕ, ◌≡◌, ◌+◌, ◌/◌, ◌%◌, ◌^◌, ◌<◌, Bool, true, false, if◌then◌else◌, nat_le, nat_lt, List, [], ◌∷◌, ◌++◌, All, fold, slice_index, bit_xor}
 use Rattle.rapidhash_portable.specs.declared.form.Options.{Options}
-use Rattle.rapidhash_portable.specs.Memory.{memory_hash}
+use Rattle.rapidhash_portable.specs.InMemory.{core_hash}
 use Rattle.rapidhash_portable.specs.Multiply.{mix}
 use Rattle.rapidhash_portable.specs.Secrets.{default_secrets}
 use Rattle.rapidhash.specs.Sponge.{Item, Bytes, Wide, Num, IsItem, end_after, end_of, block}
@@ -24,7 +24,7 @@ steps false items = items
 
 -- a step on the seed
 abbrev pub step : Options → List ℕ → ℕ → Item → ℕ
-step options secrets seed (Bytes bytes) = memory_hash options bytes seed secrets
+step options secrets seed (Bytes bytes) = core_hash options bytes seed secrets
 step options secrets seed (Wide value) = mix options.protected (bit_xor (value % 2 ^ 64) seed) (bit_xor (value / 2 ^ 64) (slice_index secrets 0))
 step options secrets seed (Num width value) = mix options.protected (bit_xor value (slice_index secrets 0)) (bit_xor value seed)
 

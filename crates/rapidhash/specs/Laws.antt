@@ -7,7 +7,7 @@ use Rattle.rapidhash_portable.specs.Hash.{portable_hash}
 use Rattle.rapidhash.specs.declared.laws.blocks.Num.{Num}
 use Rattle.rapidhash.specs.declared.laws.blocks.Num.TheVariants.{N8, N16, N32, N64}
 use Rattle.rapidhash.specs.declared.inner.hasher.RapidHasher.{RapidHasher}
-use Rattle.rapidhash.specs.RapidHasher.{Represents, secrets_of}
+use Rattle.rapidhash.specs.RapidHasher.{Represents, secrets_of_hasher}
 use Rattle.rapidhash.specs.Sponge.{Item, Num as Integer, block, end_of}
 
 -- two messages have the same length and the same absorbed words
@@ -59,7 +59,7 @@ HasRoom items width = (end_of items).1 + width ≤ 128
 
 -- two integers of the same width are absorbed; if the last block has room for both, the result is that of the integer that joins them
 pub record JoinsWrites {avalanche sponge compact protected : ℕ} (old new : RapidHasher avalanche sponge compact protected) (width low high : ℕ) : Type 0 where
-  pub secrets : secrets_of new ≡ secrets_of old
+  pub secrets : secrets_of_hasher new ≡ secrets_of_hasher old
   pub apart : (start : ℕ) (items : List Item) → Represents old start items
       → Represents new start (items ++ Integer width low ∷ Integer width high ∷ [])
   pub joined : (start : ℕ) (items : List Item) → Represents old start items → HasRoom items (2 * width)
@@ -67,7 +67,7 @@ pub record JoinsWrites {avalanche sponge compact protected : ℕ} (old new : Rap
 
 -- an item and then an integer are absorbed; if the last block has room for the integer, the result is that of the opposite order
 pub record TurnsWrites {avalanche sponge compact protected : ℕ} (old new : RapidHasher avalanche sponge compact protected) (item : Item) (number : Num) : Type 0 where
-  pub secrets : secrets_of new ≡ secrets_of old
+  pub secrets : secrets_of_hasher new ≡ secrets_of_hasher old
   pub in_order : (start : ℕ) (items : List Item) → Represents old start items
       → Represents new start (items ++ item ∷ item_of number ∷ [])
   pub turned : (start : ℕ) (items : List Item) → Represents old start items → HasRoom items (width_of number)

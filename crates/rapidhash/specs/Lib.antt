@@ -5,7 +5,7 @@ pub use Rattle.rapidhash_portable.specs.Form
 pub use Rattle.rapidhash_portable.specs.GlobalSecrets
 pub use Rattle.rapidhash_portable.specs.Hash
 pub use Rattle.rapidhash_portable.specs.Lanes
-pub use Rattle.rapidhash_portable.specs.Memory
+pub use Rattle.rapidhash_portable.specs.InMemory
 pub use Rattle.rapidhash_portable.specs.Multiply
 pub use Rattle.rapidhash_portable.specs.Reading
 pub use Rattle.rapidhash_portable.specs.Secrets

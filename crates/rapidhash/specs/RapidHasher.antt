@@ -2,15 +2,15 @@
 use Rattle.std.specs.Prelude.{ℕ, ◌≡◌, Bool, not, nat_eq, List, [], ◌∷◌, ◌++◌}
 use Rattle.std.specs.Borrow.{Bor}
 use Rattle.rapidhash_portable.specs.declared.form.Options.{Options}
-use Rattle.rapidhash_portable.specs.Memory.{memory_hash}
+use Rattle.rapidhash_portable.specs.InMemory.{core_hash}
 use Rattle.rapidhash_portable.specs.Form.{options}
 use Rattle.rapidhash.specs.Sponge.{Item, empty_sponge}
 use Rattle.rapidhash.specs.Hasher.{NumbersRepresent, closed, finished}
 use Rattle.rapidhash.specs.declared.inner.hasher.RapidHasher.{RapidHasher}
 
 -- the secrets of a hasher
-abbrev pub secrets_of : {avalanche sponge compact protected : ℕ} → RapidHasher avalanche sponge compact protected → List ℕ
-secrets_of hasher = hasher.secrets.now
+abbrev pub secrets_of_hasher : {avalanche sponge compact protected : ℕ} → RapidHasher avalanche sponge compact protected → List ℕ
+secrets_of_hasher hasher = hasher.secrets.now
 
 -- whether an option is on, from the number of its const parameter
 abbrev pub is_on : ℕ → Bool
@@ -30,7 +30,7 @@ Represents hasher start items =
 
 -- a further item is absorbed: the secrets do not change, and for every start value and list that the old hasher represents, the new one represents the list with the item at its end
 pub record Absorbs {avalanche sponge compact protected : ℕ} (old new : RapidHasher avalanche sponge compact protected) (item : Item) : Type 0 where
-  pub secrets : secrets_of new ≡ secrets_of old
+  pub secrets : secrets_of_hasher new ≡ secrets_of_hasher old
   pub represents : (start : ℕ) (items : List Item) → Represents old start items → Represents new start (items ++ item ∷ [])
 
 -- for every start value and list that the hasher represents, the result is their hash
@@ -45,7 +45,7 @@ fresh seed secrets = record { seed = seed; secrets = secrets; sponge = empty_spo
 -- a hasher after bytes
 abbrev pub written : {avalanche sponge compact protected : ℕ} → RapidHasher avalanche sponge compact protected → List ℕ → RapidHasher avalanche sponge compact protected
 written hasher bytes =
-    record hasher { seed = memory_hash (options_of hasher) bytes hasher.seed hasher.secrets.now }
+    record hasher { seed = core_hash (options_of hasher) bytes hasher.seed hasher.secrets.now }
 
 -- the hash that a hasher returns
 abbrev pub answer_of : {avalanche sponge compact protected : ℕ} → RapidHasher avalanche sponge compact protected → ℕ

@@ -20,7 +20,7 @@ mod words;
 mod writes;
 
 pub use blocks::{Num, same_blocks};
-pub use forms::{micro_is_v3, nano_is_v3, v1_is_v1_with_its_fault, v2_0_is_v2_1, v2_1_is_v2_2};
+pub use forms::{micro_is_v3, nano_is_v3, v1_is_v1_with_its_bug, v2_0_is_v2_1, v2_1_is_v2_2};
 pub use lane::lane_after_its_secret;
 use rapidhash_portable::v3::{RapidSecrets, RapidStreamHasherLanes};
 use std::alloc::{AllocError, Allocator};

@@ -3,8 +3,8 @@ use Rattle.std.proofs.lemmas.Bool.Decides.{nat_tests}
 use Rattle.rapidhash_portable.proofs.FoldedLemmas.{AfterRows-none}
 use Rattle.rapidhash_portable.proofs.FormLemmas.{shape_of-v3-none}
 use Rattle.rapidhash_portable.proofs.HashLemmas.{hash-short}
-use Rattle.rapidhash_portable.proofs.MemoryLemmas.{after_pairs-is, after_pairs-short}
-use Rattle.rapidhash_portable.proofs.ReadingLemmas.{FrontIsFolded-none, HashesAll-known, MarksFailures-settles}
+use Rattle.rapidhash_portable.proofs.InMemoryLemmas.{after_pairs-is, after_pairs-short}
+use Rattle.rapidhash_portable.proofs.ReadingLemmas.{FlagsFailures-settles, FrontIsFolded-none, HashesAll-known}
 use Rattle.rapidhash_portable.proofs.SecretsLemmas.{AreFilled-more, chained-more, made_state-more}
 use Rattle.rapidhash_portable.proofs.TailLemmas.{after_tail-none, after_tail-more, after_tail-same, after_tail-whole}
 use Rattle.rapidhash_portable.proofs.WordsLemmas.{last_words-long, last_words-short}
@@ -26,4 +26,4 @@ pub ruleset filled = (AreFilled-more, chained-more, made_state-more)
 pub ruleset in_core = (after_pairs-is, after_pairs-short, last_words-long, last_words-short)
 
 -- readers
-pub ruleset of_reader = (FrontIsFolded-none, HashesAll-known, MarksFailures-settles)
+pub ruleset of_reader = (FlagsFailures-settles, FrontIsFolded-none, HashesAll-known)

@@ -4,9 +4,9 @@ pub mod Cases
 pub mod FoldedLemmas
 pub mod FormLemmas
 pub mod HashLemmas
+pub mod InMemoryLemmas
 pub mod LanesLemmas
 pub mod ListLemmas
-pub mod MemoryLemmas
 pub mod ReadingLemmas
 pub mod SecretsLemmas
 pub mod StreamLemmas

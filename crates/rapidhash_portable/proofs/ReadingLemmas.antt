@@ -9,7 +9,7 @@ use Rattle.std.specs.declared.io.ErrorKind.TheVariants.{UnexpectedEof}
 use Rattle.rapidhash_portable.specs.declared.reader.Stop.{Stop}
 use Rattle.rapidhash_portable.specs.declared.reader.Stop.TheVariants.{Ended, Failed}
 use Rattle.rapidhash_portable.specs.Folded.{PrefixIsFolded}
-use Rattle.rapidhash_portable.specs.Reading.{FellShort, FrontIsFolded, HashesAll, HashesKnown, MarksFailures}
+use Rattle.rapidhash_portable.specs.Reading.{FellShort, FlagsFailures, FrontIsFolded, HashesAll, HashesKnown}
 use Rattle.rapidhash_portable.specs.Source.{Settles}
 use Rattle.rapidhash_portable.specs.Words.{last_16}
 use Rattle.rapidhash_portable.proofs.BytesLemmas.{word64-drop}
@@ -91,13 +91,13 @@ FellShort-front f s h = record {
 -- ---- the hash of the next bytes
 
 -- what a source makes of a hash's answer
-pub MarksFailures-settles : (answer : Result ℕ Stop) (result : Result ℕ Error) (marked : Bool) →
-    Settles answer result false marked → MarksFailures result marked UnexpectedEof
-MarksFailures-settles (Ok h) result marked settled = rw (settled.0, settled.1) (record { clean = refl; kind_is = tt })
-MarksFailures-settles (Err (Failed read)) (Ok h) marked settled = absurd (false≢true settled.0)
-MarksFailures-settles (Err (Failed read)) (Err e) marked settled = rw (settled.1) (record { clean = tt; kind_is = λ off. absurd (true≢false off) })
-MarksFailures-settles (Err Ended) (Ok h) marked settled = absurd settled.0
-MarksFailures-settles (Err Ended) (Err e) marked settled = record { clean = tt; kind_is = λ _. settled.0 }
+pub FlagsFailures-settles : (answer : Result ℕ Stop) (result : Result ℕ Error) (flag : Bool) →
+    Settles answer result false flag → FlagsFailures result flag UnexpectedEof
+FlagsFailures-settles (Ok h) result flag settled = rw (settled.0, settled.1) (record { clean = refl; kind_is = tt })
+FlagsFailures-settles (Err (Failed read)) (Ok h) flag settled = absurd (false≢true settled.0)
+FlagsFailures-settles (Err (Failed read)) (Err e) flag settled = rw (settled.1) (record { clean = tt; kind_is = λ off. absurd (true≢false off) })
+FlagsFailures-settles (Err Ended) (Ok h) flag settled = absurd settled.0
+FlagsFailures-settles (Err Ended) (Err e) flag settled = record { clean = tt; kind_is = λ _. settled.0 }
 
 -- ---- all bytes
 

@@ -7,5 +7,5 @@ abbrev pub seed_of : GlobalSecrets → ℕ
 seed_of secrets = secrets.seed
 
 -- the seven derived secrets
-abbrev pub secrets_of : GlobalSecrets → List ℕ
-secrets_of secrets = secrets.secrets
+abbrev pub secrets_of_global : GlobalSecrets → List ℕ
+secrets_of_global secrets = secrets.secrets

@@ -37,7 +37,7 @@ portable_hash form options seed secrets x = value form options seed secrets (len
 abbrev pub seeded_hash : Form → Options → RapidSecrets → List ℕ → ℕ
 seeded_hash form options secrets x = portable_hash form options secrets.seed secrets.secrets x
 
--- the same with V1, with its historical fault or without it
+-- the same with V1, with or without the V1 bug
 abbrev pub seeded_hash_v1 : Bool → Options → RapidSecretsV1 → List ℕ → ℕ
 seeded_hash_v1 bug options secrets x = portable_hash (V1 bug) options secrets.seed secrets.secrets x
 

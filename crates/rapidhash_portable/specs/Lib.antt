@@ -4,8 +4,8 @@ pub mod Folded
 pub mod Form
 pub mod GlobalSecrets
 pub mod Hash
+pub mod InMemory
 pub mod Lanes
-pub mod Memory
 pub mod Multiply
 pub mod Reading
 pub mod Secrets

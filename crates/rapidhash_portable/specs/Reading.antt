@@ -36,10 +36,10 @@ pub record HashesAll {E : Type 0} (old new : Option (List ℕ)) (result : Result
 abbrev pub HashesKnown : {E : Type 0} → Option (List ℕ) → Result ℕ E → (List ℕ → ℕ) → Type 0
 HashesKnown left result hash = IfOk result (λ h. IfSome left (λ x. h ≡ hash x))
 
--- the mark is off after success; if it is off after an error, the error has the only kind that is not the reader's
-pub record MarksFailures {T : Type 0} (result : Result T Error) (marked : Bool) (kind : ErrorKind) : Type 0 where
-  pub clean : OnOk result (marked ≡ false)
-  pub kind_is : IfErr result (λ e. marked ≡ false → error_kind e ≡ kind)
+-- the error flag is clear after success; if it is clear after an error, the error has the only kind that is not the reader's
+pub record FlagsFailures {T : Type 0} (result : Result T Error) (flag : Bool) (kind : ErrorKind) : Type 0 where
+  pub clean : OnOk result (flag ≡ false)
+  pub kind_is : IfErr result (λ e. flag ≡ false → error_kind e ≡ kind)
 
 -- the call read `len` bytes, and the lanes have folded the rows before a tail
 pub record FrontIsFolded (protected : Bool) (secrets : List ℕ) (old new : Option (List ℕ)) (len lanes seed : ℕ) (held tail : List ℕ) : Type 0 where

@@ -7,9 +7,9 @@ use Rattle.rapidhash_portable.specs.declared.reader.Source.{Source}
 use Rattle.rapidhash_portable.specs.declared.reader.Stop.{Stop}
 use Rattle.rapidhash_portable.specs.declared.reader.Stop.TheVariants.{Ended, Failed}
 
--- whether the mark is on
-abbrev pub is_marked : {R : Type 0} → Source R → Bool
-is_marked source = source.mark
+-- whether the error flag is set
+abbrev pub error_flag : {R : Type 0} → Source R → Bool
+error_flag source = source.error_flag
 
 -- the reader inside
 abbrev pub reader_of : {R : Type 0} → Source R → R
@@ -17,14 +17,14 @@ reader_of source = source.reader
 
 -- the source with another reader inside
 abbrev pub with_reader : {R : Type 0} → Source R → R → Source R
-with_reader source reader = record { reader = reader; mark = source.mark }
+with_reader source reader = record { reader = reader; error_flag = source.error_flag }
 
 -- whether a read failed
 abbrev pub is_failed : Stop → Bool
 is_failed (Failed read) = true
 is_failed Ended = false
 
--- a call's result and mark, from a hash's result: a failed read turns the mark on, and an early end has its own error kind
+-- a call's result and error flag, from a hash's result: a failed read sets the flag, and an early end has its own error kind
 abbrev pub Settles : Result ℕ Stop → Result ℕ Error → Bool → Bool → Type 0
 Settles (Ok hash) result old new = (result ≡ Ok hash) × (new ≡ old)
 Settles (Err (Failed read)) result old new = IsErr result × (new ≡ true)

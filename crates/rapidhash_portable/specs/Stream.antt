@@ -33,8 +33,8 @@ abbrev pub steps_of : {lanes avalanche protected : ℕ} → RapidStreamHasherLan
 steps_of hasher = hasher.state.parts.folded.count.steps
 
 -- the seed and the secrets
-abbrev pub secrets_of : {lanes avalanche protected : ℕ} → RapidStreamHasherLanes lanes avalanche protected → RapidSecrets
-secrets_of hasher = hasher.state.parts.secrets.now
+abbrev pub secrets_of_stream : {lanes avalanche protected : ℕ} → RapidStreamHasherLanes lanes avalanche protected → RapidSecrets
+secrets_of_stream hasher = hasher.state.parts.secrets.now
 
 -- the number of lanes of a stream that has it as a field, and the stream's seed and secrets
 abbrev pub lanes_of : RapidStream → ℕ

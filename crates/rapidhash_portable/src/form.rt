@@ -3,7 +3,7 @@
 /// A portable hash.
 #[derive(Debug, Clone, Copy, PartialEq, Eq)]
 pub enum Form {
-    /// V1, with its historical fault at 48 bytes or without it.
+    /// V1, with or without the V1 bug, which hashes 48 bytes differently.
     V1(bool),
     /// V2, with its minor number: 0, 1 or 2.
     V2(u8),

@@ -1,8 +1,8 @@
-//! A reader with an error mark, which distinguishes the reader's own errors from the other errors
+//! A reader with an error flag, which distinguishes the reader's own errors from the other errors
 //! of a hash.
 //!
-//! The mark is on only if a read failed. Privacy ensures this: only `read_once` makes a
-//! `FailedRead`, and only [`Source`] turns its mark on, in `read` or for a `FailedRead`.
+//! The flag is set only if a read failed. Privacy ensures this: only `read_once` makes a
+//! `FailedRead`, and only [`Source`] sets its flag, in `read` or for a `FailedRead`.
 
 ghost use Rattle.std.specs.Prelude.{◌≡◌, ◌||◌, false, true, is_err};
 ghost use Rattle.std.specs.Borrow.{follows, sem};
@@ -12,9 +12,9 @@ ghost use Rattle.std.specs.Io.KnownBytes.{ReadConsumes};
 use std::io;
 use std::io::{ErrorKind, Read};
 
-/// A reader, and a mark that is on if a read failed.
+/// A reader with an error flag, which is set if a read failed.
 ///
-/// Each hash over a source begins by clearing the mark. So after it the mark shows whether a read
+/// Each hash over a source begins by clearing the flag. So after it the flag shows whether a read
 /// of that call failed.
 ///
 /// ```
@@ -28,21 +28,21 @@ use std::io::{ErrorKind, Read};
 #[derive(Drop)]
 pub struct Source<R: Read> {
     reader: R,
-    mark: bool,
+    error_flag: bool,
 }
 
 impl<R: Read> Source<R> {
-    ghost use Rattle.rapidhash_portable.specs.Source.{Settles, is_marked, reader_of, with_reader};
+    ghost use Rattle.rapidhash_portable.specs.Source.{Settles, error_flag, reader_of, with_reader};
     ghost use Rattle.rapidhash_portable.specs.contracts.reader.Source.{the_row};
 
-    /// Returns a source over a reader, with the mark off. It reads nothing.
+    /// Returns a source over a reader, with the flag cleared. It reads nothing.
     pub fn new(reader: R) -> Self
-        ensures unmarked { is_marked result ≡ false }
+        ensures cleared { error_flag result ≡ false }
         ensures reader { reader_of result ≡ reader }
     {
         Source {
             reader,
-            mark: false,
+            error_flag: false,
         }
     }
 
@@ -50,9 +50,9 @@ impl<R: Read> Source<R> {
     ///
     /// # Errors
     ///
-    /// The reader's own error. Each turns the mark on, including that of an interrupted read.
+    /// The reader's own error. Each sets the flag, including that of an interrupted read.
     pub fn read(&mut self, buf: &mut [u8]) -> io::Result<usize>
-        ensures mark { is_marked self.new ≡ (is_marked self.old || is_err result) }
+        ensures flag { error_flag self.new ≡ (error_flag self.old || is_err result) }
         ensures bound { ReadsAtMost result buf.new }
         ensures bytes { ReadConsumes (R.remaining (reader_of self.old))
             (R.remaining (reader_of self.new)) result buf.new }
@@ -63,28 +63,28 @@ impl<R: Read> Source<R> {
         }
     }
 
-    /// Turns the mark on for a read that failed, and returns the reader's own error.
+    /// Sets the flag for a failed read and returns the reader's own error.
     fn fail(&mut self, failed: FailedRead) -> io::Error
-        ensures marked { is_marked self.new ≡ true }
+        ensures set { error_flag self.new ≡ true }
         ensures reader { reader_of self.new ≡ reader_of self.old }
     {
-        self.mark = true;
+        self.error_flag = true;
         failed.error
     }
 
-    /// Turns the mark off.
+    /// Clears the error flag.
     pub fn clear(&mut self)
-        ensures unmarked { is_marked self.new ≡ false }
+        ensures cleared { error_flag self.new ≡ false }
         ensures reader { reader_of self.new ≡ reader_of self.old }
     {
-        self.mark = false;
+        self.error_flag = false;
     }
 
-    /// Returns whether the mark is on.
+    /// Returns whether the error flag is set.
     pub fn failed(&self) -> bool
-        ensures { result ≡ is_marked self.now }
+        ensures { result ≡ error_flag self.now }
     {
-        self.mark
+        self.error_flag
     }
 
     /// Returns the reader, in its current state.
@@ -103,11 +103,11 @@ impl<R: Read> Source<R> {
         &mut self.reader
     }
 
-    /// Returns the result of a hash that read from the reader itself. It turns the mark on if a
-    /// read failed.
+    /// Returns the result of a hash that read from the reader itself. It sets the flag if a read
+    /// failed.
     pub(crate) fn settle(&mut self, answer: Result<u64, Stop>) -> io::Result<u64>
         ensures reader { reader_of self.new ≡ reader_of self.old }
-        ensures answer { Settles answer result (is_marked self.old) (is_marked self.new) }
+        ensures answer { Settles answer result (error_flag self.old) (error_flag self.new) }
     {
         match answer {
             Ok(hash) => Ok(hash),

@@ -26,7 +26,7 @@ pub const DEFAULT_RAPID_SECRETS: RapidSecrets = RapidSecrets {
 };
 
 impl RapidSecrets {
-    ghost use Rattle.rapidhash_portable.specs.GlobalSecrets.{secrets_of};
+    ghost use Rattle.rapidhash_portable.specs.GlobalSecrets.{secrets_of_global};
     ghost use Rattle.rapidhash_portable.specs.SeedSource.{Draws};
 
     /// Returns the default seed and secrets, [`DEFAULT_RAPID_SECRETS`], by reference.
@@ -103,7 +103,7 @@ impl RapidSecrets {
     /// ```
     pub fn random(global: &GlobalSecrets, source: &mut SeedSource) -> Self
         ensures seed { Draws source.old source.new result.seed }
-        ensures secrets { result.secrets ≡ secrets_of global.now }
+        ensures secrets { result.secrets ≡ secrets_of_global global.now }
     {
         RapidSecrets {
             seed: source.next(),

@@ -23,15 +23,15 @@ pub struct GlobalSecrets {
 }
 
 impl GlobalSecrets {
-    ghost use Rattle.rapidhash_portable.specs.GlobalSecrets.{seed_of, secrets_of};
+    ghost use Rattle.rapidhash_portable.specs.GlobalSecrets.{seed_of, secrets_of_global};
     ghost use Rattle.rapidhash_portable.specs.Secrets.{IsGood, global_seed, made_secrets};
 
     /// Returns the seed and secrets of a random word. Two calls with the same word return the same
     /// value.
     pub fn new(random: u64) -> Self
         ensures seed { seed_of result ≡ global_seed random }
-        ensures secrets { secrets_of result ≡ made_secrets random }
-        ensures good { All IsGood (secrets_of result) }
+        ensures secrets { secrets_of_global result ≡ made_secrets random }
+        ensures good { All IsGood (secrets_of_global result) }
     {
         GlobalSecrets {
             seed: global_seed_of(random),
@@ -42,7 +42,7 @@ impl GlobalSecrets {
     /// Returns the seven secrets.
     #[inline]
     pub fn get(&self) -> &[u64; 7]
-        ensures { result.now ≡ secrets_of self.now }
+        ensures { result.now ≡ secrets_of_global self.now }
     {
         &self.secrets
     }

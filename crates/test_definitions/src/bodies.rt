@@ -6,7 +6,7 @@ use crate::by_words::value_of_words;
 use crate::hashes;
 use crate::words::absorbed_words;
 use rapidhash_portable::form::{Form, Options};
-use rapidhash_portable::memory::memory_hash;
+use rapidhash_portable::in_memory::core_hash;
 use rapidhash_portable::v1::{self, rapidhash_v1_inline};
 use rapidhash_portable::v2::rapidhash_v2_inline;
 use rapidhash_portable::v3::{
@@ -18,7 +18,7 @@ use std::alloc::{AllocError, Global};
 #[derive(Clone, Copy)]
 pub enum Version {
     V1,
-    /// V1 with its historical fault at 48 bytes.
+    /// V1 with the V1 bug.
     V1Bug,
     V2Minor0,
     V2Minor1,
@@ -170,9 +170,9 @@ pub fn memory_body<const COMPACT: bool>(options: Options, secrets: &Secrets, byt
     let seed = secrets.seven.seed;
     let words = &secrets.seven.secrets;
     match (options.avalanche, options.protected) {
-        (true, true) => memory_hash::<true, COMPACT, true>(bytes, seed, words),
-        (true, false) => memory_hash::<true, COMPACT, false>(bytes, seed, words),
-        (false, true) => memory_hash::<false, COMPACT, true>(bytes, seed, words),
-        (false, false) => memory_hash::<false, COMPACT, false>(bytes, seed, words),
+        (true, true) => core_hash::<true, COMPACT, true>(bytes, seed, words),
+        (true, false) => core_hash::<true, COMPACT, false>(bytes, seed, words),
+        (false, true) => core_hash::<false, COMPACT, true>(bytes, seed, words),
+        (false, false) => core_hash::<false, COMPACT, false>(bytes, seed, words),
     }
 }

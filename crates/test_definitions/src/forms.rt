@@ -4,7 +4,7 @@
 ghost use Rattle.std.specs.Prelude.{◌≡◌, ◌≤◌, ◌<◌, length};
 ghost use Rattle.rapidhash_portable.specs.Form.{IsForm, shape_of, start_seed, tail_seed, tail_places, masks};
 ghost use Rattle.rapidhash_portable.specs.Lanes.{row_bytes};
-ghost use Rattle.rapidhash_portable.specs.Memory.{memory_shape};
+ghost use Rattle.rapidhash_portable.specs.InMemory.{core_shape};
 ghost use Rattle.rapidhash_portable.specs.Words.{last_words, mixed_words, short_words, words_to_3};
 
 use crate::secrets::secret;
@@ -211,9 +211,9 @@ pub(crate) fn masks(form: Form, secrets: &[u64], n: usize, t: usize) -> (u64, u6
 }
 
 /// How the in-memory core cuts a message of `n` bytes.
-#[tactic(auto, using(crate::proofs::Cases::tests), unfolding(crate::proofs::Cases::memory_shape))]
-pub(crate) fn memory_shape(n: usize) -> Shape
-    ensures shape { result ≡ memory_shape n }
+#[tactic(auto, using(crate::proofs::Cases::tests), unfolding(crate::proofs::Cases::core_shape))]
+pub(crate) fn core_shape(n: usize) -> Shape
+    ensures shape { result ≡ core_shape n }
     ensures inside { row_bytes result ≤ n }
 {
     let (lanes, rows, threes) = if n > 400 {

@@ -6,7 +6,7 @@ ghost use Rattle.rapidhash.specs.Sponge.{Wide, block};
 ghost use Rattle.test_definitions.specs.Items.{item_of};
 
 use crate::blocks::{block, end_after, end_of, value_of, width_of};
-use crate::hashes::memory_hash;
+use crate::hashes::core_hash;
 use crate::secrets::secret;
 use crate::walk::mix;
 use rapidhash::laws::Num;
@@ -37,7 +37,7 @@ fn step(options: Options, secrets: &[u64], seed: u64, item: Absorbed<'_>) -> u64
     ensures { result ≡ step options secrets.now seed (item_of item.entry) }
 {
     match item {
-        Absorbed::Bytes(bytes) => memory_hash(options, bytes, seed, secrets),
+        Absorbed::Bytes(bytes) => core_hash(options, bytes, seed, secrets),
         Absorbed::Wide(value) => after_wide(options, secrets, seed, value),
         Absorbed::Number(number) => {
             let value = value_of(number);

@@ -5,9 +5,9 @@ ghost use Rattle.std.specs.Prelude.{◌≡◌, ◌/◌, length};
 ghost use Rattle.rapidhash_portable.specs.Form.{IsForm};
 ghost use Rattle.rapidhash_portable.specs.Hash.{portable_hash};
 ghost use Rattle.rapidhash_portable.specs.Lanes.{pair_of};
-ghost use Rattle.rapidhash_portable.specs.Memory.{memory_hash};
+ghost use Rattle.rapidhash_portable.specs.InMemory.{core_hash};
 
-use crate::forms::{last_words, memory_shape};
+use crate::forms::{core_shape, last_words};
 use crate::secrets::secret;
 use crate::walk::{Pairs, after_lanes, after_tail, close, value};
 use rapidhash_portable::form::{Form, Options};
@@ -45,12 +45,12 @@ pub fn portable_hash(form: Form, options: Options, seed: u64, secrets: &[u64], b
 }
 
 /// The value of the in-memory core.
-#[tactic(auto, unfolding(crate::proofs::Cases::memory_hash, crate::proofs::Cases::after_pairs))]
-pub fn memory_hash(options: Options, bytes: &[u8], seed: u64, secrets: &[u64]) -> u64
-    ensures { result ≡ memory_hash options bytes.now seed secrets.now }
+#[tactic(auto, unfolding(crate::proofs::Cases::core_hash, crate::proofs::Cases::after_pairs))]
+pub fn core_hash(options: Options, bytes: &[u8], seed: u64, secrets: &[u64]) -> u64
+    ensures { result ≡ core_hash options bytes.now seed secrets.now }
 {
     let (n, pairs) = (bytes.len(), Message(bytes));
-    let shape = memory_shape(n);
+    let shape = core_shape(n);
     let rows = shape.lanes * shape.rows + 3 * shape.threes;
     let (protected, t) = (options.protected, n - 16 * rows);
     let after_rows = after_lanes(protected, &pairs, shape, secrets, seed);

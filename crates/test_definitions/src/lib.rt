@@ -21,7 +21,7 @@ mod words;
 pub use by_words::value_of_words;
 pub use generator::{other_word_of, seed_at_moment, state_after, word_of};
 pub use hasher::{Absorbed, finished};
-pub use hashes::{memory_hash, portable_hash};
+pub use hashes::{core_hash, portable_hash};
 pub use secrets::{
     chained, cpp_seeded, global_seed, made_secrets, reseeded, seeded, source_answer, source_next,
     source_start,

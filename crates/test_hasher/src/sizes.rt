@@ -7,12 +7,12 @@ use rapidhash_portable::v3::DEFAULT_RAPID_SECRETS;
 use std::alloc::{AllocError, Global};
 use std::hash::Hasher;
 use std::test::Fail;
-use test_definitions::{cpp_seeded, memory_hash, mix};
+use test_definitions::{core_hash, cpp_seeded, mix};
 
 /// The definition's hash, for a hasher with the default seed after one write.
 fn defined(options: Options, bytes: &[u8]) -> u64 {
     let secrets = &DEFAULT_RAPID_SECRETS.secrets;
-    let seed = memory_hash(options, bytes, cpp_seeded(0, 2), secrets);
+    let seed = core_hash(options, bytes, cpp_seeded(0, 2), secrets);
     if options.avalanche {
         mix(options.protected, seed, secrets[1])
     } else {

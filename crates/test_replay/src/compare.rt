@@ -8,7 +8,7 @@ use crate::words::print_words;
 use anyhow::{Result, bail};
 use rapidhash_portable::form::Options;
 use test_definitions::bodies::{Secrets, Version, body, defined, memory_body};
-use test_definitions::memory_hash;
+use test_definitions::core_hash;
 
 /// Every choice of options.
 pub const OPTIONS: [Options; 4] = [
@@ -70,7 +70,7 @@ fn core_agrees(secrets: &Secrets, bytes: &[u8]) -> Tally {
         let x = &bytes[..n];
         for options in OPTIONS {
             tally.differs(of_bodies(
-                memory_hash(options, x, seven.seed, &seven.secrets),
+                core_hash(options, x, seven.seed, &seven.secrets),
                 memory_body::<false>(options, secrets, x),
                 Some(memory_body::<true>(options, secrets, x)),
             ));

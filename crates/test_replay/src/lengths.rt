@@ -17,7 +17,7 @@ struct Known {
 }
 
 /// What is known. Of V3 and a relative, the one with fewer lanes folds its first chunk at the first
-/// length at which they differ, and V1's historical fault shows only at 48 bytes. V2.0 begins its
+/// length at which they differ, and the V1 bug shows only at 48 bytes. V2.0 begins its
 /// rows at 57 bytes and not at 65, and V2.2 reads up to 3 bytes in another way and takes another
 /// secret for the third pair of a tail.
 const ALL: [Known; 5] = [

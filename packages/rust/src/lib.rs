@@ -7,7 +7,7 @@
 //!   Their values never change and are the same on every machine.
 //! - `RapidHashMap` and `RapidHashSet` are std's map and set with the fast hasher.
 //! - [`fast`], [`quality`], and [`inner`] hold the hasher of maps and the states that build it.
-//! - `reader` holds the reader with an error mark that the hashes of a reader use.
+//! - `reader` holds the reader with an error flag that the hashes of a reader use.
 //! - [`rng`] holds a small generator.
 //! - [`util`] holds the reads and the multiplication that the hashes use.
 //!
@@ -72,5 +72,5 @@ pub use collections::{HashMapExt, HashSetExt, RapidHashMap, RapidHashSet};
 use proved::known_length;
 #[cfg(feature = "std")]
 pub use proved::reader;
-use proved::{kernel, lanes, memory, secrets, seeding, tail, words};
+use proved::{in_memory, kernel, lanes, secrets, seeding, tail, words};
 pub use proved::{rng, util, v1, v2, v3};

@@ -1,5 +1,6 @@
 //! The proved sources without their contracts: `scripts/rust_crate` writes every file in `proved/`.
 
+pub mod in_memory;
 pub mod inner {
     pub mod hasher;
     pub mod sponge;
@@ -11,7 +12,6 @@ pub mod kernel;
 #[cfg(feature = "std")]
 pub mod known_length;
 pub mod lanes;
-pub mod memory;
 #[cfg(feature = "std")]
 pub mod reader;
 pub mod rng;

@@ -4,10 +4,10 @@ ghost use Rattle.std.specs.Prelude.{◌≡◌, ◌<◌, ◌^◌, []};
 ghost use Rattle.rapidhash_portable.specs.Secrets.{cpp_seeded, default_secrets, default_seed};
 ghost use Rattle.rapidhash.specs.Sponge.{Bytes, IsWidth, Num, Wide};
 ghost use Rattle.rapidhash.specs.Hasher.{step};
-ghost use Rattle.rapidhash.specs.RapidHasher.{Absorbs, Answers, Represents, answer_of, fresh, options_of, secrets_of, written};
+ghost use Rattle.rapidhash.specs.RapidHasher.{Absorbs, Answers, Represents, answer_of, fresh, options_of, secrets_of_hasher, written};
 
 use crate::inner::sponge::Sponge;
-use rapidhash_portable::memory::memory_hash;
+use rapidhash_portable::in_memory::core_hash;
 use rapidhash_portable::util::rapid_mix;
 use rapidhash_portable::v3::{DEFAULT_RAPID_SECRETS, RapidSecrets};
 use std::hash::Hasher;
@@ -64,7 +64,7 @@ impl<
     /// ```
     #[inline(always)]
     pub const fn new(seed: u64) -> Self
-        ensures secrets { secrets_of result ≡ default_secrets }
+        ensures secrets { secrets_of_hasher result ≡ default_secrets }
         ensures represents { Represents result (cpp_seeded seed 2) [] }
     {
         RapidHasher::from_parts(
@@ -76,7 +76,7 @@ impl<
     /// Returns a hasher of the default seed and the default secrets: [`RapidHasher::new`] of 0.
     #[inline(always)]
     pub const fn default_const() -> Self
-        ensures secrets { secrets_of result ≡ default_secrets }
+        ensures secrets { secrets_of_hasher result ≡ default_secrets }
         ensures represents { Represents result default_seed [] }
     {
         RapidHasher::new(0)
@@ -99,7 +99,7 @@ impl<
     #[inline(always)]
     fn mixed(&self, wide: u128) -> u64
         ensures { result
-            ≡ step (options_of self.now) (secrets_of self.now) self.now.seed (Wide wide) }
+            ≡ step (options_of self.now) (secrets_of_hasher self.now) self.now.seed (Wide wide) }
     {
         let low = (wide % 0x1_0000_0000_0000_0000) as u64;
         let high = (wide / 0x1_0000_0000_0000_0000) as u64;
@@ -145,7 +145,7 @@ impl<
         ensures value { self.new ≡ written self.old bytes.now }
         ensures item { Absorbs self.old self.new (Bytes bytes.now) }
     {
-        self.seed = memory_hash::<AVALANCHE, COMPACT, PROTECTED>(bytes, self.seed, self.secrets);
+        self.seed = core_hash::<AVALANCHE, COMPACT, PROTECTED>(bytes, self.seed, self.secrets);
     }
 
     /// Returns the hash of what was absorbed so far. It changes nothing: further writes may follow.
@@ -172,7 +172,7 @@ impl<
     const COMPACT: bool,
     const PROTECTED: bool,
 > Default for RapidHasher<'s, AVALANCHE, SPONGE, COMPACT, PROTECTED> {
-    ghost is_default = { λ hasher. (secrets_of hasher ≡ default_secrets)
+    ghost is_default = { λ hasher. (secrets_of_hasher hasher ≡ default_secrets)
         × Represents hasher default_seed [] };
 
     /// Returns [`RapidHasher::default_const`].

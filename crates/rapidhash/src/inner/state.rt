@@ -106,7 +106,7 @@ impl<
     const COMPACT: bool,
     const PROTECTED: bool,
 > BuildHasher for State<'s, K, AVALANCHE, SPONGE, COMPACT, PROTECTED> {
-    ghost use Rattle.rapidhash.specs.RapidHasher.{Represents, secrets_of};
+    ghost use Rattle.rapidhash.specs.RapidHasher.{Represents, secrets_of_hasher};
     ghost use Rattle.rapidhash.specs.States.{built_by, secrets_of_state, seed_of_state};
 
     type Hasher = RapidHasher<'s, AVALANCHE, SPONGE, COMPACT, PROTECTED>;
@@ -117,7 +117,7 @@ impl<
     #[inline(always)]
     fn build_hasher(&self) -> RapidHasher<'s, AVALANCHE, SPONGE, COMPACT, PROTECTED>
         ensures value { result ≡ built_by self.now }
-        ensures secrets { secrets_of result ≡ secrets_of_state self.now }
+        ensures secrets { secrets_of_hasher result ≡ secrets_of_state self.now }
         ensures represents { Represents result (seed_of_state self.now) [] }
     {
         self.seeded.hasher()

@@ -28,10 +28,10 @@ pub fn nano_is_v3(bytes: &[u8]) -> bool
     bytes.len() <= 48
 }
 
-/// Returns the same as [`micro_is_v3`] for V1 with its historical fault and without it: any length
+/// Returns the same as [`micro_is_v3`] for V1 with and without the V1 bug: any length
 /// except 48 bytes.
 #[tactic(auto, using(crate::proofs::AgreementLemmas::same_v1))]
-pub fn v1_is_v1_with_its_fault(bytes: &[u8]) -> bool
+pub fn v1_is_v1_with_its_bug(bytes: &[u8]) -> bool
     ensures lengths { IsTrue result ↔ length bytes.now ≢ 48 }
     ensures hashes { IsTrue result → SameHash (V1 false) (V1 true) bytes.now }
 {

@@ -4,8 +4,8 @@ ghost use Rattle.std.specs.Prelude.{◌<◌, false, true};
 ghost use Rattle.rapidhash_portable.specs.declared.form.Form.TheVariants.{V1};
 ghost use Rattle.rapidhash_portable.specs.Hash.{default_hash, portable_hash, seeded_hash_v1};
 ghost use Rattle.rapidhash_portable.specs.Form.{options, standard};
-ghost use Rattle.rapidhash_portable.specs.Reading.{HashesNext, MarksFailures};
-ghost use Rattle.rapidhash_portable.specs.Source.{is_failed, is_marked, reader_of};
+ghost use Rattle.rapidhash_portable.specs.Reading.{FlagsFailures, HashesNext};
+ghost use Rattle.rapidhash_portable.specs.Source.{error_flag, is_failed, reader_of};
 
 use super::RapidSecrets;
 use crate::kernel::v1::{close_tail, hash};
@@ -34,7 +34,7 @@ use std::io::{ErrorKind, Read};
 ///
 /// # Errors
 ///
-/// If the source is marked after the call, the error is the reader's own, also for an interrupted
+/// If the error flag is set after the call, the error is the reader's own, also for an interrupted
 /// read. Otherwise it is `ErrorKind::UnexpectedEof`: the reader had fewer bytes, and all of them
 /// were read.
 #[tactic(auto, using(crate::proofs::Cases::of_reader))]
@@ -44,9 +44,9 @@ pub fn rapidhash_v1_source<R: Read, const PROTECTED: bool>(
     secrets: &RapidSecrets,
 ) -> io::Result<u64>
     ensures next { HashesNext (R.remaining (reader_of source.old))
-        (R.remaining (reader_of source.new)) len result (λ _. is_marked source.new)
+        (R.remaining (reader_of source.new)) len result (λ _. error_flag source.new)
         (seeded_hash_v1 false (options true PROTECTED) secrets.now) }
-    ensures mark { MarksFailures result (is_marked source.new) ErrorKind.UnexpectedEof }
+    ensures flag { FlagsFailures result (error_flag source.new) ErrorKind.UnexpectedEof }
 {
     source.clear();
     let (seed, s) = (secrets.seed, &secrets.secrets);

@@ -7,10 +7,10 @@ ghost use Rattle.std.specs.Prelude.{◌<◌, ◌^◌, [], false, true};
 ghost use Rattle.rapidhash_portable.specs.declared.form.Form.TheVariants.{V3};
 ghost use Rattle.rapidhash_portable.specs.Form.{options, standard, v3};
 ghost use Rattle.rapidhash_portable.specs.Lanes.{IsLaneCount};
-ghost use Rattle.rapidhash_portable.specs.Reading.{HashesAll, HashesKnown, MarksFailures};
+ghost use Rattle.rapidhash_portable.specs.Reading.{FlagsFailures, HashesAll, HashesKnown};
 ghost use Rattle.rapidhash_portable.specs.Hash.{default_hash, seeded_hash};
-ghost use Rattle.rapidhash_portable.specs.Source.{is_marked, reader_of};
-ghost use Rattle.rapidhash_portable.specs.Stream.{StreamRepresents, secrets_of};
+ghost use Rattle.rapidhash_portable.specs.Source.{error_flag, reader_of};
+ghost use Rattle.rapidhash_portable.specs.Stream.{StreamRepresents, secrets_of_stream};
 
 use super::stream::RapidStreamHasherLanes;
 use crate::reader::Source;
@@ -36,7 +36,7 @@ const BUFFER: usize = 8192;
 ///
 /// # Errors
 ///
-/// If the source is marked after the call, the error is the reader's own, also for an interrupted
+/// If the error flag is set after the call, the error is the reader's own, also for an interrupted
 /// read. Otherwise it is `ErrorKind::Other`: 2^64 - 1 reads returned bytes, and the hash gave up.
 /// After either error the bytes that were read are lost.
 pub fn rapidhash_v3_source<R: Read, const PROTECTED: bool>(
@@ -45,8 +45,8 @@ pub fn rapidhash_v3_source<R: Read, const PROTECTED: bool>(
 ) -> io::Result<u64>
     ensures all { HashesAll
         (R.remaining (reader_of source.old)) (R.remaining (reader_of source.new)) result
-        (λ _. is_marked source.new) (seeded_hash v3 (options true PROTECTED) secrets.now) }
-    ensures mark { MarksFailures result (is_marked source.new) ErrorKind.Other }
+        (λ _. error_flag source.new) (seeded_hash v3 (options true PROTECTED) secrets.now) }
+    ensures flag { FlagsFailures result (error_flag source.new) ErrorKind.Other }
 {
     rapidhash_v3_source_lanes::<R, 7, BUFFER, PROTECTED>(source, secrets)
 }
@@ -68,8 +68,8 @@ pub fn rapidhash_v3_source_sized<R: Read, const SIZE: usize, const PROTECTED: bo
     requires { 0 < SIZE }
     ensures all { HashesAll
         (R.remaining (reader_of source.old)) (R.remaining (reader_of source.new)) result
-        (λ _. is_marked source.new) (seeded_hash v3 (options true PROTECTED) secrets.now) }
-    ensures mark { MarksFailures result (is_marked source.new) ErrorKind.Other }
+        (λ _. error_flag source.new) (seeded_hash v3 (options true PROTECTED) secrets.now) }
+    ensures flag { FlagsFailures result (error_flag source.new) ErrorKind.Other }
 {
     rapidhash_v3_source_lanes::<R, 7, SIZE, PROTECTED>(source, secrets)
 }
@@ -104,8 +104,8 @@ pub fn rapidhash_v3_source_lanes<
     requires room { 0 < SIZE }
     ensures all { HashesAll
         (R.remaining (reader_of source.old)) (R.remaining (reader_of source.new)) result
-        (λ _. is_marked source.new) (seeded_hash (V3 LANES) (options true PROTECTED) secrets.now) }
-    ensures mark { MarksFailures result (is_marked source.new) ErrorKind.Other }
+        (λ _. error_flag source.new) (seeded_hash (V3 LANES) (options true PROTECTED) secrets.now) }
+    ensures flag { FlagsFailures result (error_flag source.new) ErrorKind.Other }
 {
     prove!(SIZE > 0, "SIZE must be at least 1");
     let hasher = RapidStreamHasherLanes::new(secrets);
@@ -130,9 +130,9 @@ fn read_all<R: Read, const LANES: usize, const SIZE: usize, const PROTECTED: boo
     requires few { SIZE < 2 ^ 63 }
     ensures all { HashesAll
         (R.remaining (reader_of source.old)) (R.remaining (reader_of source.new)) result
-        (λ _. is_marked source.new)
-        (seeded_hash (V3 LANES) (options true PROTECTED) (secrets_of hasher.entry)) }
-    ensures mark { MarksFailures result (is_marked source.new) ErrorKind.Other }
+        (λ _. error_flag source.new)
+        (seeded_hash (V3 LANES) (options true PROTECTED) (secrets_of_stream hasher.entry)) }
+    ensures flag { FlagsFailures result (error_flag source.new) ErrorKind.Other }
 {
     source.clear();
     let mut room = [0u8; SIZE];

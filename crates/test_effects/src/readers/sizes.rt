@@ -31,10 +31,10 @@ fn lengths_agreed<const SIZE: usize>(bytes: &[u8], secrets: &RapidSecrets) -> io
             &mut reader,
             secrets,
         )?;
-        let is_marked = source.failed();
+        let failed = source.failed();
         let longest = source.into_inner().longest;
         let sizes = [longest, reader.longest];
-        if [of_source, of_file] == [known; 2] && sizes == [SIZE; 2] && !is_marked {
+        if [of_source, of_file] == [known; 2] && sizes == [SIZE; 2] && !failed {
             agreed = agreed.saturating_add(1);
         }
     }

@@ -1,8 +1,6 @@
 //! Two forms agree on messages of the lengths that the laws name.
 
-use rapidhash::laws::{
-    micro_is_v3, nano_is_v3, v1_is_v1_with_its_fault, v2_0_is_v2_1, v2_1_is_v2_2,
-};
+use rapidhash::laws::{micro_is_v3, nano_is_v3, v1_is_v1_with_its_bug, v2_0_is_v2_1, v2_1_is_v2_2};
 use rapidhash::{v1, v2, v3};
 
 /// What the laws return for a message.
@@ -10,7 +8,7 @@ fn answers(x: &[u8]) -> [bool; 5] {
     [
         micro_is_v3(x),
         nano_is_v3(x),
-        v1_is_v1_with_its_fault(x),
+        v1_is_v1_with_its_bug(x),
         v2_0_is_v2_1(x),
         v2_1_is_v2_2(x),
     ]

@@ -34,7 +34,7 @@ fn a_byte_of_seventeen(rt: HostRuntime) {
     assert!(rt; answers(&x, &[7u8; 17]) == [true; 5]);
 }
 
-// With V1's historical fault 48 bytes are a row of three lanes, without it they are a tail.
+// With the V1 bug 48 bytes are a row of three lanes, without it they are a tail.
 #[test]
 fn a_byte_of_forty_eight(rt: HostRuntime) {
     let x = [7u8; 48];

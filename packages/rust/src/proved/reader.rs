@@ -1,17 +1,17 @@
 // Made by scripts/rust_crate from crates/rapidhash_portable/src/reader.rt: change that file.
 
-//! A reader with an error mark, which distinguishes the reader's own errors from the other errors
+//! A reader with an error flag, which distinguishes the reader's own errors from the other errors
 //! of a hash.
 //!
-//! The mark is on only if a read failed. Privacy ensures this: only `read_once` makes a
-//! `FailedRead`, and only [`Source`] turns its mark on, in `read` or for a `FailedRead`.
+//! The flag is set only if a read failed. Privacy ensures this: only `read_once` makes a
+//! `FailedRead`, and only [`Source`] sets its flag, in `read` or for a `FailedRead`.
 
 use std::io;
 use std::io::{ErrorKind, Read};
 
-/// A reader, and a mark that is on if a read failed.
+/// A reader with an error flag, which is set if a read failed.
 ///
-/// Each hash over a source begins by clearing the mark. So after it the mark shows whether a read
+/// Each hash over a source begins by clearing the flag. So after it the flag shows whether a read
 /// of that call failed.
 ///
 /// ```
@@ -25,16 +25,16 @@ use std::io::{ErrorKind, Read};
 #[derive(Clone, Debug)]
 pub struct Source<R: Read> {
     reader: R,
-    mark: bool,
+    error_flag: bool,
 }
 
 impl<R: Read> Source<R> {
-    /// Returns a source over a reader, with the mark off. It reads nothing.
+    /// Returns a source over a reader, with the flag cleared. It reads nothing.
     #[must_use]
     pub fn new(reader: R) -> Self {
         Source {
             reader,
-            mark: false,
+            error_flag: false,
         }
     }
 
@@ -42,7 +42,7 @@ impl<R: Read> Source<R> {
     ///
     /// # Errors
     ///
-    /// The reader's own error. Each turns the mark on, including that of an interrupted read.
+    /// The reader's own error. Each sets the flag, including that of an interrupted read.
     pub fn read(&mut self, buf: &mut [u8]) -> io::Result<usize> {
         match read_once(&mut self.reader, buf) {
             Ok(n) => Ok(n),
@@ -50,21 +50,21 @@ impl<R: Read> Source<R> {
         }
     }
 
-    /// Turns the mark on for a read that failed, and returns the reader's own error.
+    /// Sets the flag for a failed read and returns the reader's own error.
     fn fail(&mut self, failed: FailedRead) -> io::Error {
-        self.mark = true;
+        self.error_flag = true;
         failed.error
     }
 
-    /// Turns the mark off.
+    /// Clears the error flag.
     pub fn clear(&mut self) {
-        self.mark = false;
+        self.error_flag = false;
     }
 
-    /// Returns whether the mark is on.
+    /// Returns whether the error flag is set.
     #[must_use]
     pub fn failed(&self) -> bool {
-        self.mark
+        self.error_flag
     }
 
     /// Returns the reader, in its current state.
@@ -78,8 +78,8 @@ impl<R: Read> Source<R> {
         &mut self.reader
     }
 
-    /// Returns the result of a hash that read from the reader itself. It turns the mark on if a
-    /// read failed.
+    /// Returns the result of a hash that read from the reader itself. It sets the flag if a read
+    /// failed.
     pub(crate) fn settle(&mut self, answer: Result<u64, Stop>) -> io::Result<u64> {
         match answer {
             Ok(hash) => Ok(hash),

@@ -49,7 +49,7 @@ fn the_minors_differ_at_few_lengths() {
     }
 }
 
-/// V1 with its historical fault differs only at 48 bytes.
+/// V1 with the V1 bug differs only at 48 bytes.
 #[test]
 fn the_fault_of_v1_shows_at_48_bytes() {
     let bytes = drawn();

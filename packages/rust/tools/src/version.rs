@@ -18,7 +18,7 @@ pub enum Minor {
 /// A version of the portable hash, as the arguments select it.
 #[derive(Debug, Clone, Copy, PartialEq, Eq)]
 pub enum RapidhashVersion {
-    /// V1, without its historical fault.
+    /// V1, without the V1 bug.
     V1 {
         /// Whether each product is mixed with its factors.
         protected: bool,

@@ -2,7 +2,7 @@ use Rattle.std.proofs.Common.{◌≡◌, ◌+◌, ◌++◌, ◌∷◌, [], not, 
 use Rattle.rapidhash_portable.specs.declared.form.Form.TheVariants.{V3}
 use Rattle.rapidhash_portable.specs.Form.{options}
 use Rattle.rapidhash_portable.specs.Hash.{seeded_hash}
-use Rattle.rapidhash_portable.specs.Stream.{StreamRepresents, secrets_of}
+use Rattle.rapidhash_portable.specs.Stream.{StreamRepresents, secrets_of_stream}
 use Rattle.rapidhash.specs.Replay.{finishes_from}
 use Rattle.rapidhash.proofs.ReplayLemmas.{finishes_from-step}
 use Rattle.rapidhash.proofs.laws.replay_lanes.Goals as goal
@@ -24,7 +24,7 @@ loop-op-preserved g c =
       | in-Write w ↦
           let y = x ++ w.in-Write.piece.now in
           record {
-            kept = ap secrets_of w.hasher-is ∙ w.write.ensures.secrets ∙ kept;
+            kept = ap secrets_of_stream w.hasher-is ∙ w.write.ensures.secrets ∙ kept;
             message = (
               y,
               subst (λ h. StreamRepresents P h y) (sym w.hasher-is) (w.write.ensures.adds x message.1),
@@ -38,7 +38,7 @@ loop-op-preserved g c =
           let hash = w.finish.ensures x message.1 ∙ ap (λ s. seeded_hash (V3 g.row.LANES) chosen s x) kept in
           let pushed : w.push.new.self.items ≡ items ++ w.finish.result ∷ [] = rw w.in_ok-push-in-Finish.was at w.push.ensures.items in
           record {
-            kept = ap secrets_of w.hasher-is ∙ kept;
+            kept = ap secrets_of_stream w.hasher-is ∙ kept;
             message = (
               x,
               subst (λ h. StreamRepresents P h x) (sym w.hasher-is) message.1,
@@ -52,7 +52,7 @@ loop-op-preserved g c =
           }
       | in-Reset w ↦
           record {
-            kept = ap secrets_of w.hasher-is ∙ w.reset.ensures.secrets ∙ kept;
+            kept = ap secrets_of_stream w.hasher-is ∙ w.reset.ensures.secrets ∙ kept;
             message = (
               [],
               subst (λ h. StreamRepresents P h []) (sym w.hasher-is) w.reset.ensures.empty,

@@ -38,13 +38,13 @@ impl<
     const PROTECTED: bool,
 > State<'s, Global, AVALANCHE, SPONGE, COMPACT, PROTECTED> {
     ghost use Rattle.rapidhash.specs.States.{secrets_of_state, seed_of_state};
-    ghost use Rattle.rapidhash_portable.specs.GlobalSecrets.{secrets_of, seed_of};
+    ghost use Rattle.rapidhash_portable.specs.GlobalSecrets.{secrets_of_global, seed_of};
 
     /// Returns a state with the seed and the secrets of `secrets`.
     #[inline(always)]
     pub fn new(secrets: &'s GlobalSecrets) -> Self
         ensures seed { seed_of_state result ≡ seed_of secrets.now }
-        ensures secrets { secrets_of_state result ≡ secrets_of secrets.now }
+        ensures secrets { secrets_of_state result ≡ secrets_of_global secrets.now }
     {
         State::of(secrets.get_global_seed(), secrets.get())
     }

@@ -39,14 +39,14 @@ impl<
     const PROTECTED: bool,
 > State<'s, Random, AVALANCHE, SPONGE, COMPACT, PROTECTED> {
     ghost use Rattle.rapidhash.specs.States.{secrets_of_state, seed_of_state};
-    ghost use Rattle.rapidhash_portable.specs.GlobalSecrets.{secrets_of};
+    ghost use Rattle.rapidhash_portable.specs.GlobalSecrets.{secrets_of_global};
     ghost use Rattle.rapidhash_portable.specs.SeedSource.{Draws};
 
     /// Returns a state with the next seed of `source` and the secrets of `secrets`.
     #[inline(always)]
     pub fn new(secrets: &'s GlobalSecrets, source: &mut SeedSource) -> Self
         ensures seed { Draws source.old source.new (seed_of_state result) }
-        ensures secrets { secrets_of_state result ≡ secrets_of secrets.now }
+        ensures secrets { secrets_of_state result ≡ secrets_of_global secrets.now }
     {
         State::of(source.next(), secrets.get())
     }

@@ -44,7 +44,7 @@ impl<
     const PROTECTED: bool,
 > State<'s, Seedable, AVALANCHE, SPONGE, COMPACT, PROTECTED> {
     ghost use Rattle.rapidhash.specs.States.{secrets_of_state, seed_of_state};
-    ghost use Rattle.rapidhash_portable.specs.GlobalSecrets.{secrets_of};
+    ghost use Rattle.rapidhash_portable.specs.GlobalSecrets.{secrets_of_global};
     ghost use Rattle.rapidhash_portable.specs.SeedSource.{Draws};
 
     /// Returns a state with the secrets of `secrets`, and with the seed that
@@ -52,7 +52,7 @@ impl<
     #[inline(always)]
     pub fn new(seed: u64, secrets: &'s GlobalSecrets) -> Self
         ensures seed { seed_of_state result ≡ cpp_seeded seed 2 }
-        ensures secrets { secrets_of_state result ≡ secrets_of secrets.now }
+        ensures secrets { secrets_of_state result ≡ secrets_of_global secrets.now }
     {
         State::custom(RapidSecrets::seed_cpp(seed).seed, secrets.get())
     }
@@ -61,7 +61,7 @@ impl<
     #[inline(always)]
     pub fn random(secrets: &'s GlobalSecrets, source: &mut SeedSource) -> Self
         ensures seed { Draws source.old source.new (seed_of_state result) }
-        ensures secrets { secrets_of_state result ≡ secrets_of secrets.now }
+        ensures secrets { secrets_of_state result ≡ secrets_of_global secrets.now }
     {
         State::custom(source.next(), secrets.get())
     }

@@ -3,7 +3,7 @@
 //! The hasher.
 
 use crate::inner::sponge::Sponge;
-use rapidhash_portable::memory::memory_hash;
+use rapidhash_portable::in_memory::core_hash;
 use rapidhash_portable::util::rapid_mix;
 use rapidhash_portable::v3::{DEFAULT_RAPID_SECRETS, RapidSecrets};
 use std::hash::Hasher;
@@ -113,7 +113,7 @@ impl<'s, const AVALANCHE: bool, const SPONGE: bool, const COMPACT: bool, const P
     /// Absorbs bytes in one step. The integers that wait in the sponge stay there.
     #[inline(always)]
     fn write(&mut self, bytes: &[u8]) {
-        self.seed = memory_hash::<AVALANCHE, COMPACT, PROTECTED>(bytes, self.seed, self.secrets);
+        self.seed = core_hash::<AVALANCHE, COMPACT, PROTECTED>(bytes, self.seed, self.secrets);
     }
 
     /// Returns the hash of what was absorbed so far. It changes nothing: further writes may follow.

@@ -29,7 +29,7 @@ use std::io::Read;
 ///
 /// # Errors
 ///
-/// If the source is marked after the call, the error is the reader's own, also for an interrupted
+/// If the error flag is set after the call, the error is the reader's own, also for an interrupted
 /// read. Otherwise it is `ErrorKind::UnexpectedEof`: the reader had fewer bytes, and all of them
 /// were read.
 ///

@@ -29,7 +29,7 @@ const BUFFER: usize = 8192;
 ///
 /// # Errors
 ///
-/// If the source is marked after the call, the error is the reader's own, also for an interrupted
+/// If the error flag is set after the call, the error is the reader's own, also for an interrupted
 /// read. Otherwise it is `ErrorKind::Other`: 2^64 - 1 reads returned bytes, and the hash gave up.
 /// After either error the bytes that were read are lost.
 pub fn rapidhash_v3_source<R: Read, const PROTECTED: bool>(

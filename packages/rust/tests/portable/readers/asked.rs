@@ -9,11 +9,11 @@ use rapidhash::{v1, v2};
 use std::io;
 use std::io::ErrorKind;
 
-/// The result of a call, whether the mark was on after it, and how many bytes were left.
+/// The result of a call, whether the error flag was set after it, and how many bytes were left.
 #[derive(Debug, Clone, Copy, PartialEq, Eq)]
 pub(crate) struct Asked {
     answer: Result<u64, ErrorKind>,
-    marked: bool,
+    flag: bool,
     left: usize,
 }
 
@@ -21,7 +21,7 @@ pub(crate) struct Asked {
 pub(crate) fn gave(hash: u64, left: usize) -> Asked {
     Asked {
         answer: Ok(hash),
-        marked: false,
+        flag: false,
         left,
     }
 }
@@ -30,7 +30,7 @@ pub(crate) fn gave(hash: u64, left: usize) -> Asked {
 pub(crate) fn fell_short() -> Asked {
     Asked {
         answer: Err(ErrorKind::UnexpectedEof),
-        marked: false,
+        flag: false,
         left: 0,
     }
 }
@@ -39,7 +39,7 @@ pub(crate) fn fell_short() -> Asked {
 pub(crate) fn failed(kind: ErrorKind, left: usize) -> Asked {
     Asked {
         answer: Err(kind),
-        marked: true,
+        flag: true,
         left,
     }
 }
@@ -54,10 +54,10 @@ pub(crate) fn sound(bytes: &[u8]) -> CountingReader<'_> {
     drip(bytes, 0, ErrorKind::Other)
 }
 
-fn told(answer: io::Result<u64>, marked: bool, left: usize) -> Asked {
+fn told(answer: io::Result<u64>, flag: bool, left: usize) -> Asked {
     Asked {
         answer: answer.map_err(|error| error.kind()),
-        marked,
+        flag,
         left,
     }
 }
@@ -70,8 +70,8 @@ pub(crate) fn v1_of(reader: CountingReader<'_>, len: u64) -> Asked {
         len,
         &v1::DEFAULT_RAPID_SECRETS,
     );
-    let marked = source.failed();
-    told(answer, marked, source.into_inner().left.len())
+    let flag = source.failed();
+    told(answer, flag, source.into_inner().left.len())
 }
 
 /// V1 of `len` bytes of a slice as a reader, which returns all that it is asked for.
@@ -79,8 +79,8 @@ pub(crate) fn v1_of_slice(bytes: &[u8], len: u64) -> Asked {
     let mut source = Source::new(bytes);
     let answer =
         v1::rapidhash_v1_source::<&[u8], false>(&mut source, len, &v1::DEFAULT_RAPID_SECRETS);
-    let marked = source.failed();
-    told(answer, marked, source.into_inner().len())
+    let flag = source.failed();
+    told(answer, flag, source.into_inner().len())
 }
 
 /// V1 of `len` bytes by each file form with default secrets, over readers of one byte a read that
@@ -108,8 +108,8 @@ pub(crate) fn v2_of<const MINOR: u8>(reader: CountingReader<'_>, len: u64) -> As
         len,
         &v2::DEFAULT_RAPID_SECRETS,
     );
-    let marked = source.failed();
-    told(answer, marked, source.into_inner().left.len())
+    let flag = source.failed();
+    told(answer, flag, source.into_inner().left.len())
 }
 
 /// V2 of `len` bytes of a slice as a reader, which returns all that it is asked for.
@@ -120,8 +120,8 @@ pub(crate) fn v2_of_slice<const MINOR: u8>(bytes: &[u8], len: u64) -> Asked {
         len,
         &v2::DEFAULT_RAPID_SECRETS,
     );
-    let marked = source.failed();
-    told(answer, marked, source.into_inner().len())
+    let flag = source.failed();
+    told(answer, flag, source.into_inner().len())
 }
 
 /// V2 of `len` bytes by the file form with all options, over a reader of one byte a read.

@@ -30,7 +30,7 @@ fn each_read_may_fail() {
     }
 }
 
-// The third read fails and consumes no byte: two are gone, and the next call clears the mark.
+// The third read fails and consumes no byte: two are gone, and the next call clears the flag.
 #[test]
 fn the_next_call_goes_on_behind_a_fault() -> Result<(), Fail> {
     let secrets = &DEFAULT_RAPID_SECRETS;
@@ -44,10 +44,10 @@ fn the_next_call_goes_on_behind_a_fault() -> Result<(), Fail> {
     Ok(())
 }
 
-/// A source returns what its reader returns. A failed read turns its mark on, and the mark stays
-/// until it is cleared.
+/// A source returns what its reader returns. A failed read sets its error flag, which stays
+/// set until it is cleared.
 #[test]
-fn a_source_marks_a_failed_read() {
+fn a_failed_read_sets_the_flag() {
     let mut source = Source::new(drip(SOMETHING, 2, ErrorKind::TimedOut));
     let mut buffer = [0; 4];
     assert!(source.read(&mut buffer).ok() == Some(1));
@@ -65,9 +65,9 @@ fn a_source_marks_a_failed_read() {
 }
 
 /// V3 of ten bytes that come one a read, over a source: if one of the eleven reads fails, its error
-/// is returned and the source is marked. No twelfth read is made. The number is the Rust crate's.
+/// is returned and the flag is set. No twelfth read is made. The number is the Rust crate's.
 #[test]
-fn a_source_is_marked_by_each_read() {
+fn each_failed_read_sets_the_flag() {
     for fails_at in 1..13u64 {
         let reader = drip(SOMETHING, fails_at, ErrorKind::BrokenPipe);
         let mut source = Source::new(reader);

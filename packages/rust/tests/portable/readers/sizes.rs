@@ -25,10 +25,10 @@ fn lengths_agreed<const SIZE: usize>(bytes: &[u8], secrets: &RapidSecrets) -> io
         let mut reader = CountingReader::new(x, usize::MAX);
         let of_file =
             rapidhash_v3_file_sized::<&mut CountingReader, SIZE, false>(&mut reader, secrets)?;
-        let is_marked = source.failed();
+        let failed = source.failed();
         let longest = source.into_inner().longest;
         let sizes = [longest, reader.longest];
-        if [of_source, of_file] == [known; 2] && sizes == [SIZE; 2] && !is_marked {
+        if [of_source, of_file] == [known; 2] && sizes == [SIZE; 2] && !failed {
             agreed = agreed.saturating_add(1);
         }
     }

@@ -1,7 +1,13 @@
-// Made by scripts/rust_crate from crates/rapidhash_portable/src/memory.rt: change that file.
-
 //! The core of the in-memory hasher: one value of a byte list, a seed and secrets, over the same
-//! lanes and tails as the portable hashes. It is private.
+//! lanes and tails as the portable hashes. It is public because the crate `rapidhash` needs it, and
+//! the language has no visibility for just one other crate; `rapidhash` does not re-export it.
+
+ghost use Rattle.std.specs.Prelude.{◌≡◌, ◌≤◌, ◌<◌, ℕ, length, drop};
+ghost use Rattle.rapidhash_portable.specs.declared.form.Form.TheVariants.{V3};
+ghost use Rattle.rapidhash_portable.specs.Folded.{AfterRows};
+ghost use Rattle.rapidhash_portable.specs.InMemory.{after_pairs, core_longest_narrow, core_longest_rowless, core_hash, core_shape};
+ghost use Rattle.rapidhash_portable.specs.Form.{options};
+ghost use Rattle.rapidhash_portable.specs.Words.{last_words, short_words};
 
 use crate::lanes::{mixed_lanes, wide_lanes};
 use crate::tail::{close, fold_tail};
@@ -18,11 +24,13 @@ const LONGEST_NARROW: usize = 400;
 /// once more, `PROTECTED` XORs the factors into each product, and `COMPACT` changes the code but
 /// no value.
 #[inline(always)]
-pub fn memory_hash<const AVALANCHE: bool, const COMPACT: bool, const PROTECTED: bool>(
+pub fn core_hash<const AVALANCHE: bool, const COMPACT: bool, const PROTECTED: bool>(
     bytes: &[u8],
     seed: u64,
     secrets: &[u64; 7],
-) -> u64 {
+) -> u64
+    ensures { result ≡ core_hash (options AVALANCHE PROTECTED) bytes.now seed secrets.now }
+{
     let n = bytes.len();
     if n > 16 {
         return long::<AVALANCHE, COMPACT, PROTECTED>(bytes, seed, secrets);
@@ -35,11 +43,15 @@ pub fn memory_hash<const AVALANCHE: bool, const COMPACT: bool, const PROTECTED: 
 /// The rows are out of line again, so that a message without a row sets up no lanes.
 #[cold]
 #[inline(never)]
+#[tactic(auto, using(crate::proofs::Cases::no_rows), unfolding(crate::specs::InMemory::core_shape))]
 fn long<const AVALANCHE: bool, const COMPACT: bool, const PROTECTED: bool>(
     bytes: &[u8],
     seed: u64,
     secrets: &[u64; 7],
-) -> u64 {
+) -> u64
+    requires { 16 < length bytes.now }
+    ensures { result ≡ core_hash (options AVALANCHE PROTECTED) bytes.now seed secrets.now }
+{
     if bytes.len() > LONGEST_ROWLESS {
         return with_rows::<AVALANCHE, COMPACT, PROTECTED>(bytes, seed, secrets);
     }
@@ -49,11 +61,15 @@ fn long<const AVALANCHE: bool, const COMPACT: bool, const PROTECTED: bool>(
 /// Returns the value of a message with a row. Rows of three pairs alone are at most eight, too few
 /// to fold two at a time.
 #[inline(never)]
+#[tactic(auto, using(crate::proofs::Cases::tests), unfolding(crate::specs::InMemory::core_shape))]
 fn with_rows<const AVALANCHE: bool, const COMPACT: bool, const PROTECTED: bool>(
     bytes: &[u8],
     seed: u64,
     secrets: &[u64; 7],
-) -> u64 {
+) -> u64
+    requires { core_longest_rowless < length bytes.now }
+    ensures { result ≡ core_hash (options AVALANCHE PROTECTED) bytes.now seed secrets.now }
+{
     if bytes.len() > LONGEST_NARROW {
         return with_wide_rows::<AVALANCHE, COMPACT, PROTECTED>(bytes, seed, secrets);
     }
@@ -63,35 +79,52 @@ fn with_rows<const AVALANCHE: bool, const COMPACT: bool, const PROTECTED: bool>(
 
 /// Returns the value of a longer message, with rows of seven pairs and then of three.
 #[inline(never)]
+#[tactic(auto, using(crate::proofs::Cases::tests), unfolding(crate::specs::InMemory::core_shape))]
 fn with_wide_rows<const AVALANCHE: bool, const COMPACT: bool, const PROTECTED: bool>(
     bytes: &[u8],
     seed: u64,
     secrets: &[u64; 7],
-) -> u64 {
+) -> u64
+    requires { core_longest_narrow < length bytes.now }
+    ensures { result ≡ core_hash (options AVALANCHE PROTECTED) bytes.now seed secrets.now }
+{
     let (joined, tail) = mixed_lanes::<COMPACT, PROTECTED>(bytes, seed, secrets);
     close_tail::<AVALANCHE, PROTECTED>(tail, bytes, joined, secrets)
 }
 
 /// Returns the value above 16 bytes, from the joined lanes and the tail.
 #[inline(always)]
+#[tactic(auto, using(crate::proofs::Cases::in_core))]
 fn close_tail<const AVALANCHE: bool, const PROTECTED: bool>(
     tail: &[u8],
     bytes: &[u8],
     joined: u64,
     secrets: &[u64; 7],
-) -> u64 {
+) -> u64
+    requires { 16 < length bytes.now }
+    ensures { (start : ℕ) → let shape = core_shape (length bytes.now) in
+        AfterRows PROTECTED secrets.now bytes.now shape start joined tail.now →
+        result ≡ core_hash (options AVALANCHE PROTECTED) bytes.now start secrets.now }
+{
     let seed = fold_tail::<2, PROTECTED>(tail, &[secrets[0], secrets[0]], joined);
     close_sum::<AVALANCHE, PROTECTED>(bytes, last_16(bytes), seed, secrets)
 }
 
 /// Returns the value, from the last words and the seed after all pairs.
 #[inline(always)]
+#[tactic(auto, using(crate::proofs::Cases::in_core), unfolding(crate::specs::InMemory::core_hash))]
 fn close_sum<const AVALANCHE: bool, const PROTECTED: bool>(
     bytes: &[u8],
     words: (u64, u64),
     seed: u64,
     secrets: &[u64; 7],
-) -> u64 {
+) -> u64
+    ensures pairs { (start : ℕ) → words ≡ last_words (V3 7) bytes.now →
+        seed ≡ after_pairs PROTECTED start secrets.now bytes.now →
+        result ≡ core_hash (options AVALANCHE PROTECTED) bytes.now start secrets.now }
+    ensures short { length bytes.now ≤ 16 → words ≡ short_words (V3 7) bytes.now →
+        result ≡ core_hash (options AVALANCHE PROTECTED) bytes.now seed secrets.now }
+{
     let sum = seed.wrapping_add(bytes.len() as u64);
     close::<AVALANCHE, PROTECTED>(words, sum, secrets[0], (ALTERNATING_BITS ^ sum, secrets[1]))
 }
