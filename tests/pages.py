@@ -82,14 +82,16 @@ def statements():
     """Checks that the definitions, contracts, and clauses that these pages quote are those of the sources."""
     files = [*TOP.glob("crates/*/specs/*.antt"), *TOP.glob("crates/*/src/**/*.rt")]
     sources = "".join(file.read_text() for file in files)
+    plain = " ".join(sources.split())
     text = (TOP / "docs" / "PROVED.md").read_text()
     for clause in re.findall(r"`([^`\n]* [^`\n]*)`", text):
-        if re.search("[≡→↔λ«]|\\[]|Absorbs|Appends|Answers|Marks", clause) and clause not in " ".join(sources.split()):
+        if re.search("[≡→↔λ«]|\\[]|Absorbs|Appends|Answers|Marks", clause) and clause not in plain:
             yield f"docs/PROVED.md quotes a clause that no source has: {clause}"
-    for page, languages, count in (("docs/PROVED.md", "antt|rust", 2), ("docs/RATTLE.md", "antt", 1)):
+    for page, languages, count in (("docs/PROVED.md", "antt|rust", 2), ("docs/RATTLE.md", "antt", 1),
+                                   ("docs/EXAMPLES.md", "text", 5)):
         shown = blocks(page, languages)
         for part in (part for block in shown for part in block.split("\n\n")):
-            if part.rstrip() not in sources:
+            if " ".join(part.split()) not in plain:
                 yield f"{page} shows what no source has: {part.splitlines()[0]}"
         if len(shown) != count:
             yield f"{page} shows {len(shown)} blocks"
