@@ -71,11 +71,19 @@ def names():
 
 
 def vectors():
-    """Checks that a table on the page beside the vector files has each of them and nothing else."""
+    """Checks that the page beside the vector files has each file with its number of cases, that its sums are right, and
+    that docs/PROVED.md has the first."""
     data = TOP / "crates" / "test_replay" / "data"
-    rows = re.findall(r"^\| (`[^|]*)", (data / "README.md").read_text(), re.MULTILINE)
-    for name in {file.name for file in data.glob("*.tsv")} ^ set(re.findall(r"`(\w+\.tsv)`", "".join(rows))):
-        yield f"{name} stands in the page or in the folder alone"
+    parts = re.split(r"^([\d,]+) cases ", (data / "README.md").read_text(), flags=re.M)
+    sums, rows = parts[1::2], [re.findall(r"^\| (`[^|]*) \| (\d+)", part, re.M) for part in parts[2::2]]
+    tables = [[(name, int(count)) for names, count in row for name in re.findall(r"\w+\.tsv", names)] for row in rows]
+    found = {(file.name, len(re.findall("^[^#]", file.read_text(), re.M)) - 1) for file in data.glob("*.tsv")}
+    differing = found ^ set(sum(tables, []))
+    yield from (f"{name} has {count} cases in the folder or on the page alone" for name, count in differing)
+    yield from (f"the cases above {table[0][0]} are not {count}" for count, table in zip(sums, tables)
+                if f"{sum(number for _, number in table):,}" != count)
+    if f"with {sums[0]} values of upstream" not in (TOP / "docs" / "PROVED.md").read_text():
+        yield f"docs/PROVED.md does not have {sums[0]} values"
 
 
 def statements():
