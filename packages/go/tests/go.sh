@@ -9,6 +9,14 @@ runs_the_page() {
   blocks README.md go rapidhash | sed 's/^/\t/' >"$room/lines" && [ -s "$room/lines" ] && ! grep -vxFf example_test.go "$room/lines"
 }
 
+# Checks by the products that a loop folds two rows per iteration and then one, or four with three lanes. With single rows
+# the same values would take longer.
+folds_many_rows() {
+  GOARCH=amd64 go test -c -o "$room/test" . && for lanes in 7 5 3; do
+    go tool objdump -s "lanes..fold$lanes$" "$room/test" | grep -c MULQ
+  done | diff - <(printf '%s\n' 21 15 12)
+}
+
 command -v go >/dev/null || skip_all 'no go'
 cd "$top/packages/go" && python3 "$top/scripts/vectors.py" "$top/crates/test_replay/data" >"$RAPIDHASH_VECTORS" || exit 1
 try licences has_the_licences .
@@ -22,6 +30,7 @@ try 386 env GOARCH=386 go test -count 1 .
 try_with arm64 qemu-aarch64 env GOARCH=arm64 go test -count 1 -short -exec qemu-aarch64 .
 try_with s390x qemu-s390x env GOARCH=s390x go test -count 1 -short -exec qemu-s390x .
 for os in linux windows darwin; do try "vet_$os" env GOOS="$os" GOARCH=amd64 go vet .; done
+try rows_per_iteration folds_many_rows
 try vet_formulas go vet -tags formulas ./...
 try lines_of_the_page runs_the_page
 try page works_as_its_page_says README.md
