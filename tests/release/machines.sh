@@ -91,16 +91,11 @@ has_all() {
   fi
 }
 
-# Prints the line of a case but keeps its log, because other machines run in parallel: NAME COMMAND..
+# Counts a case, with a log of its own, because other machines run in parallel: NAME COMMAND..
 try() {
   local name=$1 log=$room/$1.log
   shift
-  if "$@" >"$log" 2>&1; then
-    printf 'ok %s\n' "$name"
-  else
-    printf 'FAILED %s: %s\n' "$name" "$(tail -c 800 "$log")"
-    return 1
-  fi
+  if "$@" >"$log" 2>&1; then ok "$name"; else fail "$name" "$(tail -c 800 "$log")"; fi
 }
 
 # Runs the tests of the C header and of the crate on a machine: NAME DEBIAN RUSTC GNU QEMU
@@ -171,6 +166,8 @@ for row in "${machines[@]}"; do
 done
 wait
 
-for row in "${machines[@]}"; do cat "$room/${row%% *}.lines"; done | tee "$room/lines"
+for row in "${machines[@]}"; do
+  grep . "$room/${row%% *}.lines" || echo "not ok - ${row%% *}, without a case"
+done | tee "$room/lines"
 cases=$(grep -cE '^(not )?ok ' "$room/lines") failed=$(grep -c '^not ok ' "$room/lines")
 finish
