@@ -10,17 +10,17 @@ TOP = Path(__file__).resolve().parent.parent
 
 def run(script, usage, files):
     """Runs a script according to its argument: none, --write, or --check. FILES maps each file to its text."""
-    words = sys.argv[1:]
-    if words not in ([], ["--write"], ["--check"]):
+    arguments = sys.argv[1:]
+    if arguments not in ([], ["--write"], ["--check"]):
         print(usage, file=sys.stderr)
         return 2
     stale = []
     for name, text in files.items():
         file = TOP / name
-        if words == ["--write"]:
+        if arguments == ["--write"]:
             file.parent.mkdir(parents=True, exist_ok=True)
             file.write_text(text)
-        elif words == ["--check"]:
+        elif arguments == ["--check"]:
             old = file.read_text().splitlines() if file.exists() else []
             stale += difflib.unified_diff(old, text.splitlines(), name, "what it should be", n=0, lineterm="")
         else:

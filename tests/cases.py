@@ -37,10 +37,10 @@ def compare(name, found, wanted):
     tell(name, *[f"{found!r} is not {wanted!r}"] * (found != wanted))
 
 
-def shell(command, folder=TOP, **words):
+def shell(command, folder=TOP, **variables):
     """Runs a command and returns its exit status and output."""
-    words = dict(os.environ, YERVOUND=str(TOP), ROOM=str(ROOM), **words)
-    done = subprocess.run(["bash", "-ec", command], cwd=folder, env=words, stdin=subprocess.DEVNULL,
+    environment = dict(os.environ, YERVOUND=str(TOP), ROOM=str(ROOM), **variables)
+    done = subprocess.run(["bash", "-ec", command], cwd=folder, env=environment, stdin=subprocess.DEVNULL,
                           stdout=subprocess.PIPE, stderr=subprocess.STDOUT, text=True)
     return done.returncode, done.stdout
 

@@ -93,9 +93,9 @@ prints_the_known_hash() {
 # Builds a C program of every call with the flags from pkg-config and runs it with the shared library. In the flags, a
 # backslash escapes a space for the shell: LIBRARY-DIRECTORY
 builds_by_pkg_config() {
-  local words
-  words=$(PKG_CONFIG_LIBDIR=$1/pkgconfig pkg-config --cflags --libs rapidhash_c) &&
-    eval "cc -O2 -Wall -Werror '$top/packages/c/tests/c_library.c' $words -o '$room/c_library'" &&
+  local flags
+  flags=$(PKG_CONFIG_LIBDIR=$1/pkgconfig pkg-config --cflags --libs rapidhash_c) &&
+    eval "cc -O2 -Wall -Werror '$top/packages/c/tests/c_library.c' $flags -o '$room/c_library'" &&
     LD_LIBRARY_PATH=$1 "$room/c_library" &&
     readelf -d "$room/c_library" | grep -q 'NEEDED.*librapidhash_c\.so\.1'
 }

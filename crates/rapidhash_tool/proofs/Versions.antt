@@ -1,4 +1,4 @@
--- The one version that the words name.
+-- The one version that the arguments name.
 use Rattle.std.proofs.Common.{List, [], ◌∷◌, Option, None, Some}
 
 -- what an option holds, as a list

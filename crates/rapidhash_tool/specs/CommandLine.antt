@@ -9,7 +9,7 @@ use Rattle.rapidhash_tool.specs.declared.version.RapidhashVersion.TheVariants.{V
 
 -- whether an argument is among the arguments
 abbrev pub occurs : List ℕ → List (List ℕ) → Bool
-occurs word words = list_any (λ w. bytes_eq w word) words
+occurs arg args = list_any (λ other. bytes_eq other arg) args
 
 -- whether an argument begins with a hyphen
 abbrev pub is_option : List ℕ → Bool
@@ -17,14 +17,14 @@ is_option [] = false
 is_option (c ∷ cs) = nat_eq c 45
 
 -- the argument that names a version
-abbrev pub word_of : RapidhashVersion → List ℕ
-word_of (V1 protected) = codes "--v1"
-word_of (V2 protected M0) = codes "--v2.0"
-word_of (V2 protected M1) = codes "--v2.1"
-word_of (V2 protected M2) = codes "--v2.2"
-word_of (V3 protected) = codes "--v3"
-word_of (V3Micro protected) = codes "--v3-micro"
-word_of (V3Nano protected) = codes "--v3-nano"
+abbrev pub option_of : RapidhashVersion → List ℕ
+option_of (V1 protected) = codes "--v1"
+option_of (V2 protected M0) = codes "--v2.0"
+option_of (V2 protected M1) = codes "--v2.1"
+option_of (V2 protected M2) = codes "--v2.2"
+option_of (V3 protected) = codes "--v3"
+option_of (V3Micro protected) = codes "--v3-micro"
+option_of (V3Nano protected) = codes "--v3-nano"
 
 -- all versions
 abbrev pub versions : Bool → List RapidhashVersion
@@ -32,7 +32,7 @@ versions protected = V1 protected ∷ V2 protected M0 ∷ V2 protected M1 ∷ V2
 
 -- the versions whose argument is among the arguments
 abbrev pub named : List (List ℕ) → List RapidhashVersion → List RapidhashVersion
-named words = filter (λ version. occurs (word_of version) words)
+named args = filter (λ version. occurs (option_of version) args)
 
 -- the only version of a list, `other` for an empty list, and none for several
 abbrev pub the_only : RapidhashVersion → List RapidhashVersion → Option RapidhashVersion
@@ -42,9 +42,9 @@ the_only other (version ∷ second ∷ others) = None
 
 -- the version that the arguments after the program's name select, or none if they name two
 abbrev pub version_of : List (List ℕ) → Option RapidhashVersion
-version_of words =
-    let protected = occurs (codes "--protected") words in
-    the_only (V3 protected) (named words (versions protected))
+version_of args =
+    let protected = occurs (codes "--protected") args in
+    the_only (V3 protected) (named args (versions protected))
 
 -- whether there are no arguments, or one of them, including the program's name, requests help
 abbrev pub wants_help : List (List ℕ) → Bool
@@ -53,7 +53,7 @@ wants_help (name ∷ others) = occurs (codes "--help") (name ∷ others) || occu
 
 -- the index, from 1 on, of the first argument that does not begin with a hyphen
 abbrev pub file_of : List (List ℕ) → Option ℕ
-file_of words = option_map (λ place. place + 1) (position (λ w. not (is_option w)) (drop 1 words))
+file_of args = option_map (λ place. place + 1) (position (λ w. not (is_option w)) (drop 1 args))
 
 -- the plan from a version and a file, if no help is requested
 abbrev pub run_of : Option RapidhashVersion → Option ℕ → Plan
@@ -62,7 +62,7 @@ run_of (Some version) file = Run version file
 
 -- the plan from all arguments, with the program's name first
 abbrev pub plan_of : List (List ℕ) → Plan
-plan_of words = cond (wants_help words) Help (run_of (version_of (drop 1 words)) (file_of words))
+plan_of args = cond (wants_help args) Help (run_of (version_of (drop 1 args)) (file_of args))
 
 -- the file that a plan names, if any, has an index below `count`
 abbrev pub NamesFileBelow : ℕ → Plan → Type 0

@@ -28,16 +28,16 @@ pub fn plan(args: &[String]) -> Plan
 }
 
 // Whether a text is among the arguments.
-pub(crate) fn has(args: &[String], word: &str) -> bool
-    ensures { result ≡ occurs word.now (map string_bytes args.now) }
+pub(crate) fn has(args: &[String], arg: &str) -> bool
+    ensures { result ≡ occurs arg.now (map string_bytes args.now) }
 {
-    args.iter().any(|w| w.as_str() == word)
+    args.iter().any(|other| other.as_str() == arg)
 }
 
-fn begins_with_hyphen(word: &str) -> bool
-    ensures { result ≡ is_option word.now }
+fn begins_with_hyphen(arg: &str) -> bool
+    ensures { result ≡ is_option arg.now }
 {
-    matches!(word.as_bytes(), [b'-', ..])
+    matches!(arg.as_bytes(), [b'-', ..])
 }
 
 // The place of the first argument that does not begin with a hyphen.
@@ -45,5 +45,5 @@ pub(crate) fn first_plain(args: &[String]) -> Option<usize>
     ensures { result ≡ position (λ w. not (is_option w)) (map string_bytes args.now) }
 {
     args.iter()
-        .position(|word| !begins_with_hyphen(word.as_str()))
+        .position(|arg| !begins_with_hyphen(arg.as_str()))
 }

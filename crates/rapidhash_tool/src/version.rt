@@ -1,7 +1,7 @@
 //! The versions that the tool hashes by, and the plans that its arguments can ask for.
 
 ghost use Rattle.std.specs.Prelude.{◌≡◌, ◌↔◌, map, string_bytes, IsTrue};
-ghost use Rattle.rapidhash_tool.specs.CommandLine.{version_of, versions, word_of};
+ghost use Rattle.rapidhash_tool.specs.CommandLine.{version_of, versions, option_of};
 ghost use Rattle.rapidhash_tool.specs.Hashes.{NeedsLength};
 
 use crate::command_line::has;
@@ -76,7 +76,7 @@ impl RapidhashVersion {
         let protected = has(args, "--protected");
         let mut chosen = None;
         for version in RapidhashVersion::all(protected) {
-            if has(args, version.word()) {
+            if has(args, version.option()) {
                 if chosen.is_some() {
                     return None;
                 }
@@ -122,8 +122,8 @@ impl RapidhashVersion {
     }
 
     // The argument that names the version.
-    fn word(&self) -> &'static str
-        ensures { result.now ≡ word_of self.now }
+    fn option(&self) -> &'static str
+        ensures { result.now ≡ option_of self.now }
     {
         match self {
             RapidhashVersion::V1 { .. } => "--v1",

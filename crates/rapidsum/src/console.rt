@@ -3,8 +3,8 @@
 use crate::check::{Checked, Report, Verdict};
 use crate::list::List;
 use crate::names::{needs_escape, push_escaped};
+use crate::options::Options;
 use crate::problem::Problem;
-use crate::words::Options;
 use std::alloc::Global;
 use std::io;
 use std::io::Write;

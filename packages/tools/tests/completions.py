@@ -80,7 +80,7 @@ def ask_fish():
 
 
 # Each lists the versions that the program knows.
-[names] = re.findall(r"NAMES: .*= \[(.*)\]", (TOP / "crates/rapidsum/src/words.rt").read_text())
+[names] = re.findall(r"NAMES: .*= \[(.*)\]", (TOP / "crates/rapidsum/src/options.rt").read_text())
 for file in sorted(SHARE.glob("rapidsum.*")):
     found = re.findall(r"\bv\d[\w.-]*\b", file.read_text().replace("\\-", "-"))
     compare(f"versions of {file.name}", set(found), set(re.findall('"(.*?)"', names)))

@@ -13,19 +13,19 @@ const TEXT: &[u8] = b"test input\n";
 const LINE: &[u8] = b"10591916791569766038\n";
 
 // Arguments that name no file print this line for the text on standard input.
-fn prints(rt: &(impl Abort + AllocGlobal), words: &[&str], line: &[u8]) -> Result<(), Fail> {
-    let words = gathered(rt, words)?;
+fn prints(rt: &(impl Abort + AllocGlobal), args: &[&str], line: &[u8]) -> Result<(), Fail> {
+    let args = gathered(rt, args)?;
     let Plan::Run {
         version,
         file: None,
-    } = plan(words.as_slice())
+    } = plan(args.as_slice())
     else {
-        panic!(rt; "{words:?} does not hash standard input");
+        panic!(rt; "{args:?} does not hash standard input");
     };
     let out = writer(Vec::new(rt.alloc()), 0);
     let ended = of_stdin(rt.alloc(), version, whole(TEXT), out);
     assert!(rt; ended.result == Ok(()));
-    assert!(rt; ended.written.as_slice() == line, "at {words:?}");
+    assert!(rt; ended.written.as_slice() == line, "at {args:?}");
     Ok(())
 }
 
@@ -45,21 +45,21 @@ fn cli_versions(rt: HostRuntime) -> Result<(), Fail> {
         ("--v3-micro", b"10591916791569766038\n"),
         ("--v3-nano", b"10591916791569766038\n"),
     ];
-    for (word, line) in lines {
-        prints(&rt, &["rapidhash", word], line)?;
+    for (arg, line) in lines {
+        prints(&rt, &["rapidhash", arg], line)?;
     }
     Ok(())
 }
 
 #[test]
 fn cli_file(rt: HostRuntime) -> Result<(), Fail> {
-    let words = gathered(&rt, &["rapidhash", "--v3", "test.txt"])?;
+    let args = gathered(&rt, &["rapidhash", "--v3", "test.txt"])?;
     let Plan::Run {
         version,
         file: Some(2),
-    } = plan(words.as_slice())
+    } = plan(args.as_slice())
     else {
-        panic!(rt; "{words:?} does not hash the file test.txt");
+        panic!(rt; "{args:?} does not hash the file test.txt");
     };
     let out = writer(Vec::new(rt.alloc()), 0);
     let ended = of_file(version, whole(TEXT), TEXT.len() as u64, out);

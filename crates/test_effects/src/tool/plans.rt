@@ -6,11 +6,11 @@ use std::test::Fail;
 
 /// The arguments.
 pub fn gathered(rt: &impl AllocGlobal, line: &[&str]) -> Result<Vec<String>, AllocError> {
-    let mut words = Vec::new(rt.alloc());
-    for word in line {
-        words.push(String::from_str(rt.alloc(), *word)?)?;
+    let mut args = Vec::new(rt.alloc());
+    for arg in line {
+        args.push(String::from_str(rt.alloc(), *arg)?)?;
     }
-    Ok(words)
+    Ok(args)
 }
 
 // The plan to hash standard input.
@@ -83,8 +83,8 @@ fn plans_of_lines(rt: HostRuntime) -> Result<(), Fail> {
         ),
     ];
     for (line, wanted) in lines {
-        let words = gathered(&rt, line)?;
-        assert!(rt; plan(words.as_slice()) == wanted, "at {line:?}");
+        let args = gathered(&rt, line)?;
+        assert!(rt; plan(args.as_slice()) == wanted, "at {line:?}");
     }
     Ok(())
 }
@@ -102,9 +102,9 @@ fn versions_of_words(rt: HostRuntime) -> Result<(), Fail> {
         (&["--v2.2", "--v2.1", "--v2.2"], None),
     ];
     for (line, wanted) in lines {
-        let words = gathered(&rt, line)?;
+        let args = gathered(&rt, line)?;
         assert!(rt;
-            RapidhashVersion::new(words.as_slice()) == wanted,
+            RapidhashVersion::new(args.as_slice()) == wanted,
             "at {line:?}"
         );
     }

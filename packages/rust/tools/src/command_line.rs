@@ -24,16 +24,16 @@ pub fn plan(args: &[String]) -> Plan {
 }
 
 // Whether a text is among the arguments.
-pub(crate) fn has(args: &[String], word: &str) -> bool {
-    args.iter().any(|w| w.as_str() == word)
+pub(crate) fn has(args: &[String], arg: &str) -> bool {
+    args.iter().any(|other| other.as_str() == arg)
 }
 
-fn begins_with_hyphen(word: &str) -> bool {
-    matches!(word.as_bytes(), [b'-', ..])
+fn begins_with_hyphen(arg: &str) -> bool {
+    matches!(arg.as_bytes(), [b'-', ..])
 }
 
 // The place of the first argument that does not begin with a hyphen.
 pub(crate) fn first_plain(args: &[String]) -> Option<usize> {
     args.iter()
-        .position(|word| !begins_with_hyphen(word.as_str()))
+        .position(|arg| !begins_with_hyphen(arg.as_str()))
 }

@@ -72,7 +72,7 @@ impl RapidhashVersion {
         let protected = has(args, "--protected");
         let mut chosen = None;
         for version in RapidhashVersion::all(protected) {
-            if has(args, version.word()) {
+            if has(args, version.option()) {
                 if chosen.is_some() {
                     return None;
                 }
@@ -114,7 +114,7 @@ impl RapidhashVersion {
     }
 
     // The argument that names the version.
-    fn word(&self) -> &'static str {
+    fn option(&self) -> &'static str {
         match self {
             RapidhashVersion::V1 { .. } => "--v1",
             RapidhashVersion::V2 {

@@ -6,6 +6,6 @@ use Rattle.rapidhash_tool.proofs.command_line.has.Goals as goal
 
 pub returns : goal.returns
 returns c =
-    any_from_yields_List (λ s. bytes_eq (string_bytes s) c.args.word.now) _ _ c.any.result c.any.ensures.ran
+    any_from_yields_List (λ s. bytes_eq (string_bytes s) c.args.arg.now) _ _ c.any.result c.any.ensures.ran
     (YieldsList-from_slice c.args.args.now cc) (λ x b q k. search (rules, tests))
-    ∙ list_any-map (λ x. bytes_eq x c.args.word.now) string_bytes c.args.args.now
+    ∙ list_any-map (λ x. bytes_eq x c.args.arg.now) string_bytes c.args.args.now

@@ -16,17 +16,17 @@ use std::process::ExitCode;
 // The error is that of a file that cannot be opened, since such an argument nearly always names a
 // file.
 fn gather(rt: &HostRuntime) -> Result<Vec<String>, CliFault> {
-    let words = match env::args(rt) {
-        Ok(words) => words,
+    let args = match env::args(rt) {
+        Ok(args) => args,
         Err(error) if error.kind() == ErrorKind::OutOfMemory => return Err(CliFault::Memory),
         Err(_) => return Err(CliFault::Open),
     };
-    let words = if let Ok(words) = words.collect(rt.alloc()) {
-        words
+    let args = if let Ok(args) = args.collect(rt.alloc()) {
+        args
     } else {
         return Err(CliFault::Memory);
     };
-    Ok(words)
+    Ok(args)
 }
 
 // How many bytes of the file are hashed, or 0 if the version reads it to its end.
@@ -55,8 +55,8 @@ fn hash_named(rt: &HostRuntime, version: &RapidhashVersion, path: &str) -> Resul
 }
 
 fn run(rt: &HostRuntime) -> Result<(), CliFault> {
-    let words = gather(rt)?;
-    match plan(words.as_slice()) {
+    let args = gather(rt)?;
+    match plan(args.as_slice()) {
         Plan::Help => run_help(&mut rt.stdout())?,
         Plan::Refused => return Err(CliFault::Versions),
         Plan::Run {
@@ -66,7 +66,7 @@ fn run(rt: &HostRuntime) -> Result<(), CliFault> {
         Plan::Run {
             version,
             file: Some(place),
-        } => hash_named(rt, &version, words.as_slice()[place].as_str())?,
+        } => hash_named(rt, &version, args.as_slice()[place].as_str())?,
     }
     if rt.stdout().flush().is_err() {
         return Err(CliFault::Write);

@@ -12,19 +12,19 @@ mod entry;
 mod line;
 mod list;
 mod names;
+mod options;
 mod parts;
 mod problem;
 mod runs;
 mod store;
 mod sum;
 mod tag;
-mod words;
 
 use rapidhash_tool::kit::HostRuntime;
 use arguments::{strings_of, texts_of};
+use options::command;
 use problem::Problem;
 use std::process::ExitCode;
-use words::command;
 
 // The status that a shell reports for a program ended by the signal SIGPIPE.
 const BROKEN_PIPE: u8 = 141;
@@ -32,8 +32,8 @@ const BROKEN_PIPE: u8 = 141;
 // Does what the arguments ask for. Returns whether all files could be read and all checks passed.
 fn run(rt: &HostRuntime) -> Result<bool, Problem> {
     let texts = texts_of(rt, rt.alloc())?;
-    let words = strings_of(rt.alloc(), texts.as_slice())?;
-    let matches = match command(rt.alloc())?.try_get_matches_from(words.as_slice()) {
+    let args = strings_of(rt.alloc(), texts.as_slice())?;
+    let matches = match command(rt.alloc())?.try_get_matches_from(args.as_slice()) {
         Ok(matches) => matches,
         Err(error) => {
             error.print(rt).map_err(Problem::Write)?;

@@ -1,4 +1,4 @@
-// Made by scripts/rust_crate from crates/rapidsum/src/words.rt: change that file.
+// Made by scripts/rust_crate from crates/rapidsum/src/options.rt: change that file.
 
 //! The arguments of the command line.
 
