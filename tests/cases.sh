@@ -138,6 +138,10 @@ failing() { can_trace && strace -qqo /dev/null -P "$PWD/$2" -e "inject=$1" "${@:
 reads_in() {
   can_trace && strace -qqo "$room/calls" -P "$PWD/$2" -e trace=read "${@:3}" && [ "$(wc -l <"$room/calls")" -le "$1" ]
 }
+# Checks that a command needs at most 60 system calls for its memory, because each buffer grows by a factor: COMMAND..
+grows_by_a_factor() {
+  can_trace && strace -qqo "$room/calls" -e trace=brk,mmap,mremap "$@" && [ "$(wc -l <"$room/calls")" -le 60 ]
+}
 can_trace() { strace -qqo /dev/null true || { : >"$room/untraced" && return 1; }; }
 
 # Prints the number of cases and exits with status 1 if one failed.

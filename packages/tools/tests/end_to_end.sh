@@ -109,9 +109,9 @@ runs help_to_a_full_output 1 '' "$write_fault" to_a_full_disk "$tool" --help
 # names have the options as numbers. V2.1 and V2.2 share their code for rows.
 replay=$top/crates/test_replay/out/test_replay
 if [ -e "$replay" ]; then
-  bodies=$(nm "$replay" | grep -oE '(memory|v[0-9])::with_(wide_)?rows::<[^>]*>' | sort -u | sed 's/::<.*//' | uniq -c)
+  bodies=$(nm "$replay" | grep -oE '(in_memory|v[0-9])::with_(wide_)?rows::<[^>]*>' | sort -u | sed 's/::<.*//' | uniq -c)
   [ "$(xargs <<<"$bodies")" = \
-    '8 memory::with_rows 8 memory::with_wide_rows 16 v1::with_rows 16 v2::with_rows 16 v3::with_rows' ]
+    '8 in_memory::with_rows 8 in_memory::with_wide_rows 16 v1::with_rows 16 v2::with_rows 16 v3::with_rows' ]
   tell replay_has_all_options $?
 else
   skip replay_has_all_options 'test_replay is not built'

@@ -31,6 +31,7 @@ for version in --v1 --v2.2 --v3; do
   [ "$version" = --v3 ] ||
     runs "no_metadata$version" 1 '' "$file_fault" failing statx,fstat:error=EIO ten_million "$program" "$version" ten_million
 done
+try memory_of_input grows_by_a_factor "$program" --v1 <ten_million
 by_the_kit fault closed_input "$stdin_fault" --v1 <&-
 runs v1_in_little_memory 1 '' "$memory_fault" in_kibibytes 8000 "$program" --v1 <ten_million
 runs v2_in_little_memory 1 '' "$memory_fault" in_kibibytes 8000 "$program" --v2.2 <ten_million

@@ -210,6 +210,9 @@ head -c 67108864 /dev/zero | tr '\0' 'x' >large
 says memory_refused memory in_kibibytes 32768 "$program" -c large
 try large_file in_kibibytes 32768 "$program" large
 try reads_in_pieces reads_in 1025 large "$program" large
+yes 'a1266b469390773a  first' | head -n 20000 >entries
+try memory_of_a_list grows_by_a_factor "$program" -c --quiet entries
+try memory_of_input grows_by_a_factor "$program" -a v1 <large
 
 # What cargo's build has in place of parts of the kit: reads to the end, lists, and arguments.
 if [ -n "${BUILT-}" ]; then
