@@ -16,11 +16,12 @@ from cases import ROOM, TOP, compare, finish, shell, skip_all, tell  # noqa: E40
 SHARE = TOP / "packages" / "tools"
 if not shutil.which("rt") and not shutil.which("cargo"):
     skip_all("no rt and no cargo")
-# The programs, which the completions ask for their help.
+# The programs, which the completions ask for their help: the kit's, or without rt cargo's.
 os.environ["PATH"] = f"{ROOM}/bin:{os.environ['PATH']}"
-status, output = shell("""MAKEFLAGS= make -s tool sums && mkdir $ROOM/bin
-    set -- $(MAKEFLAGS= make -s --eval='show: ; @echo $(tools)' show)
-    ln -s $PWD/$1 $ROOM/bin/rapidhash && ln -s $PWD/$2 $ROOM/bin/rapidsum""")
+status, output = shell("""export MAKEFLAGS= && mkdir $ROOM/bin && make -s $KIT tool sums
+    read -r tool sums < <(make -s $KIT --eval='show: ; @echo $(tools)' show)
+    ln -s $PWD/$tool $ROOM/bin/rapidhash && ln -s $PWD/$sums $ROOM/bin/rapidsum""",
+                       KIT="" if shutil.which("rt") else "kit=")
 if status:
     tell("programs", output)
     finish()
