@@ -9,13 +9,8 @@ use std::time::Instant;
 #[cfg(feature = "further")]
 std::arch::global_asm!(".section .text.padding, \"axR\", @progbits", ".p2align 4", ".skip 16, 0xcc", ".text");
 
-const V1: u8 = 0;
-const V2_0: u8 = 1;
-const V2_1: u8 = 2;
-const V2_2: u8 = 3;
-const V3: u8 = 4;
-const MICRO: u8 = 5;
-const NANO: u8 = 6;
+/// The forms, in the order of their numbers in `hash`. `bench/slices` reads this line.
+const FORMS: [&str; 7] = ["v1", "v2.0", "v2.1", "v2.2", "v3", "micro", "nano"];
 
 /// Secrets for all forms, unknown to the compiler.
 struct Secrets {
@@ -30,15 +25,15 @@ fn hash<const FORM: u8>(text: &[u8], secrets: &Secrets) -> u64 {
     let two = if default { &v2::DEFAULT_RAPID_SECRETS } else { &secrets.same_seven };
     let seven = if default { &v3::DEFAULT_RAPID_SECRETS } else { &secrets.seven };
     match FORM {
-        V1 if default => v1::rapidhash_v1(text),
-        V1 => v1::rapidhash_v1_seeded(text, &secrets.three),
-        V2_0 => v2::rapidhash_v2_inline::<0, true, false, false>(text, two),
-        V2_1 => v2::rapidhash_v2_inline::<1, true, false, false>(text, two),
-        V2_2 if default => v2::rapidhash_v2_2(text),
-        V2_2 => v2::rapidhash_v2_2_seeded(text, two),
-        V3 if default => v3::rapidhash_v3(text),
-        V3 => v3::rapidhash_v3_seeded(text, seven),
-        MICRO => v3::rapidhash_v3_micro_inline::<true, false>(text, seven),
+        0 if default => v1::rapidhash_v1(text),
+        0 => v1::rapidhash_v1_seeded(text, &secrets.three),
+        1 => v2::rapidhash_v2_inline::<0, true, false, false>(text, two),
+        2 => v2::rapidhash_v2_inline::<1, true, false, false>(text, two),
+        3 if default => v2::rapidhash_v2_2(text),
+        3 => v2::rapidhash_v2_2_seeded(text, two),
+        4 if default => v3::rapidhash_v3(text),
+        4 => v3::rapidhash_v3_seeded(text, seven),
+        5 => v3::rapidhash_v3_micro_inline::<true, false>(text, seven),
         _ => v3::rapidhash_v3_nano_inline::<true, false>(text, seven),
     }
 }
@@ -64,16 +59,13 @@ struct Row<'x> {
 
 impl Row<'_> {
     fn work(&self, form: &str, sum: u64) -> u64 {
-        match form {
-            "v1" => self.at_place::<V1>(sum),
-            "v2.0" => self.at_place::<V2_0>(sum),
-            "v2.1" => self.at_place::<V2_1>(sum),
-            "v2.2" => self.at_place::<V2_2>(sum),
-            "v3" => self.at_place::<V3>(sum),
-            "micro" => self.at_place::<MICRO>(sum),
-            "nano" => self.at_place::<NANO>(sum),
-            _ => panic!("no form {form}"),
+        macro_rules! by_number {
+            ($($number:literal)*) => { match FORMS.iter().position(|name| *name == form) {
+                $(Some($number) => self.at_place::<$number>(sum),)*
+                _ => panic!("no form {form}"),
+            } };
         }
+        by_number!(0 1 2 3 4 5 6)
     }
 
     fn at_place<const FORM: u8>(&self, sum: u64) -> u64 {

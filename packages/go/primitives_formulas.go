@@ -5,14 +5,14 @@ package rapidhash
 import "encoding/binary"
 
 // In this build the loads and the product are random functions of a key. Two programs that then return the same hash
-// of a random message compute the same formula, except with probability 2^-64. internal/formulas runs it.
+// of a random message compute the same formula, except with probability 2^-64. formulas_test.go runs it.
 
-// FormulasKey is the key of the random functions.
-var FormulasKey uint64
+// formulasKey is the key of the random functions.
+var formulasKey uint64
 
 // random returns a number that depends on the key, a tag for the kind of function, and two arguments.
 func random(tag, a, b uint64) uint64 {
-	x := FormulasKey ^ tag*0x9e3779b97f4a7c15
+	x := formulasKey ^ tag*0x9e3779b97f4a7c15
 	for _, word := range [2]uint64{a, b} {
 		x ^= word
 		x = (x ^ x>>32) * 0xd6e8feb86659fd93

@@ -1,7 +1,6 @@
 package rapidhash
 
 import (
-	"fmt"
 	"io"
 	"testing"
 )
@@ -26,23 +25,19 @@ func compare(t *testing.T, name string, value, known uint64) {
 }
 
 func TestDefaultSecrets(t *testing.T) {
-	long, short := data(), data()[:60]
+	for name, call := range calls {
+		compare(t, name, call.plain(data()[:call.size]), call.known)
+	}
 	compare(t, "v1 of a line", V1([]byte("something\n")), 15965596575264898037)
-	compare(t, "v1", V1(short), 13504714392771582078)
-	compare(t, "v2.0", V2_0(short), 13186137053657766175)
-	compare(t, "v2.1", V2_1(short), 13012060828128651499)
-	compare(t, "v2.2", V2_2(short), 6181707366222537282)
-	compare(t, "v3", V3(long), 7088138960297660729)
-	compare(t, "micro", V3Micro(long), 3055975138125564292)
-	compare(t, "nano", V3Nano(long), 3778853990780631382)
-	compare(t, "protected", V3Protected(long), 4753706306364957255)
 	compare(t, "v3 of nothing", V3(nil), 232177599295442350)
 }
 
 func TestUnevenPieces(t *testing.T) {
-	known := map[*Stream]uint64{NewV3(&own): V3Seeded(data(), &own),
-		NewV3Micro(&own): V3MicroSeeded(data(), &own), NewV3Nano(&own): V3NanoSeeded(data(), &own)}
-	for stream, value := range known {
+	for name, call := range calls {
+		if call.start == nil {
+			continue
+		}
+		stream, value := call.start(&own), call.seeded(data(), &own)
 		stream.Write(data()[:100])
 		stream.Reset()
 		rest := data()
@@ -53,8 +48,8 @@ func TestUnevenPieces(t *testing.T) {
 			stream.Write(rest[:size])
 			rest = rest[size:]
 		}
-		compare(t, fmt.Sprint("block of ", stream.BlockSize()), stream.Sum64(), value)
-		compare(t, "the same again", stream.Sum64(), value)
+		compare(t, name, stream.Sum64(), value)
+		compare(t, name+", the same again", stream.Sum64(), value)
 	}
 }
 

@@ -11,7 +11,8 @@ import (
 	"testing"
 )
 
-// call has the functions of a version: those with the default seed and secrets, with a seed word, and with secrets.
+// call has the functions of a version: those with the default seed and secrets, with a seed word, and with secrets. The
+// known hash is that of a beginning of data() of the size.
 type call struct {
 	plain     func([]byte) uint64
 	word      func([]byte, uint64) uint64
@@ -19,17 +20,22 @@ type call struct {
 	seeded    func([]byte, *Secrets) uint64
 	start     func(*Secrets) *Stream
 	startWord func(uint64) *Stream
+	size      int
+	known     uint64
 }
 
 var calls = map[string]call{
-	"v1":           {V1, V1WithSeed, V1String, nil, nil, nil},
-	"v2_0":         {V2_0, V2_0WithSeed, V2_0String, V2_0Seeded, nil, nil},
-	"v2_1":         {V2_1, V2_1WithSeed, V2_1String, V2_1Seeded, nil, nil},
-	"v2_2":         {V2_2, V2_2WithSeed, V2_2String, V2_2Seeded, nil, nil},
-	"v3":           {V3, V3WithSeed, V3String, V3Seeded, NewV3, NewV3WithSeed},
-	"v3_micro":     {V3Micro, V3MicroWithSeed, V3MicroString, V3MicroSeeded, NewV3Micro, NewV3MicroWithSeed},
-	"v3_nano":      {V3Nano, V3NanoWithSeed, V3NanoString, V3NanoSeeded, NewV3Nano, NewV3NanoWithSeed},
-	"v3_protected": {V3Protected, V3ProtectedWithSeed, V3ProtectedString, V3ProtectedSeeded, nil, nil},
+	"v1":   {V1, V1WithSeed, V1String, nil, nil, nil, 60, 13504714392771582078},
+	"v2_0": {V2_0, V2_0WithSeed, V2_0String, V2_0Seeded, nil, nil, 60, 13186137053657766175},
+	"v2_1": {V2_1, V2_1WithSeed, V2_1String, V2_1Seeded, nil, nil, 60, 13012060828128651499},
+	"v2_2": {V2_2, V2_2WithSeed, V2_2String, V2_2Seeded, nil, nil, 60, 6181707366222537282},
+	"v3":   {V3, V3WithSeed, V3String, V3Seeded, NewV3, NewV3WithSeed, 120, 7088138960297660729},
+	"v3_micro": {V3Micro, V3MicroWithSeed, V3MicroString, V3MicroSeeded, NewV3Micro, NewV3MicroWithSeed,
+		120, 3055975138125564292},
+	"v3_nano": {V3Nano, V3NanoWithSeed, V3NanoString, V3NanoSeeded, NewV3Nano, NewV3NanoWithSeed,
+		120, 3778853990780631382},
+	"v3_protected": {V3Protected, V3ProtectedWithSeed, V3ProtectedString, V3ProtectedSeeded, nil, nil,
+		120, 4753706306364957255},
 }
 
 // check compares the hashes of a message with the secrets of a rule, and of streams that write it, with a known hash.

@@ -1,11 +1,12 @@
-# Completion of rapidhash for bash. Where no option is asked for, bash completes files, variables and
-# the rest by itself. A word that begins with a hyphen names no file, and after the help none counts.
+# Completion of rapidhash for bash, with the options in its help. Where no option is asked for, bash completes
+# files, variables and the rest by itself. A word that begins with a hyphen names no file, and after the help
+# none counts.
 _rapidhash() {
-  local options="--v1 --v2.0 --v2.1 --v2.2 --v3 --v3-micro --v3-nano --protected --help -h"
-  local word=${COMP_WORDS[COMP_CWORD]}
+  local options word=${COMP_WORDS[COMP_CWORD]}
   COMPREPLY=()
   case " ${COMP_WORDS[*]:1:COMP_CWORD-1} " in
     *" --help "* | *" -h "*) options= ;;
+    *) options="$(rapidhash --help 2>/dev/null | grep -oE '^  --[^ ]+') --help -h" ;;
   esac
   if [[ $word == -* || -z $options ]]; then
     compopt +o bashdefault +o default 2>/dev/null

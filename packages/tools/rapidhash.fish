@@ -1,6 +1,6 @@
-# Completion of rapidhash for fish. A word that begins with a hyphen names no file, and after the help
-# none counts.
-set -l versions v1 v2.0 v2.1 v2.2 v3 v3-micro v3-nano
+# Completion of rapidhash for fish, with the versions in its help. A word that begins with a hyphen names no
+# file, and after the help none counts.
+set -l versions (rapidhash --help 2>/dev/null | string match -rg '^ +--(v\S+)')
 for name in $versions
     complete -c rapidhash -l $name -n "not __fish_seen_argument -l $(string join ' -l ' $versions)" -d "Hash by $name"
 end

@@ -1,6 +1,7 @@
-# Completion of rapidsum for fish. A word that begins with a hyphen names no file but after --, and
-# after the help none counts.
-complete -c rapidsum -s a -l algorithm -x -a 'v1 v2.0 v2.1 v2.2 v3 v3-micro v3-nano' -d 'Hash with this version'
+# Completion of rapidsum for fish, with the versions in its help. A word that begins with a hyphen names no
+# file but after --, and after the help none counts.
+set -l versions "(rapidsum --help | string match -rg 'values: (.*)]' | string split ', ')"
+complete -c rapidsum -s a -l algorithm -x -a $versions -d 'Hash with this version'
 complete -c rapidsum -s b -l binary -d 'Print an asterisk before each name'
 complete -c rapidsum -s c -l check -d 'Read checksums from the files and check them'
 complete -c rapidsum -l ignore-missing -d 'Don\'t report missing files'

@@ -1,7 +1,9 @@
 #compdef rapidsum
-# Completion of rapidsum for zsh. A word that begins with a hyphen names no file but after --.
+# Completion of rapidsum for zsh, with the versions in its help. A word that begins with a hyphen names no
+# file but after --.
+local versions=$(_call_program versions rapidsum --help 2>/dev/null | sed -n 's/.*values: \(.*\)]/\1/p')
 _arguments -s -S \
-  '(-a --algorithm)'{-a+,--algorithm=}'[hash with this version]:version:(v1 v2.0 v2.1 v2.2 v3 v3-micro v3-nano)' \
+  '(-a --algorithm)'{-a+,--algorithm=}"[hash with this version]:version:(${versions//,})" \
   '(-b --binary -t --text)'{-b,--binary}'[print an asterisk before each name]' \
   '(-c --check)'{-c,--check}'[read checksums from the files and check them]' \
   '--ignore-missing[do not report missing files]' \

@@ -18,8 +18,7 @@ C = ("-std=c99 -Wall -Wextra -Werror -Wno-unused-function '-DRAPIDHASH_PRIMITIVE
 RUST = "rustc -O --edition 2021 --extern rapidhash=librapidhash.rlib $YERVOUND/tests/formulas/subject.rs"
 JAVA = ("mkdir java && cp -r $YERVOUND/packages/java/src/main/java/. $YERVOUND/packages/java/src/formulas/java/. java &&"
         " rm java/module-info.java && javac --release 11 -d classes $(find java -name '*.java')")
-GO = ("(cd $YERVOUND/packages/go && GOCACHE=$OLDPWD/cache GOPROXY=off go build -tags formulas -o $OLDPWD/go"
-      " ./internal/formulas)")
+GO = "(cd $YERVOUND/packages/go && GOCACHE=$OLDPWD/cache GOPROXY=off go test -tags formulas -c -o $OLDPWD/go)"
 # The subjects: name, kind, the program that it needs, and the commands that build and run it in the directory ROOM.
 SUBJECTS = [
     ("c_gcc", "native", "gcc", f"gcc -O2 {C} -o c_gcc", "./c_gcc"),

@@ -7,9 +7,10 @@
 //! 2^-64. Up to 16 bytes, formulas also shift and join bits, and each is compared 64 times.
 //!
 //! The subject reads the buffer that holds all messages, then records of 20 little-endian words until the input ends:
-//! form (0 to 6: V1, V2.0, V2.1, V2.2, V3, micro, nano), options (1 avalanche, 2 protected, 4 V1's fault, 8 compact),
-//! key of the random functions, seed, seven secrets, offset and length of the message in the buffer, 1 for a stream,
-//! the four places where it is cut into five pieces, and two zeros. It writes a little-endian word per record.
+//! form (0: V1, 1 to 3: V2 by its minor number, 4 to 6: V3 with 7, 5 and 3 lanes), options (1 avalanche, 2 protected,
+//! 4 V1's fault, 8 compact), key of the random functions, seed, seven secrets, offset and length of the message in the
+//! buffer, 1 for a stream, the four places where it is cut into five pieces, and two zeros. It writes a little-endian
+//! word per record.
 
 mod form;
 mod forms;
@@ -24,7 +25,6 @@ use std::process::{exit, Command, Stdio};
 use std::sync::atomic::Ordering::Relaxed;
 
 const ROOM: usize = 32768;
-const FORMS: [&str; 7] = ["v1", "v2.0", "v2.1", "v2.2", "v3", "micro", "nano"];
 const AVALANCHE: u64 = 1;
 const PROTECTED: u64 = 2;
 const V1_BUG: u64 = 4;
@@ -146,8 +146,8 @@ fn main() {
             if u64::from_le_bytes(word) != defined(record, &room) {
                 differ += 1;
                 if differ <= 5 {
-                    let form = FORMS[record[0] as usize];
-                    println!("{form} with options {} differs at {} bytes: {record:?}", record[1], record[12]);
+                    let (form, options, length) = (record[0], record[1], record[12]);
+                    println!("form {form} with options {options} differs at {length} bytes: {record:?}");
                 }
             }
         }

@@ -11,9 +11,23 @@ from pathlib import Path
 import pexpect
 
 sys.path.append(str(Path(__file__).parents[3] / "tests"))
-from cases import ROOM, TOP, compare, finish, shell  # noqa: E402
+from cases import ROOM, TOP, compare, finish, shell, skip_all, tell  # noqa: E402
 
 SHARE = TOP / "packages" / "tools"
+if not shutil.which("rt") and not shutil.which("cargo"):
+    skip_all("no rt and no cargo")
+# The programs, which the completions ask for their help: the kit's, or without rt cargo's.
+os.environ["PATH"] = f"{ROOM}/bin:{os.environ['PATH']}"
+status, output = shell("""export MAKEFLAGS= && mkdir $ROOM/bin && make -s $KIT tool sums
+    read -r tool sums < <(make -s $KIT --eval='show: ; @echo $(tools)' show)
+    ln -s $PWD/$tool $ROOM/bin/rapidhash && ln -s $PWD/$sums $ROOM/bin/rapidsum""",
+                       KIT="" if shutil.which("rt") else "kit=")
+if status:
+    tell("programs", output)
+    finish()
+HELP = {name: shell(f"{name} --help")[1] for name in ("rapidhash", "rapidsum")}
+OPTIONS = {name: set(re.findall(r"^ .{0,5} (--[\w.-]+)", text, re.M)) for name, text in HELP.items()}
+VERSIONS = set(re.search(r"values: (.*)\]", HELP["rapidsum"])[1].split(", "))
 
 # A line before and after the tab key, in a directory with the files `only` and `-dash`. Bars separate the printed words
 # of a line.
@@ -35,12 +49,11 @@ LINES = [
     ("a file after the version", "rapidsum --version o", "rapidsum|--version|o"),
 ]
 
-# The offers of fish for lines that are not in LINES.
+# The offers of each shell for a line, whose last word is a beginning of each.
 OFFERS = [
-    ("versions", "rapidhash --v3-", ["--v3-micro", "--v3-nano"]),
-    ("a second version", "rapidhash --v1 --v", []),
-    ("options for sums", "rapidsum --st", ["--status", "--strict"]),
-    ("versions for sums", "rapidsum --algorithm v2", ["v2.0", "v2.1", "v2.2"]),
+    ("options", "rapidhash --", OPTIONS["rapidhash"] | {"--help"}),
+    ("options for sums", "rapidsum --", OPTIONS["rapidsum"]),
+    ("versions for sums", "rapidsum --algorithm v", VERSIONS),
 ]
 
 # The arguments of each shell, the commands that it runs first, and the function that shows the words of its line.
@@ -55,7 +68,8 @@ SHOW = "show() { printf '<<'; printf '%s|' \"$@\"; printf '>>\\n'; }"
 
 
 def press_tabs(shell, words, lines):
-    """Shows the words of each line after the tab key, with a command that Ctrl-A inserts before the line."""
+    """Shows the words of each line after the tab key, with a command that Ctrl-A inserts before the line. Then compares
+    the offers, which the tab key lists if there are several."""
     environment = dict(os.environ, FOLDER=str(ROOM), TERM="dumb", PS1="$ ", HOME=str(ROOM))
     environment.pop("FOLD", None)
     terminal = pexpect.spawn(shell, words, cwd=ROOM, env=environment, dimensions=(24, 200), encoding="utf-8", timeout=20)
@@ -66,6 +80,11 @@ def press_tabs(shell, words, lines):
         terminal.send(f"{line}\t\x01show \x05\r")
         terminal.expect([r"<<([^\r]*)\|>>\r\n", pexpect.TIMEOUT])
         compare(f"{shell}: {name}", terminal.match[1].rstrip("/") if terminal.match_index == 0 else terminal.before, wanted)
+    for name, line, wanted in OFFERS:
+        terminal.send(f"{line}\t\t\x15show offered\r")
+        terminal.expect_exact("<<offered|>>\r\n")
+        offers = re.findall(rf"(?<!\S){line.split()[-1]}[\w.-]+", terminal.before)
+        compare(f"{shell}: {name}", set(offers), wanted)
     terminal.close(force=True)
 
 
@@ -74,16 +93,13 @@ def ask_fish():
     sources = "".join(f"source '{SHARE}/{name}.fish'; " for name in ("rapidhash", "rapidsum"))
     single = [(name, line, [] if line.replace(" ", "|") == words else [words.rpartition("|")[2]])
               for name, line, words in LINES if "$" not in line and "--help --" not in line]
-    for name, line, wanted in single + OFFERS:
+    for name, line, wanted in single + OFFERS + [("a second version", "rapidhash --v1 --v", [])]:
         _, printed = shell('fish --no-config -c "$COMMANDS"', ROOM, COMMANDS=f"{sources} complete -C '{line}'")
-        compare(f"fish: {name}", [row.partition("\t")[0] for row in printed.splitlines()], wanted)
+        compare(f"fish: {name}", {row.partition("\t")[0] for row in printed.splitlines()}, set(wanted))
 
 
-# Each lists the versions that the program knows.
-[names] = re.findall(r"NAMES: .*= \[(.*)\]", (TOP / "crates/rapidsum/src/options.rt").read_text())
-for file in sorted(SHARE.glob("rapidsum.*")):
-    found = re.findall(r"\bv\d[\w.-]*\b", file.read_text().replace("\\-", "-"))
-    compare(f"versions of {file.name}", set(found), set(re.findall('"(.*?)"', names)))
+found = re.findall(r"\bv\d[\w.-]*\b", (SHARE / "rapidsum.1").read_text().replace("\\-", "-"))
+compare("versions of the manual", set(found), VERSIONS)
 for made in ("only", "-dash"):
     (ROOM / made).touch()
 (ROOM / "functions").mkdir()

@@ -12,43 +12,37 @@ slowly() {
   done
 }
 
-# Checks the hash of the file `part` as standard input, a pipe, and a file: NAME HASH ARGUMENT..
+# Checks the hash of a file as standard input, a pipe, and a file: NAME HASH FILE ARGUMENT..
 three_ways() {
-  hashes "$1_of_stdin" "$2" "${@:3}" <part
-  hashes "$1_of_a_pipe" "$2" "${@:3}" < <(cat part)
-  hashes "$1_of_a_file" "$2" "${@:3}" part
+  hashes "$1_of_stdin" "$2" "${@:4}" <"$3"
+  hashes "$1_of_a_pipe" "$2" "${@:4}" < <(cat "$3")
+  hashes "$1_of_a_file" "$2" "${@:4}" "$3" </dev/null
 }
 
-# Tests every version, plain and protected, with this number of bytes of `large`, as standard input, a pipe, and a file.
-while read -r bytes plain protected versions; do
-  head -c "$bytes" large >part
-  for version in $versions; do
-    three_ways "$bytes$version" "$plain" "$version" </dev/null
-    three_ways "$bytes$version--protected" "$protected" --protected "$version" </dev/null
-  done
-done <<'HASHES'
-0 6516417773221693515 1130253769276497464 --v1
-0 232177599295442350 2799093577786027767 --v2.0 --v2.1 --v2.2 --v3 --v3-micro --v3-nano
-60 4934313604114864032 12541985259661268790 --v1
-60 819606547795797687 8218894412092406644 --v2.0
-60 11331222238298878914 6261047284034634993 --v2.1
-60 13680132568611284615 2909398824946463676 --v2.2
-60 464933352035604485 10445341500862438060 --v3 --v3-micro
-60 9691613464477772595 11968106375315404469 --v3-nano
-65537 3098927480108968539 13244083048479907867 --v1
-65537 7459062879434803914 8441919766209204894 --v2.0 --v2.1 --v2.2
-65537 6916092668803370101 11800252859291862728 --v3
-65537 11109900478142185354 7744990140787621594 --v3-micro
-65537 14746431379887877106 15549505124260343107 --v3-nano
-100000000 15984905982109241549 7060114031743406527 --v1
-100000000 4230584181448816188 18311042698232738596 --v2.0 --v2.1 --v2.2
-100000000 17274253787457370873 7403770911747945897 --v3
-100000000 463558115858540857 14648383807045838472 --v3-micro
-100000000 4447162916058394582 10835451083796232757 --v3-nano
-HASHES
-rm part
-
+# Tests every version, plain and protected, with messages of the vector files.
+awk -F '\t' '$2 == 1 && $4 != 1 && $6 == "square" && $7 ~ /^(0|58|65537)$/ && $8 == "default" {
+  print $7, $9, ($3 ? "--protected " : "") "--" ($1 ~ /^v/ ? "" : "v3-") $1 ($5 == "-" ? "" : "." $5)
+}' "$top"/crates/test_replay/data/*.tsv >known_hashes
+for bytes in 0 58 65537; do
+  perl -e 'print map chr(($_ * $_ + 7 * $_ + $ARGV[0]) % 251), 0 .. $ARGV[0] - 1' "$bytes" >"of_$bytes"
+done
+while read -r bytes hash words; do
+  three_ways "$bytes$words" "$hash" "of_$bytes" $words
+done <known_hashes
 exec </dev/null
+mapfile -t versions < <("$tool" --help | grep -oE '^  --v[^ ]+' | tr -d ' ')
+[ "$(wc -l <known_hashes)" -eq $((3 * 2 * ${#versions[@]})) ]
+tell vectors_of_all_versions $?
+
+# Does the same with 100 million bytes. The digest is that of the Rust crate's hashes, with a line for each.
+for words in "${versions[@]}" "${versions[@]/#/--protected }"; do
+  hash=$("$tool" $words large)
+  echo "$hash" >>hashes
+  three_ways "large$words" "$hash" large $words
+done
+[ "$(sha256sum <hashes)" = '5e079187feb0d1371f7d2305d65c504da8551265efcdd26e34f0536d84461461  -' ]
+tell hashes_of_large $?
+
 hashes stored_run "$known" --v1 <something
 hashes words_that_count_for_nothing 5006746792674864303 --v1 --v1 --strange - < <(echo)
 

@@ -27,19 +27,21 @@ prints_and_checks_a_sum() {
     "$prefix/bin/rapidsum" "$room/file" | "$prefix/bin/rapidsum" --check | grep -qx "$room/file: OK"
 }
 
-# Checks that a file contains every option that the help of a program names: PROGRAM COUNT FILE
+# Checks that the manual of a program contains every option that its help names: PROGRAM COUNT
 names_every_option() {
-  local option pattern
+  local option
   "$prefix/bin/$1" --help | grep -oE '^ .{0,5} --[a-z0-9.-]+' | grep -oE -- '--.*' >"$room/options"
   while read -r option; do
-    pattern=${option//./[.]}
-    case $3 in
-    */_*) pattern="${pattern}[}'=]*\\[" ;; # In zsh, offered options have a description, but excluded options do not.
-    *) pattern="(^|[^a-z0-9.-]|--)${pattern#--}([^a-z0-9.-]|[.] |\$)" ;;
-    esac
-    sed 's/\\//g' "$3" | grep -qE -e "$pattern" || { echo "no $option in $3" && return 1; }
+    sed 's/\\//g' "$prefix/share/man/man1/$1.1" | grep -qE -e "${option//./[.]}([^a-z0-9.-]|[.] |\$)" ||
+      { echo "no $option" && return 1; }
   done <"$room/options"
   [ "$(wc -l <"$room/options")" -eq "$2" ] || { cat "$room/options" && return 1; }
+}
+
+# Checks that the completions of a program are those that completions.py tests: PROGRAM
+has_its_completions() {
+  diff <(cat "$top/packages/tools/$1".{bash,fish,zsh}) <(cd "$prefix/share" &&
+    cat "bash-completion/completions/$1" "fish/vendor_completions.d/$1.fish" "zsh/site-functions/_$1")
 }
 
 # Checks that a manual page has no formatting faults, and lines of at most 80 bytes: PAGE
@@ -211,13 +213,10 @@ try manual_of_sums is_a_clean_manual rapidsum.1
 try manual_of_the_library is_a_clean_manual rapidhash_c.3
 try example_of_the_manual compares_by_the_manual
 cd "$top" || exit 1
-for program in 'rapidhash 8' 'rapidsum 14'; do
-  read -r name count <<<"$program"
-  for place in "man/man1/$name.1" "bash-completion/completions/$name" "zsh/site-functions/_$name" \
-    "fish/vendor_completions.d/$name.fish"; do
-    try "options_in_$(basename "$place")" names_every_option "$name" "$count" "$prefix/share/$place"
-  done
-done
+try options_of_the_manual names_every_option rapidhash 8
+try options_of_the_manual_of_sums names_every_option rapidsum 14
+try completions has_its_completions rapidhash
+try completions_of_sums has_its_completions rapidsum
 try folder_of_any_name serves_a_folder_of_any_name
 try relative_folder refuses PREFIX=usr
 try relative_folder_of_libraries refuses PREFIX=/usr LIBDIR=lib

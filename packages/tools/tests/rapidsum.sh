@@ -137,20 +137,27 @@ LINES
 sed -n 's/.*malformed: \([0-9]*\): .*/\1/p' "$room/log" | cmp - <(seq 3 13) && grep -qxF '\\\x stands for itself: OK' out
 tell each_malformed_line_is_named $?
 
-# The values of the Rust crate for 57, 58 and 128 bytes, with the default seed and with seed words.
+# The values of the Rust crate for 57, 58 and 128 bytes, with the default seed and with seed words, and for a file above
+# 4 GiB, which is read in pieces.
+python3 "$top/scripts/vectors.py" "$top/crates/test_replay/data" |
+  grep -E '^v[^p]+'$'\t''(default|word:[0-9]+)'$'\t''(.{114}|.{116}|.{256}|zeros:.*)'$'\t' >vectors
+[ "$(grep -c zeros: vectors)" -eq "$("$program" --help | sed -n 's/.*values://p' | wc -w)" ]
+tell vectors_of_all_versions $?
 while IFS=$'\t' read -r version rule message hash; do
   version=${version/2_/2.} version=${version/3_/3-} word=${rule#word:} file=of_${#message} hash=$(printf %016x "$hash")
-  perl -e 'print pack "H*", $ARGV[0]' "$message" >"$file"
+  case $message in
+    zeros:*) truncate -s "${message#zeros:}" "$file" ;;
+    *) perl -e 'print pack "H*", $ARGV[0]' "$message" >"$file" ;;
+  esac
   if [ "$rule" = default ]; then
-    answers "version_$version" "$hash  $file\n" '' "$program" -a "$version" "$file"
+    answers "version_${version}_$file" "$hash  $file\n" '' in_kibibytes 32768 "$program" -a "$version" "$file"
   else
     answers "seed_of_$version" "RAPIDHASH-${version^^}:$(printf %016x "$word") ($file) = $hash\n" '' \
       "$program" --seed "$word" --tag --algorithm "$version" "$file"
     cat out >>list_of_all
     echo "$file: OK" >>wanted_of_all
   fi
-done < <(python3 "$top/scripts/vectors.py" "$top/crates/test_replay/data" |
-  grep -E '^v[^p]+'$'\t''(default|word:[0-9]+)'$'\t''(.{114}|.{116}|.{256})'$'\t')
+done <vectors
 cp wanted_of_all wanted
 prints a_list_of_all_versions "$program" -c list_of_all
 "$program" --seed 1 first >list
@@ -225,19 +232,7 @@ if [ -n "${BUILT-}" ]; then
   try many_names bash -c '[ "$("$1" $(yes first | head -n 70000) | wc -l)" -eq 70000 ]' - "$program"
 fi
 
-# A file above 4 GiB, read in pieces by all versions. The values are the Rust crate's.
 truncate -s 4294967301 sparse
-while read -r version hash; do
-  answers "large_file_by_$version" "$hash  sparse\n" '' in_kibibytes 32768 "$program" -a "$version" sparse
-done <<'VALUES'
-v1 46bf5aab7e2f6ab2
-v2.0 7e49682204c90431
-v2.1 7e49682204c90431
-v2.2 7e49682204c90431
-v3 7c0d86c7f881bfdc
-v3-micro 262c44b87d43134e
-v3-nano 6199e94d31d7c7aa
-VALUES
 while printf x >>sparse; do :; done &
 says file_that_grows 'sparse: the file grew while it was read' "$program" -a v1 sparse
 kill $!

@@ -13,9 +13,9 @@ import java.nio.ByteOrder;
  *
  * <p>Reads 32,768 bytes that hold every message, and then records of 20 little-endian words: form, options, key, seed,
  * seven secrets, offset, length, streamed, four cuts, and two unused words. Writes the hash for each record, as a
- * little-endian word. The forms are V1, V2.0, V2.1, V2.2, V3, micro and nano, from 0 on. Option 2 is protected V3. The
- * key is that of the random functions. If streamed is 1, the message is written in five pieces, which end at the cuts.
- * With an argument, the messages are in a direct buffer.
+ * little-endian word. The form is the place of a version in {@link Rapidhash}. Option 2 is protected V3. The key is
+ * that of the random functions. If streamed is 1, the message is written in five pieces, which end at the cuts. With an
+ * argument, the messages are in a direct buffer.
  */
 public final class Formulas {
     private static final int ROOM = 32768;

@@ -12,14 +12,11 @@ import java.nio.file.Path;
 import java.nio.file.StandardOpenOption;
 import java.util.Arrays;
 import java.util.Map;
-import java.util.Set;
 import java.util.stream.Collectors;
 import org.junit.Test;
 
 /** Compares all values of the Rust crate. Two environment variables name their files. */
 public class VectorsTest {
-    private static final Set<Rapidhash> STREAMED = Set.of(Rapidhash.V3, Rapidhash.V3_MICRO, Rapidhash.V3_NANO);
-
     private static Iterable<String[]> lines(String variable) throws IOException {
         String name = System.getenv(variable);
         assertNotNull(variable + " names no file", name);
@@ -43,7 +40,7 @@ public class VectorsTest {
         for (String[] words : lines("RAPIDHASH_VECTORS")) {
             Rapidhash version = versions.get(words[0]);
             long known = Long.parseUnsignedLong(words[3]);
-            if (words[2].startsWith("zeros:") && STREAMED.contains(version)) {
+            if (words[2].startsWith("zeros:") && RapidhashStreamTest.STREAMED.contains(version)) {
                 assertEquals(known, ofZeros(version.stream(), Long.parseLong(words[2].substring(6))));
             } else if (!words[2].startsWith("zeros:")) {
                 compare(version, bytesOf(words[2].replace("-", "")), words[1], known);
@@ -80,7 +77,7 @@ public class VectorsTest {
         for (ByteBuffer buffer : Messages.buffers(message)) {
             assertEquals(known, version.hash(buffer, seed));
         }
-        if (STREAMED.contains(version)) {
+        if (RapidhashStreamTest.STREAMED.contains(version)) {
             assertEquals(known, inPieces(version.stream(seed), message));
         }
         compare(version, message, Messages.ofSeed(version, seed), known);
@@ -92,7 +89,7 @@ public class VectorsTest {
         for (ByteBuffer buffer : Messages.buffers(message)) {
             assertEquals(known, version.hash(buffer, secrets));
         }
-        if (STREAMED.contains(version)) {
+        if (RapidhashStreamTest.STREAMED.contains(version)) {
             assertEquals(known, inPieces(version.stream(secrets), message));
         }
     }
