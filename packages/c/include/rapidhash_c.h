@@ -70,8 +70,8 @@ struct rapidhash_secrets {
     uint64_t secrets[7];
 };
 
-/* All versions, for tables and bindings. Calls X(version, own, number) for each. Its hash is rapidhash_##version, and
- * own##_make_secrets makes its secrets, a struct own##_secrets. No two versions have the same number. */
+/* All versions, for tables and bindings. Calls X(version, own, form) for each. Its hash is rapidhash_##version, and
+ * own##_make_secrets makes its secrets, a struct own##_secrets. `form` is a number that no other version has. */
 #define RAPIDHASH_C_VERSIONS(X) \
     X(v1, rapidhash_v1, 1) X(v2_0, rapidhash, 20) X(v2_1, rapidhash, 21) X(v2_2, rapidhash, 22) X(v3, rapidhash, 7) \
     X(v3_micro, rapidhash, 5) X(v3_nano, rapidhash, 3) X(v3_protected, rapidhash, 70)
@@ -528,7 +528,7 @@ RAPIDHASH_FOLD uint64_t rapidhash_finish_(int lanes, const struct rapidhash_stre
                        : rapidhash_v3_(lanes, false, p, stream->len, stream->secrets->seed, s);
 }
 
-/* Returns the hash of a form, a number in RAPIDHASH_C_VERSIONS. That of V3, micro, and nano counts their lanes. */
+/* Returns the hash of a form of RAPIDHASH_C_VERSIONS. For V3, micro, and nano, it is the number of lanes. */
 RAPIDHASH_FOLD uint64_t rapidhash_form_(int form, const void *bytes, size_t n, uint64_t seed, const uint64_t *s)
 {
     const uint8_t *const p = (const uint8_t *)bytes;
