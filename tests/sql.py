@@ -7,7 +7,9 @@ from cases import TOP, blocks, compare, shell
 HELLO = 3327445792987248966
 NOTHING = 232177599295442350
 TEXT, TEXT_HASH = "héllo €😀", 7424989580978448810
-VERSIONS = ("v1", "v2_0", "v2_1", "v2_2", "v3", "v3_micro", "v3_nano", "v3_protected")
+# The versions that SQL also has as aggregates.
+HEADER = (TOP / "packages/c/include/rapidhash_c.h").read_text()
+STREAMS = re.findall(r"X\((\w+)", re.search(r"define RAPIDHASH_C_STREAMS\(X\) (.*)", HEADER)[1])
 # The digits of a hash as an SQL integer: those of HELLO, and of words with leading zeros and with the highest bit.
 DIGITS = {HELLO: "2e2d7651b45f7946", 0: "0" * 16, 2**32: "0000000100000000", -1: "f" * 16, -2**62: "c" + "0" * 15}
 # The page of all packages, which also shows the commands on each package's page.
@@ -32,7 +34,7 @@ def every_vector():
     found, lines = [], shell("python3 scripts/vectors.py crates/test_replay/data")[1].splitlines()
     for version, rule, digits, number in (line.split("\t") for line in lines if not line.startswith("#")):
         kind, _, word = rule.partition(":")
-        if version in VERSIONS and kind != "own" and not digits.startswith("zeros:"):
+        if version != "version" and kind != "own" and not digits.startswith("zeros:"):
             words = (signed(int(word)),) if word else ()
             name = f"rapidhash_{version}" + "_seeded" * (kind == "make")
             found.append((name, words, bytes.fromhex(digits.strip("-")), signed(int(number))))

@@ -17,21 +17,23 @@ const fewLetters = 20;
 const version = 100;
 /** The default secrets of V1 are those of this seed word, and the others those of 0. */
 const wordOfV1 = 0xbdd89aa982704029n;
-const forms = ["v1", "v2_0", "v2_1", "v2_2", "v3", "v3_micro", "v3_nano", "v3_protected"];
 const needed = ["memory", "__heap_base", "version", "high", "start", "write", "reset", "finish", "finish_low",
-  "make_secrets", "seed_secrets", "make_secrets_v1", "seed_secrets_v1",
-  ...forms, ...forms.map((name) => `${name}_low`)];
+  "make_secrets", "seed_secrets", "make_secrets_v1", "seed_secrets_v1"];
 
 /** The codes of the hexadecimal digits. toString(16) is slow above 31 bits. */
 const codes = Array.from("0123456789abcdef", (digit) => digit.charCodeAt(0));
+
+/** Refuses a module, unless it is that of the package. */
+export function checkModule(isOurs) {
+  if (!isOurs) throw new TypeError("the module is not that of this version of yervound-rapidhash");
+}
 
 export class Library {
   /** The stream whose state is in the memory, if any. */
   owner;
 
   constructor({ exports }) {
-    if (!needed.every((name) => name in exports) || exports.version() !== version)
-      throw new TypeError("the module is not that of this version of yervound-rapidhash");
+    checkModule(needed.every((name) => name in exports) && exports.version() === version);
     this.exports = exports;
     this.atDefault = (exports.__heap_base.value + 15) & ~15;
     this.atDefaultV1 = this.atDefault + 64;

@@ -27,19 +27,12 @@ static uint32_t halve(uint64_t hash)
 EXPORT(high) uint32_t high(void)
 { return (uint32_t)(last >> 32); }
 
-#define FORM(version, own) \
-    EXPORT(version) uint64_t version(const void *bytes, size_t len, const struct own *secrets) \
+#define HASHES(version, own, form) \
+    EXPORT(version) uint64_t version(const void *bytes, size_t len, const struct own##_secrets *secrets) \
     { return rapidhash_##version##_seeded(bytes, len, secrets); } \
-    EXPORT(version##_low) uint32_t version##_low(const void *bytes, size_t len, const struct own *secrets) \
+    EXPORT(version##_low) uint32_t version##_low(const void *bytes, size_t len, const struct own##_secrets *secrets) \
     { return halve(version(bytes, len, secrets)); }
-FORM(v1, rapidhash_v1_secrets)
-FORM(v2_0, rapidhash_secrets)
-FORM(v2_1, rapidhash_secrets)
-FORM(v2_2, rapidhash_secrets)
-FORM(v3, rapidhash_secrets)
-FORM(v3_micro, rapidhash_secrets)
-FORM(v3_nano, rapidhash_secrets)
-FORM(v3_protected, rapidhash_secrets)
+RAPIDHASH_C_VERSIONS(HASHES)
 
 EXPORT(make_secrets) void make_secrets(uint64_t number, struct rapidhash_secrets *secrets)
 { rapidhash_make_secrets(number, secrets); }

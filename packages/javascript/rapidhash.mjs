@@ -5,7 +5,7 @@
 //
 // A hash is a BigInt below 2n ** 64n, the same on every machine. README.md describes every call.
 import { bytesOf, choose, kindOf, sizeOf, word } from "./arguments.mjs";
-import { isLong, Library, messageOf, piece } from "./library.mjs";
+import { checkModule, isLong, Library, messageOf, piece } from "./library.mjs";
 import { Stream } from "./stream.mjs";
 import code from "./module.mjs";
 
@@ -31,8 +31,7 @@ function codeOf(source) {
 
 /** Refuses a module that needs imports, which that of the package does not. */
 function checked(module) {
-  if (WebAssembly.Module.imports(module).length > 0)
-    throw new TypeError("the module is not that of this version of yervound-rapidhash");
+  checkModule(WebAssembly.Module.imports(module).length === 0);
   return module;
 }
 
@@ -58,6 +57,7 @@ export function hex(hash) {
 function form(library, name, count, lanes) {
   const { atBytes } = library;
   const { [name]: whole, [`${name}_low`]: low } = library.exports;
+  checkModule(whole && low);
   const standard = count === 4 ? library.atDefaultV1 : library.atDefault;
   const general = (data, options, encoding) => {
     if (options === undefined && typeof data === "string" && 3 * data.length <= piece && !encoding)

@@ -53,7 +53,7 @@ static Datum hash_integer(FunctionCallInfo fcinfo, hash_by_word *hash)
     }
 
 /* Defines the calls of a version: by default, with a seed word, and with secrets from a number, of V1 or others. */
-#define VERSION(version, prefix) \
+#define VERSION(version, own, form) \
     static uint64_t default_##version(const void *bytes, size_t len, uint64_t none) \
     { \
         (void)none; \
@@ -61,22 +61,15 @@ static Datum hash_integer(FunctionCallInfo fcinfo, hash_by_word *hash)
     } \
     static uint64_t seeded_##version(const void *bytes, size_t len, uint64_t number) \
     { \
-        struct rapidhash_##prefix##secrets secrets; \
-        rapidhash_##prefix##make_secrets(number, &secrets); \
+        struct own##_secrets secrets; \
+        own##_make_secrets(number, &secrets); \
         return rapidhash_##version##_seeded(bytes, len, &secrets); \
     } \
     CALLS(sql_##version, default_##version) \
     CALLS(sql_##version##_with_seed, rapidhash_##version##_with_seed) \
     CALLS(sql_##version##_seeded, seeded_##version)
 
-VERSION(v1, v1_)
-VERSION(v2_0, )
-VERSION(v2_1, )
-VERSION(v2_2, )
-VERSION(v3, )
-VERSION(v3_micro, )
-VERSION(v3_nano, )
-VERSION(v3_protected, )
+RAPIDHASH_C_VERSIONS(VERSION)
 
 PG_FUNCTION_INFO_V1(sql_hex);
 
@@ -137,7 +130,7 @@ static Datum add_row(FunctionCallInfo fcinfo, start *start, const char *name, in
     PG_RETURN_POINTER(running);
 }
 
-#define STREAM(version) \
+#define STREAM(version, lanes) \
     PG_FUNCTION_INFO_V1(add_##version##_bytes); \
     Datum add_##version##_bytes(PG_FUNCTION_ARGS) \
     { \
@@ -148,9 +141,7 @@ static Datum add_row(FunctionCallInfo fcinfo, start *start, const char *name, in
     { \
         return add_row(fcinfo, rapidhash_##version##_start, "rapidhash_" #version "_agg", 1); \
     }
-STREAM(v3)
-STREAM(v3_micro)
-STREAM(v3_nano)
+RAPIDHASH_C_STREAMS(STREAM)
 
 PG_FUNCTION_INFO_V1(finish_agg);
 

@@ -71,11 +71,11 @@ static PyObject *digits_of(uint64_t hash)
 }
 
 /* Defines a version and its two calls. */
-#define FORM(version, is_v1) \
+#define FORM(version, own, number) \
     static uint64_t seeded_##version(const void *bytes, size_t len, const void *secrets) \
     { return rapidhash_##version##_seeded(bytes, len, secrets); } \
     static const struct form form_##version = { \
-        #version, rapidhash_##version, rapidhash_##version##_with_seed, seeded_##version, is_v1}; \
+        #version, rapidhash_##version, rapidhash_##version##_with_seed, seeded_##version, number == 1}; \
     static PyObject *call_##version(PyObject *module, PyObject *const *args, Py_ssize_t count, PyObject *names) \
     { \
         uint64_t value; \
@@ -87,19 +87,12 @@ static PyObject *digits_of(uint64_t hash)
         uint64_t value; \
         return hash(&form_##version, module, args, count, names, &value) < 0 ? NULL : digits_of(value); \
     }
-FORM(v1, 1)
-FORM(v2_0, 0)
-FORM(v2_1, 0)
-FORM(v2_2, 0)
-FORM(v3, 0)
-FORM(v3_micro, 0)
-FORM(v3_nano, 0)
-FORM(v3_protected, 0)
+RAPIDHASH_C_VERSIONS(FORM)
+#define PLACE(version, own, number) &form_##version,
 
 const struct form *form_of(PyObject *version)
 {
-    static const struct form *const forms[] = {&form_v1, &form_v2_0, &form_v2_1, &form_v2_2, &form_v3,
-                                               &form_v3_micro, &form_v3_nano, &form_v3_protected};
+    static const struct form *const forms[] = {RAPIDHASH_C_VERSIONS(PLACE)};
     size_t at;
     for (at = 0; PyUnicode_Check(version) && at < sizeof forms / sizeof *forms; at++)
         if (PyUnicode_CompareWithASCIIString(version, forms[at]->name) == 0)
@@ -125,7 +118,7 @@ MAKER(made_v1, "number", rapidhash_v1_make_secrets, rapidhash_v1_secrets)
 MAKER(seeded, "seed", rapidhash_seed_secrets, rapidhash_secrets)
 
 #define FAST(function) (PyCFunction)(void (*)(void))function
-#define CALL(name) \
+#define CALLS(name, own, number) \
     {#name, FAST(call_##name), METH_FASTCALL | METH_KEYWORDS, \
      PyDoc_STR(#name "($module, data, seed=None, secrets=None)\n--\n\nReturns the " #name " hash of `data`.\n\n" \
                "A str is hashed as its UTF-8. Pass `seed`, a word for the default secrets, or `secrets` from\n" \
@@ -134,10 +127,10 @@ MAKER(seeded, "seed", rapidhash_seed_secrets, rapidhash_secrets)
                "surrogate pair, and TypeError if both are passed.")}, \
     {#name "_hexdigest", FAST(hex_##name), METH_FASTCALL | METH_KEYWORDS, \
      PyDoc_STR(#name "_hexdigest($module, data, seed=None, secrets=None)\n--\n\n" \
-               "Returns the same hash as " #name ", as 16 hexadecimal digits.")}
+               "Returns the same hash as " #name ", as 16 hexadecimal digits.")},
 
 static PyMethodDef calls[] = {
-    CALL(v1), CALL(v2_0), CALL(v2_1), CALL(v2_2), CALL(v3), CALL(v3_micro), CALL(v3_nano), CALL(v3_protected),
+    RAPIDHASH_C_VERSIONS(CALLS)
     {"made", made, METH_O, NULL}, {"made_v1", made_v1, METH_O, NULL}, {"seeded", seeded, METH_O, NULL},
     {"each", FAST(each), METH_FASTCALL, NULL}, {"each_row", FAST(each_row), METH_FASTCALL, NULL},
     {"each_slice", FAST(each_slice), METH_FASTCALL, NULL}, {NULL, NULL, 0, NULL}};

@@ -172,7 +172,7 @@ static void lose(sqlite3_context *context, int count, sqlite3_value **values)
 }
 
 /* Defines the hash of a version by default, and with secrets made from a number. V1 has its own type of secrets. */
-#define HASHES(version, prefix) \
+#define HASHES(version, own, form) \
     static uint64_t default_##version(const void *bytes, size_t len, uint64_t none) \
     { \
         (void)none; \
@@ -180,35 +180,21 @@ static void lose(sqlite3_context *context, int count, sqlite3_value **values)
     } \
     static uint64_t seeded_##version(const void *bytes, size_t len, uint64_t number) \
     { \
-        struct rapidhash_##prefix##secrets secrets; \
-        rapidhash_##prefix##make_secrets(number, &secrets); \
+        struct own##_secrets secrets; \
+        own##_make_secrets(number, &secrets); \
         return rapidhash_##version##_seeded(bytes, len, &secrets); \
     }
 
-HASHES(v1, v1_)
-HASHES(v2_0, )
-HASHES(v2_1, )
-HASHES(v2_2, )
-HASHES(v3, )
-HASHES(v3_micro, )
-HASHES(v3_nano, )
-HASHES(v3_protected, )
+RAPIDHASH_C_VERSIONS(HASHES)
 
-#define FUNCTIONS(version) \
+#define FUNCTIONS(version, own, form) \
     {"rapidhash_" #version, NULL, default_##version}, \
     {"rapidhash_" #version, "seed", rapidhash_##version##_with_seed}, \
-    {"rapidhash_" #version "_seeded", "number", seeded_##version}
+    {"rapidhash_" #version "_seeded", "number", seeded_##version},
+#define AGGREGATE(version, lanes) {"rapidhash_" #version "_agg", rapidhash_##version##_start},
 
-static const struct function functions[] = {
-    FUNCTIONS(v1), FUNCTIONS(v2_0), FUNCTIONS(v2_1), FUNCTIONS(v2_2),
-    FUNCTIONS(v3), FUNCTIONS(v3_micro), FUNCTIONS(v3_nano), FUNCTIONS(v3_protected),
-};
-
-static const struct aggregate aggregates[] = {
-    {"rapidhash_v3_agg", rapidhash_v3_start},
-    {"rapidhash_v3_micro_agg", rapidhash_v3_micro_start},
-    {"rapidhash_v3_nano_agg", rapidhash_v3_nano_start},
-};
+static const struct function functions[] = {RAPIDHASH_C_VERSIONS(FUNCTIONS)};
+static const struct aggregate aggregates[] = {RAPIDHASH_C_STREAMS(AGGREGATE)};
 
 #define COUNT(table) (sizeof(table) / sizeof *(table))
 

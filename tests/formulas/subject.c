@@ -12,7 +12,6 @@ struct record {
     uint64_t offset, length, streamed, cuts[4], unused[2];
 };
 
-typedef uint64_t seeded(const void *, size_t, const struct rapidhash_secrets *);
 typedef void start(struct rapidhash_stream *, const struct rapidhash_secrets *);
 
 static uint64_t in_pieces(const struct record *asked, const uint8_t *bytes)
@@ -37,16 +36,19 @@ static uint64_t in_pieces(const struct record *asked, const uint8_t *bytes)
 
 static uint64_t hash(const struct record *asked, const uint8_t *bytes)
 {
-    static seeded *const forms[] = {NULL, rapidhash_v2_0_seeded, rapidhash_v2_1_seeded, rapidhash_v2_2_seeded,
-                                    rapidhash_v3_seeded, rapidhash_v3_micro_seeded, rapidhash_v3_nano_seeded};
-    struct rapidhash_v1_secrets of_v1 = {asked->own.seed, {0, 0, 0}};
+    uint64_t before = asked->form;
 
-    memcpy(of_v1.secrets, asked->own.secrets, sizeof of_v1.secrets);
-    if (asked->form == 0)
-        return rapidhash_v1_seeded(bytes, asked->length, &of_v1);
     if (asked->options & 2)
         return rapidhash_v3_protected_seeded(bytes, asked->length, &asked->own);
-    return forms[asked->form](bytes, asked->length, &asked->own);
+    /* V1 has the first of the secrets. */
+#define HASH(version, kind, number) \
+    if (before-- == 0) { \
+        struct kind##_secrets secrets; \
+        memcpy(&secrets, &asked->own, sizeof secrets); \
+        return rapidhash_##version##_seeded(bytes, asked->length, &secrets); \
+    }
+    RAPIDHASH_C_VERSIONS(HASH)
+    return 0;
 }
 
 int main(void)

@@ -70,6 +70,15 @@ struct rapidhash_secrets {
     uint64_t secrets[7];
 };
 
+/* All versions, for tables and bindings. Calls X(version, own, form) for each. Its hash is rapidhash_##version, and
+ * own##_make_secrets makes its secrets, a struct own##_secrets. `form` is a number that no other version has. */
+#define RAPIDHASH_C_VERSIONS(X) \
+    X(v1, rapidhash_v1, 1) X(v2_0, rapidhash, 20) X(v2_1, rapidhash, 21) X(v2_2, rapidhash, 22) X(v3, rapidhash, 7) \
+    X(v3_micro, rapidhash, 5) X(v3_nano, rapidhash, 3) X(v3_protected, rapidhash, 70)
+
+/* The versions with streams. Calls X(version, lanes) for each. rapidhash_##version##_start starts its streams. */
+#define RAPIDHASH_C_STREAMS(X) X(v3, 7) X(v3_micro, 5) X(v3_nano, 3)
+
 /* Derives a seed and secrets from `number`, as the Rust crate's RapidSecrets::seed does. Use a random number if
  * collisions must be hard to predict. Make the secrets once and reuse them.
  *
@@ -519,7 +528,7 @@ RAPIDHASH_FOLD uint64_t rapidhash_finish_(int lanes, const struct rapidhash_stre
                        : rapidhash_v3_(lanes, false, p, stream->len, stream->secrets->seed, s);
 }
 
-/* Returns the hash of a form: 1 is V1, 20 to 22 are V2; V3, micro, and nano are their lanes, and 70 is protected V3. */
+/* Returns the hash of a form of RAPIDHASH_C_VERSIONS. For V3, micro, and nano, it is the number of lanes. */
 RAPIDHASH_FOLD uint64_t rapidhash_form_(int form, const void *bytes, size_t n, uint64_t seed, const uint64_t *s)
 {
     const uint8_t *const p = (const uint8_t *)bytes;
@@ -529,23 +538,18 @@ RAPIDHASH_FOLD uint64_t rapidhash_form_(int form, const void *bytes, size_t n, u
                         : rapidhash_v3_(form, false, p, n, seed, s);
 }
 
-/* Defines the three hashes of a form: its name, its number, the struct of its secrets, its default seed, and the secret
- * that a seed word is mixed with. */
-#define RAPIDHASH_C_FORM(name, form, own, default_seed, i) \
-    RAPIDHASH_API uint64_t name(const void *bytes, size_t len) \
-    { return rapidhash_form_(form, bytes, len, default_seed, rapidhash_default_.secrets); } \
-    RAPIDHASH_API uint64_t name##_with_seed(const void *bytes, size_t len, uint64_t seed) \
-    { return rapidhash_form_(form, bytes, len, rapidhash_seed_(seed, i), rapidhash_default_.secrets); } \
-    RAPIDHASH_API uint64_t name##_seeded(const void *bytes, size_t len, const struct own *secrets) \
+/* Defines the three hashes of a version. V1 has its own default seed, and mixes a seed word with another secret. */
+#define RAPIDHASH_C_HASHES(version, own, form) \
+    RAPIDHASH_API uint64_t rapidhash_##version(const void *bytes, size_t len) \
+    { return rapidhash_form_( \
+        form, bytes, len, form == 1 ? RAPIDHASH_C_V1_SEED : rapidhash_default_.seed, rapidhash_default_.secrets); } \
+    RAPIDHASH_API uint64_t rapidhash_##version##_with_seed(const void *bytes, size_t len, uint64_t seed) \
+    { return rapidhash_form_( \
+        form, bytes, len, rapidhash_seed_(seed, form == 1 ? 0 : 2), rapidhash_default_.secrets); } \
+    RAPIDHASH_API uint64_t rapidhash_##version##_seeded( \
+        const void *bytes, size_t len, const struct own##_secrets *secrets) \
     { return rapidhash_form_(form, bytes, len, secrets->seed, secrets->secrets); }
-RAPIDHASH_C_FORM(rapidhash_v1, 1, rapidhash_v1_secrets, RAPIDHASH_C_V1_SEED, 0)
-RAPIDHASH_C_FORM(rapidhash_v2_0, 20, rapidhash_secrets, rapidhash_default_.seed, 2)
-RAPIDHASH_C_FORM(rapidhash_v2_1, 21, rapidhash_secrets, rapidhash_default_.seed, 2)
-RAPIDHASH_C_FORM(rapidhash_v2_2, 22, rapidhash_secrets, rapidhash_default_.seed, 2)
-RAPIDHASH_C_FORM(rapidhash_v3, 7, rapidhash_secrets, rapidhash_default_.seed, 2)
-RAPIDHASH_C_FORM(rapidhash_v3_micro, 5, rapidhash_secrets, rapidhash_default_.seed, 2)
-RAPIDHASH_C_FORM(rapidhash_v3_nano, 3, rapidhash_secrets, rapidhash_default_.seed, 2)
-RAPIDHASH_C_FORM(rapidhash_v3_protected, 70, rapidhash_secrets, rapidhash_default_.seed, 2)
+RAPIDHASH_C_VERSIONS(RAPIDHASH_C_HASHES)
 
 RAPIDHASH_API uint32_t rapidhash_c_version(void) { return RAPIDHASH_C_VERSION_NUMBER; }
 RAPIDHASH_API void rapidhash_v1_make_secrets(uint64_t number, struct rapidhash_v1_secrets *secrets)

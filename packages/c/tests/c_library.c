@@ -28,61 +28,71 @@ static void compare(const char *name, const char *what, uint64_t value, uint64_t
     }
 }
 
-struct form {
+/* Defines a hash with secrets as words: the seed and then 3 others in V1, and 7 in each other version. */
+#define SEEDED(version, own, number) \
+    static uint64_t seeded_##version(const void *message, size_t len, const uint64_t *words) \
+    { \
+        struct own##_secrets secrets; \
+        memcpy(&secrets, words, sizeof secrets); \
+        return rapidhash_##version##_seeded(message, len, &secrets); \
+    }
+RAPIDHASH_C_VERSIONS(SEEDED)
+#define FORM(version, own, number) \
+    {#version, number == 1, rapidhash_##version, rapidhash_##version##_with_seed, seeded_##version},
+
+static const struct form {
     const char *name; /* as in the file */
-    size_t len;
+    bool is_v1;
     uint64_t (*hash)(const void *, size_t);
     uint64_t (*with_seed)(const void *, size_t, uint64_t);
-    uint64_t (*seeded)(const void *, size_t, const struct rapidhash_secrets *);
-    uint64_t of_default;
-};
+    uint64_t (*seeded)(const void *, size_t, const uint64_t *words);
+} forms[] = {RAPIDHASH_C_VERSIONS(FORM)};
+enum { FORMS = sizeof forms / sizeof forms[0] };
 
-#define FORM(name, len, hash, of_default) {name, len, hash, hash##_with_seed, hash##_seeded, of_default}
-static const struct form forms[] = {
-    FORM("v2_0", 60, rapidhash_v2_0, 13186137053657766175u),
-    FORM("v2_1", 60, rapidhash_v2_1, 13012060828128651499u),
-    FORM("v2_2", 60, rapidhash_v2_2, 6181707366222537282u),
-    FORM("v3", 120, rapidhash_v3, 7088138960297660729u),
-    FORM("v3_micro", 120, rapidhash_v3_micro, 3055975138125564292u),
-    FORM("v3_nano", 120, rapidhash_v3_nano, 3778853990780631382u),
-    FORM("v3_protected", 120, rapidhash_v3_protected, 4753706306364957255u),
-};
-
-static void check_form(const struct form *form)
+static void derive(bool is_v1, bool is_made, uint64_t number, uint64_t *words)
 {
-    struct rapidhash_secrets secrets;
+    struct rapidhash_v1_secrets of_v1;
+    struct rapidhash_secrets others;
 
-    compare(form->name, "with the default secrets", form->hash(bytes, form->len), form->of_default);
-    rapidhash_seed_secrets(0, &secrets);
-    compare(form->name, "with the secrets of word 0", form->seeded(bytes, form->len, &secrets), form->of_default);
-    compare(form->name, "with the seed word 0", form->with_seed(bytes, form->len, 0), form->of_default);
+    (is_made ? rapidhash_v1_make_secrets : rapidhash_v1_seed_secrets)(number, &of_v1);
+    (is_made ? rapidhash_make_secrets : rapidhash_seed_secrets)(number, &others);
+    memcpy(words, &others, sizeof others);
+    if (is_v1)
+        memcpy(words, &of_v1, sizeof of_v1);
 }
 
-/* The secrets of V1 have a different type. */
-static void check_v1(void)
+/* One number is known for all versions, so that they are also compared without a file: the V3 hash of their digits. */
+static void check_forms(void)
 {
-    const uint64_t of_default = 13504714392771582078u, default_word = 0xbdd89aa982704029u;
-    struct rapidhash_v1_secrets secrets;
+    char digits[32 * FORMS + 1];
+    uint64_t words[8];
+    size_t i;
 
-    compare("v1", "with the default secrets", rapidhash_v1(bytes, 60), of_default);
-    compare("v1", "with its default word", rapidhash_v1_with_seed(bytes, 60, default_word), of_default);
-    rapidhash_v1_seed_secrets(default_word, &secrets);
-    compare("v1", "with the secrets of its default word", rapidhash_v1_seeded(bytes, 60, &secrets), of_default);
+    for (i = 0; i < FORMS; i++) {
+        const uint64_t hash = forms[i].hash(bytes, 60), word = forms[i].is_v1 ? 0xbdd89aa982704029u : 0;
+
+        snprintf(digits + 32 * i, 33, "%016" PRIx64 "%016" PRIx64, hash, forms[i].hash(bytes, 120));
+        compare(forms[i].name, "with its default word", forms[i].with_seed(bytes, 60, word), hash);
+        derive(forms[i].is_v1, false, word, words);
+        compare(forms[i].name, "with the secrets of its default word", forms[i].seeded(bytes, 60, words), hash);
+    }
+    compare("all versions", "with the default secrets", rapidhash_v3(digits, sizeof digits - 1), 12980804195221024151u);
     compare("v1", "of a line", rapidhash_v1("something\n", 10), 15965596575264898037u);
+    compare("v3", "of no bytes", rapidhash_v3(NULL, 0), 232177599295442350u);
 }
 
 static void check_made_secrets(void)
 {
-    static const struct rapidhash_secrets known = {0x6d95b902ea9b0223u, {
-        0x4e6220ca4fb6cfceu, 0x192d182c120632f7u, 0xf457c94ec4a04866u, 0x4197ccbf5bf8f9d7u,
-        0xfe96dfa00f02022du, 0x7c8eb6ba6268e054u, 0x6333af257102a99eu}};
+    static const uint64_t known[8] = {
+        0x6d95b902ea9b0223u, 0x4e6220ca4fb6cfceu, 0x192d182c120632f7u, 0xf457c94ec4a04866u,
+        0x4197ccbf5bf8f9d7u, 0xfe96dfa00f02022du, 0x7c8eb6ba6268e054u, 0x6333af257102a99eu};
     struct rapidhash_v1_secrets of_v1;
     struct rapidhash_secrets of_others;
 
     rapidhash_v1_make_secrets(0x12345678, &of_v1);
-    compare("v1", "seed and secrets that are made", memcmp(&of_v1, &known, sizeof of_v1) == 0, 1);
+    compare("v1", "seed and secrets that are made", memcmp(&of_v1, known, sizeof of_v1) == 0, 1);
     rapidhash_make_secrets(0x12345678, &of_others);
-    compare("all but v1", "seed and secrets that are made", memcmp(&of_others, &known, sizeof known) == 0, 1);
+    compare("all but v1", "seed and secrets that are made", memcmp(&of_others, known, sizeof known) == 0, 1);
 }
 
 struct stream_form {
@@ -184,37 +194,32 @@ static void check_canonical(void)
     compare("canonical bytes", "read", rapidhash_from_canonical(known), 0xf01ed23cb45a9678u);
 }
 
+/* The cases of each version, and of others. */
+static int cases_of[FORMS + 1];
+
 /* Compares the hashes of a case by its form and by the rule of its secrets. */
 static void check_case(const char *name, const char *rule, const void *message, size_t len, uint64_t known)
 {
     const char *at = strchr(rule, ':');
+    const struct form *form = forms;
     uint64_t words[8] = {0};
-    struct rapidhash_v1_secrets of_v1;
-    struct rapidhash_secrets secrets;
     size_t i;
 
+    while (form < forms + FORMS && strcmp(form->name, name) != 0)
+        form++;
+    cases_of[form - forms]++;
+    if (form == forms + FORMS)
+        return;
     for (i = 0; at != NULL && i < 8; i++) {
         words[i] = strtoull(at + 1, NULL, 10);
         at = strchr(at + 1, ',');
     }
-    memcpy(&of_v1, words, sizeof of_v1);
-    memcpy(&secrets, words, sizeof secrets);
-    for (i = 0; strcmp(name, "v1") != 0 && strcmp(forms[i].name, name) != 0; i++)
-        ;
-    if (strncmp(rule, "make:", 5) == 0) {
-        rapidhash_v1_make_secrets(words[0], &of_v1);
-        rapidhash_make_secrets(words[0], &secrets);
-    } else if (strncmp(rule, "word:", 5) == 0) {
-        rapidhash_v1_seed_secrets(words[0], &of_v1);
-        rapidhash_seed_secrets(words[0], &secrets);
-        compare(name, rule, name[1] == '1' ? rapidhash_v1_with_seed(message, len, words[0])
-                                           : forms[i].with_seed(message, len, words[0]), known);
-    }
-    if (strcmp(rule, "default") == 0)
-        compare(name, rule, name[1] == '1' ? rapidhash_v1(message, len) : forms[i].hash(message, len), known);
-    else
-        compare(name, rule, name[1] == '1' ? rapidhash_v1_seeded(message, len, &of_v1)
-                                           : forms[i].seeded(message, len, &secrets), known);
+    if (strncmp(rule, "word:", 5) == 0)
+        compare(name, rule, form->with_seed(message, len, words[0]), known);
+    if (strncmp(rule, "own:", 4) != 0)
+        derive(form->is_v1, strncmp(rule, "make:", 5) == 0, words[0], words);
+    compare(name, rule, strcmp(rule, "default") == 0 ? form->hash(message, len)
+                                                     : form->seeded(message, len, words), known);
 }
 
 /* Without optimizations, most versions take a minute for a message above 4 GiB, and V3 alone hashes one. */
@@ -230,12 +235,12 @@ static void check_vectors(const char *path)
 {
     static char line[20000], name[20], secrets[200], digits[17000];
     uint64_t known, cases = 0;
+    size_t i;
     FILE *const file = fopen(path, "r");
 
     while (file != NULL && fgets(line, sizeof line, file) != NULL) {
         unsigned long long len;
         unsigned char *message;
-        size_t i;
         unsigned byte;
 
         if (line[0] == '#' || sscanf(line, "%19s %199s %16999s %" SCNu64, name, secrets, digits, &known) != 4)
@@ -256,6 +261,8 @@ static void check_vectors(const char *path)
         free(message);
     }
     compare(path, "cases", cases, 3568);
+    for (i = 0; i <= FORMS; i++)
+        compare(path, "cases of each version and of no other", cases_of[i] > 0, i < FORMS);
     if (file != NULL)
         fclose(file);
 }
@@ -263,29 +270,23 @@ static void check_vectors(const char *path)
 /* Compares the seed and secrets of each case of a file that the library has a call for. */
 static void check_file_of_secrets(const char *path)
 {
-    static char line[500], form[8], call[24];
+    static char line[500], call[24];
     uint64_t number, cases = 0;
     FILE *const file = fopen(path, "r");
 
     while (file != NULL && fgets(line, sizeof line, file) != NULL) {
-        struct rapidhash_v1_secrets of_v1;
-        struct rapidhash_secrets others;
+        const bool is_v1 = strncmp(line, "v1", 2) == 0;
+        uint64_t words[8];
         char *text;
         int i, read = 0;
 
-        if (sscanf(line, "%7[^\t]\t%23[^\t]\t%" SCNu64 "%n", form, call, &number, &read) != 3
+        if (sscanf(line, "%*[^\t]\t%23[^\t]\t%" SCNu64 "%n", call, &number, &read) != 2
             || (strcmp(call, "seed") != 0 && strcmp(call, "seed_cpp") != 0))
             continue;
-        if (strcmp(form, "v1") == 0) {
-            (strcmp(call, "seed") == 0 ? rapidhash_v1_make_secrets : rapidhash_v1_seed_secrets)(number, &of_v1);
-            others.seed = of_v1.seed;
-            memcpy(others.secrets, of_v1.secrets, sizeof of_v1.secrets);
-        } else {
-            (strcmp(call, "seed") == 0 ? rapidhash_make_secrets : rapidhash_seed_secrets)(number, &others);
-        }
+        derive(is_v1, strcmp(call, "seed") == 0, number, words);
         text = line + read;
-        for (i = 0; i < (strcmp(form, "v1") == 0 ? 4 : 8); i++)
-            compare("secrets", line, i == 0 ? others.seed : others.secrets[i - 1], strtoull(text, &text, 10));
+        for (i = 0; i < (is_v1 ? 4 : 8); i++)
+            compare("secrets", line, words[i], strtoull(text, &text, 10));
         cases++;
     }
     compare(path, "cases", cases, 411);
@@ -304,10 +305,7 @@ int main(int count, char **words)
     compare("the library", "version", rapidhash_c_version(), RAPIDHASH_C_VERSION_NUMBER);
     if (sizeof(size_t) == 8)
         compare("a stream", "size", sizeof(struct rapidhash_stream), 216);
-    compare("v3", "of no bytes", rapidhash_v3(NULL, 0), 232177599295442350u);
-    check_v1();
-    for (i = 0; i < sizeof forms / sizeof forms[0]; i++)
-        check_form(&forms[i]);
+    check_forms();
     check_made_secrets();
     for (i = 0; i < sizeof stream_forms / sizeof stream_forms[0]; i++) {
         check_uneven_pieces(&stream_forms[i]);

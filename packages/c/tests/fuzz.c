@@ -20,24 +20,26 @@ typedef uint64_t with_seed(const void *, size_t, uint64_t);
 typedef uint64_t seeded(const void *, size_t, const struct rapidhash_secrets *);
 
 uint64_t rust_hash(uint32_t form, const void *bytes, size_t len, const struct rapidhash_secrets *secrets);
-uint64_t rust_hash_v1(const void *bytes, size_t len, const struct rapidhash_v1_secrets *secrets);
 void rust_secrets(
     bool made, uint64_t number, struct rapidhash_v1_secrets *of_v1, struct rapidhash_secrets *others);
+
+/* Defines a hash with secrets that are the first words of others: those of V1 are fewer. */
+#define SEEDED(version, own, number) \
+    static uint64_t seeded_##version(const void *bytes, size_t len, const struct rapidhash_secrets *words) \
+    { \
+        struct own##_secrets secrets; \
+        memcpy(&secrets, words, sizeof secrets); \
+        return rapidhash_##version##_seeded(bytes, len, &secrets); \
+    }
+RAPIDHASH_C_VERSIONS(SEEDED)
+#define FORM(version, own, number) {number, rapidhash_##version, rapidhash_##version##_with_seed, seeded_##version},
 
 static const struct {
     uint32_t form;
     plain *plain;
     with_seed *with_seed;
     seeded *seeded;
-} forms[] = {
-    {20, rapidhash_v2_0, rapidhash_v2_0_with_seed, rapidhash_v2_0_seeded},
-    {21, rapidhash_v2_1, rapidhash_v2_1_with_seed, rapidhash_v2_1_seeded},
-    {22, rapidhash_v2_2, rapidhash_v2_2_with_seed, rapidhash_v2_2_seeded},
-    {7, rapidhash_v3, rapidhash_v3_with_seed, rapidhash_v3_seeded},
-    {5, rapidhash_v3_micro, rapidhash_v3_micro_with_seed, rapidhash_v3_micro_seeded},
-    {3, rapidhash_v3_nano, rapidhash_v3_nano_with_seed, rapidhash_v3_nano_seeded},
-    {70, rapidhash_v3_protected, rapidhash_v3_protected_with_seed, rapidhash_v3_protected_seeded},
-};
+} forms[] = {RAPIDHASH_C_VERSIONS(FORM)};
 
 static void check(bool holds, const char *what, uint32_t form, size_t len)
 {
@@ -75,23 +77,22 @@ static uint64_t in_pieces(
     return rapidhash_stream_finish(&stream);
 }
 
-static void check_v1(bool made, uint64_t number, const uint8_t *bytes, size_t len)
+/* Sets the secrets of V1, as the first words, and those of the others. */
+static void set_secrets(bool made, uint64_t number, struct rapidhash_secrets secrets[2])
 {
-    struct rapidhash_v1_secrets secrets, theirs;
-    struct rapidhash_secrets others;
-    (made ? rapidhash_v1_make_secrets : rapidhash_v1_seed_secrets)(number, &secrets);
-    rust_secrets(made, number, &theirs, &others);
-    check(!memcmp(&secrets, &theirs, sizeof secrets), "a secret", 1, 0);
-    uint64_t hash = rust_hash_v1(bytes, len, &secrets);
-    check(rapidhash_v1_seeded(bytes, len, &secrets) == hash, "a hash", 1, len);
-    check(made || rapidhash_v1_with_seed(bytes, len, number) == hash, "a seed word", 1, len);
-    check(made || number != word_of_v1 || rapidhash_v1(bytes, len) == hash, "a plain hash", 1, len);
+    struct rapidhash_v1_secrets of_v1, theirs_of_v1;
+    struct rapidhash_secrets theirs;
+    (made ? rapidhash_v1_make_secrets : rapidhash_v1_seed_secrets)(number, &of_v1);
+    (made ? rapidhash_make_secrets : rapidhash_seed_secrets)(number, &secrets[1]);
+    rust_secrets(made, number, &theirs_of_v1, &theirs);
+    check(!memcmp(&of_v1, &theirs_of_v1, sizeof of_v1), "a secret", 1, 0);
+    check(!memcmp(&secrets[1], &theirs, sizeof theirs), "a secret", 7, 0);
+    memcpy(&secrets[0], &of_v1, sizeof of_v1);
 }
 
 int LLVMFuzzerTestOneInput(const uint8_t *data, size_t size)
 {
-    struct rapidhash_v1_secrets of_v1;
-    struct rapidhash_secrets secrets, theirs;
+    struct rapidhash_secrets secrets[2] = {0};
     uint64_t number;
     if (size < HEAD || size > ROOM)
         return 0;
@@ -100,17 +101,15 @@ int LLVMFuzzerTestOneInput(const uint8_t *data, size_t size)
     memcpy(&number, data + 1, 8);
     size_t len = size - HEAD;
     const uint8_t *bytes = place(data + HEAD, len);
-    check_v1(made, number, bytes, len);
-    (made ? rapidhash_make_secrets : rapidhash_seed_secrets)(number, &secrets);
-    rust_secrets(made, number, &of_v1, &theirs);
-    check(!memcmp(&secrets, &theirs, sizeof secrets), "a secret", 7, 0);
+    set_secrets(made, number, secrets);
     for (size_t i = 0; i < sizeof forms / sizeof *forms; i++) {
         uint32_t form = forms[i].form;
-        uint64_t hash = rust_hash(form, bytes, len, &secrets);
-        check(forms[i].seeded(bytes, len, &secrets) == hash, "a hash", form, len);
+        const struct rapidhash_secrets *own = &secrets[form != 1];
+        uint64_t hash = rust_hash(form, bytes, len, own), word = form == 1 ? word_of_v1 : 0;
+        check(forms[i].seeded(bytes, len, own) == hash, "a hash", form, len);
         check(made || forms[i].with_seed(bytes, len, number) == hash, "a seed word", form, len);
-        check(made || number || forms[i].plain(bytes, len) == hash, "a plain hash", form, len);
-        check(form != lanes || in_pieces(form, data, bytes, len, &secrets) == hash, "a stream", form, len);
+        check(made || number != word || forms[i].plain(bytes, len) == hash, "a plain hash", form, len);
+        check(form != lanes || in_pieces(form, data, bytes, len, own) == hash, "a stream", form, len);
     }
     return 0;
 }

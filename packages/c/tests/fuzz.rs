@@ -5,10 +5,14 @@ extern crate rapidhash;
 use rapidhash::{v1, v2, v3};
 use std::slice::from_raw_parts;
 
-/// Returns the hash of a form: 20, 21, and 22 are the minors of V2, and 70 is V3 protected. 7, 5, and 3 are the lanes
-/// of V3, micro, and nano.
-fn hash<const COMPACT: bool>(form: u32, bytes: &[u8], secrets: &v3::RapidSecrets) -> u64 {
+/// Returns the hash of a form: 1 is V1, which has the first of the secrets; 20, 21, and 22 are the minors of V2, and 70
+/// is V3 protected. 7, 5, and 3 are the lanes of V3, micro, and nano.
+unsafe fn hash<const COMPACT: bool>(form: u32, bytes: &[u8], secrets: &v3::RapidSecrets) -> u64 {
     match form {
+        1 => {
+            let secrets = &*(secrets as *const v3::RapidSecrets as *const v1::RapidSecrets);
+            v1::rapidhash_v1_inline::<true, COMPACT, false, false>(bytes, secrets)
+        }
         20 => v2::rapidhash_v2_inline::<0, true, COMPACT, false>(bytes, secrets),
         21 => v2::rapidhash_v2_inline::<1, true, COMPACT, false>(bytes, secrets),
         22 => v2::rapidhash_v2_inline::<2, true, COMPACT, false>(bytes, secrets),
@@ -32,20 +36,6 @@ pub unsafe extern "C" fn rust_hash(
     match secrets.seed % 2 {
         0 => hash::<false>(form, bytes, secrets),
         _ => hash::<true>(form, bytes, secrets),
-    }
-}
-
-/// Returns the same for V1.
-#[no_mangle]
-pub unsafe extern "C" fn rust_hash_v1(
-    bytes: *const u8,
-    len: usize,
-    secrets: &v1::RapidSecrets,
-) -> u64 {
-    let bytes = from_raw_parts(bytes, len);
-    match secrets.seed % 2 {
-        0 => v1::rapidhash_v1_inline::<true, false, false, false>(bytes, secrets),
-        _ => v1::rapidhash_v1_inline::<true, true, false, false>(bytes, secrets),
     }
 }
 

@@ -67,7 +67,7 @@ function hash(file, parts) {
       for (const [name, value] of Object.entries(data.hashes ?? {})) write(parts.cells[name], value);
       if (data.end) end(data.end);
     });
-    worker.postMessage(file);
+    worker.postMessage({ file, names: Object.keys(names) });
   });
 }
 

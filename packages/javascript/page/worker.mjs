@@ -1,4 +1,5 @@
-// Hashes one file and reports to the page: { done } bytes, the { hashes } so far, and finally the { end }.
+// Hashes one file with the versions that the page names. Reports to it: { done } bytes, the { hashes } so far, and
+// finally the { end }.
 import { load } from "./rapidhash.mjs";
 
 // V1, V2, and protected V3 need the whole message in memory, which cannot hold a longer file.
@@ -25,15 +26,15 @@ async function byPieces(file, hashers) {
   return kept;
 }
 
-/** Hashes a file with all versions. */
-async function hash(file) {
+/** Hashes a file in pieces with the versions that can, and then as a whole with the others. */
+async function hash(file, names) {
   const calls = await load();
-  const { v1, v2_0, v2_1, v2_2, v3Protected, V3, V3Micro, V3Nano } = calls;
-  const kept = await byPieces(file, Object.entries({ v3: new V3(), v3Micro: new V3Micro(), v3Nano: new V3Nano() }));
-  for (const [name, call] of Object.entries({ v3Protected, v2_2, v2_1, v2_0, v1 })) {
+  const classOf = (name) => calls[name.replace("v", "V")];
+  const kept = await byPieces(file, names.filter(classOf).map((name) => [name, new (classOf(name))()]));
+  for (const name of names.filter((name) => !classOf(name))) {
     let result;
     try {
-      result = kept ? call(kept) : "needs the whole file in memory: only up to 1 GiB here";
+      result = kept ? calls[name](kept) : "needs the whole file in memory: only up to 1 GiB here";
     } catch (error) {
       result = error.message;
     }
@@ -41,9 +42,9 @@ async function hash(file) {
   }
 }
 
-addEventListener("message", async ({ data: file }) => {
+addEventListener("message", async ({ data }) => {
   try {
-    await hash(file);
+    await hash(data.file, data.names);
     postMessage({ end: "done" });
   } catch (error) {
     postMessage({ end: `could not be hashed: ${error.message}` });

@@ -5,7 +5,8 @@ import { test } from "node:test";
 import { load, loadSync } from "yervound-rapidhash";
 
 const library = loadSync();
-const { v1, v2_0, v2_1, v2_2, v3, v3Micro, v3Nano, v3Protected, V3 } = library;
+const { v1, v2_2, v3, v3Protected, V3 } = library;
+const hashes = Object.keys(library).filter((name) => `${name}Hex` in library).map((name) => library[name]);
 const data = Uint8Array.from({ length: 120 }, (_, at) => at);
 const own = BigUint64Array.of(1n, 2n, 3n, 5n, 7n, 11n, 13n, 17n);
 
@@ -47,7 +48,7 @@ test("refused words", () => {
 
 test("refused counts", () => {
   const message = (count) => `secrets must have ${count} words for this version, the seed first`;
-  for (const call of [v2_0, v2_1, v2_2, v3, v3Micro, v3Nano, v3Protected])
+  for (const call of hashes.filter((hash) => hash !== v1))
     assert.throws(() => call(data, { secrets: own.slice(0, 4) }), { name: "TypeError", message: message(8) });
   assert.throws(() => new V3({ secrets: own.slice(0, 4) }), { name: "TypeError", message: message(8) });
   assert.throws(() => v1(data, { secrets: own }), { name: "TypeError", message: message(4) });
@@ -158,7 +159,7 @@ test("refused messages", () => {
     name: "TypeError", message: "expected a string, an ArrayBuffer or a view of one",
   };
   for (const message of [7, 7n, null, undefined, true, [1, 2], { length: 3 }, new Blob(["a"])])
-    for (const call of [v1, v2_0, v2_1, v2_2, v3, v3Micro, v3Nano, v3Protected, (m) => new V3().update(m)])
+    for (const call of [...hashes, (data) => new V3().update(data)])
       assert.throws(() => call(message), wanted);
 });
 

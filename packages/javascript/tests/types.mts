@@ -7,6 +7,8 @@ const data = new Uint8Array(3);
 const messages: Message[] = ["text", data, data.buffer, new DataView(data.buffer), new Float64Array(2)];
 const options: Options[] = [{}, { seed: 1 }, { seed: 1n }, { secrets: library.makeSecrets(1n) }];
 const hash: bigint = library.v3("text", { seed: 7n }) ^ library.v1(data) ^ library.v2_0(data);
+type Version = { [Name in keyof Rapidhash]: `${Name}Hex` extends keyof Rapidhash ? Name : never }[keyof Rapidhash];
+const hashes: Record<Version, (data: Message, options?: Options) => bigint> = library;
 const text: string = hex(hash) + library.v3Hex("text", { seed: 7n });
 const hasher: Hasher = new library.V3(options[1]).update(data).clone().reset();
 const digits: string = hasher.load(hasher.save()).digest("hex");
@@ -33,7 +35,7 @@ hasher.digest("base64");
 // @ts-expect-error The secrets of V1 are a BigUint64Array too, not an array of BigInts.
 library.v1(data, { secrets: [1n, 2n, 3n, 4n] });
 // @ts-expect-error A number is not a message.
-library.v2_1(7);
+hashes.v2_2(7);
 // @ts-expect-error An array of numbers is not a message.
 new library.V3Micro().update([1, 2]);
 // @ts-expect-error A string is not a stream.

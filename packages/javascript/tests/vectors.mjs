@@ -72,4 +72,6 @@ test("all vectors, whole and in pieces", () => {
     for (const options of optionsOf(version, rule)) compare(version, message, options, BigInt(hash));
   }
   assert.equal(lines.length, 3568);
+  const versions = new Set(lines.map((line) => named(line.split("\t")[0])[0]));
+  assert.deepEqual([...versions].sort(), Object.keys(library).filter((name) => `${name}Hex` in library).sort());
 });

@@ -12,7 +12,7 @@ from pathlib import Path
 
 sys.path.append(str(Path(__file__).parents[3] / "tests"))
 from cases import ROOM, TOP, blocks, compare, finish, shell, skip_all, tell  # noqa: E402
-from sql import BINDINGS, DIGITS, HELLO, NOTHING, TEXT, TEXT_HASH, VERSIONS  # noqa: E402
+from sql import BINDINGS, DIGITS, HELLO, NOTHING, STREAMS, TEXT, TEXT_HASH  # noqa: E402
 from sql import every_vector, lines_with_results, unpack  # noqa: E402
 
 PAGE = "packages/postgresql/README.md"
@@ -98,7 +98,7 @@ def aggregates():
     ask("CREATE TABLE many AS SELECT place, place % 3 AS part, 'user:' || place AS word "
         "FROM generate_series(0, 299999) place ORDER BY reverse(place::text)")
     whole = "string_agg(word, '' ORDER BY place)"
-    for version in VERSIONS[4:7]:
+    for version in STREAMS:
         for seed in ("", ", 1", ", 4294967296", ", -1"):
             agg = f"rapidhash_{version}_agg"
             found = ask(f"SELECT part, {agg}(word{seed} ORDER BY place) = rapidhash_{version}({whole}{seed}), "

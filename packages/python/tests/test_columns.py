@@ -8,8 +8,8 @@ import sys
 import unittest
 
 import rapidhash
+from test_rapidhash import VERSIONS
 
-VERSIONS = "v1", "v2_0", "v2_1", "v2_2", "v3", "v3_micro", "v3_nano", "v3_protected"
 SEEDS = 0, 1, 2**32, 2**63, 2**64 - 1
 ITEMS = [bytes(range(size)) for size in range(200)]
 WHOLE = b"".join(ITEMS)

@@ -11,6 +11,7 @@ import tracemalloc
 import unittest
 
 import rapidhash
+from test_rapidhash import VERSIONS
 
 DATA = bytes(range(120))
 KNOWN = 7088138960297660729  # The V3 hash of DATA by the Rust crate, as in test_rapidhash.py
@@ -81,7 +82,7 @@ class Calls(unittest.TestCase):
             self.assertEqual(value, WITH_SEED_1)
         self.assertEqual(rapidhash.v3(DATA, None, made), rapidhash.V3(DATA, secrets=made).intdigest())
         self.assertNotEqual(rapidhash.v3(DATA, secrets=made), KNOWN)
-        for name in ("v1", "v2_0", "v2_1", "v2_2", "v3", "v3_micro", "v3_nano", "v3_protected"):
+        for name in VERSIONS:
             signature = inspect.signature(getattr(rapidhash, name))
             self.assertEqual(str(signature), "(data, seed=None, secrets=None)")
 

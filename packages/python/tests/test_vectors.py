@@ -6,6 +6,7 @@ import struct
 import unittest
 
 import rapidhash
+from test_rapidhash import VERSIONS
 
 FILE = pathlib.Path(__file__).with_name("rapidhash_vectors.tsv")
 STREAMS = {"v3": rapidhash.V3, "v3_micro": rapidhash.V3Micro, "v3_nano": rapidhash.V3Nano}
@@ -57,7 +58,7 @@ class Vectors(unittest.TestCase):
             else:
                 found = set(answers(version, options_of(version, rule), bytes.fromhex(digits.strip("-"))))
             self.assertEqual(found, {f"{int(value):016x}"}, (version, rule, digits[:20]))
-        self.assertEqual(len(lines), 3568)
+        self.assertEqual((len(lines), {line[0] for line in lines}), (3568, set(VERSIONS)))
 
 
 if __name__ == "__main__":

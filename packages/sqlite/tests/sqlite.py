@@ -10,11 +10,10 @@ from pathlib import Path
 
 sys.path.append(str(Path(__file__).parents[3] / "tests"))
 from cases import ROOM, TOP, blocks, compare, finish, shell, skip_all, tell  # noqa: E402
-from sql import BINDINGS, DIGITS, HELLO, NOTHING, TEXT, TEXT_HASH, VERSIONS  # noqa: E402
+from sql import BINDINGS, DIGITS, HELLO, NOTHING, STREAMS, TEXT, TEXT_HASH  # noqa: E402
 from sql import every_vector, lines_with_results, signed, unpack  # noqa: E402
 
 PAGE = "packages/sqlite/README.md"
-STREAMS = VERSIONS[4:7]
 REAL = "a REAL cannot be hashed: cast it to TEXT, BLOB or INTEGER"
 ERRORS = {
     "rapidhash_v3(1.5)": f"rapidhash_v3: {REAL}",
