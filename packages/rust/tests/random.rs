@@ -132,7 +132,7 @@ fn collections_differ() {
 
 /// A process has a single global seed, and the same secrets in each thread.
 #[test]
-fn a_process_has_the_same_secrets() {
+fn threads_have_the_same_secrets() {
     let here = (hash_of(&GlobalState::new()), RapidSecrets::random());
     let there = std::thread::spawn(|| (hash_of(&GlobalState::new()), RapidSecrets::random()));
     let there = there.join().unwrap();
