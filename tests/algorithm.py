@@ -239,8 +239,6 @@ def differences(path):
 DATA = TOP / "crates" / "test_replay" / "data"
 for path in sorted(DATA.glob("*.tsv")):
     tell(path.stem, *differences(path))
-compare("files_on_the_page_of_the_data", set(re.findall(r"`(\w+)\.tsv`", (DATA / "README.md").read_text())),
-        {path.stem for path in DATA.glob("*.tsv")})
 rows = re.findall(r"^\| (\S+) \| ([^|\d]*)(?:(\d+) bytes)? \| (\d{15,}) \|$", PAGE, re.M)
 for version, rule, size, value in rows:
     text = b"something\n" if "something" in rule else message("square", int(size or 0))
