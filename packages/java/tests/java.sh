@@ -75,6 +75,11 @@ has_its_names() {
     cat "$room/names" && [ "$(grep -c '\bpublic ' "$room/names")" -eq 42 ]
 }
 
+# Checks by the calls in its code that a stream copies whole arrays: byte by byte, short pieces would take twice as long.
+copies_whole_arrays() {
+  [ "$(javap -c -p -cp "$jar" "$package.RapidhashStream" | grep -c 'java/lang/System.arraycopy')" -eq 2 ]
+}
+
 [ -f /usr/share/java/junit4.jar ] && command -v javac >/dev/null || skip_all 'no javac or no junit4'
 prepare_by make -s -C "$top" jar
 prepare_by write_vectors
@@ -84,6 +89,7 @@ try java_licences contains_the_licences
 try java_module runs_as_a_module
 try java_pom pom_is_current
 try java_names has_its_names
+try java_copies copies_whole_arrays
 for test in "$folder"/src/test/java/example/yervound/rapidhash/*Test.java; do
   try "java_$(basename "$test" .java)" passes "$(basename "$test" .java)"
 done
