@@ -474,6 +474,12 @@ RAPIDHASH_FOLD uint64_t rapidhash_chain_(uint64_t number, int count, uint64_t *s
     return seed;
 }
 
+/* For a piece of a constant length, gcc warns of copies that its length excludes. */
+#if defined(__GNUC__) && !defined(__clang__) && __GNUC__ >= 11
+#pragma GCC diagnostic push
+#pragma GCC diagnostic ignored "-Warray-bounds"
+#pragma GCC diagnostic ignored "-Wstringop-overread"
+#endif
 /* Copies up to 128 bytes: the first and the last of them, which may overlap. Copies of fixed sizes need no call. */
 RAPIDHASH_FOLD void rapidhash_copy_(uint8_t *to, const uint8_t *from, size_t n)
 {
@@ -487,6 +493,9 @@ RAPIDHASH_FOLD void rapidhash_copy_(uint8_t *to, const uint8_t *from, size_t n)
     else if (n > 0) to[0] = from[0], to[n / 2] = from[n / 2], to[n - 1] = from[n - 1];
 #undef RAPIDHASH_C_ENDS
 }
+#if defined(__GNUC__) && !defined(__clang__) && __GNUC__ >= 11
+#pragma GCC diagnostic pop
+#endif
 
 /* Appends a piece that does not fit: fills the buffer and folds it, then folds in place each row of the piece that a
  * further byte follows. The buffer, `kept`, then has the last 16 folded bytes and the rest. */

@@ -83,6 +83,23 @@ calls_from_cpp() {
     -o "$room/cpp_header" && "$room/cpp_header" "$room/rapidhash_vectors.tsv"
 }
 
+# Compiles a stream of one piece without a warning: its length is constant, so that a compiler follows each copy: COMPILER
+compiles_a_constant_piece() {
+  local level
+  for level in 1 2 3 s; do
+    "$1" "-O$level" -Wall -Wextra -Werror -I"$top/packages/c/include" -x c -c -o /dev/null - <<'C' || return 1
+#include "rapidhash_c.h"
+uint64_t hash(const struct rapidhash_secrets *own)
+{
+    struct rapidhash_stream stream;
+    rapidhash_v3_start(&stream, own);
+    rapidhash_stream_write(&stream, "hello", 5);
+    return rapidhash_stream_finish(&stream);
+}
+C
+  done
+}
+
 # Prints the functions in a text without comments: the return type, name, and parameters of each.
 signatures() {
   tr -s ' \n' ' ' | grep -oE '(void|uint64_t|uint32_t) rapidhash_[a-z0-9_]+\([^()]*\)' | sed 's/( /(/' | sort
@@ -203,6 +220,7 @@ for compiler in gcc clang; do
     try_with "header_${standard}_$compiler" "$compiler" is_the_library "$compiler" "$standard"
   done
 done
+try_with constant_piece gcc compiles_a_constant_piece gcc
 try header_c89 bash -c 'cc -std=c89 -fsyntax-only "$1" 2>&1 | grep -m 1 error: | grep "needs C99 or C++11"' - "$header"
 try header_without_int128 has_the_values cc -O2 -DRAPIDHASH_NO_INT128
 try header_with_assertions has_the_values cc -O3 -include assert.h -DRAPIDHASH_ASSERT=assert

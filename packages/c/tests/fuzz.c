@@ -18,6 +18,7 @@ static const uint64_t word_of_v1 = 0xbdd89aa982704029;
 typedef uint64_t plain(const void *, size_t);
 typedef uint64_t with_seed(const void *, size_t, uint64_t);
 typedef uint64_t seeded(const void *, size_t, const struct rapidhash_secrets *);
+typedef void start(struct rapidhash_stream *, const struct rapidhash_secrets *);
 
 uint64_t rust_hash(uint32_t form, const void *bytes, size_t len, const struct rapidhash_secrets *secrets);
 void rust_secrets(
@@ -40,6 +41,13 @@ static const struct {
     with_seed *with_seed;
     seeded *seeded;
 } forms[] = {RAPIDHASH_C_VERSIONS(FORM)};
+
+#define STREAM(version, lanes) {lanes, rapidhash_##version##_start, rapidhash_##version##_seeded},
+static const struct {
+    uint32_t lanes;
+    start *start;
+    seeded *seeded;
+} streams[] = {RAPIDHASH_C_STREAMS(STREAM)};
 
 static void check(bool holds, const char *what, uint32_t form, size_t len)
 {
@@ -64,10 +72,10 @@ static const uint8_t *place(const uint8_t *bytes, size_t len)
 
 /* Hashes a message in pieces, with the lengths in the head. */
 static uint64_t in_pieces(
-    uint32_t lanes, const uint8_t *head, const uint8_t *bytes, size_t len, const struct rapidhash_secrets *secrets)
+    start *start, const uint8_t *head, const uint8_t *bytes, size_t len, const struct rapidhash_secrets *secrets)
 {
     struct rapidhash_stream stream;
-    rapidhash_stream_start(&stream, lanes, secrets);
+    start(&stream, secrets);
     for (size_t at = 0, turn = 0; at < len; turn++) {
         size_t wanted = head[9 + turn % 7] * (turn % 3 + 1) + (turn % 7 == 6), rest = len - at;
         size_t piece = wanted < rest ? wanted : rest;
@@ -97,7 +105,7 @@ int LLVMFuzzerTestOneInput(const uint8_t *data, size_t size)
     if (size < HEAD || size > ROOM)
         return 0;
     bool made = data[0] % 2;
-    uint32_t lanes = 3 + 2 * (data[9] % 3);
+    size_t drawn = data[9] % (sizeof streams / sizeof *streams);
     memcpy(&number, data + 1, 8);
     size_t len = size - HEAD;
     const uint8_t *bytes = place(data + HEAD, len);
@@ -109,8 +117,9 @@ int LLVMFuzzerTestOneInput(const uint8_t *data, size_t size)
         check(forms[i].seeded(bytes, len, own) == hash, "a hash", form, len);
         check(made || forms[i].with_seed(bytes, len, number) == hash, "a seed word", form, len);
         check(made || number != word || forms[i].plain(bytes, len) == hash, "a plain hash", form, len);
-        check(form != lanes || in_pieces(form, data, bytes, len, own) == hash, "a stream", form, len);
     }
+    check(in_pieces(streams[drawn].start, data, bytes, len, &secrets[1]) == streams[drawn].seeded(bytes, len, &secrets[1]),
+          "a stream", streams[drawn].lanes, len);
     return 0;
 }
 
