@@ -38,6 +38,8 @@ def every_vector():
             words = (signed(int(word)),) if word else ()
             name = f"rapidhash_{version}" + "_seeded" * (kind == "make")
             found.append((name, words, bytes.fromhex(digits.strip("-")), signed(int(number))))
+    names = re.findall(r"X\((\w+),", re.search(r"define RAPIDHASH_C_VERSIONS\(X\)((?:.*\\\n)*.*)", HEADER)[1])
+    compare("versions_with_vectors", {name.removesuffix("_seeded") for name, *_ in found}, {f"rapidhash_{name}" for name in names})
     compare("vectors_without_a_call", sum("\town:" in line or "\tzeros:" in line for line in lines), 528 + 8)
     return found
 

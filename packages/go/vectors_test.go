@@ -131,7 +131,7 @@ func TestVectors(t *testing.T) {
 		t.Fatal(err)
 	}
 	defer file.Close()
-	count := 0
+	count, found := 0, map[string]bool{}
 	lines := bufio.NewScanner(file)
 	lines.Buffer(nil, 1<<20)
 	for lines.Scan() {
@@ -140,6 +140,7 @@ func TestVectors(t *testing.T) {
 			continue
 		}
 		count++
+		found[words[0]] = true
 		known, err := strconv.ParseUint(words[3], 10, 64)
 		if err != nil {
 			t.Fatal(err)
@@ -156,5 +157,8 @@ func TestVectors(t *testing.T) {
 	}
 	if count != 3568 {
 		t.Errorf("%d vectors, and 3568 are known", count)
+	}
+	if len(found) != len(calls) {
+		t.Errorf("vectors of %v, and calls of %d versions", found, len(calls))
 	}
 }

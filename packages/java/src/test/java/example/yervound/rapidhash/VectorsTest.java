@@ -11,7 +11,9 @@ import java.nio.file.Files;
 import java.nio.file.Path;
 import java.nio.file.StandardOpenOption;
 import java.util.Arrays;
+import java.util.HashSet;
 import java.util.Map;
+import java.util.Set;
 import java.util.stream.Collectors;
 import org.junit.Test;
 
@@ -36,8 +38,10 @@ public class VectorsTest {
     @Test
     public void hashes() throws IOException {
         Map<String, Rapidhash> versions = Messages.versions();
+        Set<String> found = new HashSet<>();
         int count = 0;
         for (String[] words : lines("RAPIDHASH_VECTORS")) {
+            found.add(words[0]);
             Rapidhash version = versions.get(words[0]);
             long known = Long.parseUnsignedLong(words[3]);
             if (words[2].startsWith("zeros:") && RapidhashStreamTest.STREAMED.contains(version)) {
@@ -50,6 +54,7 @@ public class VectorsTest {
             count++;
         }
         assertEquals(3568, count);
+        assertEquals(versions.keySet(), found);
     }
 
     private static void compare(Rapidhash version, byte[] message, String rule, long known) {
