@@ -163,7 +163,7 @@ class Refused(unittest.TestCase):
     def test_the_rest(self):
         made, made_v1 = rapidhash.make_secrets(1), rapidhash.make_secrets(1, 1)
         for words, kind, error in (
-            ({"version": "v4"}, ValueError, "version must be the name of a hash, such as 'v3', not 'v4'"),
+            ({"version": "v99"}, ValueError, "version must be the name of a hash, such as 'v3', not 'v99'"),
             ({"version": 3}, TypeError, "version must be the name"), ({"version": "v3\0"}, ValueError, "version"),
             ({"seed": -1}, OverflowError, "seed must be"), ({"seed": 2**64}, OverflowError, "seed must be"),
             ({"seed": "1"}, TypeError, "seed must be"), ({"seed": 1, "secrets": made}, TypeError, "pass either"),

@@ -24,7 +24,7 @@ column: array[int] = rapidhash.each(["text", b""], "v1", seed=7)
 column = rapidhash.each_row(b"", 8, out=column)
 room: bytearray = rapidhash.each_slice(b"", array("i"), secrets=made, out=bytearray())
 rapidhash.each([7])  # type: ignore[list-item]
-rapidhash.each([], "v4")  # type: ignore[call-overload]
+rapidhash.each([], "v99")  # type: ignore[call-overload]
 digits: str = rapidhash.v3_hexdigest("text", seed=1) + rapidhash.v1_hexdigest(b"", secrets=made_v1)
 
 text: str = hasher.hexdigest() + hasher.name + rapidhash.__version__
