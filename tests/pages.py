@@ -4,6 +4,7 @@ those of the files. Pages and lines must keep their limits, and texts generated 
 
 import contextlib
 import io
+import math
 import os
 import re
 import runpy
@@ -105,6 +106,17 @@ def statements():
             yield f"{page} shows {len(shown)} blocks"
 
 
+def sizes():
+    """Checks the sizes of a filter in docs/EXAMPLES.md by the rule above its table."""
+    page = (TOP / "docs" / "EXAMPLES.md").read_text()
+    rows = re.findall(r"^\| ([\d,]+) \| (\d+) \| (\d+) \| ([\d,]+) \|$", page, re.M)
+    for one_in, marks, bits, keys in ([int(cell.replace(",", "")) for cell in row] for row in rows):
+        if not 2 ** (marks - 1) < one_in <= 2**marks or bits != math.ceil(1.4427 * marks) or keys != 2**32 // bits:
+            yield f"a wrong size for one in {one_in}"
+    if len(rows) != 3:
+        yield f"{len(rows)} sizes"
+
+
 def made_by(script):
     """Returns the output of a script that generates a page from the sources, if the page is not current."""
     status, said = shell(f"{script} --check")
@@ -171,7 +183,7 @@ def benches():
         yield f"the benches print {found}"
 
 
-for check in (links, paths, limits, names, vectors, statements, clauses, benches, pictures):
+for check in (links, paths, limits, names, vectors, statements, sizes, clauses, benches, pictures):
     tell(check.__name__, *check())
 for made, maker in (("calls", "scripts/api"), ("version", "scripts/version"), ("figures", "bench/figures")):
     tell(made, *made_by(maker))
