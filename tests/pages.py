@@ -93,8 +93,8 @@ def statements():
     sources = "".join(file.read_text() for file in files)
     plain = " ".join(sources.split())
     text = (TOP / "docs" / "PROVED.md").read_text()
-    for clause in re.findall(r"`([^`\n]* [^`\n]*)`", text):
-        if re.search("[≡→↔λ«]|\\[]|Absorbs|Appends|Answers|Marks", clause) and clause not in plain:
+    for clause in re.findall(r"`([^`\n]+)`", text):
+        if " " in clause and re.search("[≡→↔λ«]|\\[]|Absorbs|Appends|Answers|Flags", clause) and clause not in plain:
             yield f"docs/PROVED.md quotes a clause that no source has: {clause}"
     for page, languages, count in (("docs/PROVED.md", "antt|rust", 2), ("docs/RATTLE.md", "antt", 1),
                                    ("docs/EXAMPLES.md", "text", 5)):

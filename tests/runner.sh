@@ -87,6 +87,7 @@ limits docs/LAWS.md 3s|.*|& & &|
 names docs/PROVED.md s|`test_\(replay\)`|`best_\1`|g
 vectors crates/test_replay/data/README.md s|`v3.tsv`|`v5.tsv`|
 statements docs/PROVED.md s|= value form|= value from|
+statements docs/PROVED.md s|`FlagsFailures result|`FlagsFailures answer|
 sizes docs/EXAMPLES.md s/390,451,572/390,451,573/
 clauses docs/api/v3.md 0,/^Proved:.*≡/s|≡|≤|
 pictures docs/images/lanes.svg s|prefers-color-scheme: dark|prefers-color-scheme: light|

@@ -14,7 +14,7 @@ import (
 	"testing"
 )
 
-// record is what tests/formulas/main.rs asks for. The fifth form with option 2 is protected V3.
+// record is a request of tests/formulas/main.rs. The fifth form with option 2 is protected V3.
 type record struct {
 	Form, Options, Key       uint64
 	Secrets                  Secrets

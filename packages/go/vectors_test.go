@@ -12,7 +12,7 @@ import (
 )
 
 // call has the functions of a version: those with the default seed and secrets, with a seed word, and with secrets. The
-// known hash is that of a beginning of data() of the size.
+// known hash is that of the first bytes of data(), as many as the size.
 type call struct {
 	plain     func([]byte) uint64
 	word      func([]byte, uint64) uint64

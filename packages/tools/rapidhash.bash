@@ -1,4 +1,4 @@
-# Completion of rapidhash for bash, with the options in its help. Where no option is asked for, bash completes
+# Completion of rapidhash for bash, with the options in its help. If no option is expected, bash completes
 # files, variables and the rest by itself. A word that begins with a hyphen names no file, and after the help
 # none counts.
 _rapidhash() {

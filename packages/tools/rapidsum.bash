@@ -1,4 +1,4 @@
-# Completion of rapidsum for bash, with the options and versions in its help. Where no option is asked for,
+# Completion of rapidsum for bash, with the options and versions in its help. If no option is expected,
 # bash completes files, variables and the rest by itself. A word that begins with a hyphen names no file but
 # after --, and after the help none counts.
 _rapidsum() {

@@ -8,7 +8,7 @@
 //!
 //! The subject reads the buffer that holds all messages, then records of 20 little-endian words until the input ends:
 //! form (0: V1, 1 to 3: V2 by its minor number, 4 to 6: V3 with 7, 5 and 3 lanes), options (1 avalanche, 2 protected,
-//! 4 V1's fault, 8 compact), key of the random functions, seed, seven secrets, offset and length of the message in the
+//! 4 the V1 bug, 8 compact), key of the random functions, seed, seven secrets, offset and length of the message in the
 //! buffer, 1 for a stream, the four places where it is cut into five pieces, and two zeros. It writes a little-endian
 //! word per record.
 

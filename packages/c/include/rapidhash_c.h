@@ -212,7 +212,7 @@ static inline uint64_t rapidhash_from_canonical(const unsigned char *bytes)
 #define RAPIDHASH_C_LITTLE(bits, word) __builtin_bswap##bits(word)
 #endif
 
-/* Returns the little-endian number of 4 bytes: from single bytes if the compiler does not define the byte order. */
+/* Reads 4 bytes as a little-endian number, one at a time if the compiler does not define the byte order. */
 RAPIDHASH_FOLD uint64_t rapidhash_load4_(const uint8_t *p)
 {
 #ifdef RAPIDHASH_C_LITTLE

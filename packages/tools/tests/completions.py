@@ -49,7 +49,7 @@ LINES = [
     ("a file after the version", "rapidsum --version o", "rapidsum|--version|o"),
 ]
 
-# The offers of each shell for a line, whose last word is a beginning of each.
+# The offers of each shell for a line, whose last word is a prefix of each.
 OFFERS = [
     ("options", "rapidhash --", OPTIONS["rapidhash"] | {"--help"}),
     ("options for sums", "rapidsum --", OPTIONS["rapidsum"]),
