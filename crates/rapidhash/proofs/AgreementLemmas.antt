@@ -29,7 +29,7 @@ same_micro x few = same-v3 5 7 x refl refl (omega arith) few
 pub same_nano : (x : List ℕ) → length x ≤ 48 → SameHash (V3 3) (V3 7) x
 same_nano x few = same-v3 3 7 x refl refl (omega arith) few
 
--- V1's shape with its fault is another at 48 bytes alone
+-- V1's shape with its bug differs at 48 bytes only
 shape-same_v1 : (n : ℕ) → n ≢ 48 → shape_of (V1 false) n ≡ shape_of (V1 true) n
 unfolding shape_of
 shape-same_v1 n other = grind (arith, nat_tests, other)

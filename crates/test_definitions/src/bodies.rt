@@ -45,7 +45,7 @@ impl Version {
     pub fn name(self) -> &'static str {
         match self {
             Version::V1 => "v1",
-            Version::V1Bug => "v1 with its fault",
+            Version::V1Bug => "v1 with its bug",
             Version::V2Minor0 => "v2.0",
             Version::V2Minor1 => "v2.1",
             Version::V2Minor2 => "v2.2",
