@@ -3,7 +3,7 @@
 goal that the edit names. The arguments are crates; without any, it tries all. `rt ci` tries each edit too, but only
 looks whether it is refused. With the variable VERBOSE, also prints the checker's messages.
 
-The first line of an edit is `refused: FUNCTION, GOAL`, which `rt` ignores."""
+The first line of an edit is `# refused: FUNCTION, GOAL`, a comment for `rt`."""
 
 import os
 import re
