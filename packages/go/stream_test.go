@@ -6,7 +6,6 @@ import (
 	"encoding/hex"
 	"fmt"
 	"io"
-	"strings"
 	"testing"
 )
 
@@ -94,16 +93,29 @@ func TestRefusedStates(t *testing.T) {
 		changed[at] = value
 		return changed
 	}
-	for name, changed := range map[string][]byte{
-		"empty": nil, "word": []byte("rapidhash"), "short": saved[:len(saved)-1], "long": append(with(0, 'r'), 0),
-		"magic": with(0, 'R'), "version": with(9, 2), "lanes": with(10, 4), "no lanes": with(10, 0),
-		"more lanes": with(10, 9), "folded": with(11, 2), "kept": with(12, 49), "most kept": with(12, 255),
-		"none kept": with(12, 0),
+	const another, lanes = "not a saved Stream, or one of another version", "a saved Stream has 7, 5 or 3 lanes, not "
+	for _, row := range []struct {
+		changed []byte
+		reason  string
+	}{
+		{nil, another},
+		{[]byte("rapidhash"), another},
+		{with(0, 'R'), another},
+		{with(9, 2), another},
+		{saved[:len(saved)-1], "a saved Stream has 261 bytes, not 260"},
+		{append(with(0, 'r'), 0), "a saved Stream has 261 bytes, not 262"},
+		{with(10, 0), lanes + "0"},
+		{with(10, 4), lanes + "4"},
+		{with(10, 9), lanes + "9"},
+		{with(11, 2), "a saved Stream has folded a row or not: 1 or 0, not 2"},
+		{with(12, 0), "a saved Stream keeps 1 to 48 bytes here, not 0"},
+		{with(12, 49), "a saved Stream keeps 1 to 48 bytes here, not 49"},
+		{with(12, 255), "a saved Stream keeps 1 to 48 bytes here, not 255"},
 	} {
-		if err := stream.UnmarshalBinary(changed); err == nil || !strings.HasPrefix(err.Error(), "rapidhash: ") {
-			t.Error(name, err)
+		if err := stream.UnmarshalBinary(row.changed); err == nil || err.Error() != "rapidhash: "+row.reason {
+			t.Errorf("%v is not: %s", err, row.reason)
 		}
-		compare(t, name, stream.Sum64(), V3NanoSeeded(data(), &own))
+		compare(t, row.reason, stream.Sum64(), V3NanoSeeded(data(), &own))
 	}
 	if err := stream.UnmarshalBinary(with(12, 48)); err != nil {
 		t.Error(err)
