@@ -49,7 +49,8 @@ test("uneven pieces", () => {
 });
 
 test("whole as in pieces, at each length", () => {
-  for (const length of [0, 1, 112, 113, 65537, piece, piece + 1, 1000000]) {
+  const aboveAPiece = Array.from({ length: 130 }, (_, at) => piece + at);
+  for (const length of [0, 1, 112, 113, 65537, ...aboveAPiece, 1000000]) {
     const message = Uint8Array.from({ length }, (_, at) => at % 251);
     for (const [whole, Stream] of [[v3, V3], [v3Micro, V3Micro], [v3Nano, V3Nano]]) {
       const hash = whole(message, { seed: 5n });
@@ -107,9 +108,9 @@ test("views of all kinds", () => {
 });
 
 test("strings are their UTF-8", () => {
-  const texts = ["", "a", "na\u00efve", "\x7f\x80", "a".repeat(32), "a".repeat(33),
-    "\u03bb \u2192 \u{1d6cc}", "\u2192".repeat(43690), "\u2192".repeat(43691), "\u2192".repeat(piece),
-    "\u{1d6cc}".repeat(100000), "a".repeat(1000000)];
+  const texts = ["", "a", "na\u00efve", "\x7f\x80", "\u00e9\u00e9ab", "ab\u00e9\u00e9", "a".repeat(32), "a".repeat(33),
+    "\u03bb \u2192 \u{1d6cc}", "\u2192".repeat(43690), "\u2192".repeat(43691), "\u2192".repeat(100000),
+    "\u2192".repeat(piece), "\u{1d6cc}".repeat(100000), "a".repeat(1000000)];
   // The memory of these calls has not grown yet.
   const fresh = loadSync();
   const { v3, V3 } = fresh;

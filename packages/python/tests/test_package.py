@@ -91,6 +91,7 @@ class Calls(unittest.TestCase):
         self.assertEqual(rapidhash.V3(DATA, seed=Power(0)).intdigest(), WITH_SEED_1)
         self.assertEqual(rapidhash.v3(DATA, seed=0), KNOWN)
         self.assertNotEqual(rapidhash.v3(DATA, seed=2**64 - 1), KNOWN)
+        self.assertRaisesRegex(ValueError, "^negative shift count$", rapidhash.v3, DATA, Power(-1))
 
     def test_wrong_arguments_are_refused(self):
         made, made_v1 = rapidhash.make_secrets(1), rapidhash.make_secrets(1, version=1)
@@ -148,8 +149,9 @@ class Calls(unittest.TestCase):
 class Secrets(unittest.TestCase):
     def test_they_do_not_change(self):
         for made in (rapidhash.make_secrets(0x12345678), rapidhash.make_secrets(0x12345678, version=1)):
-            with self.assertRaises(AttributeError):
-                made.seed = 1
+            for name in ("seed", "of_the_caller"):
+                with self.assertRaises(AttributeError):
+                    setattr(made, name, 1)
             with self.assertRaises(TypeError):
                 made.secrets[0] = 1
 
