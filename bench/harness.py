@@ -83,9 +83,8 @@ def build(crate, source):
 
 
 def random_file(name, megabytes):
-    with open(ROOM / name, "wb") as out:
-        for _ in range(megabytes):
-            out.write(os.urandom(1 << 20))
+    """Writes a file of random bytes, and returns its path."""
+    run("dd", "if=/dev/urandom", f"of={name}", "bs=1M", "iflag=fullblock", f"count={megabytes}")
     return ROOM / name
 
 
@@ -93,7 +92,7 @@ def take(programs, words, scale):
     """Runs each program once. Each prints a value, which must be the same for all except XXH3, and its time."""
     values, times = {}, {}
     for name, program in ((name, program) for name in programs for program in programs[name]):
-        found, time = subprocess.run([program, *words], stdout=subprocess.PIPE, check=True, text=True).stdout.split()
+        found, time = subprocess.check_output([program, *words], text=True).split()
         times[name] = min(times.get(name, math.inf), int(time) / scale)
         if name != "xxh3" and values.setdefault("all", found) != found:
             sys.exit(f"{' '.join(map(str, words))}: {name} prints {found}, and not {values['all']}")
@@ -133,8 +132,7 @@ class Processors:
     def nanos(self, number):
         """Returns the time of the fixed loop on a processor now. This program and its children stay there."""
         os.sched_setaffinity(0, {number})
-        turns = subprocess.run([self.program], stdout=subprocess.PIPE, check=True).stdout.split()
-        return median_low(map(int, turns))
+        return median_low(map(int, subprocess.check_output([self.program]).split()))
 
     def measure(self, work, *words):
         """Returns the result of work(*words) on a processor that was quiet before and after it. If none was quiet in
@@ -168,59 +166,53 @@ def measure(title, unit, rows, work, turns):
             least.update({name: min(time, least.get(name, time)) for name, time in times.items()})
     print_heading(f"{title}, the least of {turns} turns")
     print(f"# {processors.disturbed} of {processors.measured} measurements were on a processor that was not quiet.")
-    print_table(unit, best)
-
-
-def mean_ratio(rows, ours="ours"):
-    """Returns the geometric mean of the crate's ratios."""
-    return geometric_mean(times["crate"] / times[ours] for times in rows)
-
-
-def print_table(unit, best):
-    """Prints the rows of a file of figures, and a mean for the rows that differ only in their last word."""
     names = [name for name in LIBRARIES if any(name in times for times in best.values())]
+    rows = [(what.rpartition(" ")[0], what, times) for what, times in best.items()]
+    print_table(unit, names, rows, [("crate", "ours"), ("crate", "rust")], 2)
+
+
+def mean_ratio(rows, ours="ours", other="crate"):
+    """Returns the geometric mean of the other library's ratios."""
+    return geometric_mean(times[other] / times[ours] for times in rows)
+
+
+def print_table(unit, names, rows, ratios, needed):
+    """Prints the ROWS of a file of figures, each a group, a name and its times. Prints the mean of each of the RATIOS
+    of two libraries for each group that has the needed number of rows."""
     print("what", "unit", *names, sep="\t")
     groups = {}
-    for what, times in best.items():
+    for group, what, times in rows:
         print(what, unit, *(f"{times[name]:.2f}" if name in times else "" for name in names), sep="\t")
-        groups.setdefault(what.rpartition(" ")[0], []).append(times)
-    for group, rows in groups.items():
-        for name in ("ours", "rust"):
-            if group and len(rows) > 1 and all(name in times and "crate" in times for times in rows):
-                print(f"# {group}: mean of crate/{name} {mean_ratio(rows, name):.3f}")
+        groups.setdefault(group, []).append(times)
+    for group, of_group in groups.items():
+        for other, ours in ratios:
+            if group and len(of_group) >= needed and all(other in times and ours in times for times in of_group):
+                print(f"# {group}: mean of {other}/{ours} {mean_ratio(of_group, ours, other):.3f}")
 
 
-def alternate(programs, words, turns):
-    """Runs programs that print rows (group, name, nanoseconds) alternately, and returns the least times, keyed by the
-    build and the group, by the row, and by the library. The programs are keyed by build and library."""
+def alternate(commands, words, turns):
+    """Runs commands that print rows (group, name, nanoseconds) alternately, and returns the least times, keyed by
+    build, group and name, and by library. The commands are keyed by build and library."""
     best = {}
     for _ in range(turns):
-        for (build, library), program in programs.items():
-            text = subprocess.run([program, *words], stdout=subprocess.PIPE, check=True, text=True).stdout
-            for group, name, nanos in (line.split("\t") for line in text.splitlines()):
-                times = best.setdefault((build, group), {}).setdefault(name, {})
+        for (build, library), command in commands.items():
+            for line in subprocess.check_output([*command, *words], text=True).splitlines():
+                group, name, nanos = line.split("\t")
+                times = best.setdefault((build, group, name), {})
                 times[library] = min(float(nanos), times.get(library, math.inf))
     return best
 
 
 def print_rows(title, best, ours, others):
     """Prints the rows of alternate: for each length the mean over its loops, and per group the mean of the ratios."""
+    loops = {}
+    for (build, group, name), times in best.items():
+        length = re.sub(" (sum|store|join|chain)$", "", name)
+        loops.setdefault((f"{group}, {build}", f"{group} {length}, {build}"), []).append(times)
+    rows = [(*key, {it: geometric_mean(times[it] for times in all_times) for it in all_times[0]})
+            for key, all_times in loops.items()]
     print_heading(title)
-    print("what", "unit", ours, *others, sep="\t")
-    for (build, group), rows in best.items():
-        loops = {}
-        for name, times in rows.items():
-            length = name.rpartition(" ")[0] if name.endswith((" sum", " store", " join", " chain")) else name
-            loops.setdefault(length, []).append(times)
-        for length, all_times in loops.items():
-            cells = [[times[it] for times in all_times if it in times] for it in (ours, *others)]
-            means = [f"{geometric_mean(cell):.2f}" if cell else "" for cell in cells]
-            print(f"{group} {length}, {build}", "ns", *means, sep="\t")
-    for (build, group), rows in sorted(best.items()):
-        for other in others:
-            ratios = [times[other] / times[ours] for times in rows.values() if other in times]
-            if ratios:
-                print(f"# {group}, {build}: mean of {other}/{ours} {geometric_mean(ratios):.3f}")
+    print_table("ns", [ours, *others], rows, [(other, ours) for other in others], 1)
 
 
 def read_figures(name):
