@@ -5,7 +5,7 @@
 #[macro_use]
 mod common;
 
-use common::{least, random_bytes, stepped};
+use common::{equal_texts, hash_all, least, random_bytes, stepped};
 use rapidhash::v3::{RapidSecrets, RapidStreamHasherV3, rapidhash_v3_seeded};
 use rapidhash::{fast, quality, rng::RapidRng};
 use std::hash::{BuildHasher, Hasher};
@@ -53,24 +53,13 @@ fn text_call<S: BuildHasher, const PLACE: u64>(state: &S, item: &[u8]) -> u64 {
     text(state, item) ^ PLACE
 }
 
-#[inline(never)]
-fn texts<S: BuildHasher, const PLACE: u64, const CALL: bool>(state: S, number: u64, len: &str) -> u64 {
-    let (bytes, len) = (random_bytes(&mut RapidRng::new(0), 192), len.parse::<usize>().unwrap().min(128));
-    let list: [&[u8]; 64] = std::array::from_fn(|i| &bytes[i..i + len]);
-    let mut sum = stepped::<PLACE>(number);
-    for _ in 0..ITEMS / 64 {
-        for item in list {
-            let hash = if CALL { text_call::<S, PLACE>(&state, item) } else { text(&state, item) };
-            sum = (sum ^ hash).wrapping_mul(3);
-        }
-    }
-    sum
-}
-
-fn hashed<S: BuildHasher, const PLACE: u64>(state: S, item: &str, number: u64) -> u64 {
-    match item.split_at(item.find(char::is_numeric).unwrap_or(item.len())) {
-        ("str", len) => texts::<S, PLACE, false>(state, number, len),
-        ("call", len) => texts::<S, PLACE, true>(state, number, len),
+fn hashed<S: BuildHasher + Copy, const PLACE: u64>(state: S, item: &str, number: u64) -> u64 {
+    let (kind, length) = item.split_at(item.find(char::is_numeric).unwrap_or(item.len()));
+    let bytes = random_bytes(&mut RapidRng::new(0), 192);
+    let list = equal_texts(&bytes, length.parse().unwrap_or(0).min(128));
+    match (kind, length) {
+        ("str", _) => hash_all::<PLACE>(list, move |item| text(&state, item), ITEMS / 64, number),
+        ("call", _) => hash_all::<PLACE>(list, move |item| text_call::<S, PLACE>(&state, item), ITEMS / 64, number),
         ("u", "8") => items::<S, PLACE>(state, number, |hasher, i| hasher.write_u8((i % 256) as u8)),
         ("u", "64") => items::<S, PLACE>(state, number, |hasher, i| hasher.write_u64(i)),
         ("pair", "") => items::<S, PLACE>(state, number, |hasher, i| {

@@ -1,16 +1,15 @@
 //! Does the work of the programs of `bench/slices` with a crate: `FORM LENGTH PLACE NUMBER PASSES REPEATS`. With the
-//! feature `seeded`, the secrets are the program's own.
+//! feature `seeded`, the secrets are the program's own. With `further`, all functions are 16 bytes further on.
 
 #[macro_use]
 mod common;
 
-use common::{least, random_bytes, stepped};
+use common::{equal_texts, hash_all, least, random_bytes};
 use rapidhash::rng::RapidRng;
 use rapidhash::{v1, v2, v3};
 
-// 16 bytes before all functions, for a program whose functions are 16 bytes further on.
 #[cfg(feature = "further")]
-std::arch::global_asm!(".section .text.padding, \"axR\", @progbits", ".p2align 4", ".skip 16, 0xcc", ".text");
+std::arch::global_asm!(include_str!("padding.s"), ".text");
 
 const DEFAULT: bool = cfg!(not(feature = "seeded"));
 
@@ -40,20 +39,9 @@ struct Row<'x> {
     place: u64,
 }
 
-#[inline(never)]
-fn hash_all<const PLACE: u64>(list: &[&[u8]], hash: impl Fn(&[u8]) -> u64, passes: u64, sum: u64) -> u64 {
-    let mut sum = stepped::<PLACE>(sum);
-    for _ in 0..passes {
-        for text in list {
-            sum = (sum ^ hash(text)).wrapping_mul(3);
-        }
-    }
-    sum
-}
-
 impl Row<'_> {
     fn at_place(&self, hash: impl Fn(&[u8]) -> u64, sum: u64) -> u64 {
-        at_place!(self.place, PLACE => hash_all::<PLACE>(&self.list, hash, self.passes, sum))
+        at_place!(self.place, PLACE => hash_all::<PLACE>(self.list.iter().copied(), hash, self.passes, sum))
     }
 
     fn work(&self, form: &str, own: &Secrets, sum: u64) -> u64 {
@@ -79,11 +67,11 @@ impl Row<'_> {
 }
 
 /// Returns 64 texts of the same length, or for `5,3,9` a text of each of these lengths.
-fn texts<'x>(bytes: &'x [u8], length: &str, rng: &mut RapidRng) -> Vec<&'x [u8]> {
-    let lengths = length.split(',').map(|length| length.parse::<usize>().unwrap());
-    match lengths.clone().count() {
-        1 => (0..64).zip(lengths.cycle()).map(|(first, length)| &bytes[first..first + length]).collect(),
-        _ => lengths.map(|length| &bytes[(rng.next() % 4096) as usize..][..length]).collect(),
+fn texts<'x>(bytes: &'x [u8], lengths: &str, rng: &mut RapidRng) -> Vec<&'x [u8]> {
+    let lengths: Vec<usize> = lengths.split(',').map(|length| length.parse().unwrap()).collect();
+    match lengths[..] {
+        [length] => equal_texts(bytes, length).to_vec(),
+        _ => lengths.iter().map(|length| &bytes[(rng.next() % 4096) as usize..][..*length]).collect(),
     }
 }
 
