@@ -27,7 +27,7 @@ pub fn equal_texts(bytes: &[u8], length: usize) -> [&[u8]; 64] {
 /// Makes as many steps from a number as the place, so that each place has code of its own.
 #[inline(always)]
 pub fn stepped<const PLACE: u64>(number: u64) -> u64 {
-    (0..PLACE).fold(number, |sum, _| (sum ^ sum / 128).wrapping_mul(3))
+    (0..PLACE).fold(number, |sum, _| (sum ^ (sum / 128)).wrapping_mul(3))
 }
 
 /// Hashes all texts in each pass. It is not inlined, so that adjacent code changes nothing.

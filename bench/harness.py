@@ -22,6 +22,8 @@ if "RAPIDHASH_CRATE" in os.environ:
 TRIES = 4
 # A processor is quiet if its loop takes at most this multiple of the minimum time so far.
 ALLOWED = 1.035
+# How a profile differs from cargo's default release profile.
+PROFILES = {"release": [], "lto": ["--config=profile.release.lto='fat'", "--config=profile.release.codegen-units=1"]}
 MANIFEST = """[package]
 name = "program"
 version = "0.0.0"
@@ -38,11 +40,6 @@ yervound = []
 
 [dependencies]
 rapidhash = {{ package = "{package}", path = "{crate}" }}
-
-[profile.lto]
-inherits = "release"
-lto = "fat"
-codegen-units = 1
 
 [workspace]
 """
@@ -71,9 +68,9 @@ def build_rust(name, source, features=(), profile="lto"):
     manifest = MANIFEST.format(source=TOP / "bench" / source, package=package, crate=crate)
     (room / "Cargo.toml").write_text(manifest)
     features = [*features, *["yervound"] * (package != "rapidhash")]
-    words = ["cargo", "build", "--profile", profile, "--offline", "--quiet", "--features", ",".join(features)]
-    run(*words, folder=room)
-    return room / "target" / profile / "program"
+    words = ["--release", *PROFILES[profile], "--offline", "--quiet", "--features", ",".join(features)]
+    run("cargo", "build", *words, folder=room)
+    return room / "target" / "release" / "program"
 
 
 def build(crate, source):
@@ -111,15 +108,6 @@ def asked(usage, known, turns):
     return parsed.words, parsed.turns
 
 
-def machine_and_date():
-    """Returns the processor, described for a comparison with others, and today's date."""
-    told = Path("/proc/cpuinfo").read_text()
-    name = re.search(r"model name\s*: (.*)", told)[1]
-    words = (re.search(rf"^{word}\s*: (\d+)", told, re.M)[1] for word in ("cpu family", "model", "stepping"))
-    where = "family {}, model {}, stepping {}".format(*words)
-    return f"{name} ({where}), {os.cpu_count()} cores, {datetime.date.today()}"
-
-
 class Processors:
     """The processors of this machine. PROGRAM is bench/quiet.c, compiled."""
 
@@ -150,8 +138,11 @@ class Processors:
 
 
 def print_heading(title):
-    """Prints a title, the commit, the machine, and the date."""
-    print(f"# {title}, at commit {run('git', 'rev-parse', '--short', 'HEAD', folder=TOP)}.\n# {machine_and_date()}")
+    """Prints a title and the commit, then the processor, described for a comparison with others, and the date."""
+    fields = dict(re.findall(r"^(.+?)\s*: (.+)", Path("/proc/cpuinfo").read_text(), re.M))
+    where = f"family {fields['cpu family']}, model {fields['model']}, stepping {fields['stepping']}"
+    print(f"# {title}, at commit {run('git', 'rev-parse', '--short', 'HEAD', folder=TOP)}.")
+    print(f"# {fields['model name']} ({where}), {os.cpu_count()} cores, {datetime.date.today()}")
 
 
 def measure(title, unit, rows, work, turns):
@@ -191,26 +182,28 @@ def print_table(unit, names, rows, ratios, needed):
 
 
 def alternate(commands, words, turns):
-    """Runs commands that print rows (group, name, nanoseconds) alternately, and returns the least times, keyed by
-    build, group and name, and by library. The commands are keyed by build and library."""
+    """Runs commands that print rows (group, name, nanoseconds) alternately, and returns the least times, keyed by the
+    build and the group, by the row, and by the library. The commands are keyed by build and library."""
     best = {}
     for _ in range(turns):
         for (build, library), command in commands.items():
             for line in subprocess.check_output([*command, *words], text=True).splitlines():
                 group, name, nanos = line.split("\t")
-                times = best.setdefault((build, group, name), {})
+                times = best.setdefault((build, group), {}).setdefault(name, {})
                 times[library] = min(float(nanos), times.get(library, math.inf))
     return best
 
 
 def print_rows(title, best, ours, others):
     """Prints the rows of alternate: for each length the mean over its loops, and per group the mean of the ratios."""
-    loops = {}
-    for (build, group, name), times in best.items():
-        length = re.sub(" (sum|store|join|chain)$", "", name)
-        loops.setdefault((f"{group}, {build}", f"{group} {length}, {build}"), []).append(times)
-    rows = [(*key, {it: geometric_mean(times[it] for times in all_times) for it in all_times[0]})
-            for key, all_times in loops.items()]
+    rows = []
+    for (build, group), of_group in best.items():
+        loops = {}
+        for name, times in of_group.items():
+            loops.setdefault(re.sub(" (sum|store|join|chain)$", "", name), []).append(times)
+        for length, all_times in loops.items():
+            means = {it: geometric_mean(times[it] for times in all_times) for it in all_times[0]}
+            rows.append((f"{group}, {build}", f"{group} {length}, {build}", means))
     print_heading(title)
     print_table("ns", [ours, *others], rows, [(other, ours) for other in others], 1)
 

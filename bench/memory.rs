@@ -1,6 +1,5 @@
 //! Does the work of `bench_memory` with a crate: `FORM NUMBER PLACE`. Prints a number that depends on all of the work,
-//! and the time in nanoseconds. As in `bench_memory`, the timed functions are not inlined, so that adjacent code changes
-//! nothing.
+//! and the time in nanoseconds. As there, the timed functions are not inlined, so that adjacent code changes nothing.
 
 #[macro_use]
 mod common;
