@@ -13,29 +13,18 @@ struct row {
     uint64_t passes;
 };
 
-static uint64_t added(uint64_t sum, uint64_t hash)
-{
-    return (sum ^ hash) * 3;
-}
-
-/* Loops over the texts. */
-static inline __attribute__((always_inline)) uint64_t fold(struct row row, uint64_t sum)
-{
-    for (uint64_t pass = 0; pass < row.passes; pass++) {
-        for (size_t at = 0; at < row.count; at++)
-            sum = added(sum, XXH3_64bits(row.list[at].bytes, row.list[at].length));
-    }
-    return sum;
-}
-
-/* The loop, once per place, after as many steps as the number of the place. */
+/* The loop over the texts, once per place, after as many steps as the number of the place. */
 #define PLACES(X) X(0) X(1) X(2) X(3) X(4) X(5) X(6) X(7)
 #define AT_PLACE(place) \
     static __attribute__((noinline)) uint64_t hash_all_##place(struct row row, uint64_t sum) \
     { \
         for (int step = 0; step < (place); step++) \
-            sum = added(sum, sum / 128); \
-        return fold(row, sum); \
+            sum = (sum ^ sum / 128) * 3; \
+        for (uint64_t pass = 0; pass < row.passes; pass++) { \
+            for (size_t at = 0; at < row.count; at++) \
+                sum = (sum ^ XXH3_64bits(row.list[at].bytes, row.list[at].length)) * 3; \
+        } \
+        return sum; \
     }
 #define NAME(place) hash_all_##place,
 PLACES(AT_PLACE)
