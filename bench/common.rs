@@ -15,6 +15,7 @@ pub fn least(repeats: u64, mut work: impl FnMut()) -> u128 {
     least
 }
 
+/// Returns random bytes, the same with each crate.
 pub fn random_bytes(rng: &mut RapidRng, count: usize) -> Vec<u8> {
     (0..count).map(|_| (rng.next() % 256) as u8).collect()
 }

@@ -11,6 +11,7 @@ use rapidhash::{v1, v2, v3};
 #[cfg(feature = "further")]
 std::arch::global_asm!(include_str!("padding.s"), ".text");
 
+/// Whether the secrets are the default ones, which the compiler knows.
 const DEFAULT: bool = cfg!(not(feature = "seeded"));
 
 /// Secrets for all forms, unknown to the compiler.
@@ -44,6 +45,7 @@ impl Row<'_> {
         at_place!(self.place, PLACE => hash_all::<PLACE>(self.list.iter().copied(), hash, self.passes, sum))
     }
 
+    /// Hashes the texts in a form, which is inlined into the loop, if the crate lets the compiler inline it.
     fn work(&self, form: &str, own: &Secrets, sum: u64) -> u64 {
         macro_rules! forms {
             ($($form:literal $(if $default:ident)? => |$text:ident| $hash:expr,)*) => { match form {
