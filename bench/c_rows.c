@@ -1,13 +1,6 @@
 /* Times the hashes of the C header, or with XXH3 those of XXH3, on the messages of bench/rust.rs and in the same loops.
  * It prints a row per line: the form, the row and the nanoseconds, the minimum of its repeats. */
-#define _POSIX_C_SOURCE 200809L
-#include <inttypes.h>
-#include <stdint.h>
-#include <stdio.h>
-#include <stdlib.h>
-#include <string.h>
-#include <time.h>
-
+#include "common.h"
 #ifdef XXH3
 #define XXH_INLINE_ALL
 #include <xxhash.h>
@@ -15,88 +8,22 @@
 #include <rapidhash_c.h>
 #endif
 
-enum { BYTES = 8192, MOST = 20000, REPEATS = 40 };
+enum { BYTES = 8192, MOST = 20000, EQUAL = 18, MIXED = 5, REPEATS = 40, LOOPS = 4 };
 
-struct part {
-    size_t start, length;
-};
-
+/* The equal lengths of the messages of a row, and the ranges of its mixed lengths. */
+static const size_t equal[EQUAL] = {0, 3, 4, 8, 12, 16, 17, 24, 32, 48, 64, 100, 112, 113, 160, 256, 512, 1024};
+static const size_t mixed[MIXED][2] = {{1, 16}, {8, 16}, {1, 32}, {1, 64}, {1, 300}};
+static const char *const loops[LOOPS] = {"sum", "store", "join", "chain"};
 static uint8_t bytes[BYTES];
-static struct part parts[MOST];
-static struct { const uint8_t *bytes; size_t length; } texts[MOST];
-static uint64_t stored[MOST];
+static struct { size_t start, length; } parts[MOST];
+static struct text texts[MOST];
+/* Not static, so that the compiler must store the hashes. */
+uint64_t stored[MOST];
 static volatile uint64_t sink;
 
-static uint64_t next(uint64_t *state)
-{
-    *state ^= *state << 13;
-    *state ^= *state >> 7;
-    *state ^= *state << 17;
-    return *state * UINT64_C(0x2545f4914f6cdd1d);
-}
-
-static size_t between(uint64_t *state, size_t low, size_t high)
-{
-    return low + (size_t)(next(state) >> 33) % (high - low + 1);
-}
-
-static double now(void)
-{
-    struct timespec time;
-    clock_gettime(CLOCK_MONOTONIC, &time);
-    return (double)time.tv_sec * 1e9 + (double)time.tv_nsec;
-}
-
-static void row(const char *form, const char *lengths, const char *loop, size_t count, uint64_t (*work)(size_t))
-{
-    double least = 1e18;
-    for (int repeat = 0; repeat < REPEATS; repeat++) {
-        const double start = now();
-        double taken;
-        sink = work(count);
-        taken = now() - start;
-        if (taken < least)
-            least = taken;
-    }
-    printf("%s\t%s %s\t%.3f\n", form, lengths, loop, least / (double)count);
-}
-
-/* The four loops of a form, which the compiler may inline the hash into. */
-#define FORM(name, ...) \
-    static uint64_t name##_hash(const uint8_t *text, size_t length) { return __VA_ARGS__; } \
-    static uint64_t name##_sum(size_t count) \
-    { \
-        uint64_t sum = 0; \
-        for (size_t i = 0; i < count; i++) sum += name##_hash(texts[i].bytes, texts[i].length); \
-        return sum; \
-    } \
-    static uint64_t name##_store(size_t count) \
-    { \
-        for (size_t i = 0; i < count; i++) stored[i] = name##_hash(texts[i].bytes, texts[i].length); \
-        return stored[0]; \
-    } \
-    static uint64_t name##_join(size_t count) \
-    { \
-        uint64_t sum = 0; \
-        for (size_t i = 0; i < count; i++) sum = (sum ^ name##_hash(bytes + parts[i].start, parts[i].length)) * 3; \
-        return sum; \
-    } \
-    static uint64_t name##_chain(size_t count) \
-    { \
-        uint64_t last = 0; \
-        for (size_t i = 0; i < count; i++) last = name##_hash(bytes + last % 64, parts[i].length); \
-        return last; \
-    } \
-    static void name(const char *form, const char *lengths, size_t count) \
-    { \
-        row(form, lengths, "sum", count, name##_sum); \
-        row(form, lengths, "store", count, name##_store); \
-        row(form, lengths, "join", count, name##_join); \
-        row(form, lengths, "chain", count, name##_chain); \
-    }
-
+/* The forms: X(name, title, the hash of `length` bytes at `text`) for each. */
 #ifdef XXH3
-FORM(xxh3, XXH3_64bits(text, length))
+#define FORMS(X) X(xxh3, "v3", XXH3_64bits(text, length))
 #else
 static struct rapidhash_v1_secrets three;
 static struct rapidhash_secrets seven;
@@ -113,36 +40,72 @@ static uint64_t in_pieces(const uint8_t *text, size_t length)
     return rapidhash_stream_finish(&stream);
 }
 
-FORM(v1, rapidhash_v1(text, length))
-FORM(v1_seeded, rapidhash_v1_seeded(text, length, &three))
-FORM(v2_2, rapidhash_v2_2(text, length))
-FORM(v3, rapidhash_v3(text, length))
-FORM(v3_seeded, rapidhash_v3_seeded(text, length, &seven))
-FORM(v3_word, rapidhash_v3_with_seed(text, length, word))
-FORM(micro, rapidhash_v3_micro(text, length))
-FORM(nano, rapidhash_v3_nano(text, length))
-FORM(stream, in_pieces(text, length))
+#define FORMS(X) \
+    X(v1, "v1", rapidhash_v1(text, length)) \
+    X(v1_seeded, "v1 seeded", rapidhash_v1_seeded(text, length, &three)) \
+    X(v2_2, "v2.2", rapidhash_v2_2(text, length)) \
+    X(v3, "v3", rapidhash_v3(text, length)) \
+    X(v3_seeded, "v3 seeded", rapidhash_v3_seeded(text, length, &seven)) \
+    X(v3_word, "v3 seed word", rapidhash_v3_with_seed(text, length, word)) \
+    X(micro, "micro", rapidhash_v3_micro(text, length)) \
+    X(nano, "nano", rapidhash_v3_nano(text, length)) \
+    X(stream, "stream of 16", in_pieces(text, length))
 #endif
 
-static void all(void (*form)(const char *, const char *, size_t), const char *name)
+/* The four loops of a form, which the compiler may inline the hash into. */
+#define LOOP(name, loop, step) \
+    static uint64_t name##_##loop(size_t count) \
+    { \
+        uint64_t last = 0; \
+        for (size_t i = 0; i < count; i++) \
+            step; \
+        return last; \
+    }
+#define FORM(name, title, hash) \
+    static uint64_t name##_hash(const uint8_t *text, size_t length) { return hash; } \
+    LOOP(name, sum, last += name##_hash(texts[i].bytes, texts[i].length)) \
+    LOOP(name, store, last = stored[i] = name##_hash(texts[i].bytes, texts[i].length)) \
+    LOOP(name, join, last = (last ^ name##_hash(bytes + parts[i].start, parts[i].length)) * 3) \
+    LOOP(name, chain, last = name##_hash(bytes + last % 64, parts[i].length))
+FORMS(FORM)
+
+#define LISTED(name, title, hash) {title, {name##_sum, name##_store, name##_join, name##_chain}},
+static const struct form {
+    const char *title;
+    uint64_t (*work[LOOPS])(size_t count);
+} forms[] = {FORMS(LISTED)};
+
+/* Returns the least time of the repeats, per message. */
+static double least(uint64_t (*work)(size_t count), size_t count)
 {
-    static const size_t equal[] = {0, 3, 4, 8, 12, 16, 17, 24, 32, 48, 64, 100, 112, 113, 160, 256, 512, 1024};
-    static const size_t mixed[][2] = {{1, 16}, {8, 16}, {1, 32}, {1, 64}, {1, 300}};
+    uint64_t least = UINT64_MAX;
+    for (int repeat = 0; repeat < REPEATS; repeat++) {
+        uint64_t start = now(), taken;
+        sink = work(count);
+        taken = now() - start;
+        least = taken < least ? taken : least;
+    }
+    return (double)least / (double)count;
+}
+
+/* Prints the rows of a form: its loops over the messages of each range. */
+static void rows(const struct form *form)
+{
     uint64_t state = 9;
 
-    for (size_t i = 0; i < 18 + 5; i++) {
-        const size_t low = i < 18 ? equal[i] : mixed[i - 18][0], high = i < 18 ? low : mixed[i - 18][1];
-        const size_t count = i < 18 ? 500 : MOST;
-        char lengths[40];
+    for (int i = 0; i < EQUAL + MIXED; i++) {
+        const size_t low = i < EQUAL ? equal[i] : mixed[i - EQUAL][0], high = i < EQUAL ? low : mixed[i - EQUAL][1];
+        const size_t count = i < EQUAL ? 500 : MOST;
 
         for (size_t at = 0; at < count; at++) {
-            parts[at].start = between(&state, 0, 4095);
-            parts[at].length = between(&state, low, high);
-            texts[at].bytes = bytes + parts[at].start;
-            texts[at].length = parts[at].length;
+            parts[at].start = next_word(&state) % 4096;
+            parts[at].length = low + next_word(&state) % (high - low + 1);
+            texts[at] = (struct text){bytes + parts[at].start, parts[at].length};
         }
-        snprintf(lengths, sizeof lengths, i < 18 ? "%zu" : "%zu-%zu", low, high);
-        form(name, lengths, count);
+        for (int loop = 0; loop < LOOPS; loop++) {
+            printf(i < EQUAL ? "%s\t%zu" : "%s\t%zu-%zu", form->title, low, high);
+            printf(" %s\t%.3f\n", loops[loop], least(form->work[loop], count));
+        }
     }
 }
 
@@ -150,23 +113,13 @@ int main(void)
 {
     uint64_t state = 7;
 
-    for (size_t at = 0; at < BYTES; at++)
-        bytes[at] = (uint8_t)next(&state);
-#ifdef XXH3
-    all(xxh3, "v3");
-#else
-    word = next(&state);
+    fill(bytes, BYTES, &state);
+#ifndef XXH3
+    word = next_word(&state);
     rapidhash_v1_make_secrets(7, &three);
     rapidhash_make_secrets(7, &seven);
-    all(v1, "v1");
-    all(v1_seeded, "v1 seeded");
-    all(v2_2, "v2.2");
-    all(v3, "v3");
-    all(v3_seeded, "v3 seeded");
-    all(v3_word, "v3 seed word");
-    all(micro, "micro");
-    all(nano, "nano");
-    all(stream, "stream of 16");
 #endif
+    for (size_t at = 0; at < sizeof forms / sizeof *forms; at++)
+        rows(&forms[at]);
     return 0;
 }

@@ -22,6 +22,8 @@ if "RAPIDHASH_CRATE" in os.environ:
 TRIES = 4
 # A processor is quiet if its loop takes at most this multiple of the minimum time so far.
 ALLOWED = 1.035
+# How a profile differs from cargo's default release profile.
+PROFILES = {"release": [], "lto": ["--config=profile.release.lto='fat'", "--config=profile.release.codegen-units=1"]}
 MANIFEST = """[package]
 name = "program"
 version = "0.0.0"
@@ -38,11 +40,6 @@ yervound = []
 
 [dependencies]
 rapidhash = {{ package = "{package}", path = "{crate}" }}
-
-[profile.lto]
-inherits = "release"
-lto = "fat"
-codegen-units = 1
 
 [workspace]
 """
@@ -71,9 +68,9 @@ def build_rust(name, source, features=(), profile="lto"):
     manifest = MANIFEST.format(source=TOP / "bench" / source, package=package, crate=crate)
     (room / "Cargo.toml").write_text(manifest)
     features = [*features, *["yervound"] * (package != "rapidhash")]
-    words = ["cargo", "build", "--profile", profile, "--offline", "--quiet", "--features", ",".join(features)]
-    run(*words, folder=room)
-    return room / "target" / profile / "program"
+    words = ["--release", *PROFILES[profile], "--offline", "--quiet", "--features", ",".join(features)]
+    run("cargo", "build", *words, folder=room)
+    return room / "target" / "release" / "program"
 
 
 def build(crate, source):
@@ -83,9 +80,8 @@ def build(crate, source):
 
 
 def random_file(name, megabytes):
-    with open(ROOM / name, "wb") as out:
-        for _ in range(megabytes):
-            out.write(os.urandom(1 << 20))
+    """Writes a file of random bytes, and returns its path."""
+    run("dd", "if=/dev/urandom", f"of={name}", "bs=1M", "iflag=fullblock", f"count={megabytes}")
     return ROOM / name
 
 
@@ -93,7 +89,7 @@ def take(programs, words, scale):
     """Runs each program once. Each prints a value, which must be the same for all except XXH3, and its time."""
     values, times = {}, {}
     for name, program in ((name, program) for name in programs for program in programs[name]):
-        found, time = subprocess.run([program, *words], stdout=subprocess.PIPE, check=True, text=True).stdout.split()
+        found, time = subprocess.check_output([program, *words], text=True).split()
         times[name] = min(times.get(name, math.inf), int(time) / scale)
         if name != "xxh3" and values.setdefault("all", found) != found:
             sys.exit(f"{' '.join(map(str, words))}: {name} prints {found}, and not {values['all']}")
@@ -112,15 +108,6 @@ def asked(usage, known, turns):
     return parsed.words, parsed.turns
 
 
-def machine_and_date():
-    """Returns the processor, described for a comparison with others, and today's date."""
-    told = Path("/proc/cpuinfo").read_text()
-    name = re.search(r"model name\s*: (.*)", told)[1]
-    words = (re.search(rf"^{word}\s*: (\d+)", told, re.M)[1] for word in ("cpu family", "model", "stepping"))
-    where = "family {}, model {}, stepping {}".format(*words)
-    return f"{name} ({where}), {os.cpu_count()} cores, {datetime.date.today()}"
-
-
 class Processors:
     """The processors of this machine. PROGRAM is bench/quiet.c, compiled."""
 
@@ -133,8 +120,7 @@ class Processors:
     def nanos(self, number):
         """Returns the time of the fixed loop on a processor now. This program and its children stay there."""
         os.sched_setaffinity(0, {number})
-        turns = subprocess.run([self.program], stdout=subprocess.PIPE, check=True).stdout.split()
-        return median_low(map(int, turns))
+        return median_low(map(int, subprocess.check_output([self.program]).split()))
 
     def measure(self, work, *words):
         """Returns the result of work(*words) on a processor that was quiet before and after it. If none was quiet in
@@ -152,8 +138,11 @@ class Processors:
 
 
 def print_heading(title):
-    """Prints a title, the commit, the machine, and the date."""
-    print(f"# {title}, at commit {run('git', 'rev-parse', '--short', 'HEAD', folder=TOP)}.\n# {machine_and_date()}")
+    """Prints a title and the commit, then the processor, described for a comparison with others, and the date."""
+    fields = dict(re.findall(r"^(.+?)\s*: (.+)", Path("/proc/cpuinfo").read_text(), re.M))
+    where = f"family {fields['cpu family']}, model {fields['model']}, stepping {fields['stepping']}"
+    print(f"# {title}, at commit {run('git', 'rev-parse', '--short', 'HEAD', folder=TOP)}.")
+    print(f"# {fields['model name']} ({where}), {os.cpu_count()} cores, {datetime.date.today()}")
 
 
 def measure(title, unit, rows, work, turns):
@@ -168,36 +157,38 @@ def measure(title, unit, rows, work, turns):
             least.update({name: min(time, least.get(name, time)) for name, time in times.items()})
     print_heading(f"{title}, the least of {turns} turns")
     print(f"# {processors.disturbed} of {processors.measured} measurements were on a processor that was not quiet.")
-    print_table(unit, best)
-
-
-def mean_ratio(rows, ours="ours"):
-    """Returns the geometric mean of the crate's ratios."""
-    return geometric_mean(times["crate"] / times[ours] for times in rows)
-
-
-def print_table(unit, best):
-    """Prints the rows of a file of figures, and a mean for the rows that differ only in their last word."""
     names = [name for name in LIBRARIES if any(name in times for times in best.values())]
+    rows = [(what.rpartition(" ")[0], what, times) for what, times in best.items()]
+    print_table(unit, names, rows, [("crate", "ours"), ("crate", "rust")], 2)
+
+
+def mean_ratio(rows, ours="ours", other="crate"):
+    """Returns the geometric mean of the other library's ratios."""
+    return geometric_mean(times[other] / times[ours] for times in rows)
+
+
+def print_table(unit, names, rows, ratios, needed):
+    """Prints the ROWS of a file of figures, each a group, a name and its times. Prints the mean of each of the RATIOS
+    of two libraries for each group that has the needed number of rows."""
     print("what", "unit", *names, sep="\t")
     groups = {}
-    for what, times in best.items():
+    for group, what, times in rows:
         print(what, unit, *(f"{times[name]:.2f}" if name in times else "" for name in names), sep="\t")
-        groups.setdefault(what.rpartition(" ")[0], []).append(times)
-    for group, rows in groups.items():
-        for name in ("ours", "rust"):
-            if group and len(rows) > 1 and all(name in times and "crate" in times for times in rows):
-                print(f"# {group}: mean of crate/{name} {mean_ratio(rows, name):.3f}")
+        groups.setdefault(group, []).append(times)
+    for group, of_group in groups.items():
+        for other, ours in ratios:
+            if group and len(of_group) >= needed and all(other in times and ours in times for times in of_group):
+                print(f"# {group}: mean of {other}/{ours} {mean_ratio(of_group, ours, other):.3f}")
 
 
-def alternate(programs, words, turns):
-    """Runs programs that print rows (group, name, nanoseconds) alternately, and returns the least times, keyed by the
-    build and the group, by the row, and by the library. The programs are keyed by build and library."""
+def alternate(commands, words, turns):
+    """Runs commands that print rows (group, name, nanoseconds) alternately, and returns the least times, keyed by the
+    build and the group, by the row, and by the library. The commands are keyed by build and library."""
     best = {}
     for _ in range(turns):
-        for (build, library), program in programs.items():
-            text = subprocess.run([program, *words], stdout=subprocess.PIPE, check=True, text=True).stdout
-            for group, name, nanos in (line.split("\t") for line in text.splitlines()):
+        for (build, library), command in commands.items():
+            for line in subprocess.check_output([*command, *words], text=True).splitlines():
+                group, name, nanos = line.split("\t")
                 times = best.setdefault((build, group), {}).setdefault(name, {})
                 times[library] = min(float(nanos), times.get(library, math.inf))
     return best
@@ -205,22 +196,16 @@ def alternate(programs, words, turns):
 
 def print_rows(title, best, ours, others):
     """Prints the rows of alternate: for each length the mean over its loops, and per group the mean of the ratios."""
-    print_heading(title)
-    print("what", "unit", ours, *others, sep="\t")
-    for (build, group), rows in best.items():
+    rows = []
+    for (build, group), of_group in best.items():
         loops = {}
-        for name, times in rows.items():
-            length = name.rpartition(" ")[0] if name.endswith((" sum", " store", " join", " chain")) else name
-            loops.setdefault(length, []).append(times)
+        for name, times in of_group.items():
+            loops.setdefault(re.sub(" (sum|store|join|chain)$", "", name), []).append(times)
         for length, all_times in loops.items():
-            cells = [[times[it] for times in all_times if it in times] for it in (ours, *others)]
-            means = [f"{geometric_mean(cell):.2f}" if cell else "" for cell in cells]
-            print(f"{group} {length}, {build}", "ns", *means, sep="\t")
-    for (build, group), rows in sorted(best.items()):
-        for other in others:
-            ratios = [times[other] / times[ours] for times in rows.values() if other in times]
-            if ratios:
-                print(f"# {group}, {build}: mean of {other}/{ours} {geometric_mean(ratios):.3f}")
+            means = {it: geometric_mean(times[it] for times in all_times) for it in all_times[0]}
+            rows.append((f"{group}, {build}", f"{group} {length}, {build}", means))
+    print_heading(title)
+    print_table("ns", [ours, *others], rows, [(other, ours) for other in others], 1)
 
 
 def read_figures(name):

@@ -1,7 +1,8 @@
 //! Hashes of keys, and maps of them, with the default states of a crate.
 
-use crate::{Numbers, row};
+use crate::{between, row};
 use rapidhash::fast::RandomState;
+use rapidhash::rng::RapidRng;
 use std::collections::HashMap;
 use std::hash::{BuildHasher, Hash};
 use std::hint::black_box;
@@ -14,9 +15,9 @@ struct Person {
     name: String,
 }
 
-fn text(numbers: &mut Numbers, low: usize, high: usize) -> String {
-    let length = numbers.between(low, high);
-    (0..length).map(|_| (b'a' + (numbers.next() >> 40) as u8 % 26) as char).collect()
+fn text(rng: &mut RapidRng, low: usize, high: usize) -> String {
+    let length = between(rng, low, high);
+    (0..length).map(|_| (b'a' + (rng.next() % 26) as u8) as char).collect()
 }
 
 fn hash_one<K: Hash>(name: &str, keys: &[K]) {
@@ -25,20 +26,20 @@ fn hash_one<K: Hash>(name: &str, keys: &[K]) {
 }
 
 fn hashes() {
-    let mut numbers = Numbers(5);
+    let mut rng = RapidRng::new(5);
     for (low, high) in [(5, 5), (8, 8), (16, 16), (20, 20), (40, 40), (60, 60), (5, 20), (5, 60)] {
-        let keys: Vec<String> = (0..1000).map(|_| text(&mut numbers, low, high)).collect();
+        let keys: Vec<String> = (0..1000).map(|_| text(&mut rng, low, high)).collect();
         hash_one(&format!("text of {low} to {high}"), &keys);
     }
-    let words: Vec<u64> = (0..1000).map(|_| numbers.next()).collect();
+    let words: Vec<u64> = (0..1000).map(|_| rng.next()).collect();
     hash_one("u64", &words);
     hash_one("(u32, u64)", &words.iter().map(|&word| (word as u32, word)).collect::<Vec<_>>());
-    hash_one("(u64, text)", &words.iter().map(|&word| (word, text(&mut numbers, 5, 20))).collect::<Vec<_>>());
-    hash_one("struct", &people(&mut numbers, 1000));
+    hash_one("(u64, text)", &words.iter().map(|&word| (word, text(&mut rng, 5, 20))).collect::<Vec<_>>());
+    hash_one("struct", &people(&mut rng, 1000));
 }
 
-fn people(numbers: &mut Numbers, count: usize) -> Vec<Person> {
-    (0..count).map(|_| Person { number: numbers.next(), name: text(numbers, 5, 20) }).collect()
+fn people(rng: &mut RapidRng, count: usize) -> Vec<Person> {
+    (0..count).map(|_| Person { number: rng.next(), name: text(rng, 5, 20) }).collect()
 }
 
 #[inline(never)]
@@ -66,12 +67,12 @@ fn map<K: Hash + Eq + Clone>(group: &str, mut keys: Vec<K>) {
 
 /// Counts the words of a text with few frequent and many rare words.
 fn word_count() {
-    let mut numbers = Numbers(3);
-    let words: Vec<String> = (0..5000).map(|_| text(&mut numbers, 2, 12)).collect();
+    let mut rng = RapidRng::new(3);
+    let words: Vec<String> = (0..5000).map(|_| text(&mut rng, 2, 12)).collect();
     let mut line = String::new();
     for _ in 0..50_000 {
-        let most = numbers.between(1, 5000);
-        line += &words[numbers.between(0, most - 1)];
+        let most = between(&mut rng, 1, 5000);
+        line += &words[between(&mut rng, 0, most - 1)];
         line.push(' ');
     }
     row("word count", "a word", 50_000, || {
@@ -88,11 +89,11 @@ fn word_count() {
 
 pub fn all() {
     hashes();
-    let mut numbers = Numbers(11);
+    let mut rng = RapidRng::new(11);
     for count in [1000, 30_000] {
-        map("map of u64", (0..2 * count).map(|_| numbers.next()).collect());
-        map("map of texts", (0..2 * count).map(|_| text(&mut numbers, 5, 60)).collect());
-        map("map of structs", people(&mut numbers, 2 * count));
+        map("map of u64", (0..2 * count).map(|_| rng.next()).collect());
+        map("map of texts", (0..2 * count).map(|_| text(&mut rng, 5, 60)).collect());
+        map("map of structs", people(&mut rng, 2 * count));
     }
     word_count();
 }

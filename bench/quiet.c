@@ -1,17 +1,9 @@
-// Prints the nanoseconds of a fixed loop, 150 times. The loop keeps the adders busy and a multiplication in progress.
-// So it takes longer if the processor runs slowly or shares its core.
+/* Prints the nanoseconds of a fixed loop, 150 times. The loop keeps the adders busy and a multiplication in progress.
+ * So it takes longer if the processor runs slowly or shares its core. */
+#include "common.h"
 
-#include <stdint.h>
-#include <stdio.h>
-#include <time.h>
-
-static uint64_t now(void) {
-    struct timespec time;
-    clock_gettime(CLOCK_MONOTONIC, &time);
-    return (uint64_t)time.tv_sec * 1000000000 + (uint64_t)time.tv_nsec;
-}
-
-static uint64_t turn(void) {
+static uint64_t turn(void)
+{
     uint64_t first = 0, second = 0, third = 0, fourth = 0, product = 1;
     uint64_t start = now();
     for (int i = 0; i < 5000; i++) {
@@ -22,9 +14,9 @@ static uint64_t turn(void) {
     return now() - start;
 }
 
-int main(void) {
-    for (int i = 0; i < 150; i++) {
-        printf("%llu\n", (unsigned long long)turn());
-    }
+int main(void)
+{
+    for (int i = 0; i < 150; i++)
+        printf("%" PRIu64 "\n", turn());
     return 0;
 }

@@ -1,137 +1,100 @@
 //! Times the calls of a Rust program with a crate, in the profile that it was built in. It prints a row per line: the
 //! group, the row and the nanoseconds, the minimum of its repeats. `bench/rust` builds and runs it.
 
+mod common;
 mod keys;
 
+use common::{least, random_bytes};
+use rapidhash::rng::RapidRng;
 use rapidhash::{fast, v1, v2, v3};
 use std::hint::black_box;
 use std::io::Read;
 use std::ops::Range;
-use std::time::{Duration, Instant};
 
 /// The equal lengths of the messages of a row, and the ranges of its mixed lengths.
 const LENGTHS: [usize; 18] = [0, 3, 4, 8, 12, 16, 17, 24, 32, 48, 64, 100, 112, 113, 160, 256, 512, 1024];
 const RANGES: [(usize, usize); 5] = [(1, 16), (8, 16), (1, 32), (1, 64), (1, 300)];
 
-/// A small generator, the same for every crate.
-pub struct Numbers(u64);
-
-impl Numbers {
-    pub fn next(&mut self) -> u64 {
-        self.0 ^= self.0 << 13;
-        self.0 ^= self.0 >> 7;
-        self.0 ^= self.0 << 17;
-        self.0.wrapping_mul(0x2545_F491_4F6C_DD1D)
-    }
-
-    pub fn between(&mut self, low: usize, high: usize) -> usize {
-        low + (self.next() >> 33) as usize % (high - low + 1)
-    }
+/// Returns a random number from `low` to `high`.
+pub fn between(rng: &mut RapidRng, low: usize, high: usize) -> usize {
+    low + rng.next() as usize % (high - low + 1)
 }
 
 /// Prints a row: the least time of 40 repeats, per item.
 pub fn row(group: &str, name: &str, items: usize, mut work: impl FnMut() -> u64) {
-    let mut least = Duration::MAX;
-    for _ in 0..40 {
-        let start = Instant::now();
-        black_box(work());
-        least = least.min(start.elapsed());
-    }
-    println!("{group}\t{name}\t{:.3}", least.as_nanos() as f64 / items as f64);
-}
-
-/// A hash as programs call it: inlined into the loop, if the crate lets the compiler inline it.
-trait Form: Copy {
-    fn hash(self, text: &[u8]) -> u64;
-}
-
-/// Defines a form with the secrets that it needs, or none.
-macro_rules! forms {
-    ($($name:ident($secrets:ty), $own:ident, $text:ident => $hash:expr;)*) => { $(
-        #[derive(Clone, Copy)]
-        struct $name<'s>(&'s $secrets);
-
-        impl Form for $name<'_> {
-            #[inline(always)]
-            fn hash(self, $text: &[u8]) -> u64 {
-                let $own = self.0;
-                $hash
-            }
-        }
-    )* };
-}
-
-forms! {
-    V1(()), _none, text => v1::rapidhash_v1(text);
-    V1Seeded(v1::RapidSecrets), own, text => v1::rapidhash_v1_seeded(text, own);
-    V22(()), _none, text => v2::rapidhash_v2_2(text);
-    V3(()), _none, text => v3::rapidhash_v3(text);
-    V3Seeded(v3::RapidSecrets), own, text => v3::rapidhash_v3_seeded(text, own);
-    Micro(()), _none, text => v3::rapidhash_v3_micro_inline::<true, false>(text, &v3::DEFAULT_RAPID_SECRETS);
-    Nano(()), _none, text => v3::rapidhash_v3_nano_inline::<true, false>(text, &v3::DEFAULT_RAPID_SECRETS);
+    let least = least(40, || _ = black_box(work()));
+    println!("{group}\t{name}\t{:.3}", least as f64 / items as f64);
 }
 
 /// The hashes summed: the processor works on several at a time.
 #[inline(never)]
-fn summed(texts: &[&[u8]], form: impl Form) -> u64 {
-    texts.iter().fold(0, |sum, text| sum.wrapping_add(form.hash(text)))
+fn summed(texts: &[&[u8]], hash: impl Fn(&[u8]) -> u64) -> u64 {
+    texts.iter().fold(0, |sum, text| sum.wrapping_add(hash(text)))
 }
 
 /// The hashes stored, as a filter or a column stores them.
 #[inline(never)]
-fn stored(texts: &[&[u8]], out: &mut [u64], form: impl Form) -> u64 {
+fn stored(texts: &[&[u8]], out: &mut [u64], hash: impl Fn(&[u8]) -> u64) -> u64 {
     for (text, place) in texts.iter().zip(out.iter_mut()) {
-        *place = form.hash(text);
+        *place = hash(text);
     }
     out[0]
 }
 
 /// The hashes of parts of a buffer, joined in order.
 #[inline(never)]
-fn joined(bytes: &[u8], parts: &[Range<usize>], form: impl Form) -> u64 {
-    parts.iter().fold(0, |sum: u64, part| (sum ^ form.hash(&bytes[part.clone()])).wrapping_mul(3))
+fn joined(bytes: &[u8], parts: &[Range<usize>], hash: impl Fn(&[u8]) -> u64) -> u64 {
+    parts.iter().fold(0, |sum: u64, part| (sum ^ hash(&bytes[part.clone()])).wrapping_mul(3))
 }
 
 /// Each message begins where the hash before it says: the time from bytes to hash.
 #[inline(never)]
-fn chained(bytes: &[u8], parts: &[Range<usize>], form: impl Form) -> u64 {
+fn chained(bytes: &[u8], parts: &[Range<usize>], hash: impl Fn(&[u8]) -> u64) -> u64 {
     parts.iter().fold(0, |last, part| {
         let at = (last % 64) as usize;
-        form.hash(&bytes[at..at + part.len()])
+        hash(&bytes[at..at + part.len()])
     })
 }
 
-/// The rows of a form: four loops over each length and range.
-fn slices(name: &str, bytes: &[u8], form: impl Form) {
-    let mut numbers = Numbers(9);
+/// Prints the rows of a form: four loops over each length and range.
+fn slices(name: &str, bytes: &[u8], hash: impl Fn(&[u8]) -> u64 + Copy) {
+    let mut rng = RapidRng::new(9);
     let equal = LENGTHS.iter().map(|&length| (length.to_string(), length, length, 500));
     let mixed = RANGES.iter().map(|&(low, high)| (format!("{low}-{high}"), low, high, 20_000));
     for (lengths, low, high, count) in equal.chain(mixed) {
         let mut part = |_| {
-            let (start, length) = (numbers.between(0, 4095), numbers.between(low, high));
+            let (start, length) = (between(&mut rng, 0, 4095), between(&mut rng, low, high));
             start..start + length
         };
         let parts: Vec<Range<usize>> = black_box((0..count).map(&mut part).collect());
         let texts: Vec<&[u8]> = black_box(parts.iter().map(|part| &bytes[part.clone()]).collect());
         let mut out = vec![0; count];
-        row(name, &format!("{lengths} sum"), count, || summed(&texts, form));
-        row(name, &format!("{lengths} store"), count, || stored(&texts, &mut out, form));
-        row(name, &format!("{lengths} join"), count, || joined(bytes, &parts, form));
-        row(name, &format!("{lengths} chain"), count, || chained(bytes, &parts, form));
+        row(name, &format!("{lengths} sum"), count, || summed(&texts, hash));
+        row(name, &format!("{lengths} store"), count, || stored(&texts, &mut out, hash));
+        row(name, &format!("{lengths} join"), count, || joined(bytes, &parts, hash));
+        row(name, &format!("{lengths} chain"), count, || chained(bytes, &parts, hash));
     }
 }
 
+/// Prints the rows of the forms, whose hash is as programs call it: inlined into the loop, if the crate lets the
+/// compiler inline it.
 fn all_slices() {
-    let mut numbers = Numbers(7);
-    let bytes: Vec<u8> = (0..8192).map(|_| numbers.next() as u8).collect();
+    let bytes = random_bytes(&mut RapidRng::new(7), 8192);
     let (three, seven) = black_box((v1::RapidSecrets::seed(7), v3::RapidSecrets::seed(7)));
-    slices("v1", &bytes, V1(&()));
-    slices("v1 seeded", &bytes, V1Seeded(&three));
-    slices("v2.2", &bytes, V22(&()));
-    slices("v3", &bytes, V3(&()));
-    slices("v3 seeded", &bytes, V3Seeded(&seven));
-    slices("micro", &bytes, Micro(&()));
-    slices("nano", &bytes, Nano(&()));
+    macro_rules! forms {
+        ($($name:literal => |$text:ident| $hash:expr,)*) => {
+            $(slices($name, &bytes, #[inline(always)] |$text| $hash);)*
+        };
+    }
+    forms! {
+        "v1" => |text| v1::rapidhash_v1(text),
+        "v1 seeded" => |text| v1::rapidhash_v1_seeded(text, &three),
+        "v2.2" => |text| v2::rapidhash_v2_2(text),
+        "v3" => |text| v3::rapidhash_v3(text),
+        "v3 seeded" => |text| v3::rapidhash_v3_seeded(text, &seven),
+        "micro" => |text| v3::rapidhash_v3_micro_inline::<true, false>(text, &v3::DEFAULT_RAPID_SECRETS),
+        "nano" => |text| v3::rapidhash_v3_nano_inline::<true, false>(text, &v3::DEFAULT_RAPID_SECRETS),
+    }
 }
 
 /// A reader that returns at most `most` bytes per read.
@@ -158,13 +121,9 @@ fn readers() {
 /// The first state of each of many threads.
 fn first_states() {
     black_box(fast::RandomState::new());
-    let first = || {
-        let start = Instant::now();
-        black_box(fast::RandomState::new());
-        start.elapsed()
-    };
+    let first = || least(1, || _ = black_box(fast::RandomState::new()));
     let times = (0..3000).map(|_| std::thread::spawn(first).join().unwrap());
-    println!("thread\tfirst state\t{}", times.min().unwrap().as_nanos());
+    println!("thread\tfirst state\t{}", times.min().unwrap());
 }
 
 fn main() {

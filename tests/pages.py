@@ -169,7 +169,8 @@ def benches():
     times, rows = {"ours": 2, "rust": 4, "crate": 3}, ("v3 1", "v3 2")
     programs = {row: {name: [program(name + row, *(f"7 {least + more}" for more in (1, 0, 2))), program("slow", "7 9")]
                       for name, least in times.items()} for row in rows}
-    loops = {("lto", it): program(it, *(f"v3\t1 sum\t{least + more}" for more in (0, 1))) for it, least in times.items()}
+    loops = {("lto", it): [program(it, *(f"v3\t1 sum\t{least + more}" for more in (0, 1)))]
+             for it, least in times.items()}
     with contextlib.redirect_stdout(io.StringIO()) as printed:
         harness.measure("T", "ms", [*zip(rows)], lambda row: (row, harness.take(programs[row], [], 1)), 3)
         harness.print_rows("T", harness.alternate(loops, [], 2), "ours", ["crate"])
