@@ -12,6 +12,21 @@ narrow() {
     ! git ls-files -z '*.rt' | LC_ALL=C.UTF-8 xargs -0 grep -nHE '^.{101,}$' -- | grep -vE '^[^:]*:[0-9]+: *ghost use '
 }
 
+# Checks C, C++, Java and JavaScript: lines of at most 120 columns without tabs or spaces at the end.
+even() {
+  ! git ls-files -z '*.c' '*.h' '*.?pp' '*.java' '*.mjs' '*.?ts' '*.html' '*.css' |
+    LC_ALL=C.UTF-8 xargs -0 grep -nHE $'^.{121,}$|\t| $' --
+}
+
+# Checks the layout of the Rust programs outside the crate, which cargo fmt checks itself.
+formatted_rust() {
+  local file status=0
+  while read -r file; do
+    rustfmt --edition 2024 --config max_width=120,use_small_heuristics=Max <"$file" | diff "$file" - || status=1
+  done < <(git ls-files 'bench/*.rs' 'tests/*.rs')
+  return "$status"
+}
+
 # Checks that a crate's contracts name no private field: the checker warns of each and counts them. It runs in a copy,
 # because rt check locks a crate and its dependencies. So crates with the same library could not be checked in parallel.
 hides_its_fields() {
@@ -60,6 +75,8 @@ has_short_subjects() {
 }
 
 try columns narrow
+try even_lines even
+try_with rust_programs rustfmt formatted_rust
 try executable_scripts can_be_run
 try shell_scripts lints_shell
 try python_scripts lints_python

@@ -21,7 +21,7 @@ mod walk;
 
 use form::{Form, Options};
 use std::io::{BufReader, BufWriter, Read, Write};
-use std::process::{exit, Command, Stdio};
+use std::process::{Command, Stdio, exit};
 use std::sync::atomic::Ordering::Relaxed;
 
 const ROOM: usize = 32768;
@@ -106,10 +106,7 @@ fn defined(record: &Record, room: &[u8]) -> u64 {
         1..=3 => Form::V2(record[0] as u8 - 1),
         _ => Form::V3(15 - 2 * record[0] as usize),
     };
-    let options = Options {
-        avalanche: record[1] & AVALANCHE != 0,
-        protected: record[1] & PROTECTED != 0,
-    };
+    let options = Options { avalanche: record[1] & AVALANCHE != 0, protected: record[1] & PROTECTED != 0 };
     let (offset, length) = (record[11] as usize, record[12] as usize);
     let secrets = if record[0] == 0 { &record[4..7] } else { &record[4..11] };
     util::KEY.store(record[2], Relaxed);

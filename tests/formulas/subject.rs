@@ -1,7 +1,7 @@
 //! Computes the hashes that tests/formulas/main.rs requests, by the Rust crate over random reads and a random product.
 
 use rapidhash::{util, v1, v2, v3};
-use std::io::{stdin, stdout, BufWriter, Read, Write};
+use std::io::{BufWriter, Read, Write, stdin, stdout};
 use std::sync::atomic::Ordering::Relaxed;
 
 type Record = [u64; 20];

@@ -1,7 +1,7 @@
-/* Calls every function of the C library and compares the results with those of the Rust crate rapidhash 4.5.1. Two
- * arguments name a file that scripts/vectors.py wrote and the file of secrets in crates/test_replay/data, whose values it
- * also compares. Prints each value that differs. The last line counts the values, and the exit status is 1 if one
- * differs. */
+/* Calls every function of the C library and compares the results with those of the Rust crate rapidhash 4.5.1. Also
+ * compares the values of two files, the arguments: one that scripts/vectors.py wrote, and the file of secrets in
+ * crates/test_replay/data. Prints each value that differs. The last line counts the values, and the exit status is 1 if
+ * one differs. */
 #include <inttypes.h>
 #include <stdio.h>
 #include <stdlib.h>

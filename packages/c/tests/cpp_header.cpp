@@ -1,6 +1,6 @@
 /* Calls everything in rapidhash.hpp and compares the results with those of the Rust crate rapidhash 4.5.1. They are in
- * a file that scripts/vectors.py wrote, whose name is the argument, and in packages/c/tests/c_library.c. Prints each value that
- * differs. The last line counts the values, and the exit status is 1 if one differs. */
+ * a file that scripts/vectors.py wrote, whose name is the argument, and in packages/c/tests/c_library.c. Prints each
+ * value that differs. The last line counts the values, and the exit status is 1 if one differs. */
 #include <rapidhash.hpp>
 
 #include <cstdio>

@@ -1,7 +1,8 @@
 /* Compares every form of the C library with the Rust crate, with the default secrets, a seed word, and derived secrets.
  * Also compares streams in pieces that the input determines. The message ends before an inaccessible page, so a read
- * past its end is also an error. packages/c/tests/c.sh builds the program in two ways: with the header's code and sanitizers
- * for the inputs of libFuzzer, and with the proved archive and MESSAGES for this number of random messages. */
+ * past its end is also an error. packages/c/tests/c.sh builds the program in two ways: with the header's code and
+ * sanitizers for the inputs of libFuzzer, and with the proved archive and MESSAGES for this number of random
+ * messages. */
 #include <stdbool.h>
 #include <stdio.h>
 #include <stdlib.h>
@@ -118,8 +119,8 @@ int LLVMFuzzerTestOneInput(const uint8_t *data, size_t size)
         check(made || forms[i].with_seed(bytes, len, number) == hash, "a seed word", form, len);
         check(made || number != word || forms[i].plain(bytes, len) == hash, "a plain hash", form, len);
     }
-    check(in_pieces(streams[drawn].start, data, bytes, len, &secrets[1]) == streams[drawn].seeded(bytes, len, &secrets[1]),
-          "a stream", streams[drawn].lanes, len);
+    uint64_t of_pieces = in_pieces(streams[drawn].start, data, bytes, len, &secrets[1]);
+    check(of_pieces == streams[drawn].seeded(bytes, len, &secrets[1]), "a stream", streams[drawn].lanes, len);
     return 0;
 }
 
