@@ -18,7 +18,8 @@ folds_many_rows() {
 }
 
 command -v go >/dev/null || skip_all 'no go'
-cd "$top/packages/go" && python3 "$top/scripts/vectors.py" "$top/crates/test_replay/data" >"$RAPIDHASH_VECTORS" || exit 1
+cd "$top/packages/go" || exit 1
+prepare_by write_vectors
 try licences has_the_licences .
 try layout bash -c '[ -z "$(gofmt -l .)" ]'
 # The functions, methods, and types of the release.
