@@ -145,12 +145,8 @@ class Module:
 
 def parts_of(block):
     """Returns the trait of an impl block, which is empty if it has none, and its type."""
-    depth, end = 0, len("impl")
-    for end, letter in enumerate(block):
-        depth += (letter == "<") - (letter == ">" and block[end - 1] != "-")
-        if letter == " " and depth == 0:
-            break
-    trait, _, whole = block[end:].strip().rpartition(" for ")
+    parameters = r"<(?:[^<>]|->|<(?:[^<>]|->)*>)*>"
+    trait, _, whole = re.sub(f"^impl(?:{parameters})? ", "", block).rpartition(" for ")
     return trait, whole
 
 
