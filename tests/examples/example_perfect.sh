@@ -8,7 +8,6 @@ numbered() {
 }
 
 seq 1 2 39999 >odd
-printf 'pear\n\nplum' >fruit
 
 numbered odd >wanted
 prints every_key_is_found_by_its_number "$program" odd <odd
@@ -22,12 +21,7 @@ seq 1 1000 >few
 seq 1 2000 >asked
 (numbered few; seq 1001 2000 | sed 's/^/absent /') >wanted
 prints a_list_that_takes_many_seeds "$program" few <asked
-answers last_lines_without_a_newline '3 plum\n2 \nabsent fig\n' 'plum\n\nfig' "$program" fruit
-answers a_return_is_a_part_of_its_line 'absent pear\r\n1 pear\n' 'pear\r\npear' "$program" fruit
-printf '\377\n' >bytes
-answers lines_that_are_not_utf_8 '1 \377\nabsent \376\n' '\377\n\376\n' "$program" bytes
-answers an_empty_list_has_no_line 'absent fig\nabsent \n' 'fig\n\n' "$program" /dev/null
-answers no_line_is_asked '' '' "$program" fruit
+reads_lines 1 2 3 absent "$program"
 
 exec </dev/null
 printf 'one\ntwo\nthree\ntwo\nfour\n' >twice
