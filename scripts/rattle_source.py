@@ -5,8 +5,8 @@ import re
 import textwrap
 from dataclasses import dataclass, field
 
-ITEM = re.compile(r"^(pub(?:\(\w+\))? )?(?:const (?=fn)|unsafe )*(fn|struct|enum|trait|type|const|impl|mod|use)\b ?(\w*)",
-                  re.MULTILINE)
+ITEM = re.compile(r"^(pub(?:\(\w+\))? )?(?:const (?=fn)|unsafe )*"
+                  r"(fn|struct|enum|trait|type|const|impl|mod|use)\b ?(\w*)", re.MULTILINE)
 # A declaration, which ends before its clauses or its body.
 DECLARATION = re.compile(r".*?(?:[{;](?=\n)|(?=\n *(?:requires|ensures)|\n\{\n)|\Z)", re.DOTALL)
 CLAUSE = r"{}\*? ?\w* ?\{{ (.*?) \}};?(?= requires| ensures|$)"

@@ -39,8 +39,8 @@ def pieces(message):
 
 def vector_queries(literal, integer):
     """Yields a query for each vector that SQL has a call for, whose result must be true. A message is an argument as
-    bytes, and if it has 8 of them also as an integer. If the version has an aggregate, a further query hashes the message
-    in pieces. SQL has no calls with secrets of one's own, and no message above 4 GiB."""
+    bytes, and if it has 8 of them also as an integer. If the version has an aggregate, a further query hashes the
+    message in pieces. SQL has no calls with secrets of one's own, and no message above 4 GiB."""
     _, text = shell("python3 scripts/vectors.py crates/test_replay/data")
     lines = [line.split("\t") for line in text.splitlines() if not line.startswith(("#", "version\t"))]
     known = [line for line in lines if not line[1].startswith("own:") and not line[2].startswith("zeros:")]

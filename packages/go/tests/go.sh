@@ -6,11 +6,12 @@ export RAPIDHASH_VECTORS=$room/rapidhash_vectors.tsv RAPIDHASH_SECRETS=$top/crat
 
 # Checks that an example, which go test runs, has each line of the page.
 runs_the_page() {
-  blocks README.md go rapidhash | sed 's/^/\t/' >"$room/lines" && [ -s "$room/lines" ] && ! grep -vxFf example_test.go "$room/lines"
+  blocks README.md go rapidhash | sed 's/^/\t/' >"$room/lines" && [ -s "$room/lines" ] &&
+    ! grep -vxFf example_test.go "$room/lines"
 }
 
-# Checks by the products that a loop folds two rows per iteration and then one, or four with three lanes. With single rows
-# the same values would take longer.
+# Checks by the products that a loop folds two rows per iteration and then one, or four with three lanes. With single
+# rows the same values would take longer.
 folds_many_rows() {
   GOARCH=amd64 go test -c -o "$room/test" . && for lanes in 7 5 3; do
     go tool objdump -s "lanes..fold$lanes$" "$room/test" | grep -c MULQ
