@@ -43,8 +43,8 @@ endif
 name = yervound-1.0-x86_64-linux
 
 .PHONY: all tool sums library wasm npm page wheel jar sqlite postgresql deb check check-source quick test fmt bench \
-  install uninstall clean dist vendor rapidhash_c rapidhash_cli rapidsum example_bloom example_perfect \
-  example_shards example_dedupe
+  install uninstall clean dist vendor release products test-edits test-machines test-vendor rapidhash_c \
+  rapidhash_cli rapidsum example_bloom example_perfect example_shards example_dedupe
 .DELETE_ON_ERROR:
 MAKEFLAGS += --no-builtin-rules
 
@@ -125,13 +125,10 @@ bench/%.tsv: always
 # scripts/install reads the directories from variables, so that the shell interprets none of their characters.
 folders = PREFIX BINDIR LIBDIR INCLUDEDIR DATADIR DESTDIR
 $(foreach name,$(folders),$(eval install uninstall: export $(name) := $$($(name))))
-install: export ARCHIVE = $(archive)
-install: export SHARED = $(shared)
-install: export TOOLS = $(tools)
 
 install:
 	@$(MAKE) -q all || { echo 'make install: something is missing or out of date: run make first' >&2; exit 2; }
-	@scripts/install
+	@ARCHIVE='$(archive)' SHARED='$(shared)' TOOLS='$(tools)' scripts/install
 
 uninstall:
 	@scripts/install --remove
@@ -151,13 +148,11 @@ release:
 	@cd build/release && sha256sum -- * >SHA256SUMS
 
 # The next three are not part of the gate, because they take some additional minutes.
-.PHONY: release test-edits test-machines
 test-edits:
 	@tests/release/must_fail.py
 
 test-machines:
 	@prove --verbose --exec '' tests/release/machines.sh
 
-.PHONY: test-vendor
 test-vendor:
 	@tests/vendor.sh ci

@@ -5,7 +5,11 @@ import re
 import textwrap
 from dataclasses import dataclass, field
 
-ITEM = re.compile(r"(pub(?:\(\w+\))? )?(?:const (?=fn)|unsafe )*(fn|struct|enum|trait|type|const|impl|mod|use)\b ?(\w*)")
+ITEM = re.compile(r"^(pub(?:\(\w+\))? )?(?:const (?=fn)|unsafe )*"
+                  r"(fn|struct|enum|trait|type|const|impl|mod|use)\b ?(\w*)", re.MULTILINE)
+# A declaration, which ends before its clauses or its body.
+DECLARATION = re.compile(r".*?(?:[{;](?=\n)|(?=\n *(?:requires|ensures)|\n\{\n)|\Z)", re.DOTALL)
+CLAUSE = r"{}\*? ?\w* ?\{{ (.*?) \}};?(?= requires| ensures|$)"
 
 
 @dataclass
@@ -34,74 +38,54 @@ def on_one_line(signature):
     return re.sub(r",? ([>)\]])", r"\1", re.sub(r"([<(\[]) ", r"\1", text))
 
 
-def blocks(lines, indent):
-    """Yields the lines of each item with this indentation: its comments, declaration, and body."""
-    block, is_open = [], False
-    for line in filter(None, lines):
-        block.append(line)
-        is_outer = line[len(indent)] != " "
+def blocks(text):
+    """Yields each outer item of a text: its comments, declaration, and body."""
+    block, is_open = "", False
+    for line in filter(None, text.splitlines()):
+        block += f"{line}\n"
+        is_outer = line[0] != " "
         if is_outer:
             is_open = line.endswith(("{", "[", "("))
         if line.strip().startswith("//"):
             continue
         if is_outer and line.endswith(("}", ";")) or not is_open and line.endswith(";"):
             yield block
-            block = []
+            block = ""
 
 
-def items(lines, indent=""):
-    """Yields the items with this indentation. In a formatted file, the indentation shows the end of each item."""
-    for block in blocks(lines, indent):
-        texts = [line.strip() for line in block]
-        start = next((at for at, text in enumerate(texts) if ITEM.match(text)), None)
-        if start is None and any(text.startswith("pub ") for text in texts):
-            raise SystemExit(f"what kind of item is this? {texts}")
-        attributes = "".join(text for text in texts[:start] if text.startswith("#["))
-        if start is None or "cfg(test)" in attributes:
+def items(text):
+    """Yields the outer items of a text. In a formatted file, the indentation shows the end of each item."""
+    for block in blocks(text):
+        found = ITEM.search(block)
+        if not found and re.search("^pub ", block, re.M):
+            raise SystemExit(f"what kind of item is this? {block}")
+        head, rest = (block[: found.start()], block[found.start() :]) if found else (block, "")
+        attributes = "".join(re.findall(r"^#\[.*", head, re.M))
+        if not found or "cfg(test)" in attributes:
             continue
-        access, kind, name = ITEM.match(texts[start]).groups()
-        item = Item(kind, name, access == "pub ", [text[4:] for text in texts[:start] if text.startswith("///")])
+        access, kind, name = found.groups()
+        item = Item(kind, name, access == "pub ", re.findall(r"^/// ?(.*)", head, re.M))
         derived = re.search(r"derive\(([^)]*)\)", attributes)
         item.traits = derived[1].split(", ") if derived else []
-        end = len(block) if kind == "use" else end_of_declaration(texts, start)
-        item.signature = textwrap.dedent("\n".join(block[start:end])).removesuffix("{").removesuffix(";").strip()
+        declaration = rest if kind == "use" else DECLARATION.match(rest)[0]
+        item.signature = declaration.strip().removesuffix("{").removesuffix(";").strip()
+        body = rest[len(declaration) + 1 :].rpartition("}")[0]
         if kind == "const":
             item.signature = item.signature.split(" =")[0]
-        elif kind == "fn" and not texts[end - 1].endswith(("{", ";")):
-            clauses = " ".join(texts[end : texts.index("{", end) if "{" in texts[end:] else None])
-            clause = r"{}\*? ?\w* ?\{{ (.*?) \}};?(?= requires| ensures|$)"
-            item.needs, item.ensures = (re.findall(clause.format(kind), clauses) for kind in ("requires", "ensures"))
-        elif kind in ("struct", "enum") and texts[end - 1].endswith("{"):
-            item.signature += " {\n" + "".join(fields(block[end:-1], kind, indent)) + "}"
+        elif kind == "fn" and not declaration.endswith(("{", ";")):
+            clauses = " ".join(re.split(r"^\{$", rest[len(declaration) :], maxsplit=1, flags=re.M)[0].split())
+            item.needs, item.ensures = (re.findall(CLAUSE.format(kind), clauses) for kind in ("requires", "ensures"))
+        elif kind in ("struct", "enum") and declaration.endswith("{"):
+            item.signature += f" {{\n{shown(body) if kind == 'struct' else body}}}"
         elif kind in ("impl", "trait"):
-            item.members = [*items(block[end:-1], indent + "    ")]
+            item.members = [*items(textwrap.dedent(body))]
         yield item
 
 
-def end_of_declaration(texts, start):
-    """Returns the position after a declaration, before its clauses and body."""
-    for at, text in enumerate(texts[start:], start):
-        if text.startswith(("requires", "ensures")) or text == "{":
-            return at
-        if text.endswith(("{", ";")):
-            return at + 1
-    return len(texts)
-
-
-def fields(lines, kind, indent):
-    """Yields the lines of a struct's public fields or of an enum's variants, with their comments."""
-    comment, hidden = [], 0
-    for line in lines:
-        text = line[len(indent) :]
-        if text.lstrip().startswith(("///", "#[")):
-            comment.append(text)
-        elif kind == "enum" or text.startswith("    pub "):
-            yield "".join(f"{it}\n" for it in [*comment, text])
-            comment = []
-        else:
-            comment, hidden = [], hidden + 1
-    if hidden:
-        yield "    // private fields\n"
+def shown(fields):
+    """Returns the lines of a struct's public fields, with their comments, and a line for all private ones."""
+    public, hidden = re.subn(r"(?:^ *(?:///|#\[).*\n)*^(?! *///| *#\[|    pub ).+\n", "", fields, flags=re.M)
+    return public + "    // private fields\n" * bool(hidden)
 
 
 class Module:
@@ -110,9 +94,9 @@ class Module:
     def __init__(self, file, name, parent=None):
         self.name, self.parent = name, parent
         self.top = parent.top if parent else self
-        lines = file.read_text().splitlines()
-        self.doc = [line[4:] for line in lines if line.startswith("//!")]
-        found = [*items(lines)]
+        text = file.read_text()
+        self.doc = re.findall(r"^//! ?(.*)", text, re.M)
+        found = [*items(text)]
         self.items = [item for item in found if item.kind not in ("impl", "mod", "use")]
         self.uses = [item for item in found if item.kind == "use" and item.is_public]
         self.blocks = [item for item in found if item.kind == "impl"]
@@ -161,12 +145,8 @@ class Module:
 
 def parts_of(block):
     """Returns the trait of an impl block, which is empty if it has none, and its type."""
-    depth, end = 0, len("impl")
-    for end, letter in enumerate(block):
-        depth += (letter == "<") - (letter == ">" and block[end - 1] != "-")
-        if letter == " " and depth == 0:
-            break
-    trait, _, whole = block[end:].strip().rpartition(" for ")
+    parameters = r"<(?:[^<>]|->|<(?:[^<>]|->)*>)*>"
+    trait, _, whole = re.sub(f"^impl(?:{parameters})? ", "", block).rpartition(" for ")
     return trait, whole
 
 

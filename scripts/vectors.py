@@ -31,10 +31,6 @@ LONG = {"v1": 5097892995809634994, "v2_0": 9099919017397257265, "v2_1": 90999190
         "v3_nano": 7032908810873718698, "v3_protected": 5160834351057704480}
 
 
-def square(length):
-    return bytes((i * i + 7 * i + length) % 251 for i in range(length))
-
-
 def words(state, length):
     """Returns the little-endian bytes of the generator's words, starting at a state."""
     out = bytearray()
@@ -46,9 +42,9 @@ def words(state, length):
 
 
 def message(rule, length):
-    if rule == "square":
-        return square(length)
     name, _, number = rule.partition(":")
+    if name == "square":
+        return bytes((i * i + 7 * i + length) % 251 for i in range(length))
     if name != "rng":
         raise ValueError(f"no message rule {rule}")
     return words(int(number), length)

@@ -8,8 +8,6 @@ from cases import TOP, compare, finish, tell
 
 PAGE = (TOP / "docs" / "ALGORITHM.md").read_text()
 LANES = {"V3": 7, "micro": 5, "nano": 3}
-WIDTHS = {"u8": 8, "i8": 8, "u16": 16, "i16": 16, "u32": 32, "i32": 32, "u64": 64, "i64": 64, "usize": 64, "isize": 64,
-          "u128": 128, "i128": 128}
 AA = 0xAAAAAAAAAAAAAAAA
 S = [int(number, 16) for _, number in sorted(re.findall(r"\b(S\d) \| (0x\w{16})", PAGE))]
 
@@ -154,13 +152,10 @@ def message(rule, n):
     return b"".join(word.to_bytes(8, "little") for word in drawn(int(rest), n // 8 + 1))[:n]
 
 
-def options_of(case):
-    return [case[option] == "1" for option in ("avalanche", "protected")]
-
-
 def hashed_items(case, items):
     """Computes the in-memory hasher's value of a list of items, as in docs/ALGORITHM.md."""
-    (avalanche, protected), with_sponge = options_of(case), case.get("sponge") == "1"
+    avalanche, protected = (case[option] == "1" for option in ("avalanche", "protected"))
+    with_sponge = case.get("sponge") == "1"
     rule, _, number = case["secrets"].partition(":")
     seed, *s = secrets_of(rule, number, False)
     block, end = 0, 0
@@ -169,7 +164,8 @@ def hashed_items(case, items):
         if kind == "bytes":
             seed = hash_of("core", bytes.fromhex(value.replace("-", "")), seed, s, avalanche, protected)
             continue
-        width, number = WIDTHS[kind], int(value) % 2 ** WIDTHS[kind]
+        width = 64 if kind.endswith("size") else int(kind[1:])
+        number = int(value) % 2**width
         if width == 128:
             seed = mix(number % 2**64 ^ seed, number >> 64 ^ s[0], protected)
         elif not with_sponge:

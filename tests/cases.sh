@@ -90,12 +90,21 @@ prints_the_known_hash() {
   [ "$(echo something | "$1/bin/rapidhash" --v1)" = 15965596575264898037 ]
 }
 
-# Builds a C program of every call with the flags from pkg-config and runs it with the shared library. In the flags, a
-# backslash escapes a space for the shell: LIBRARY-DIRECTORY
+# Copies the files of the repository, as git lists them: DIRECTORY
+copy_sources() {
+  mkdir "$1" && (cd "$top" && git ls-files -z | xargs -0 cp --parents -t "$1")
+}
+
+# Writes the vectors of the C library's calls to `$room/rapidhash_vectors.tsv`.
+write_vectors() {
+  python3 "$top/scripts/vectors.py" "$top/crates/test_replay/data" >"$room/rapidhash_vectors.tsv"
+}
+
+# Builds a C program of every call with the flags from pkg-config and runs it with the shared library: LIBRARY-DIRECTORY
 builds_by_pkg_config() {
   local flags
   flags=$(PKG_CONFIG_LIBDIR=$1/pkgconfig pkg-config --cflags --libs rapidhash_c) &&
-    eval "cc -O2 -Wall -Werror '$top/packages/c/tests/c_library.c' $flags -o '$room/c_library'" &&
+    cc -O2 -Wall -Werror "$top/packages/c/tests/c_library.c" $flags -o "$room/c_library" &&
     LD_LIBRARY_PATH=$1 "$room/c_library" &&
     readelf -d "$room/c_library" | grep -q 'NEEDED.*librapidhash_c\.so\.1'
 }
@@ -103,8 +112,8 @@ builds_by_pkg_config() {
 # Checks that C and C++ programs find an installed library with CMake and use it as shared library, archive, and header:
 # PREFIX
 builds_by_cmake() {
-  python3 "$top/scripts/vectors.py" "$top/crates/test_replay/data" >"$room/vectors" &&
-    cmake -S "$top/packages/c/tests/cmake" -B "$room/cmake" -D CMAKE_PREFIX_PATH="$1" -D VECTORS="$room/vectors" &&
+  write_vectors && cmake -S "$top/packages/c/tests/cmake" -B "$room/cmake" -D CMAKE_PREFIX_PATH="$1" \
+    -D VECTORS="$room/rapidhash_vectors.tsv" &&
     grep "^rapidhash_c_DIR:PATH=$1/" "$room/cmake/CMakeCache.txt" &&
     cmake --build "$room/cmake" && (cd "$room/cmake" && ctest | tee /dev/stderr | grep '100%.* out of 6$')
 }
@@ -120,8 +129,8 @@ blocks() {
 # docs/BINDINGS.md must have the same commands, and none may call the toolchain: PAGE
 works_as_its_page_says() {
   mkdir "$room/without" && printf '#!/bin/sh\necho rt was called >&2; exit 1\n' >"$room/without/rt" &&
-    chmod +x "$room/without/rt" && blocks "$1" sh YERVOUND >"$room/commands" && [ "$(wc -l <"$room/commands")" -le 3 ] &&
-    [[ $(<"$top/docs/BINDINGS.md") == *"$(<"$room/commands")"* ]] &&
+    chmod +x "$room/without/rt" && blocks "$1" sh YERVOUND >"$room/commands" &&
+    [ "$(wc -l <"$room/commands")" -le 3 ] && [[ $(<"$top/docs/BINDINGS.md") == *"$(<"$room/commands")"* ]] &&
     mkdir "$room/first" && cd "$room/first" && PATH=$room/without:$PATH YERVOUND=$top bash -e ../commands >../printed &&
     [ "$(tail -n 1 ../printed)" = 3327445792987248966 ]
 }

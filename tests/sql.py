@@ -20,7 +20,8 @@ def unpack(folder, binding):
     """Lays out the header in a directory with the source of a binding, as in the archive. Returns the command that the
     archive's page has for it."""
     shell(f"mkdir -p '{folder}' && cp -r --parents packages/c/include packages/{binding} '{folder}'")
-    return re.search(rf"^\| `packages/{binding}` .*`((?:cc|make) .*)`", (TOP / "packages/archive/README.md").read_text(), re.M)[1]
+    page = (TOP / "packages/archive/README.md").read_text()
+    return re.search(rf"^\| `packages/{binding}` .*`((?:cc|make) .*)`", page, re.M)[1]
 
 
 def signed(number):
@@ -28,20 +29,40 @@ def signed(number):
     return number - (number >> 63 << 64)
 
 
-def every_vector():
-    """Returns each vector that SQL has a call for: the name of the call, its further arguments, the message, and the
-    hash. SQL has no calls with secrets of one's own, and no message above 4 GiB."""
-    found, lines = [], shell("python3 scripts/vectors.py crates/test_replay/data")[1].splitlines()
-    for version, rule, digits, number in (line.split("\t") for line in lines if not line.startswith("#")):
-        kind, _, word = rule.partition(":")
-        if version != "version" and kind != "own" and not digits.startswith("zeros:"):
-            words = (signed(int(word)),) if word else ()
-            name = f"rapidhash_{version}" + "_seeded" * (kind == "make")
-            found.append((name, words, bytes.fromhex(digits.strip("-")), signed(int(number))))
+def pieces(message):
+    """Yields a message in pieces of 1, 2, 3 bytes, and so on."""
+    at, size = 0, 1
+    while at < len(message):
+        yield message[at:at + size]
+        at, size = at + size, size + 1
+
+
+def vector_queries(literal, integer):
+    """Yields a query for each vector that SQL has a call for, whose result must be true. A message is an argument as
+    bytes, and if it has 8 of them also as an integer. If the version has an aggregate, a further query hashes the
+    message in pieces. SQL has no calls with secrets of one's own, and no message above 4 GiB."""
+    _, text = shell("python3 scripts/vectors.py crates/test_replay/data")
+    lines = [line.split("\t") for line in text.splitlines() if not line.startswith(("#", "version\t"))]
+    known = [line for line in lines if not line[1].startswith("own:") and not line[2].startswith("zeros:")]
     names = re.findall(r"X\((\w+),", re.search(r"define RAPIDHASH_C_VERSIONS\(X\)((?:.*\\\n)*.*)", HEADER)[1])
-    compare("versions_with_vectors", {name.removesuffix("_seeded") for name, *_ in found}, {f"rapidhash_{name}" for name in names})
-    compare("vectors_without_a_call", sum("\town:" in line or "\tzeros:" in line for line in lines), 528 + 8)
-    return found
+    compare("versions_with_vectors", {version for version, *_ in known}, set(names))
+    compare("vectors_without_a_call", len(lines) - len(known), 528 + 8)
+    count = 0
+    for version, rule, digits, number in known:
+        name = f"rapidhash_{version}" + "_seeded" * rule.startswith("make:")
+        seed = "".join(f", {signed(int(word))}" for word in rule.split(":")[1:])
+        message, wanted = bytes.fromhex(digits.strip("-")), signed(int(number))
+        calls = [f"{name}({literal(message)}{seed}) AS hash"]
+        if len(message) == 8:
+            calls.append(f"{name}({integer(int.from_bytes(message, 'little', signed=True))}{seed}) AS hash")
+        if name[10:] in STREAMS and message:
+            rows = ", ".join(f"({literal(piece)})" for piece in pieces(message))
+            calls.append(f"{name}_agg(column1{seed}) AS hash FROM (VALUES {rows}) AS pieces")
+        for call in calls:
+            count += 1
+            yield (f"SELECT (hash, rapidhash_hex(hash)) = ({wanted}, '{wanted % 2**64:016x}') "
+                   f"FROM (SELECT {call}) AS found;")
+    compare("count_of_vectors", count, 3032 + 16 + 717)
 
 
 def lines_with_results(page):

@@ -9,12 +9,6 @@ exec </dev/null
 library=$room/library
 vendor=$library/scripts/vendor
 
-# Clones the repository, with a substitute for a large directory of proofs.
-clone() {
-  git clone -q -s "$top" "$library" && cp "$top/scripts/vendor" "$vendor" &&
-    mkdir "$library/crates/rapidhash/out" && echo proved >"$library/crates/rapidhash/out/proved"
-}
-
 # Checks that both crates are complete and that nothing else is left: DIRECTORY
 is_copy() {
   local crate
@@ -34,13 +28,10 @@ refused() {
   [ $? -eq 1 ] && cat "$room/said" && [ "$(tail -n 1 "$room/said")" = "vendor: $message" ]
 }
 
+# Checks that the copy is complete, and that the lines for crates.txt are those of the crates.
 makes_a_copy() {
-  mkdir "$room/a folder" && make -s -C "$library" vendor INTO="$room/a folder" && is_copy "$room/a folder"
-}
-
-prints_the_lines() {
-  "$vendor" "$room/a folder" >"$room/said" &&
-    diff <(grep -E '^\w+:' "$room/said") - <<'LINES'
+  mkdir "$room/a folder" && make -s -C "$library" vendor INTO="$room/a folder" >"$room/said" &&
+    is_copy "$room/a folder" && diff <(grep -E '^\w+:' "$room/said") - <<'LINES'
 rapidhash_portable:
 rapidhash: rapidhash_portable rand_core
 YOUR_CRATE: rapidhash
@@ -65,11 +56,6 @@ replaces_a_copy() {
   "$vendor" "$room/a folder" && is_copy "$room/a folder"
 }
 
-refuses_no_folder() {
-  refused 'missing the top directory of the repository: make vendor INTO=FOLDER' "$vendor" '' &&
-    refused "$room/none is not a directory" "$vendor" "$room/none"
-}
-
 refuses_a_crate_of_another() {
   mkdir -p "$room/another/crates/rapidhash" && echo mine >"$room/another/crates/rapidhash/mine"
   refused "$room/another/crates/rapidhash exists and is not a copy made by make vendor" "$vendor" "$room/another" &&
@@ -79,7 +65,7 @@ refuses_a_crate_of_another() {
 # No file may have more than 4 KiB, so the copy fails halfway, as it does on a full disk. Then the previous copy must be
 # complete, and nothing else may be left.
 keeps_what_was_there() {
-  refused "cannot copy rapidhash_portable; $room/a folder/crates is unchanged" \
+  refused "cannot copy the crates; $room/a folder/crates is unchanged" \
     prlimit --fsize=4096 "$vendor" "$room/a folder" && is_copy "$room/a folder"
 }
 
@@ -91,13 +77,16 @@ passes_the_gate() {
     rt ci && [ -z "$(git status --porcelain)" ]
 }
 
-clone || exit 1
+# A clone of the repository, with a substitute for a large directory of proofs.
+prepare_by git clone -q -s "$top" "$library"
+cp "$top/scripts/vendor" "$vendor"
+install -D <(echo proved) "$library/crates/rapidhash/out/proved"
 try copy makes_a_copy
-try lines prints_the_lines
 try commit vendored ''
 try changes says_that_it_has_changes
 try again replaces_a_copy
-try no_folder refuses_no_folder
+try no_folder refused 'missing the top directory of the repository: make vendor INTO=FOLDER' "$vendor" ''
+try missing_folder refused "$room/none is not a directory" "$vendor" "$room/none"
 try another_crate refuses_a_crate_of_another
 # Nobody, not even root, can create a directory in /proc.
 try not_writable refused 'cannot write to /proc' "$vendor" /proc

@@ -13,7 +13,6 @@ mostly_absent() {
 
 seq 1 2 19999 >odd
 seq 2 2 20000 >even
-printf 'pear\n\nplum' >fruit
 
 sed 's/^/maybe /' odd >wanted
 prints every_key_is_found "$program" odd <odd
@@ -25,12 +24,7 @@ prints no_other_key_is_found "$program" --one-in 4294967295 odd <even
 mostly_absent at_most_one_in_100_other_keys_is_found "$program" odd
 split -n l/20 odd part.
 mostly_absent at_most_one_in_100_with_20_lists "$program" part.*
-answers last_lines_without_a_newline 'maybe plum\nmaybe \nno fig\n' 'plum\n\nfig' "$program" --one-in 1000000 fruit
-printf '\377\n' >bytes
-answers lines_that_are_not_utf_8 'maybe \377\nno \376\n' '\377\n\376\n' "$program" --one-in 1000000 bytes
-answers an_empty_list_has_no_line 'no fig\nno \n' 'fig\n\n' "$program" /dev/null
-answers no_line_is_asked '' '' "$program" fruit
-answers a_return_is_a_part_of_its_line 'maybe \nno pear\r\n' '\npear\r\n' "$program" --one-in 4294967295 fruit
+reads_lines maybe maybe maybe no "$program" --one-in 4294967295
 
 exec </dev/null
 fault no_list_is_named 2 'missing LIST argument' "$program"

@@ -8,16 +8,9 @@ numbered() {
 }
 
 seq 1 2 39999 >odd
-seq 2 2 40000 >even
-printf 'pear\n\nplum' >fruit
 
 numbered odd >wanted
 prints every_key_is_found_by_its_number "$program" odd <odd
-sort odd >sorted
-awk 'NR == FNR { number[$0] = NR; next } { print number[$0] " " $0 }' odd sorted >wanted
-prints keys_in_another_order "$program" odd <sorted
-sed 's/^/absent /' even >wanted
-prints no_other_key_is_found "$program" odd <even
 for count in 1 2 3 4 5 7 11 100; do
   head -n "$count" odd >few
   (numbered few; tail -n +"$((count + 1))" odd | sed 's/^/absent /') >wanted
@@ -28,12 +21,7 @@ seq 1 1000 >few
 seq 1 2000 >asked
 (numbered few; seq 1001 2000 | sed 's/^/absent /') >wanted
 prints a_list_that_takes_many_seeds "$program" few <asked
-answers last_lines_without_a_newline '3 plum\n2 \nabsent fig\n' 'plum\n\nfig' "$program" fruit
-answers a_return_is_a_part_of_its_line 'absent pear\r\n1 pear\n' 'pear\r\npear' "$program" fruit
-printf '\377\n' >bytes
-answers lines_that_are_not_utf_8 '1 \377\nabsent \376\n' '\377\n\376\n' "$program" bytes
-answers an_empty_list_has_no_line 'absent fig\nabsent \n' 'fig\n\n' "$program" /dev/null
-answers no_line_is_asked '' '' "$program" fruit
+reads_lines 1 2 3 absent "$program"
 
 exec </dev/null
 printf 'one\ntwo\nthree\ntwo\nfour\n' >twice
@@ -41,7 +29,7 @@ fault a_line_given_twice 1 'lines 2 and 4 of twice are the same' "$program" twic
 printf '\n\n' >empty
 fault an_empty_line_given_twice 1 'lines 1 and 2 of empty are the same' "$program" empty
 fault no_list_is_named 2 'expected exactly one LIST' "$program"
-fault two_lists_are_named 2 'expected exactly one LIST' "$program" odd even
+fault two_lists_are_named 2 'expected exactly one LIST' "$program" odd fruit
 fault list_with_the_name_of_an_option 1 'could not read --size: No such file or directory (os error 2)' \
   "$program" --size
 refuses_lists

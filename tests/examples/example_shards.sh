@@ -14,13 +14,7 @@ prints counts_are_those_of_the_lines "$program" --counts red green blue <lines
 
 try page env PATH="$room:$PATH" bash -e <(blocks "$top/docs/EXAMPLES.md" sh "$name")
 
-# If green is removed, the lines of the other nodes stay. If green is added, lines move only to it.
-"$program" red green blue --without green <lines >two
-! diff three two | grep '^<' | grep -vq '^< green'
-tell only_the_lines_of_the_removed_node_move $?
-diff two three | grep '^>' | grep -q '^> green' && ! diff two three | grep '^>' | grep -vq '^> green'
-tell lines_move_only_to_the_added_node $?
-cp two wanted
+"$program" red green blue --without green <lines >wanted
 prints a_removed_node_leaves_no_trace "$program" red blue <lines
 prints nodes_in_another_order "$program" blue red <lines
 

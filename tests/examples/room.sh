@@ -48,6 +48,19 @@ fails_to_write() {
   fault no_output 1 'could not write standard output: Bad file descriptor (os error 9)' to_no_output "$@"
 }
 
+# Tests how a program reads lines: without a newline, with a carriage return, that are not UTF-8, and none at all. The
+# first words are its answers for the three lines of the list fruit and for a line of no list: FIRST SECOND THIRD ABSENT
+# COMMAND..
+reads_lines() {
+  printf 'pear\n\nplum' >fruit
+  printf '\377\n' >bytes
+  answers last_lines_without_a_newline "$3 plum\n$2 \n$4 fig\n" 'plum\n\nfig' "${@:5}" fruit
+  answers a_return_is_a_part_of_its_line "$4 pear\r\n$1 pear\n" 'pear\r\npear' "${@:5}" fruit
+  answers lines_that_are_not_utf_8 "$1 \377\n$4 \376\n" '\377\n\376\n' "${@:5}" bytes
+  answers an_empty_list_has_no_line "$4 fig\n$4 \n" 'fig\n\n' "${@:5}" /dev/null
+  answers no_line_is_asked '' '' "${@:5}" fruit
+}
+
 # Tests a program that reads its keys from lists, such as fruit, with lists that it cannot read. The list large does not
 # fit into memory.
 refuses_lists() {

@@ -2,34 +2,23 @@
 # Builds the C library, static and shared, and tests it and the bindings built on it:
 # - the code of the header by each compiler, C and C++ standard, and option, with all vectors
 # - the names that the two files define, and every call from C and C++
-# - the manual, the hashes compared with those of the Rust crate, and the Go package, also for other machines
+# - the manual, and the hashes compared with those of the Rust crate
 # - the library that cc alone compiles from the header
 # Languages that are missing on this machine are skipped and not counted.
 . "$(dirname "$0")/../../../tests/cases.sh"
 needs_the_toolchain
-header=$top/packages/c/include/rapidhash_c.h
+include=$top/packages/c/include
+header=$include/rapidhash_c.h
+tests=$top/packages/c/tests
 archive=$top/crates/rapidhash_c/out/librapidhash_c.a
 shared=$top/build/librapidhash_c.so.1
 vectors=("$room/rapidhash_vectors.tsv" "$top/crates/test_replay/data/secrets.tsv")
 
-# Lays out the two files of a library in the temporary directory as if installed, with the vectors.
-lay_out() {
-  make -s -C "$top" install PREFIX="$room" && cp "$archive" "$room/lib" &&
-    cp "$shared" "$room/lib/librapidhash_c.so.1" &&
-    python3 "$top/scripts/vectors.py" "$top/crates/test_replay/data" >"$room/rapidhash_vectors.tsv"
-}
-
-# Checks that a compiler accepts the header without a warning, and that its code has the values of the vectors:
-# COMPILER STANDARD
-is_the_library() {
-  "$1" "-std=$2" -x "${2//[0-9]*/}" -O2 -pedantic -Wall -Wextra -Wconversion -Wshadow -Werror -I"$top/packages/c/include" \
-    "$top/packages/c/tests/c_library.c" -o "$room/c_library" && "$room/c_library" "${vectors[@]}"
-}
-
-# Checks the code of the header as another compiler, machine, or option chooses it: COMPILER ARGUMENT..
+# Compiles a program of every call, with an archive if `linked` names one, and compares its values with the vectors:
+# COMPILER ARGUMENT..
 has_the_values() {
-  "$@" -I"$top/packages/c/include" "$top/packages/c/tests/c_library.c" -o "$room/c_library" &&
-    "$room/c_library" "${vectors[@]}"
+  "$@" "-I$include" "$tests/c_library.c" ${linked:+-x none "$linked"} \
+    -o "$room/c_library" && "$room/c_library" "${vectors[@]}"
 }
 
 # Prints the names that the header declares but does not define if a program links the library.
@@ -70,24 +59,23 @@ keeps_unwind_tables() {
     readelf -lW "$room/probe.so" | grep GNU_EH_FRAME
 }
 
-# Builds and runs a program of every call of the library, linked with an archive: COMPILER ARGUMENT..
+# Does the same with the archive, whose code the program must contain: COMPILER ARGUMENT..
 calls_from_c() {
-  "$@" -DRAPIDHASH_LINK -O2 -Wall -Wextra -Werror -I"$top/packages/c/include" "$top/packages/c/tests/c_library.c" -x none "$archive" \
-    -o "$room/c_library" && "$room/c_library" "${vectors[@]}" &&
+  linked=$archive has_the_values "$@" -DRAPIDHASH_LINK -O2 -Wall -Wextra -Werror &&
     nm --defined-only "$room/c_library" | grep ' T rapidhash_v3$'
 }
 
 # Tests the whole C++ header with the vectors, in a program without exceptions: COMPILER STANDARD
 calls_from_cpp() {
-  "$1" "-std=$2" -O2 -Wall -Wextra -Wpedantic -Werror -fno-exceptions -I"$top/packages/c/include" "$top/packages/c/tests/cpp_header.cpp" \
+  "$1" "-std=$2" -O2 -Wall -Wextra -Wpedantic -Werror -fno-exceptions "-I$include" "$tests/cpp_header.cpp" \
     -o "$room/cpp_header" && "$room/cpp_header" "$room/rapidhash_vectors.tsv"
 }
 
-# Compiles a stream of one piece without a warning: its length is constant, so that a compiler follows each copy: COMPILER
+# Compiles a stream of one piece without a warning: its length is constant, so that a compiler follows each copy.
 compiles_a_constant_piece() {
   local level
   for level in 1 2 3 s; do
-    "$1" "-O$level" -Wall -Wextra -Werror -I"$top/packages/c/include" -x c -c -o /dev/null - <<'C' || return 1
+    gcc "-O$level" -Wall -Wextra -Werror "-I$include" -x c -c -o /dev/null - <<'C' || return 1
 #include "rapidhash_c.h"
 uint64_t hash(const struct rapidhash_secrets *own)
 {
@@ -121,18 +109,16 @@ manual_example_runs() {
       [ "$(LD_LIBRARY_PATH=$room/lib ./a.out | sort | uniq -c | xargs)" = '2 3327445792987248966' ])
 }
 
-# Builds the hashes of the Rust crate for a C program. The crate is the .rlib that RAPIDHASH_RLIB names, or else cargo
-# builds it from the directory rust.
+# Builds the hashes of the Rust crate for a C program.
 build_rust() {
-  local rlib=${RAPIDHASH_RLIB:-$room/cargo/release/librapidhash.rlib}
-  [ -f "$rlib" ] || cargo build --release --offline --quiet --manifest-path "$top/packages/rust/Cargo.toml" \
-    --target-dir "$room/cargo" || return 1
-  rustc -O --edition 2021 --crate-type staticlib "$top/packages/c/tests/fuzz.rs" --extern "rapidhash=$rlib" -o "$room/librust.a"
+  cargo build --release --offline --quiet --manifest-path "$top/packages/rust/Cargo.toml" --target-dir "$room/cargo" &&
+    rustc -O --edition 2021 --crate-type staticlib "$tests/fuzz.rs" \
+      --extern "rapidhash=$room/cargo/release/librapidhash.rlib" -o "$room/librust.a"
 }
 
 # Builds packages/c/tests/fuzz.c with the Rust crate: COMPILER ARGUMENT..
 beside_rust() {
-  "$@" -Wall -Wextra -Werror "-I$top/packages/c/include" -x c "$top/packages/c/tests/fuzz.c" -x none "$archive" "$room/librust.a" \
+  "$@" -Wall -Wextra -Werror "-I$include" -x c "$tests/fuzz.c" -x none "$archive" "$room/librust.a" \
     -lpthread -ldl -lm -o "$room/beside_rust"
 }
 
@@ -149,7 +135,8 @@ instructions() {
     "__attribute__((noinline)) uint64_t counted(const void *bytes, size_t length) { return $1; }" \
     "int main(int count, char **words) { rapidhash_seed_secrets($2, &secrets);" \
     'return counted(calloc(4096, 1), atoi(words[count - 1])) == 7; }' >"$room/counted.c" &&
-    cc -O2 -DRAPIDHASH_LINK "-I$top/packages/c/include" "$room"/{counted.c,librust.a} "$archive" -lpthread -ldl -lm -o "$room/counted" &&
+    cc -O2 -DRAPIDHASH_LINK "-I$include" "$room"/{counted.c,librust.a} "$archive" -lpthread -ldl -lm \
+      -o "$room/counted" &&
     for length in 16 100 4096; do
       valgrind --tool=callgrind --callgrind-out-file=/dev/null --toggle-collect=counted "$room/counted" "$length" 2>&1
     done | sed -n 's/.*Collected : //p' | xargs
@@ -162,27 +149,28 @@ counts_instructions() {
     call="rust_hash($form, bytes, length, &secrets)"
     diff <(instructions "rapidhash_$name(bytes, length)" 0) - <<<"$counts" &&
       [ "$(instructions "$call" 0)" != "$([ "$form" = 5 ] || [ "$form" = 3 ] || instructions "$call" 1)" ] || return 1
-  done <<<$'v2_2 22 31 110 2090\nv3 7 35 121 2074\nv3_micro 5 35 112 1960\nv3_nano 3 35 102 2011\nv3_protected 70 40 141 3008'
+  done <<'COUNTS'
+v2_2 22 31 110 2090
+v3 7 35 121 2074
+v3_micro 5 35 112 1960
+v3_nano 3 35 102 2011
+v3_protected 70 40 141 3008
+COUNTS
 }
 
-# Compares the header's hashes of a million inputs from libFuzzer, or of as many as fit into RAPIDHASH_FUZZ_SECONDS.
+# Compares the header's hashes of a million inputs from libFuzzer.
 fuzz() {
-  local runs=-runs=1000000
-  [ -z "${RAPIDHASH_FUZZ_SECONDS:-}" ] || runs=-max_total_time=$RAPIDHASH_FUZZ_SECONDS
   beside_rust clang -O1 -fsanitize=fuzzer,address,undefined -fno-sanitize-recover=all &&
-    (cd "$room" && ./beside_rust -max_len=1200 -len_control=0 "$runs")
+    (cd "$room" && ./beside_rust -max_len=1200 -len_control=0 -runs=1000000)
 }
 
-# Copies the repository and runs make there without the Rattle toolchain and without cargo: ARGUMENT..
+# Runs make in a copy of the repository, without the Rattle toolchain and without cargo: ARGUMENT..
 make_by_cc_alone() {
-  if [ ! -d "$room/bare" ]; then
-    mkdir "$room/bare" && (cd "$top" && git ls-files -z | xargs -0 cp --parents -t "$room/bare") || return 1
-  fi
   make -s -C "$room/bare" kit= tools= "$@"
 }
 
 builds_from_the_header() {
-  [ "$(make_by_cc_alone 2>&1)" = \
+  copy_sources "$room/bare" && [ "$(make_by_cc_alone 2>&1)" = \
     'make: rt is not on PATH: building with cc the library alone, which is not the proved build' ] &&
     make_by_cc_alone install PREFIX="$room/usr" && [ ! -e "$room/usr/bin" ]
 }
@@ -197,48 +185,39 @@ first_program_runs() {
     blocks "$top/docs/CPP.md" cpp assert >seeds.cpp && c++ -std=c++11 -Ipackages/c/include seeds.cpp -o seeds && ./seeds
 }
 
-# Tests the library that cc compiles from the header: it replaces the proved one on other machines.
-test_library_of_the_header() {
-  local archive=$room/usr/lib/librapidhash_c.a shared=$room/usr/lib/librapidhash_c.so.1
-  try header_build builds_from_the_header
-  try header_first_program first_program_runs
-  try header_names defines_the_header '' "$archive"
-  try header_names_of_the_shared_library defines_the_header @@RAPIDHASH_1 -D "$shared"
-  try header_soname bash -c 'readelf -dW "$1" | grep -F "SONAME" | grep -F "[librapidhash_c.so.1]"' - "$shared"
-  try header_archive calls_from_c cc -std=c99
-  try header_shared builds_by_pkg_config "$room/usr/lib"
-  try_with header_cmake cmake builds_by_cmake "$room/usr"
-  try header_uninstall make_by_cc_alone uninstall PREFIX="$room/usr"
-  try header_nothing_left bash -c '[ -z "$(find "$1" ! -type d)" ]' - "$room/usr"
+# Tests the names of the two files of a library, and the calls of the archive. A prefix of the cases names it: [PREFIX]
+test_both_files() {
+  try "${1-}names_of_the_archive" defines_the_header '' "$archive"
+  try "${1-}names_of_the_shared_library" defines_the_header @@RAPIDHASH_1 -D "$shared"
+  try "${1-}archive" calls_from_c cc -std=c99
 }
 
 prepare_by make -s -C "$top"
-prepare_by lay_out
+prepare_by make -s -C "$top" install PREFIX="$room"
+prepare_by write_vectors
 
 for compiler in gcc clang; do
   for standard in c99 c11 c17 c2x c++11 c++17 c++20; do
-    try_with "header_${standard}_$compiler" "$compiler" is_the_library "$compiler" "$standard"
+    try_with "header_${standard}_$compiler" "$compiler" has_the_values "$compiler" "-std=$standard" \
+      -x "${standard//[0-9]*/}" -O2 -pedantic -Wall -Wextra -Wconversion -Wshadow -Werror
   done
 done
-try_with constant_piece gcc compiles_a_constant_piece gcc
+try_with constant_piece gcc compiles_a_constant_piece
 try header_c89 bash -c 'cc -std=c89 -fsyntax-only "$1" 2>&1 | grep -m 1 error: | grep "needs C99 or C++11"' - "$header"
 try header_without_int128 has_the_values cc -O2 -DRAPIDHASH_NO_INT128
 try header_with_assertions has_the_values cc -O3 -include assert.h -DRAPIDHASH_ASSERT=assert
 try_with header_with_sanitizers clang has_the_values clang -O1 -fsanitize=address,undefined -fno-sanitize-recover=all
 try_with header_tcc tcc has_the_values tcc
-if cc -m32 -x c - -o "$room/probe" 2>/dev/null <<<'#include <stdio.h>
-int main(void) { return 0; }'; then
+if cc -m32 -include stdio.h -x c - -o "$room/probe" 2>/dev/null <<<'int main(void) { return 0; }'; then
   try header_32_bits has_the_values cc -m32 -O2
 else
   skip header_32_bits 'no libraries of 32 bits'
 fi
-try names_of_the_archive defines_the_header '' "$archive"
-try names_of_the_shared_library defines_the_header @@RAPIDHASH_1 -D "$shared"
+test_both_files
 try needed_library needs_the_c_library_alone
 try build_id bash -c 'readelf -n "$1" | grep -E "^ *Build ID: [0-9a-f]{40}\$"' - "$shared"
 try code_and_data keeps_code_and_data_apart
 try unwind_tables keeps_unwind_tables
-try c_archive calls_from_c cc -std=c99
 try cpp_archive calls_from_c c++ -x c++
 for standard in c++11 c++17 c++20; do
   try_with "cpp_header_$standard" g++ calls_from_cpp g++ "$standard"
@@ -250,6 +229,12 @@ try_with random_messages rustc random_messages
 try_with instructions rustc counts_instructions
 try_with fuzz clang fuzz
 
-test_library_of_the_header
+
+# The library that cc compiles from the header replaces the proved one on other machines.
+try header_build builds_from_the_header
+try header_first_program first_program_runs
+archive=$room/usr/lib/librapidhash_c.a shared=$room/usr/lib/librapidhash_c.so.1
+test_both_files header_
+try header_shared builds_by_pkg_config "$room/usr/lib"
 
 finish

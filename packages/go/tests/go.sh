@@ -6,11 +6,12 @@ export RAPIDHASH_VECTORS=$room/rapidhash_vectors.tsv RAPIDHASH_SECRETS=$top/crat
 
 # Checks that an example, which go test runs, has each line of the page.
 runs_the_page() {
-  blocks README.md go rapidhash | sed 's/^/\t/' >"$room/lines" && [ -s "$room/lines" ] && ! grep -vxFf example_test.go "$room/lines"
+  blocks README.md go rapidhash | sed 's/^/\t/' >"$room/lines" && [ -s "$room/lines" ] &&
+    ! grep -vxFf example_test.go "$room/lines"
 }
 
-# Checks by the products that a loop folds two rows per iteration and then one, or four with three lanes. With single rows
-# the same values would take longer.
+# Checks by the products that a loop folds two rows per iteration and then one, or four with three lanes. With single
+# rows the same values would take longer.
 folds_many_rows() {
   GOARCH=amd64 go test -c -o "$room/test" . && for lanes in 7 5 3; do
     go tool objdump -s "lanes..fold$lanes$" "$room/test" | grep -c MULQ
@@ -18,7 +19,8 @@ folds_many_rows() {
 }
 
 command -v go >/dev/null || skip_all 'no go'
-cd "$top/packages/go" && python3 "$top/scripts/vectors.py" "$top/crates/test_replay/data" >"$RAPIDHASH_VECTORS" || exit 1
+cd "$top/packages/go" || exit 1
+prepare_by write_vectors
 try licences has_the_licences .
 try layout bash -c '[ -z "$(gofmt -l .)" ]'
 # The functions, methods, and types of the release.

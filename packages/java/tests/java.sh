@@ -8,10 +8,6 @@ junit=/usr/share/java/junit4.jar:/usr/share/java/hamcrest.jar
 package=example.yervound.rapidhash
 export RAPIDHASH_VECTORS=$room/rapidhash_vectors.tsv RAPIDHASH_SECRETS=$top/crates/test_replay/data/secrets.tsv
 
-write_vectors() {
-  python3 "$top/scripts/vectors.py" "$top/crates/test_replay/data" >"$RAPIDHASH_VECTORS"
-}
-
 # Compiles all sources in directories, without a warning: OUTPUT CLASSPATH DIRECTORY..
 compile() {
   find "${@:3}" -name '*.java' >"$room/sources" && [ -s "$room/sources" ] &&

@@ -8,12 +8,13 @@ import re
 import shutil
 import subprocess
 import sys
+from itertools import zip_longest
 from pathlib import Path
 
 sys.path.append(str(Path(__file__).parents[3] / "tests"))
 from cases import ROOM, TOP, blocks, compare, finish, shell, skip_all, tell  # noqa: E402
 from sql import BINDINGS, DIGITS, HELLO, NOTHING, STREAMS, TEXT, TEXT_HASH  # noqa: E402
-from sql import every_vector, lines_with_results, unpack  # noqa: E402
+from sql import lines_with_results, unpack, vector_queries  # noqa: E402
 
 PAGE = "packages/postgresql/README.md"
 # The directory of its databases, which also contains its socket.
@@ -43,10 +44,6 @@ def ask(query):
     return done.stdout.splitlines()
 
 
-def literal(message):
-    return f"'\\x{message.hex()}'::bytea"
-
-
 def install():
     """Runs the commands of the page. The second installs into the copy."""
     words = {"PGHOST": str(DATA), "PGUSER": "test", "PGDATABASE": "postgres", "DESTDIR": str(ROOM)}
@@ -66,16 +63,9 @@ def unpacked_archive():
 
 
 def vectors():
-    """Tests each message as a bytea, and a message of 8 bytes also as a bigint."""
-    queries = []
-    for name, words, message, wanted in every_vector():
-        number = f"'{int.from_bytes(message[:8], 'little', signed=True)}'::bigint"
-        for value in (literal(message), number)[:2 if len(message) == 8 else 1]:
-            queries.append(f"SELECT (h, rapidhash_hex(h)) = ({wanted}, '{wanted % 2**64:016x}') "
-                           f"FROM (SELECT {name}({', '.join([value, *map(str, words)])}) AS h) AS found;")
+    queries = [*vector_queries(lambda message: f"'\\x{message.hex()}'::bytea", "'{}'::bigint".format)]
     found = ask("\n".join(queries))
-    tell("vectors", *[query for query, line in zip(queries, found) if line != "t"])
-    compare("count_of_vectors", len(found), 3032 + 16)
+    tell("vectors", *[query[:200] for query, line in zip_longest(queries, found, fillvalue="") if line != "t"])
 
 
 def types():
@@ -101,10 +91,9 @@ def aggregates():
     for version in STREAMS:
         for seed in ("", ", 1", ", 4294967296", ", -1"):
             agg = f"rapidhash_{version}_agg"
-            found = ask(f"SELECT part, {agg}(word{seed} ORDER BY place) = rapidhash_{version}({whole}{seed}), "
-                        f"{agg}(word::bytea{seed} ORDER BY place) = rapidhash_{version}({whole}{seed}) "
+            found = ask(f"SELECT part, {agg}(word{seed} ORDER BY place) = rapidhash_{version}({whole}{seed}) "
                         "FROM many GROUP BY part ORDER BY part")
-            compare(f"{agg}{seed}", found, [f"{part}|t|t" for part in range(3)])
+            compare(f"{agg}{seed}", found, [f"{part}|t" for part in range(3)])
             compare(f"{agg}{seed} of integers", ask(f"SELECT {agg}(n::bigint{seed} ORDER BY n DESC) = rapidhash_{version}("
                 f"'\\x01{'00' * 7}fe{'ff' * 7}'::bytea{seed}) FROM (VALUES (1), (-2)) v(n)"), ["t"])
     values = "(VALUES (1, 'x', NULL), (2, 'hel', 0), (3, NULL, 0), (4, 'lo', 0)) v(place, word, seed)"

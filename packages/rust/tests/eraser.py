@@ -1,7 +1,7 @@
 #!/usr/bin/env python3
-"""Tests scripts/eraser.py with each ghost form, text that it must keep, and text that it must refuse. Then compares each
-source of the Rust crate with its Rattle source, using separate patterns. Without the known ghost forms and the rows of
-scripts/rust_crate, both must have the same tokens."""
+"""Tests scripts/eraser.py with text that no source contains: braces in clauses, text to keep, and text to refuse. Then
+compares each source of the Rust crate with its Rattle source, using separate patterns. Without the known ghost forms
+and the rows of scripts/rust_crate, both must have the same tokens."""
 
 import re
 import runpy
@@ -16,25 +16,11 @@ from eraser import Refused, erase  # noqa: E402
 
 rust_crate = SimpleNamespace(**runpy.run_path(str(TOP / "scripts" / "rust_crate")))
 
+# The comparison of the sources has each form that they contain.
 ERASED = {
-    "a clause": ("fn f()\n    requires { 0 < x }\n{ 1 }", "fn f()\n{ 1 }"),
-    "a clause with a name": ("fn f() ensures good { IsGood result } {}", "fn f() {}"),
-    "a clause with a star": ("fn f() ensures* writes_back { sem 𝓛 (x) } {}", "fn f() {}"),
-    "clauses of a method without a body": ("fn f(&self) ensures { x };", "fn f(&self);"),
     "nested braces": ("fn f() ensures { record { seed = { x } } } { a }", "fn f() { a }"),
     "a brace in a comment of a clause": ("fn f() ensures { x // }\n } { a }", "fn f() { a }"),
     "a brace in a string of a clause": ('fn f() ensures { "}" } { a }', "fn f() { a }"),
-    "a ghost import": ("ghost use A.{◌≡◌, B};\nuse c;", "\nuse c;"),
-    "a ghost field": ("struct A { a: u8, ghost fits: { a ≤ 2 }, }", "struct A { a: u8, }"),
-    "a ghost member": ("impl A for B { ghost eq = { λ x y. x }; fn f() {} }", "impl A for B { fn f() {} }"),
-    "a tactic": ("#[inline]\n#[tactic(auto, unfolding(a::b))]\nfn f() {}", "#[inline]\nfn f() {}"),
-    "a tactic of a file": ("//! A.\n#![tactic(auto)]\nmod a;", "//! A.\nmod a;"),
-    "an implementation of Model": ("impl<A> Model for B<A> { ghost view = { x }; } fn f() {}", " fn f() {}"),
-    "the import of Model": ("use std::marker::Model;\nuse a;", "\nuse a;"),
-    "a module of tests": ("fn f() {}\n\n#[cfg(test)]\nmod tests;\n", "fn f() {}\n"),
-    "Drop as a bound": ("fn f<R: Read + Drop>(r: R) {}", "fn f<R: Read>(r: R) {}"),
-    "Drop as the only bound": ("impl<T: Drop> From<T> for P {}", "impl<T> From<T> for P {}"),
-    "Drop in a derive": ("#[derive(Debug, Drop)] struct A;", "#[derive(Debug)] struct A;"),
 }
 KEPT = {
     "a clause in a string": 'f("requires { x }");',
@@ -120,14 +106,12 @@ def difference(rattle, rust, left_out):
     return unified_diff(*texts, "Rattle", "Rust", lineterm="")
 
 
-def sources():
-    """Yields each source of the crate and the programs: the name of its file in packages/rust/, Rattle's text with the table's
-    rows, Rust's, and the omitted items."""
-    for crate, name, target in rust_crate.sources(rust_crate.SOURCES, rust_crate.TOOLS):
-        head, _, rust = (TOP / "packages" / "rust" / f"{target}.rs").read_text().partition("\n\n")
-        begins = [begin for file, some, _reason in rust_crate.LEFT_OUT if file == target for begin in some]
-        is_made = head.startswith("// Made by scripts/rust_crate from")
-        yield f"{crate}/{name}", rust_crate.read(crate, name, target), rust if is_made else head, begins
+def rattle_of(crate, name):
+    return (TOP / "crates" / crate / "src" / f"{name}.rt").read_text()
+
+
+def rust_of(target):
+    return (TOP / "packages" / "rust" / f"{target}.rs").read_text()
 
 
 def numbers(text):
@@ -144,15 +128,12 @@ def erased(text):
 
 def assertions():
     """Yields each test of the crate with the numbers of its assertions in Rattle and in Rust."""
-    for crate, (folder, names) in rust_crate.TESTS.items():
-        for name, _, other in (name.partition(":") for name in names.split()):
-            text = (TOP / "crates" / crate / "src" / f"{name}.rt").read_text()
-            target = f"{folder}/{other or name}"
-            for begin in (begin for file, begins, _reason in rust_crate.LEFT_OUT if file == target for begin in begins):
-                end = "[^;]*;" if begin.startswith("use") else r".*?\n}\n"
-                text = re.sub(re.escape(begin) + end, "", text, count=1, flags=re.DOTALL)
-            rust = (TOP / "packages" / "rust" / f"{target}.rs").read_text()
-            yield target, *(len(re.findall(r"\bassert(?:_eq|_ne)?!\(", it)) for it in (text, rust))
+    for crate, name, target in rust_crate.sources(rust_crate.TESTS):
+        text = rattle_of(crate, name)
+        for begin in rust_crate.LEFT_OUT.get(target, []):
+            end = "[^;]*;" if begin.startswith("use") else r".*?\n}\n"
+            text = re.sub(re.escape(begin) + end, "", text, count=1, flags=re.DOTALL)
+        yield target, *(len(re.findall(r"\bassert(?:_eq|_ne)?!\(", it)) for it in (text, rust_of(target)))
 
 
 for name, (old, new) in ERASED.items():
@@ -165,8 +146,11 @@ for name, wanted, found in assertions():
     compare(f"{name}.rs has the assertions of its source", found, wanted)
 made = {file for file in TOP.glob("packages/rust/**/*.rs") if file.read_text().startswith("// Made by scripts/")}
 tables = rust_crate.SOURCES, rust_crate.TESTS, rust_crate.TOOLS
-compare("the generated files", made, {TOP / f"packages/rust/{target}.rs" for _, _, target in rust_crate.sources(*tables)})
-for name, rattle, rust, left_out in sources():
-    strange = numbers(rust) - numbers((TOP / "crates" / f"{name.replace('/', '/src/', 1)}.rt").read_text())
-    tell(f"{name}.rs is {name}.rt without its contracts", *difference(rattle, rust, left_out), *sorted(strange))
+wanted = {TOP / f"packages/rust/{target}.rs" for _, _, target in rust_crate.sources(*tables)}
+compare("the generated files", made, wanted)
+for crate, name, target in rust_crate.sources(rust_crate.SOURCES, rust_crate.TOOLS):
+    rust = rust_of(target).partition("\n\n")[2]
+    found = difference(rust_crate.read(crate, name, target), rust, rust_crate.LEFT_OUT.get(target, []))
+    strange = numbers(rust) - numbers(rattle_of(crate, name))
+    tell(f"{crate}/{name}.rs is {crate}/{name}.rt without its contracts", *found, *sorted(strange))
 finish()

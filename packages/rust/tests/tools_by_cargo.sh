@@ -9,9 +9,8 @@ prepare_by make -s -C "$top" kit= build/cargo/release/rapid{hash,sum}
 try_with layout cargo-fmt cargo fmt --check
 try_with lints cargo-clippy env CARGO_TARGET_DIR="$top/build/cargo" cargo clippy --release -- -D warnings
 try no_unsafe bash -c '[ "$(grep -rlxF "#![forbid(unsafe_code)]" src | wc -l)" -eq 3 ]'
-export RAPIDHASH_TOOL=$tools/rapidhash BUILT=$tools/rapidsum
-for script in end_to_end end_to_end_errors rapidsum; do
-  "$top/packages/tools/tests/$script.sh" >"$room/lines" || failed=$((failed + 1))
+for script in rapidhash_cli rapidsum; do
+  BUILT=$tools/${script%_cli} "$top/packages/tools/tests/$script.sh" >"$room/lines" || failed=$((failed + 1))
   grep -v '^1\.\.' "$room/lines"
   cases=$((cases + $(sed -n 's/^1\.\.//p' "$room/lines")))
 done

@@ -10,8 +10,8 @@ from pathlib import Path
 
 sys.path.append(str(Path(__file__).parents[3] / "tests"))
 from cases import ROOM, TOP, blocks, compare, finish, shell, skip_all, tell  # noqa: E402
-from sql import BINDINGS, DIGITS, HELLO, NOTHING, STREAMS, TEXT, TEXT_HASH  # noqa: E402
-from sql import every_vector, lines_with_results, signed, unpack  # noqa: E402
+from sql import BINDINGS, DIGITS, HELLO, NOTHING, TEXT, TEXT_HASH  # noqa: E402
+from sql import lines_with_results, signed, unpack, vector_queries  # noqa: E402
 
 PAGE = "packages/sqlite/README.md"
 REAL = "a REAL cannot be hashed: cast it to TEXT, BLOB or INTEGER"
@@ -57,35 +57,9 @@ def ask(database, query, *values):
     return database.execute(query, values).fetchall()
 
 
-def pieces(message):
-    """Yields a message in pieces of 1, 2, 3 bytes, and so on."""
-    at, size = 0, 1
-    while at < len(message):
-        yield (message[at:at + size],)
-        at, size = at + size, size + 1
-
-
 def vectors(database):
-    """Tests each message as a BLOB, 8 bytes also as an INTEGER, and in pieces if the version has an aggregate."""
-    wrong, counts = [], {"blob": 0, "integer": 0, "pieces": 0}
-
-    def check(kind, call, values, wanted, rest=""):
-        counts[kind] += 1
-        query, found = f"SELECT {call}, rapidhash_hex({call}){rest}", [(wanted, f"{wanted % 2**64:016x}")]
-        wrong.extend([f"{query} {values!r:.60}"] * (ask(database, query, *values) != found))
-
-    database.execute("CREATE TABLE pieces (piece)")
-    for name, words, message, wanted in every_vector():
-        call = f"{name}(?1{', ?2' * len(words)})"
-        check("blob", call, (message, *words), wanted)
-        if len(message) == 8:
-            check("integer", call, (int.from_bytes(message, "little", signed=True), *words), wanted)
-        if name[10:] in STREAMS and message:
-            database.execute("DELETE FROM pieces")
-            database.executemany("INSERT INTO pieces VALUES (?)", pieces(message))
-            check("pieces", f"{name}_agg(piece{', ?1' * len(words)})", words, wanted, " FROM pieces")
-    tell("vectors", *wrong)
-    compare("count_of_vectors", counts, {"blob": 3032, "integer": 16, "pieces": 717})
+    queries = vector_queries(lambda message: f"x'{message.hex()}'", str)
+    tell("vectors", *[query[:200] for query in queries if ask(database, query) != [(1,)]])
 
 
 def types(database, name):
@@ -168,7 +142,7 @@ aggregates(loaded)
 errors(loaded)
 schema(loaded)
 page(loaded)
-# The values of the Rust crate for 140 million bytes of 0, as in packages/tools/tests/end_to_end.sh and
+# The values of the Rust crate for 140 million bytes of 0, as in packages/tools/tests/rapidhash_cli.sh and
 # packages/javascript/tests/javascript.sh.
 query = "SELECT rapidhash_v1(zeroblob(140000000)), rapidhash_v2_2(CAST(zeroblob(140000000) AS TEXT))"
 compare("long_values", ask(loaded, query), [(signed(15042570400923500380), signed(1949155381881807616))])

@@ -1,16 +1,13 @@
 #!/usr/bin/env bash
 # Installs the programs and the C library into a temporary directory, uses each installed file, and removes the files
-# again. Further cases use directories with other kinds of names.
+# again. Further cases set each directory.
 . "$(dirname "$0")/../../../tests/cases.sh"
 needs_the_toolchain
 prefix=$room/usr
 cd "$top" || exit 1
 
 # PATH without rt: an installation, perhaps as root, does not need it.
-path=
-while IFS= read -r -d : folder; do
-  [ -x "$folder/rt" ] || path=$path${path:+:}$folder
-done <<<"$PATH:"
+path=/usr/bin:/bin
 
 builds_nothing_anew() {
   [ -z "$(make -s -C "$top" 2>&1)" ] && [ -z "$(PATH=$path make -s -j3 -C "$top" 2>&1)" ]
@@ -44,11 +41,6 @@ has_its_completions() {
     cat "bash-completion/completions/$1" "fish/vendor_completions.d/$1.fish" "zsh/site-functions/_$1")
 }
 
-# Checks that a manual page has no formatting faults, and lines of at most 80 bytes: PAGE
-is_a_clean_manual() {
-  [ -z "$(mandoc -Tlint "$prefix/share/man/man${1##*.}/$1" | tee /dev/stderr)" ]
-}
-
 # Checks that the manual's example compares the files a and b correctly, even if neither can be hashed.
 compares_by_the_manual() {
   local example
@@ -59,31 +51,19 @@ compares_by_the_manual() {
     echo other >b && ! compare && rm b && ! compare
 }
 
-is_empty() {
-  [ -z "$(find "$1" ! -type d)" ]
-}
-
 # Prints the names of the files below a directory, such as those that make install copied: DIRECTORY
 listed() {
   (cd "$1" && find . ! -type d | sort)
 }
 
-# Checks that a directory with spaces and other characters in its name gets the same files, and that they work.
-# Uninstall must remove them and nothing else.
-serves_a_folder_of_any_name() {
-  local place="$room/a folder & |more"
-  installs PREFIX="$place" && diff <(listed "$prefix") <(listed "$place") &&
-    prints_the_known_hash "$place" && builds_by_pkg_config "$place/lib" &&
-    echo mine >"$room/a" && echo mine >"$place/bin/mine" &&
-    make -s -C "$top" uninstall PREFIX="$place" && [ -e "$room/a" ] && [ "$(listed "$place")" = ./bin/mine ]
-}
-
-# Checks that a directory that the pkg-config file cannot name is refused in a single line, before a file is copied.
+# Checks that make refuses a directory in a single line, before it copies or removes a file: VARIABLE=DIRECTORY
 refuses() {
-  local said
-  ! said=$(installs DESTDIR="$room/refused" "$@" 2>&1) && [ ! -e "$room/refused" ] &&
-    [ "$(grep -vc '^make: ' <<<"$said")" -eq 1 ] && grep '^make install: ' <<<"$said" &&
-    ! make -s -C "$top" uninstall DESTDIR="$room/refused" "$@"
+  local target said
+  for target in install uninstall; do
+    ! said=$(PATH=$path make -s -C "$top" "$target" DESTDIR="$room/refused" "$1" 2>&1) && [ ! -e "$room/refused" ] &&
+      [ "$(grep -v '^make: ' <<<"$said")" = \
+        "make install: ${1%%=*} must be an absolute path of letters, digits, and /._+- alone: ${1#*=}" ] || return 1
+  done
 }
 
 # Builds and runs the programs of docs/C.md and docs/CPP.md with the commands on the pages and the library below $HOME.
@@ -112,12 +92,12 @@ by_cmake_as_the_page_says() (
 
 # Checks that the whole directory can be moved: no file names the place of its installation.
 serves_a_moved_folder() {
-  local place="$room/second place"
+  local place=$room/second
   mv "$room/home/.local" "$place" && ! grep -rlF "$room/home" "$place" && builds_by_pkg_config "$place/lib"
 }
 
 links_both_by_cmake() {
-  builds_by_cmake "$room/second place" &&
+  builds_by_cmake "$room/second" &&
     readelf -d "$room/cmake/c_rapidhash_c" | grep -F '[librapidhash_c.so.1]' &&
     ! readelf -d "$room/cmake/cpp_rapidhash_c_static" | grep -F librapidhash_c
 }
@@ -131,21 +111,21 @@ serves_a_packager() {
   [ "$(told_folder prefix)" = "$stage/usr" ] && [ "$(told_folder libdir)" = "$stage/usr/lib/here" ] &&
     [ "$(told_folder includedir)" = "$stage/usr/include" ] && [ -x "$stage/opt/bin/rapidsum" ] &&
     [ -e "$stage/opt/share/man/man1/rapidhash.1" ] &&
-    make -s -C "$top" uninstall "${folders[@]}" && is_empty "$stage"
+    make -s -C "$top" uninstall "${folders[@]}" && [ -z "$(listed "$stage")" ]
 }
 
 # Checks that headers outside PREFIX keep their full path.
 serves_headers_elsewhere() {
-  local stage=$room/elsewhere
-  installs DESTDIR="$stage" PREFIX=/usr INCLUDEDIR='/opt/the headers' &&
-    grep -x 'includedir=/opt/the\\ headers' "$stage/usr/lib/pkgconfig/rapidhash_c.pc" &&
-    grep -F '"/opt/the\ headers"' "$stage/usr/lib/cmake/rapidhash_c/rapidhash_c-config.cmake"
+  local lib=$room/elsewhere/usr/lib
+  installs DESTDIR="$room/elsewhere" PREFIX=/usr INCLUDEDIR=/opt/headers &&
+    grep -x 'includedir=/opt/headers' "$lib/pkgconfig/rapidhash_c.pc" &&
+    grep -F '"/opt/headers"' "$lib/cmake/rapidhash_c/rapidhash_c-config.cmake"
 }
 
 # Checks that nothing is copied if a single product is missing, and that a line names the command to run first.
 wants_a_build_first() {
   local missing product said
-  mkdir "$room/new" && git ls-files -z | xargs -0 cp --parents -t "$room/new" || return 1
+  copy_sources "$room/new" || return 1
   for missing in none "${products[@]}"; do
     for product in "${products[@]}"; do
       install -D /dev/null "$room/new/$product" || return 1
@@ -163,13 +143,13 @@ products=(crates/rapidhash_cli/out/rapidhash_cli crates/rapidsum/out/rapidsum
 # make check stops before it installs anything.
 serves_without_the_kit() {
   local place=$room/without sources=$room/sources
-  mkdir "$sources" && git ls-files -z | xargs -0 cp --parents -t "$sources" && export PATH=$path &&
+  copy_sources "$sources" && export PATH=$path &&
     ! make -s -C "$sources" check >"$room/check" 2>&1 && grep -q 'make check-source' "$room/check" &&
     [ "$(make -s -j3 -C "$sources" 2>&1)" = \
       'make: rt is not on PATH: building with cc and cargo, which is not the proved build' ] &&
     [ -z "$(make -s -C "$sources" 2>&1)" ] && make -s -C "$sources" install PREFIX="$place" &&
-    diff <(listed "$prefix") <(listed "$place") && prints_the_known_hash "$place" && builds_by_pkg_config "$place/lib" &&
-    prefix=$place prints_and_checks_a_sum && [ "$(echo something | "$sources/bin/rapidhash" --v1)" = 15965596575264898037 ]
+    diff <(listed "$prefix") <(listed "$place") && builds_by_pkg_config "$place/lib" &&
+    prefix=$place prints_and_checks_a_sum && prints_the_known_hash "$place" && prints_the_known_hash "$sources"
 }
 
 # Checks that a second installation replaces each file, so that a running program keeps the one that it has mapped.
@@ -178,21 +158,17 @@ replaces_files() {
     [ -z "$(find "$room/kept" -type f -print0 | xargs -0 grep -axL old)" ] && ! grep -raxl old "$prefix"
 }
 
-# Checks that the script itself refuses the characters that the pkg-config file cannot contain. make would expand some.
-refuses_characters() {
-  local character said
-  for character in '#' '$' '\' "'" '"' '`' $'\n' $'\t'; do
-    said=$(PREFIX="$room/a${character}b" BINDIR=/b LIBDIR=/l INCLUDEDIR=/i DATADIR=/d "$top/scripts/install" 2>&1) &&
-      return 1
-    grep '^make install: PREFIX has a character' <<<"$said" || return 1
-  done
-}
-
 # Checks that every user can run the programs and the shared library and read every other file.
 has_the_modes() {
   [ -z "$(find "$prefix" -type f ! -perm 644 ! -perm 755)" ] &&
     diff <(find "$prefix" -type f -perm 755 -printf '%f\n' | sort) \
       <(printf '%s\n' librapidhash_c.so.1 rapidhash rapidsum)
+}
+
+# Checks that a removal leaves a file of another alone.
+removes_its_files() {
+  echo mine >"$prefix/bin/mine" && make -s -C "$top" uninstall PREFIX="$prefix" &&
+    [ "$(listed "$prefix")" = ./bin/mine ]
 }
 
 try build make -s -C "$top"
@@ -208,24 +184,19 @@ try_with cmake cmake links_both_by_cmake
 try licences has_the_licences "$prefix/share/doc/rapidhash"
 try modes has_the_modes
 try files_in_use replaces_files
-try manual is_a_clean_manual rapidhash.1
-try manual_of_sums is_a_clean_manual rapidsum.1
-try manual_of_the_library is_a_clean_manual rapidhash_c.3
+try manuals mandoc -T lint "$prefix"/share/man/man{1/rapidhash.1,1/rapidsum.1,3/rapidhash_c.3}
 try example_of_the_manual compares_by_the_manual
 cd "$top" || exit 1
 try options_of_the_manual names_every_option rapidhash 8
 try options_of_the_manual_of_sums names_every_option rapidsum 14
-try completions has_its_completions rapidhash
-try completions_of_sums has_its_completions rapidsum
-try folder_of_any_name serves_a_folder_of_any_name
-try relative_folder refuses PREFIX=usr
-try relative_folder_of_libraries refuses PREFIX=/usr LIBDIR=lib
+for name in rapidhash rapidsum; do try "completions_of_$name" has_its_completions "$name"; done
+for folder in PREFIX=usr BINDIR= LIBDIR='/a b' INCLUDEDIR="/a'b" DATADIR=$'/a\nb'; do
+  try "refuses ${folder//$'\n'/ }" refuses "$folder"
+done
 try folders_of_a_packager serves_a_packager
 try headers_elsewhere serves_headers_elsewhere
 try nothing_built wants_a_build_first
-try characters_of_folders refuses_characters
-try_with without_the_kit cargo eval '(serves_without_the_kit)'
-try uninstall make -s -C "$top" uninstall PREFIX="$prefix"
-try nothing_left is_empty "$prefix"
+try_with without_the_kit /usr/bin/cargo eval '(serves_without_the_kit)'
+try uninstall removes_its_files
 
 finish

@@ -62,11 +62,6 @@ rm repo/crates/rapidhash_portable/specs/New.antt
 calls removed_file 7 $'second\ninput' 4 "$told"
 touch repo/crates.txt
 calls list_of_crates 7 $'second\ninput' 5 "$told"
-builds=5
-for crate in rapidhash_portable rapidhash_tool rapidhash_cli; do
-  mkdir -p "repo/crates/$crate/proofs"
-  calls "new_folder_of_$crate" 7 $'second\ninput' $((builds += 1)) "$told"
-done
 
 new_repository 'echo third >../rapidhash_portable/src/lib.rt'
 calls edit_during_a_build 7 $'first\ninput' 1 "$told"
