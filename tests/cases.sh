@@ -100,11 +100,12 @@ write_vectors() {
   python3 "$top/scripts/vectors.py" "$top/crates/test_replay/data" >"$room/rapidhash_vectors.tsv"
 }
 
-# Builds a C program of every call with the flags from pkg-config and runs it with the shared library: LIBRARY-DIRECTORY
+# Builds a C program of every call with the flags from pkg-config and runs it with the shared library. In the flags, a
+# backslash escapes a character for the shell: LIBRARY-DIRECTORY
 builds_by_pkg_config() {
   local flags
   flags=$(PKG_CONFIG_LIBDIR=$1/pkgconfig pkg-config --cflags --libs rapidhash_c) &&
-    cc -O2 -Wall -Werror "$top/packages/c/tests/c_library.c" $flags -o "$room/c_library" &&
+    eval "cc -O2 -Wall -Werror '$top/packages/c/tests/c_library.c' $flags -o '$room/c_library'" &&
     LD_LIBRARY_PATH=$1 "$room/c_library" &&
     readelf -d "$room/c_library" | grep -q 'NEEDED.*librapidhash_c\.so\.1'
 }

@@ -205,6 +205,7 @@ done
 try_with constant_piece gcc compiles_a_constant_piece
 try header_c89 bash -c 'cc -std=c89 -fsyntax-only "$1" 2>&1 | grep -m 1 error: | grep "needs C99 or C++11"' - "$header"
 try header_without_int128 has_the_values cc -O2 -DRAPIDHASH_NO_INT128
+try header_without_a_byte_order has_the_values cc -O2 -U__BYTE_ORDER__
 try header_with_assertions has_the_values cc -O3 -include assert.h -DRAPIDHASH_ASSERT=assert
 try_with header_with_sanitizers clang has_the_values clang -O1 -fsanitize=address,undefined -fno-sanitize-recover=all
 try_with header_tcc tcc has_the_values tcc
@@ -228,7 +229,6 @@ try example_of_the_manual manual_example_runs
 try_with random_messages rustc random_messages
 try_with instructions rustc counts_instructions
 try_with fuzz clang fuzz
-
 
 # The library that cc compiles from the header replaces the proved one on other machines.
 try header_build builds_from_the_header

@@ -88,6 +88,8 @@ if [ -d /usr/share/cargo/registry ] && [ "$(command -v rustc)" != /usr/bin/rustc
 else
   skip drop_in "no /usr/share/cargo/registry, or no rustc but Debian's"
 fi
+# The features of the compiler that build.rs finds: a hash in a constant, and a lock that allocates nothing.
+try features_of_the_compiler bash -c '[ "$(cargo rustc --lib -- --print cfg | grep -c "^rapidhash_")" -eq 2 ]'
 try no_dependency bash -c '[ "$(cargo tree | wc -l)" -eq 1 ]'
 try no_unsafe grep -x '#!\[forbid(unsafe_code)\]' src/lib.rs
 try package packages

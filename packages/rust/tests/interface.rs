@@ -6,8 +6,26 @@ use rapidhash::rng::{RapidRng, rapidrng_time};
 use rapidhash::v3::{DEFAULT_RAPID_SECRETS, rapidhash_v3};
 use rapidhash::v3::{RapidStream, RapidStreamHasherLanes, RapidStreamHasherV3};
 use rapidhash::{HashMapExt, HashSetExt, RapidHashMap, RapidHashSet};
-use rapidhash::{util, v2, v3};
+use rapidhash::{fast, inner, quality, util, v2, v3};
 use std::io::{Write, copy};
+
+/// Compiles only if each short name and its full one are a single type. The option COMPACT changes no value.
+#[test]
+fn options_of_the_short_names() {
+    macro_rules! same {
+        ($($short:ty = $full:ty;)*) => { $(let _: fn($short) -> $full = |it| it;)* };
+    }
+    same! {
+        fast::RapidHasher<'_> = inner::RapidHasher<'_, false, true, false, false>;
+        fast::RandomState = inner::RandomState<false, true, false, false>;
+        fast::SeedableState<'_> = inner::SeedableState<'_, false, true, false, false>;
+        fast::GlobalState = inner::GlobalState<false, true, false, false>;
+        quality::RapidHasher<'_> = inner::RapidHasher<'_, true, true, false, false>;
+        quality::RandomState = inner::RandomState<true, true, false, false>;
+        quality::SeedableState<'_> = inner::SeedableState<'_, true, true, false, false>;
+        quality::GlobalState = inner::GlobalState<true, true, false, false>;
+    }
+}
 
 #[test]
 fn streams_are_writers() {

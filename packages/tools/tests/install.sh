@@ -62,7 +62,7 @@ refuses() {
   for target in install uninstall; do
     ! said=$(PATH=$path make -s -C "$top" "$target" DESTDIR="$room/refused" "$1" 2>&1) && [ ! -e "$room/refused" ] &&
       [ "$(grep -v '^make: ' <<<"$said")" = \
-        "make install: ${1%%=*} must be an absolute path of letters, digits, and /._+- alone: ${1#*=}" ] || return 1
+        "make install: ${1%%=*} must be an absolute path without spaces and \"'\\\`\$#|&;: ${1#*=}" ] || return 1
   done
 }
 
@@ -92,12 +92,12 @@ by_cmake_as_the_page_says() (
 
 # Checks that the whole directory can be moved: no file names the place of its installation.
 serves_a_moved_folder() {
-  local place=$room/second
+  local place=$room/sécond
   mv "$room/home/.local" "$place" && ! grep -rlF "$room/home" "$place" && builds_by_pkg_config "$place/lib"
 }
 
 links_both_by_cmake() {
-  builds_by_cmake "$room/second" &&
+  builds_by_cmake "$room/sécond" &&
     readelf -d "$room/cmake/c_rapidhash_c" | grep -F '[librapidhash_c.so.1]' &&
     ! readelf -d "$room/cmake/cpp_rapidhash_c_static" | grep -F librapidhash_c
 }
