@@ -48,6 +48,14 @@ def paths():
                 yield f"{place}: no {path}"
 
 
+def variables():
+    """Compares the names in capitals, such as variables of the environment, with those in all other files."""
+    _, known = shell("git grep -ohE '\\bRAPIDHASH_[A-Z0-9_]+' -- ':!*.md'")
+    for _, place, line in prose(PAGES):
+        names_of_line = set(re.findall(r"\bRAPIDHASH_[A-Z0-9_]+", line))
+        yield from (f"{place}: no {name}" for name in names_of_line - set(known.split()))
+
+
 def limits():
     pages = [page for page in PAGES if page.parent != MADE]
     for page in pages:
@@ -184,7 +192,7 @@ def benches():
         yield f"the benches print {found}"
 
 
-for check in (links, paths, limits, names, vectors, statements, sizes, clauses, benches, pictures):
+for check in (links, paths, variables, limits, names, vectors, statements, sizes, clauses, benches, pictures):
     tell(check.__name__, *check())
 for made, maker in (("calls", "scripts/api"), ("version", "scripts/version"), ("figures", "bench/figures")):
     tell(made, *made_by(maker))
