@@ -196,10 +196,13 @@ prepare_by make -s -C "$top"
 prepare_by make -s -C "$top" install PREFIX="$room"
 prepare_by write_vectors
 
+# Messages above 4 GiB take some seconds. They depend on the compiler, but not on the standard, so one hashes them all.
 for compiler in gcc clang; do
+  all=1
   for standard in c99 c11 c17 c2x c++11 c++17 c++20; do
     try_with "header_${standard}_$compiler" "$compiler" has_the_values "$compiler" "-std=$standard" \
-      -x "${standard//[0-9]*/}" -O2 -pedantic -Wall -Wextra -Wconversion -Wshadow -Werror
+      -x "${standard//[0-9]*/}" -DIS_FAST=$all -O2 -pedantic -Wall -Wextra -Wconversion -Wshadow -Werror
+    all=0
   done
 done
 try_with constant_piece gcc compiles_a_constant_piece

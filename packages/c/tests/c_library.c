@@ -232,10 +232,12 @@ static void check_case(const char *name, const char *rule, const void *message, 
 }
 
 /* Without optimizations, most versions take a minute for a message above 4 GiB, and V3 alone hashes one. */
+#ifndef IS_FAST
 #ifdef __OPTIMIZE__
 #define IS_FAST 1
 #else
 #define IS_FAST 0
+#endif
 #endif
 
 /* Compares the cases of a file. Each message is in memory of its length, so that a tool sees each read past its end.
