@@ -83,6 +83,7 @@ done
 while read -r case file edit; do try "pages_refuse $case" pages_refuse "$case" "$file" "$edit"; done <<'EDITS'
 links README.md s|(docs/PROVED.md|(docs/PROVEN.md|
 paths CONTRIBUTING.md s|`tests/style.sh`|`tests/stile.sh`|
+variables docs/PERFORMANCE.md s/RAPIDHASH_CRATE/&S/
 limits docs/LAWS.md 3s|.*|& & &|
 names docs/PROVED.md s|`test_\(replay\)`|`best_\1`|g
 vectors crates/test_replay/data/README.md s|`v3.tsv`|`v5.tsv`|

@@ -12,19 +12,18 @@ narrow() {
     ! git ls-files -z '*.rt' | LC_ALL=C.UTF-8 xargs -0 grep -nHE '^.{101,}$' -- | grep -vE '^[^:]*:[0-9]+: *ghost use '
 }
 
-# Checks C, C++, Java and JavaScript: lines of at most 120 columns without tabs or spaces at the end.
+# Checks that C, C++, Java, JavaScript and the web page have lines of at most 120 columns, no tabs, and no space at the
+# end of a line.
 even() {
   ! git ls-files -z '*.c' '*.h' '*.?pp' '*.java' '*.mjs' '*.?ts' '*.html' '*.css' |
     LC_ALL=C.UTF-8 xargs -0 grep -nHE $'^.{121,}$|\t| $' --
 }
 
-# Checks the layout of the Rust programs outside the crate, which cargo fmt checks itself.
+# Checks the layout of the Rust programs that belong to no crate. In a crate, cargo fmt checks it.
 formatted_rust() {
-  local file status=0
-  while read -r file; do
-    rustfmt --edition 2024 --config max_width=120,use_small_heuristics=Max <"$file" | diff "$file" - || status=1
-  done < <(git ls-files 'bench/*.rs' 'tests/*.rs')
-  return "$status"
+  for file in $(git ls-files 'bench/*.rs' 'tests/*.rs'); do
+    rustfmt --edition 2024 --config max_width=120,use_small_heuristics=Max <"$file" | diff "$file" - || return 1
+  done
 }
 
 # Checks that a crate's contracts name no private field: the checker warns of each and counts them. It runs in a copy,

@@ -194,9 +194,9 @@ test_both_files() {
 
 prepare_by make -s -C "$top"
 prepare_by make -s -C "$top" install PREFIX="$room"
-prepare_by write_vectors
+prepare_by write_vectors "$room"
 
-# Messages above 4 GiB take some seconds. They depend on the compiler, but not on the standard, so one hashes them all.
+# Messages above 4 GiB take some seconds. The standard does not change their hashes, so the first one hashes them all.
 for compiler in gcc clang; do
   all=1
   for standard in c99 c11 c17 c2x c++11 c++17 c++20; do

@@ -20,7 +20,7 @@ folds_many_rows() {
 
 command -v go >/dev/null || skip_all 'no go'
 cd "$top/packages/go" || exit 1
-prepare_by write_vectors
+prepare_by write_vectors "$room"
 try licences has_the_licences .
 try layout bash -c '[ -z "$(gofmt -l .)" ]'
 # The functions, methods, and types of the release.

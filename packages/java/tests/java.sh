@@ -78,7 +78,7 @@ copies_whole_arrays() {
 
 [ -f /usr/share/java/junit4.jar ] && command -v javac >/dev/null || skip_all 'no javac or no junit4'
 prepare_by make -s -C "$top" jar
-prepare_by write_vectors
+prepare_by write_vectors "$room"
 prepare_by compile "$room/tests" "$jar:$junit" "$folder/src/test"
 
 try java_licences contains_the_licences

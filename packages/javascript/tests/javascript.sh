@@ -20,7 +20,7 @@ has_its_files() {
 # Lays out the tests beside the installed package, with the files that they read.
 lay_out() {
   cp "$top"/packages/javascript/tests/*.m* "$top/build/rapidhash.wasm" "$room/first" &&
-    python3 "$top/scripts/vectors.py" "$top/crates/test_replay/data" >"$room/first/rapidhash_vectors.tsv" &&
+    write_vectors "$room/first" &&
     seq 1 20000000 | head -c 100000000 >"$room/first/large"
 }
 

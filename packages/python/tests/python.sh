@@ -37,7 +37,7 @@ lay_out() {
   mkdir -p "$room/source" "$room/tests" && cd "$top" && cp LICENSE-* NOTICE "$room/source" &&
     git ls-files packages/python packages/c/include | xargs cp --parents -t "$room/source" &&
     (cd "$room/source" && find . | sort) >"$room/listed" && cp packages/python/tests/test_*.py "$room/tests" &&
-    python3 scripts/vectors.py crates/test_replay/data >"$room/tests/rapidhash_vectors.tsv"
+    write_vectors "$room/tests"
 }
 
 leaves_nothing() {

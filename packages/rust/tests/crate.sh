@@ -53,6 +53,13 @@ has_the_metadata() {
     [ "$(sed -n 's/^categories = //p' Cargo.toml)" = '["algorithms", "data-structures", "no-std"]' ]
 }
 
+# Checks that build.rs finds what the compiler provides: constant functions from 1.83 on, and OnceLock from 1.70 on.
+finds_its_features() {
+  local minor
+  minor=$(rustc --version | cut -d . -f 2)
+  [ "$(cargo rustc --lib -- --print cfg | grep -c '^rapidhash_')" -eq $(((minor >= 83) + (minor >= 70))) ]
+}
+
 # Runs the tests of packages/rust/compat in a project whose dependency is the crate rapidhash, replaced by that package.
 # Debian's directory of crates is its registry.
 drops_in() {
@@ -88,8 +95,7 @@ if [ -d /usr/share/cargo/registry ] && [ "$(command -v rustc)" != /usr/bin/rustc
 else
   skip drop_in "no /usr/share/cargo/registry, or no rustc but Debian's"
 fi
-# The features of the compiler that build.rs finds: a hash in a constant, and a lock that allocates nothing.
-try features_of_the_compiler bash -c '[ "$(cargo rustc --lib -- --print cfg | grep -c "^rapidhash_")" -eq 2 ]'
+try features_of_the_compiler finds_its_features
 try no_dependency bash -c '[ "$(cargo tree | wc -l)" -eq 1 ]'
 try no_unsafe grep -x '#!\[forbid(unsafe_code)\]' src/lib.rs
 try package packages

@@ -9,7 +9,7 @@ use rapidhash::{HashMapExt, HashSetExt, RapidHashMap, RapidHashSet};
 use rapidhash::{fast, inner, quality, util, v2, v3};
 use std::io::{Write, copy};
 
-/// Compiles only if each short name and its full one are a single type. The option COMPACT changes no value.
+/// Compiles only if each short name is the type with these options. No value shows the option COMPACT.
 #[test]
 fn options_of_the_short_names() {
     macro_rules! same {

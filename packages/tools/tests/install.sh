@@ -62,7 +62,7 @@ refuses() {
   for target in install uninstall; do
     ! said=$(PATH=$path make -s -C "$top" "$target" DESTDIR="$room/refused" "$1" 2>&1) && [ ! -e "$room/refused" ] &&
       [ "$(grep -v '^make: ' <<<"$said")" = \
-        "make install: ${1%%=*} must be an absolute path without spaces and \"'\\\`\$#|&;: ${1#*=}" ] || return 1
+        "make install: ${1%%=*} must be an absolute path without spaces or any of \"'\\\`\$#|&;: ${1#*=}" ] || return 1
   done
 }
 

@@ -136,7 +136,7 @@ tell each_malformed_line_is_named $?
 
 # The values of the Rust crate for 57, 58 and 128 bytes, with the default seed and with seed words, and for a file above
 # 4 GiB, which is read in pieces.
-write_vectors
+write_vectors "$room"
 grep -E '^v[^p]+\s(default|word:[0-9]+)\s(.{114}|.{116}|.{256}|zeros:.*)\s' "$room/rapidhash_vectors.tsv" >vectors
 [ "$(grep -c zeros: vectors)" -eq "$("$program" --help | sed -n 's/.*values://p' | wc -w)" ]
 tell vectors_of_all_versions $?
