@@ -112,7 +112,7 @@ test:
 	@prove --exec "" packages/tools/tests tests/examples
 
 # Each file of figures has a bench with its name, except as stated. A bench that fails leaves the figures unchanged.
-bench: $(patsubst %,bench/%.tsv,slices speed rust c java files memory tool packages size)
+bench: $(patsubst %,bench/%.tsv,slices speed rust c java memory tool packages size)
 	@bench/figures --write
 
 bench/slices.tsv: measured = slices default seeded

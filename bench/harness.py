@@ -1,15 +1,14 @@
-"""Builds programs that do the same work, runs them alternately on a quiet processor, and prints the minimum times in
-the format of bench/*.tsv."""
+"""Builds programs that do the same work, runs them alternately, and prints the minimum times in the format of
+bench/*.tsv."""
 
 import argparse
 import datetime
-import math
 import os
 import re
 import subprocess
 import sys
 from pathlib import Path
-from statistics import geometric_mean, median_low
+from statistics import geometric_mean
 
 TOP = Path(__file__).resolve().parent.parent
 ROOM = TOP / "build" / "bench"
@@ -18,10 +17,6 @@ LIBRARIES = "ours rust crate xxh3".split()
 CRATES = {"rust": TOP / "packages" / "rust"}
 if "RAPIDHASH_CRATE" in os.environ:
     CRATES["crate"] = Path(os.environ["RAPIDHASH_CRATE"]).resolve()
-# The maximum number of attempts at a measurement until a processor was quiet before and after it.
-TRIES = 4
-# A processor is quiet if its loop takes at most this multiple of the minimum time so far.
-ALLOWED = 1.035
 # How a profile differs from cargo's default release profile.
 PROFILES = {"release": [], "lto": ["--config=profile.release.lto='fat'", "--config=profile.release.codegen-units=1"]}
 MANIFEST = """[package]
@@ -90,7 +85,7 @@ def take(programs, words, scale):
     values, times = {}, {}
     for name, program in ((name, program) for name in programs for program in programs[name]):
         found, time = subprocess.check_output([program, *words], text=True).split()
-        times[name] = min(times.get(name, math.inf), int(time) / scale)
+        keep_least(times, {name: int(time) / scale})
         if name != "xxh3" and values.setdefault("all", found) != found:
             sys.exit(f"{' '.join(map(str, words))}: {name} prints {found}, and not {values['all']}")
     return times
@@ -108,35 +103,6 @@ def asked(usage, known, turns):
     return parsed.words, parsed.turns
 
 
-class Processors:
-    """The processors of this machine. PROGRAM is bench/quiet.c, compiled."""
-
-    def __init__(self, program):
-        self.program = program
-        self.numbers = sorted(os.sched_getaffinity(0))
-        self.least = min(self.nanos(number) for number in self.numbers * 8)
-        self.measured = self.disturbed = 0
-
-    def nanos(self, number):
-        """Returns the time of the fixed loop on a processor now. This program and its children stay there."""
-        os.sched_setaffinity(0, {number})
-        return median_low(map(int, subprocess.check_output([self.program]).split()))
-
-    def measure(self, work, *words):
-        """Returns the result of work(*words) on a processor that was quiet before and after it. If none was quiet in
-        TRIES attempts, returns the last result and counts it as disturbed."""
-        self.measured += 1
-        for _ in range(TRIES):
-            before, number = min((self.nanos(number), number) for number in self.numbers)
-            self.least = min(self.least, before)
-            os.sched_setaffinity(0, {number})
-            result = work(*words)
-            if max(before, self.nanos(number)) <= ALLOWED * self.least:
-                return result
-        self.disturbed += 1
-        return result
-
-
 def print_heading(title):
     """Prints a title and the commit, then the processor, described for a comparison with others, and the date."""
     fields = dict(re.findall(r"^(.+?)\s*: (.+)", Path("/proc/cpuinfo").read_text(), re.M))
@@ -145,18 +111,20 @@ def print_heading(title):
     print(f"# {fields['model name']} ({where}), {os.cpu_count()} cores, {datetime.date.today()}")
 
 
+def keep_least(best, times):
+    """Keeps the least time per library."""
+    best.update({name: min(time, best.get(name, time)) for name, time in times.items()})
+
+
 def measure(title, unit, rows, work, turns):
     """Prints the minimum times of all turns. For each of the ROWS, in each turn, WORK returns a name and the times per
     library. So a slow moment of the machine affects a row in few of its turns."""
-    run("cc", "-O2", TOP / "bench" / "quiet.c", "-o", "quiet")
-    processors, best = Processors(ROOM / "quiet"), {}
+    best = {}
     for _ in range(turns):
         for row in rows:
-            what, times = processors.measure(work, *row)
-            least = best.setdefault(what, {})
-            least.update({name: min(time, least.get(name, time)) for name, time in times.items()})
+            what, times = work(*row)
+            keep_least(best.setdefault(what, {}), times)
     print_heading(f"{title}, the least of {turns} turns")
-    print(f"# {processors.disturbed} of {processors.measured} measurements were on a processor that was not quiet.")
     names = [name for name in LIBRARIES if any(name in times for times in best.values())]
     rows = [(what.rpartition(" ")[0], what, times) for what, times in best.items()]
     print_table(unit, names, rows, [("crate", "ours"), ("crate", "rust")], 2)
@@ -189,8 +157,7 @@ def alternate(commands, words, turns):
         for (build, library), command in commands.items():
             for line in subprocess.check_output([*command, *words], text=True).splitlines():
                 group, name, nanos = line.split("\t")
-                times = best.setdefault((build, group), {}).setdefault(name, {})
-                times[library] = min(float(nanos), times.get(library, math.inf))
+                keep_least(best.setdefault((build, group), {}).setdefault(name, {}), {library: float(nanos)})
     return best
 
 
