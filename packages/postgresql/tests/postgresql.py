@@ -13,8 +13,7 @@ from pathlib import Path
 
 sys.path.append(str(Path(__file__).parents[3] / "tests"))
 from cases import ROOM, TOP, blocks, compare, finish, shell, skip_all, tell  # noqa: E402
-from sql import BINDINGS, DIGITS, HELLO, NOTHING, STREAMS, TEXT, TEXT_HASH  # noqa: E402
-from sql import lines_with_results, unpack, vector_queries  # noqa: E402
+from sql import BINDINGS, HELLO, STREAMS, lines_with_results, unpack, vector_queries  # noqa: E402
 
 PAGE = "packages/postgresql/README.md"
 # The directory of its databases, which also contains its socket.
@@ -68,17 +67,13 @@ def vectors():
     tell("vectors", *[query[:200] for query, line in zip_longest(queries, found, fillvalue="") if line != "t"])
 
 
-def types():
-    compare("types", ask(f"SELECT rapidhash_v3('{TEXT}'), rapidhash_v3('{TEXT}'::text), rapidhash_v3(''), "
-                         "rapidhash_v3(''::bytea), rapidhash_v3(42), rapidhash_v3((-42)::smallint)"),
-            [f"{TEXT_HASH}|{TEXT_HASH}|{NOTHING}|{NOTHING}|5044168950324010207|2463112363380910024"])
-    compare("null", ask("SELECT rapidhash_v3(NULL::text), rapidhash_v3('a', NULL), rapidhash_v3_seeded(1, NULL), "
-                         "rapidhash_v3(NULL::text, 1), rapidhash_hex(NULL)"), ["||||"])
-    numbers = ", ".join(f"({number})" for number in DIGITS)
-    compare("hex", ask(f"SELECT rapidhash_hex(column1) FROM (VALUES {numbers}) numbers"), list(DIGITS.values()))
-    for error in ("rapidhash_v3(1.5)", "rapidhash_v3(1.5::real)", "rapidhash_v3_seeded('a')"):
-        compare(f"refuses {error}", [line.split("ERROR: ")[1].split("(")[0] for line in ask(f"SELECT {error}")[:1]],
-                [f" function {error.split('(')[0]}"])
+def installcheck():
+    """Runs the extension's own tests, as its users do, which compare types, errors and NULL with a stored output."""
+    status, printed = shell("make -s -C build/postgresql installcheck", PGHOST=str(DATA), PGUSER="test")
+    tell("installcheck", *[shell("cat build/postgresql/regression.diffs")[1] or printed] * (status != 0))
+
+
+def storages():
     for storage, count, is_compressed in STORAGES:
         compare(f"storage {storage}", ask(STORED.format(storage, count)), [f"t|{is_compressed}"])
 
@@ -97,8 +92,6 @@ def aggregates():
             compare(f"{agg}{seed} of integers", ask(f"SELECT {agg}(n::bigint{seed} ORDER BY n DESC) = rapidhash_{version}("
                 f"'\\x01{'00' * 7}fe{'ff' * 7}'::bytea{seed}) FROM (VALUES (1), (-2)) v(n)"), ["t"])
     values = "(VALUES (1, 'x', NULL), (2, 'hel', 0), (3, NULL, 0), (4, 'lo', 0)) v(place, word, seed)"
-    compare("nulls", ask(f"SELECT rapidhash_v3_agg(word, seed ORDER BY place), rapidhash_v3_agg(word) FILTER (WHERE "
-                         f"word IS NULL), rapidhash_v3_agg(word) FILTER (WHERE false) FROM {values}"), [f"{HELLO}||"])
     for frame in ("", " ROWS 1 PRECEDING"):
         query = f"""SELECT rapidhash_v3_agg(word) OVER rows = rapidhash_v3(string_agg(word, '') OVER rows)
             FROM {values} WINDOW rows AS (ORDER BY place{frame})"""
@@ -107,21 +100,17 @@ def aggregates():
     ask("CREATE TABLE compressed AS SELECT repeat('hello', 600) AS word FROM generate_series(1, 3)")
     compare("compressed_rows", ask("SELECT rapidhash_v3_agg(word) = rapidhash_v3(repeat('hello', 1800)) "
                                    "FROM compressed; DROP TABLE compressed"), ["t"])
-    found = ask("SELECT rapidhash_v3_nano_agg(1, place::bigint << 32) FROM many")[:1]
-    compare("other_seed", [line.partition("ERROR:  ")[2] for line in found],
-            ["rapidhash_v3_nano_agg: the seed must be the same in every row"])
     ask("DROP TABLE many")
 
 
 def rest():
     # The calls and rapidhash_hex, the aggregates, and the functions that these are made of.
     compare("functions", ask(FUNCTIONS), ["a|f|18|t", "f|f|19|t", "f|t|73|t"])
-    compare("index", ask("CREATE TABLE words (word text); CREATE INDEX ON words (rapidhash_v3(word, 1))"), [])
     for query, wanted in lines_with_results(PAGE):
         compare(query, ask(query), [wanted])
     [query] = re.findall(r"^SELECT .*_agg.*;$", blocks(PAGE, "sql")[0], re.M)
     compare("rows_in_order", ask(query), [str(HELLO)])
-    ask("DROP TABLE words; DROP EXTENSION rapidhash; CREATE ROLE owner; GRANT CREATE ON DATABASE postgres TO owner")
+    ask("DROP EXTENSION rapidhash; CREATE ROLE owner; GRANT CREATE ON DATABASE postgres TO owner")
     query = "SET ROLE owner; CREATE SCHEMA one; CREATE SCHEMA two; CREATE EXTENSION rapidhash SCHEMA one; RESET ROLE; "
     query += "ALTER EXTENSION rapidhash SET SCHEMA two; SELECT two.rapidhash_v3('hello')"
     compare("owner_and_schema", ask(query), [str(HELLO)])
@@ -149,7 +138,7 @@ if not folders:
     skip_all("no server with its headers, or no cc, psql or setpriv")
 stop = start(*folders)
 try:
-    for step in (install, unpacked_archive, vectors, types, aggregates, rest):
+    for step in (install, installcheck, unpacked_archive, vectors, storages, aggregates, rest):
         step()
 finally:
     shell(stop, "/")

@@ -1,0 +1,26 @@
+-- Tests the installed extension: make installcheck. The hashes are those of the Rust crate.
+CREATE EXTENSION rapidhash;
+-- Each type, and no other.
+SELECT rapidhash_v3('hello') AS literal, rapidhash_v3('hello'::text) AS text, rapidhash_v3('\x68656c6c6f'::bytea) AS bytea;
+SELECT rapidhash_v3('') AS text, rapidhash_v3(''::bytea) AS bytea;
+SELECT rapidhash_v3(42) AS integer, rapidhash_v3(42::bigint) AS bigint, rapidhash_v3((-42)::smallint) AS smallint;
+SELECT rapidhash_v3(E'h\u00e9llo \u20ac\U0001F600') AS text;
+SELECT rapidhash_v3(1.5);
+SELECT rapidhash_v3(1.5::real);
+-- A call with secrets requires their number.
+SELECT rapidhash_v3_seeded('a');
+-- NULL as any argument.
+SELECT rapidhash_v3(NULL::text), rapidhash_v3('a', NULL), rapidhash_v3(NULL::text, 1), rapidhash_v3_seeded(1, NULL),
+  rapidhash_hex(NULL);
+-- Digits, with leading zeros and with the highest bit.
+SELECT rapidhash_hex(hash) FROM (VALUES (3327445792987248966), (0), (4294967296), (-1), (-4611686018427387904)) AS t(hash);
+-- An aggregate hashes its rows in their order and skips NULL. The seed is the same in every row, in all 64 bits.
+CREATE TABLE words AS
+  SELECT * FROM (VALUES (3, 'lo', 0), (1, 'hel', 0), (2, NULL, 0), (4, 'x', NULL)) AS t(place, word, seed);
+SELECT rapidhash_v3_agg(word, seed ORDER BY place) AS hello, rapidhash_v3_agg(word) FILTER (WHERE word IS NULL) AS nulls,
+  rapidhash_v3_agg(word) FILTER (WHERE false) AS no_rows FROM words;
+SELECT rapidhash_v3_nano_agg(word, place::bigint << 32 ORDER BY place) FROM words;
+-- An index of hashes.
+CREATE INDEX ON words (rapidhash_v3(word, 1));
+DROP TABLE words;
+DROP EXTENSION rapidhash;
