@@ -58,9 +58,9 @@ lints_python() {
   { scripts_in python && git ls-files '*.py'; } | sort -u | xargs pyflakes3
 }
 
-# Checks that the doc comment of each public function of the product begins with a verb, such as "Returns".
+# Checks that the doc comment of each public function begins with a verb, such as "Returns".
 begins_with_verbs() {
-  git ls-files -z 'crates/rapid*/src/*.rt' | xargs -0 awk '
+  git ls-files -z 'crates/*/src/*.rt' | xargs -0 awk '
     /^ *\/\/\// { if (!word) word = $2; next }
     / *pub .*fn / && word && word !~ /^[A-Z][a-z]+s$/ { print FILENAME ":" FNR ": " word; found = 1 }
     !/^ *#\[/ { word = "" }

@@ -4,10 +4,10 @@ use rand_core::Rng;
 use rapidhash::rng::RapidRng;
 use std::alloc::{AllocError, Allocator};
 
-/// How many bytes are filled at once.
+/// The number of bytes that are filled at once.
 const SIZE: usize = 1 << 20;
 
-/// 2^28 words, joined.
+/// Returns 2^28 words, joined.
 #[inline(never)]
 pub fn next() -> u64 {
     let mut rng = RapidRng::new(42);
@@ -18,7 +18,7 @@ pub fn next() -> u64 {
     sum
 }
 
-/// 2^11 times 1 MiB; the last byte of each time, joined.
+/// Fills 1 MiB 2^11 times and returns the last bytes, joined.
 #[inline(never)]
 pub fn fill_bytes<A: Allocator>(alloc: A) -> Result<u64, AllocError> {
     let mut bytes = Vec::new(alloc);

@@ -1,4 +1,4 @@
-//! The hasher, built anew for each item by a state. Each hash goes into a sum that is then
+//! The hasher, built anew for each item by a state. Each hash is added to a sum that is then
 //! multiplied by three. Texts are hashed in the loop (`strN`), and by a function that is out of
 //! line (`callN`), so that no compiler moves a part of the hash out of the loop.
 //!
@@ -10,7 +10,7 @@ use rapidhash::inner::SeedableState;
 use rapidhash::rng::RapidRng;
 use std::hash::{BuildHasher, Hasher};
 
-/// How many items are hashed.
+/// The number of items.
 const ITEMS: u64 = 1 << 21;
 
 /// A state of `fast`, or with an avalanche of `quality`.
@@ -58,7 +58,7 @@ fn hashed_at<const AVALANCHE: bool, const PLACE: u64>(
     })
 }
 
-/// What a sum starts from. Each step is code in front of the loop.
+/// The start of a sum. Each step is code in front of the loop.
 #[inline(always)]
 fn start<const PLACE: u64>(number: u64) -> u64 {
     let mut sum = number;

@@ -1,6 +1,6 @@
-//! Times the generator, the stream hasher, and the hasher of maps:
-//! `bench_memory FORM NUMBER PLACE`, for `bench/memory`. It prints a number that all its
-//! work goes into, and the nanoseconds that it took.
+//! Times the generator, the stream hasher, and the hasher of maps: `bench_memory FORM NUMBER
+//! PLACE`, for `bench/memory`. It prints a number that depends on all of its work, and the time in
+//! nanoseconds.
 #![tactic(auto)]
 
 mod draws;

@@ -1,4 +1,4 @@
-//! The stream hasher, by pieces of one size, and the hash of the same message in one call.
+//! The stream hasher, by pieces of the same size, and the hash of the same message in one call.
 
 use anyhow::Result;
 use rapidhash::rng::RapidRng;
@@ -7,16 +7,16 @@ use std::alloc::{AllocError, Allocator};
 use std::rt::Clock;
 use std::time::Instant;
 
-/// A number that all work went into, and the nanoseconds it took.
+/// A number that depends on all of the work, and the time in nanoseconds.
 pub struct Taken {
     pub sum: u64,
     pub nanos: u128,
 }
 
-/// How many bytes the message has.
+/// The number of bytes of the message.
 const BYTES: usize = 1 << 20;
 
-/// How often it is hashed.
+/// The number of times that it is hashed.
 const PASSES: u64 = 1 << 7;
 
 /// The message.
@@ -29,7 +29,7 @@ fn message<A: Allocator>(alloc: A) -> Result<Vec<u8, A>, AllocError> {
     Ok(bytes)
 }
 
-/// The hash of a message by pieces of `size` bytes.
+/// Returns the hash of a message in pieces of `size` bytes.
 #[inline(never)]
 fn streamed(message: &[u8], size: usize, secrets: &RapidSecrets) -> u64 {
     let mut hasher = RapidStreamHasherV3::new(secrets);
@@ -39,8 +39,8 @@ fn streamed(message: &[u8], size: usize, secrets: &RapidSecrets) -> u64 {
     hasher.finish()
 }
 
-/// The hashes of a message by pieces of `size` bytes, or in one call if `size` is 0, joined. Each
-/// pass leaves out one byte more.
+/// Returns the hashes of a message in pieces of `size` bytes, or in one call if `size` is 0,
+/// joined. Each pass leaves out one byte more.
 fn joined(message: &[u8], size: usize, number: u64) -> u64 {
     let secrets = RapidSecrets::seed(number);
     let mut sum = number;

@@ -1,6 +1,6 @@
-//! What the programs of `bench/slices` do: they hash the texts of a list, again and again, as a
+//! The work of the programs of `bench/slices`: they hash the texts of a list repeatedly, as a
 //! program that uses the library does. The two programs differ in one constant, whether the secrets
-//! are the default ones, so that the compiler sees in each what it sees in such a program.
+//! are the default ones, so that the compiler sees the same code as in such a program.
 #![tactic(auto)]
 
 mod hash;
@@ -16,7 +16,7 @@ use std::time::Instant;
 use texts::Row;
 
 /// Does the work of the arguments `FORM LENGTH PLACE NUMBER PASSES REPEATS`, and with one more
-/// argument calls the hash as a function. It prints a sum that all hashes went into, and the
+/// argument calls the hash as a function. It prints a sum that depends on all hashes, and the
 /// nanoseconds of the fastest repeat.
 pub fn run<const SEEDED: bool>(rt: &(impl Clock + Env + Print + AllocGlobal)) -> Result<()> {
     let words: Vec<String> = env::args(rt)?.skip(1).collect(rt.alloc())?;

@@ -4,7 +4,8 @@ use anyhow::Result;
 use rapidhash::rng::RapidRng;
 use std::alloc::{AllocError, Global};
 
-/// How many bytes the texts are cut out of: the longest text of a row, and the places of 64.
+/// The number of bytes from which the texts are cut: the longest text of a row, and the places of
+/// 64.
 const BYTES: usize = 1 << 17;
 
 /// Bytes that the compiler does not know.
@@ -16,8 +17,8 @@ pub fn random_bytes(alloc: Global, rng: &mut RapidRng) -> Result<Vec<u8>, AllocE
     Ok(bytes)
 }
 
-/// The texts of a row: 64 of one length, side by side; for `1-300` 8,192 of 1 to 300 bytes; for
-/// `5,3,9` one of each of these lengths.
+/// Returns the texts of a row: 64 of the same length, side by side; for `1-300` 8,192 of 1 to 300
+/// bytes; for `5,3,9` one of each of these lengths.
 pub fn texts<'x>(
     alloc: Global,
     length: &str,

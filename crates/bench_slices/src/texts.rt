@@ -4,23 +4,23 @@
 use crate::hash::{Form, Micro, Nano, Secrets, V1, V2, V3};
 use anyhow::{Result, bail};
 
-/// What is hashed, and how often.
+/// The texts to hash, and the number of passes.
 #[derive(Drop)]
 pub struct Row<'x> {
     /// The texts.
     pub list: &'x [&'x [u8]],
     /// The secrets, if the program has its own.
     pub secrets: &'x Secrets,
-    /// How often the list is hashed.
+    /// The number of times that the list is hashed.
     pub passes: u64,
-    /// Which copy of the loop, from 0 to 7.
+    /// The copy of the loop, from 0 to 7.
     pub place: u64,
     /// Whether the hash is a separate function.
     pub is_call: bool,
 }
 
 impl Row<'_> {
-    /// Hashes the texts by a form, and returns the sum that all hashes went into.
+    /// Hashes the texts by a form, and returns a sum that depends on all hashes.
     pub fn work<const SEEDED: bool>(&self, form: &str, sum: u64) -> Result<u64> {
         match form {
             "v1" => self.by_form::<V1<SEEDED>>(sum),
@@ -57,7 +57,7 @@ impl Row<'_> {
     }
 }
 
-// What a sum starts from. Each step is code in front of the loop.
+// The start of a sum. Each step is code in front of the loop.
 #[inline(always)]
 fn start<const PLACE: u64>(sum: u64) -> u64 {
     let mut sum = sum;

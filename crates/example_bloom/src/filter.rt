@@ -8,7 +8,7 @@ use crate::shape::Shape;
 use rapidhash::v3::rapidhash_v3;
 use std::alloc::{AllocError, Global};
 
-/// A set of keys that may hold more keys than were inserted, and never fewer.
+/// A set of keys that may find more keys than were inserted, and never fewer.
 ///
 /// A key has a fixed number of marks. Each is a bit of the words, at a place that the key's hash
 /// determines. To insert a key sets its marks. A key is found if all of its marks are set.
@@ -46,7 +46,7 @@ fn mark(words: &mut [u64], marks: u32, hash: u64)
     }
 }
 
-// Whether a bit is set.
+// Returns whether a bit is set.
 fn is_set(words: &[u64], step: u64) -> bool
     requires { 0 < length words.now }
     ensures { result ≡ true ↔ HasBit words.now step }
@@ -56,7 +56,7 @@ fn is_set(words: &[u64], step: u64) -> bool
 }
 
 impl Filter {
-    /// A filter with no mark set. It allocates once.
+    /// Returns a filter with no mark set. It allocates once.
     #[tactic(auto, using(crate::proofs::Bits::zeros_have_none))]
     pub fn new(alloc: Global, shape: Shape) -> Result<Filter, AllocError>
         ensures empty { IfOk result IsEmpty }
@@ -69,7 +69,7 @@ impl Filter {
         })
     }
 
-    /// A filter of the same shape, with no mark set. It allocates once.
+    /// Returns a filter of the same shape, with no mark set. It allocates once.
     #[tactic(auto, using(crate::proofs::Bits::zeros_have_none))]
     pub fn empty_alike(&self, alloc: Global) -> Result<Filter, AllocError>
         requires { HasWords self.now }
@@ -91,7 +91,7 @@ impl Filter {
         mark(&mut self.words, self.marks, rapidhash_v3(key));
     }
 
-    /// Whether the key may have been inserted. `false` is certain, and `true` is a guess.
+    /// Returns whether the key may have been inserted. `false` is certain, and `true` is a guess.
     pub fn contains(&self, key: &[u8]) -> bool
         requires { HasWords self.now }
         ensures { result ≡ true ↔ Finds self.now key.now }
@@ -105,7 +105,7 @@ impl Filter {
         true
     }
 
-    /// Inserts what another filter of the same shape holds.
+    /// Inserts the keys of another filter of the same shape.
     pub fn unite(&mut self, other: &Filter)
         requires words { HasWords self.old }
         requires shape { HasSameShape self.old other.now }

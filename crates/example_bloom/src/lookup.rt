@@ -1,4 +1,4 @@
-//! What the program does with the bytes of its files: it inserts lists and looks lines up.
+//! The work on the bytes of files: lists are inserted, and lines looked up.
 
 ghost use Rattle.std.specs.Prelude.{IfOk};
 ghost use Rattle.example_bloom.specs.Filter.{HasWords, KeepsAll};
@@ -8,7 +8,7 @@ use crate::shape::{Shape, ShapeError};
 use std::alloc::{AllocError, Global};
 use std::io::{self, BufRead, ErrorKind, Write};
 
-/// Why the program stops between its files.
+/// The reason why the program stops between its files.
 #[derive(Debug, thiserror::Error, Drop)]
 pub enum LookupError {
     /// There is no filter for this many keys at this rate.
@@ -48,8 +48,8 @@ fn insert_lines(filter: &mut Filter, list: &[u8])
     }
 }
 
-/// The filter of all lines of the lists. Each list fills a separate filter, as if the lists came
-/// from different places, and these are united.
+/// Returns the filter of all lines of the lists. Each list fills a separate filter, as if the lists
+/// came from different places, and these are united.
 pub fn filter_of(alloc: Global, lists: &[Vec<u8>], one_in: u32) -> Result<Filter, LookupError>
     ensures { IfOk result HasWords }
 {

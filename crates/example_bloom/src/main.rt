@@ -1,5 +1,5 @@
-//! Says of each line of standard input whether it may be a line of a list, with a bloom filter:
-//! what was inserted is always found, and few other lines are.
+//! Reports for each line of standard input whether it may be a line of a list, with a bloom filter:
+//! it finds every inserted line, and few others.
 //!
 //! The filter, and what is proved about it, are in `filter`. An error is one line on standard
 //! error, with status 1, or 2 for a wrong command line.

@@ -1,13 +1,13 @@
-//! What the command line asks for.
+//! The arguments of the command line.
 
-/// How the program is called.
+/// The usage.
 pub const USAGE: &str = "usage: example_bloom [--one-in N] LIST..
 
 For each line of standard input, prints 'maybe LINE' if it may be in a LIST,
 or 'no LINE' if it definitely is not. At most about one in N lines that are in
 no LIST is reported as 'maybe' (default: 100).";
 
-/// Why the arguments are refused.
+/// The reason why the arguments are refused.
 #[derive(Debug, Clone, Copy, thiserror::Error, Drop)]
 pub enum OptionsError<'a> {
     /// No list is named.
@@ -21,10 +21,10 @@ pub enum OptionsError<'a> {
     Unknown(&'a str),
 }
 
-/// What the arguments ask for.
+/// The request in the arguments.
 #[derive(Clone, Copy)]
 pub enum Request<'a> {
-    /// To print how the program is called.
+    /// To print the usage.
     Help,
     /// To look lines up.
     LookUp {
@@ -35,10 +35,10 @@ pub enum Request<'a> {
     },
 }
 
-// How rarely other lines are found if the arguments do not say.
+// The default of `--one-in`.
 const ONE_IN: u32 = 100;
 
-/// What the arguments after the program's name ask for.
+/// Returns the request in the arguments after the program's name.
 pub fn parse_words<'a>(words: &'a [String]) -> Result<Request<'a>, OptionsError<'a>> {
     let mut lists = words;
     let mut one_in = ONE_IN;

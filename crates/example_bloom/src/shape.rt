@@ -1,4 +1,4 @@
-//! How large a filter is, by how many keys it is for and how rarely it may find another.
+//! The size of a filter, from the number of its keys and the share of other keys that it may find.
 
 ghost use Rattle.std.specs.Prelude.{◌≡◌, ◌+◌, IfErr, IfOk};
 ghost use Rattle.example_bloom.specs.Shape.{Refuses, Serves};
@@ -6,7 +6,7 @@ ghost use Rattle.example_bloom.specs.Shape.{Refuses, Serves};
 /// The most bits of a filter, 512 MiB: places come from the 32-bit halves of a hash.
 pub const MOST_BITS: u64 = 4294967296;
 
-/// Why there is no filter for this many keys at this rate.
+/// The reason why there is no filter for these numbers.
 #[derive(Debug, Clone, Copy, thiserror::Error, Drop)]
 pub enum ShapeError {
     /// A filter that finds one in one other key finds them all.
@@ -25,7 +25,8 @@ pub struct Shape {
 }
 
 impl Shape {
-    /// The shape for `keys` keys, if at most one in `one_in` other keys should be found.
+    /// Returns the shape for `keys` keys, at which at most one in `one_in` other keys should be
+    /// found.
     ///
     /// A key has k marks, with the smallest k such that 2^k is at least `one_in`. The number of
     /// bits is 1.4427 times that of all marks, at which about half of them are set in the end.
@@ -49,14 +50,14 @@ impl Shape {
         })
     }
 
-    /// The number of words, at least one.
+    /// Returns the number of words, at least one.
     pub fn words(&self) -> usize
         ensures { result ≡ self.now.last_word + 1 }
     {
         self.last_word as usize + 1
     }
 
-    /// The number of marks of a key.
+    /// Returns the number of marks of a key.
     pub fn marks(&self) -> u32
         ensures { result ≡ self.now.marks }
     {

@@ -1,4 +1,4 @@
-//! Whether two readers have the same bytes.
+//! The comparison of two readers.
 
 ghost use Rattle.std.specs.Prelude.{◌≡◌, ◌≢◌, ◌↔◌, ◌<◌, ◌≤◌, true, IsTrue, IfOk, IfNone, IfSome, length, take};
 ghost use Rattle.std.specs.Io.KnownBytes.{Consumes, IsAtEnd};
@@ -7,10 +7,10 @@ ghost use Rattle.example_dedupe.specs.Bytes.{SameBytes, SharesFront};
 use std::io;
 use std::io::{ErrorKind, Read};
 
-// How many bytes of each reader are compared at once.
+// The number of bytes of each reader that are compared at once.
 const PIECE: usize = 16384;
 
-// Reads until the buffer is full or the reader has no more, and returns how many bytes it read.
+// Reads until the buffer is full or the reader has no more, and returns the number of bytes.
 fn fill<R: Read>(reader: &mut R, buf: &mut [u8]) -> io::Result<usize>
     ensures within { IfOk result (λ count. count ≤ length buf.new) }
     ensures taken { IfOk result (λ count.
@@ -55,8 +55,8 @@ fn compare_piece<A: Read, B: Read>(
     Ok(None)
 }
 
-/// Whether two readers have the same bytes left. It reads no further than the piece in which they
-/// differ, holds two pieces of them, and allocates nothing.
+/// Returns whether two readers have the same bytes left. It reads no further than the piece in
+/// which they differ, holds two pieces of them, and allocates nothing.
 ///
 /// A failed read of either is the error. So is a reader that has no end.
 #[inline(never)]

@@ -1,11 +1,11 @@
-//! What stops the program.
+//! The errors that stop the program.
 
 use std::alloc::AllocError;
 use std::io;
 use std::io::ErrorKind;
 use std::process::ExitCode;
 
-/// Why the program stopped. A file that cannot be read does not stop it.
+/// The reason why the program stopped. A file that cannot be read does not stop it.
 #[derive(Debug, Drop, thiserror::Error)]
 pub enum Error {
     /// `env::args` returns no argument at all if one of them is not UTF-8.
@@ -24,7 +24,7 @@ pub enum Error {
 }
 
 impl Error {
-    /// The exit status: 2 for wrong arguments, and 1 for a run that failed.
+    /// Returns the exit status: 2 for wrong arguments, and 1 for a run that failed.
     pub fn status(&self) -> ExitCode {
         match self {
             Error::Args | Error::NoName | Error::Option(_) => ExitCode::from(2),
@@ -32,7 +32,7 @@ impl Error {
         }
     }
 
-    /// A failed write or allocation.
+    /// Returns the error of a failed write or allocation.
     pub fn of_write(error: io::Error) -> Error {
         if error.kind() == ErrorKind::OutOfMemory {
             return Error::Memory(AllocError);

@@ -11,15 +11,15 @@ use rapidhash::{HashMapExt, RapidHashMap};
 use std::alloc::{AllocError, Global};
 use std::io;
 
-// Whether more than one file has this size.
+// Returns whether more than one file has this size.
 fn is_shared(sizes: &RapidHashMap<'_, u64, u64>, size: u64) -> bool
     ensures { result ≡ shared sizes.now size }
 {
     sizes.get(&size).copied().unwrap_or(0) > 1
 }
 
-// The key by which a file is looked up: the fingerprint of its bytes, or if no other file has its
-// size, the size. Files of equal bytes have the same key.
+// Returns the key by which a file is looked up: the fingerprint of its bytes, or if no other file
+// has its size, the size. Files of equal bytes have the same key.
 fn key<S: Store, F: Fingerprint>(
     store: &S,
     fingerprint: &F,
@@ -36,7 +36,7 @@ fn key<S: Store, F: Fingerprint>(
     fingerprint.of(store.open(file)?)
 }
 
-// Whether two files have the same bytes.
+// Returns whether two files have the same bytes.
 fn same_files<S: Store>(store: &S, first: usize, second: usize) -> io::Result<bool>
     ensures { IfOk result (λ same. IfSome (S.bytes store.now first) (λ xs.
         IfSome (S.bytes store.now second) (λ ys. IsTrue same ↔ (xs ≡ ys)))) }
@@ -149,7 +149,7 @@ pub fn groups<S: Store, F: Fingerprint>(
     Ok(places)
 }
 
-// How many files have each size.
+// Counts the files of each size.
 fn count_sizes<'s, S: Store>(
     store: &S,
     count: usize,

@@ -1,8 +1,8 @@
 //! Prints groups of equal files, as `fdupes -r` does.
 //!
-//! `example_dedupe NAME..` takes files and folders, and all that is below the folders. It prints
-//! the names of each group of two or more files of equal bytes, a name a line, and an empty line
-//! after each group.
+//! `example_dedupe NAME..` accepts files, and directories with everything below them. It prints the
+//! names of each group of two or more equal files, one per line, and an empty line after each
+//! group.
 #![tactic(auto)]
 
 mod compare;
@@ -67,7 +67,7 @@ fn gather(rt: &HostRuntime) -> Result<Vec<String>, Error> {
     Ok(names)
 }
 
-// Whether everything that was named could be read.
+// Prints the groups. Returns whether every name could be read.
 fn run(rt: &HostRuntime) -> Result<bool, Error> {
     let names = gather(rt)?;
     let secrets = GlobalSecrets::new(random_word(rt)?);

@@ -45,12 +45,12 @@ impl Store for Names<'_> {
     }
 }
 
-/// A search for files: what was found, and what is still to be visited.
+/// A search for files: the files found, and the names still to be visited.
 #[derive(Drop)]
 pub struct Search<'s> {
     /// The files that were found.
     pub files: Vec<Named>,
-    /// How many names could not be read. Each was reported on standard error.
+    /// The number of names that could not be read. Each was reported on standard error.
     pub failures: u64,
     folders: Vec<String>,
     seen: RapidHashSet<'s, (u64, u64)>,
@@ -63,7 +63,7 @@ pub fn tell(rt: &HostRuntime, name: &str, error: &io::Error) {
 }
 
 impl<'s> Search<'s> {
-    /// A search that has found nothing.
+    /// Returns a search that has found nothing.
     pub fn new(rt: &HostRuntime, seen: RapidHashSet<'s, (u64, u64)>) -> Search<'s> {
         Search {
             files: Vec::new(rt.alloc()),
@@ -83,8 +83,8 @@ impl<'s> Search<'s> {
         Ok(())
     }
 
-    // A file is used once, however many names it has. What is neither a file nor a folder, such as
-    // a symbolic link below a folder, is left out.
+    // A file is used once, however many names it has. Everything that is neither a file nor a
+    // directory, such as a symbolic link below a directory, is left out.
     fn visit(&mut self, name: String, metadata: Metadata) -> Result<(), Error> {
         if metadata.is_dir() {
             self.folders.push(name)?;
@@ -95,7 +95,7 @@ impl<'s> Search<'s> {
         Ok(())
     }
 
-    // The names of one folder.
+    // The names in a directory.
     fn visit_folder(&mut self, rt: &HostRuntime, folder: &str) -> Result<(), Error> {
         let entries = match fs::read_dir(rt, folder) {
             Ok(entries) => entries,
@@ -123,8 +123,8 @@ impl<'s> Search<'s> {
         Ok(())
     }
 
-    /// Finds the files of a name, and of all folders below it. A name that is a symbolic link is
-    /// followed; one below a folder is not.
+    /// Finds the files of a name, and of all directories below it. A name that is a symbolic link
+    /// is followed; one below a directory is not.
     pub fn find(&mut self, rt: &HostRuntime, name: String) -> Result<(), Error> {
         match fs::metadata(rt, name.as_str()) {
             Ok(metadata) => self.visit(name, metadata)?,

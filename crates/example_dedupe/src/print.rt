@@ -1,4 +1,4 @@
-//! How groups are printed.
+//! The printed groups.
 
 use crate::error::Error;
 use crate::names::{Named, tell};
@@ -35,9 +35,9 @@ fn print_group<W: Write>(
     writeln!(out, "").map_err(Error::of_write)
 }
 
-/// Prints each group of two or more files: a name a line, and an empty line after the group. Each
-/// file that could not be read or compared is reported on standard error, and their number is
-/// returned.
+/// Prints each group of two or more files: one name per line, and an empty line after the group.
+/// Reports each file that could not be read or compared on standard error, and returns their
+/// number.
 pub fn print_groups<W: Write>(
     rt: &HostRuntime,
     out: &mut W,

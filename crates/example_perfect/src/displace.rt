@@ -1,6 +1,6 @@
-//! How a table is built: the keys of a bucket go to free places by one seed, the largest bucket
-//! first. It is only proved that this is safe, ends and makes as many places as keys: what the
-//! places hold is checked afterwards.
+//! Builds a table: the keys of a bucket go to free places by one seed, the largest bucket first. It
+//! is only proved that this is safe, ends and makes as many places as keys: the content of the
+//! places is checked afterwards.
 
 ghost use Rattle.std.specs.Prelude.{◌≡◌, ◌<◌, ◌≤◌, length, IfOk};
 ghost use Rattle.example_perfect.specs.Table.{HasPlaces};
@@ -62,7 +62,7 @@ fn refuse_twins(members: &[Member<'_>]) -> Result<(), BuildError> {
     Ok(())
 }
 
-// How many members at the front have one bucket.
+// Counts the members at the front that have the same bucket.
 fn front(members: &[Member<'_>]) -> usize
     requires { 0 < length members.now }
     ensures some { 0 < result }

@@ -1,4 +1,4 @@
-//! What the program does with the bytes of its files: it makes a list into keys and looks lines up.
+//! The work on the bytes of files: a list is made into keys, and lines are looked up.
 
 ghost use Rattle.example_perfect.specs.Table.{IsPerfect};
 
@@ -6,7 +6,7 @@ use crate::table::Table;
 use std::alloc::{AllocError, Global};
 use std::io::{self, BufRead, ErrorKind, Write};
 
-/// Why looking lines up stops.
+/// The reason why a look-up stops.
 #[derive(Debug, thiserror::Error, Drop)]
 pub enum LookupError {
     /// An allocation failed.
@@ -20,7 +20,7 @@ pub enum LookupError {
     Write(io::Error),
 }
 
-/// The lines of a list. A newline ends a line, and the last line may lack it.
+/// Returns the lines of a list. A newline ends a line, and the last line may lack it.
 pub fn lines(alloc: Global, list: &[u8]) -> Result<Vec<&[u8]>, AllocError> {
     let mut lines = Vec::new(alloc);
     if list.is_empty() {

@@ -15,7 +15,7 @@ use std::process::ExitCode;
 use std::{env, fs};
 use table::{BuildError, Table};
 
-/// How the program is called.
+/// The usage.
 const USAGE: &str = "usage: example_perfect LIST
 
 For each line of standard input, prints its line number in LIST ('NUMBER LINE')

@@ -8,13 +8,13 @@ use crate::displace::displace;
 use rapidhash::v3::{RapidSecrets, rapidhash_v3, rapidhash_v3_seeded};
 use std::alloc::{AllocError, Global};
 
-/// Why there is no table of these keys.
+/// The reason why there is no table of these keys.
 #[derive(Debug, thiserror::Error, Drop)]
 pub enum BuildError {
     /// There are more than 2^32 - 2 keys.
     #[error("too many keys: more than 4294967294")]
     TooManyKeys,
-    /// A key is given twice.
+    /// A key occurs twice.
     #[error("duplicate keys: {first} and {second}")]
     Twice {
         /// The index of the key.
@@ -22,7 +22,7 @@ pub enum BuildError {
         /// The index of the same key further on.
         second: u32,
     },
-    /// No seed was found that gives each key of a bucket a free place.
+    /// No seed was found that moves each key of a bucket to a free place.
     #[error("no seed found for a bucket")]
     GaveUp,
     /// An allocation failed.
@@ -41,7 +41,7 @@ pub struct Table<'k> {
     places: Vec<u32>,
 }
 
-/// The bucket of a key.
+/// Returns the bucket of a key.
 #[tactic(auto, unfolding(crate::specs::Table::bucket_of))]
 pub(crate) fn bucket(key: &[u8], buckets: usize) -> usize
     requires { 0 < buckets }
@@ -51,7 +51,7 @@ pub(crate) fn bucket(key: &[u8], buckets: usize) -> usize
     (rapidhash_v3(key) % buckets as u64) as usize
 }
 
-/// The place that a seed gives a key.
+/// Returns the place of a key by a seed.
 #[tactic(auto, unfolding(crate::specs::Table::place_of))]
 pub(crate) fn place(key: &[u8], seed: u32, places: usize) -> usize
     requires { 0 < places }
@@ -80,7 +80,7 @@ impl<'k> Table<'k> {
         }
     }
 
-    // Whether each key's place holds its index.
+    // Returns whether each key's place holds its index.
     fn is_perfect(&self) -> bool
         requires { HasRoom self.now }
         ensures { result ≡ true ↔ IsPerfect self.now }
@@ -94,7 +94,7 @@ impl<'k> Table<'k> {
         true
     }
 
-    /// The place of a key or of any other text. It is below the count of places.
+    /// Returns the place of a key or of any other text. It is below the number of places.
     pub fn place(&self, key: &[u8]) -> usize
         requires { HasRoom self.now }
         ensures value { result ≡ place_in self.now key.now }
@@ -104,7 +104,7 @@ impl<'k> Table<'k> {
         place(key, seed, self.places.len())
     }
 
-    /// The index of a key, or `None` if it is no key of the set.
+    /// Returns the index of a key, or `None` if it is no key of the set.
     pub fn find(&self, key: &[u8]) -> Option<usize>
         requires { IsPerfect self.now }
         ensures { (i : ℕ) → (result ≡ Some i ↔ IsKeyAt self.now i key.now) }
@@ -117,7 +117,7 @@ impl<'k> Table<'k> {
         }
     }
 
-    // Whether a key has this index.
+    // Returns whether a key has this index.
     fn is_key_at(&self, index: usize, key: &[u8]) -> bool
         ensures { result ≡ true ↔ IsKeyAt self.now index key.now }
     {

@@ -1,4 +1,4 @@
-//! What the arguments ask for.
+//! The arguments of the command line.
 
 use crate::error::Error;
 use crate::nodes::Node;
@@ -8,21 +8,21 @@ use std::env;
 use std::io::ErrorKind;
 use std::rt::Env;
 
-/// What the arguments ask for.
+/// The request in the arguments.
 #[derive(Drop)]
 pub struct Args {
-    /// Whether only the count of each node's lines is printed.
+    /// Whether only the number of each node's lines is printed.
     pub counts: bool,
     /// The nodes, each with a name of its own, and at least one.
     pub nodes: Vec<Node>,
 }
 
-// The place of the node of this name.
+// Returns the place of the node with this name.
 fn find(nodes: &[Node], name: &str) -> Option<usize> {
     nodes.iter().position(|node| node.name.as_str() == name)
 }
 
-// Adds a node after the others, or reports that the name is there already.
+// Adds a node after the others, or reports that its name occurs twice.
 fn add(nodes: &mut Vec<Node>, name: String) -> Result<(), Error> {
     if find(nodes.as_slice(), name.as_str()).is_some() {
         return Err(Error::Twice(name));
@@ -32,7 +32,7 @@ fn add(nodes: &mut Vec<Node>, name: String) -> Result<(), Error> {
     Ok(())
 }
 
-// Removes the node of this name.
+// Removes the node with this name.
 fn leave(nodes: &mut Vec<Node>, name: String) -> Result<(), Error> {
     match find(nodes.as_slice(), name.as_str()) {
         Some(at) if at < nodes.len() => {

@@ -1,11 +1,11 @@
-//! What can go wrong.
+//! The errors that stop the program.
 
 use std::alloc::AllocError;
 use std::io;
 use std::io::ErrorKind;
 use std::process::ExitCode;
 
-/// Why the program stopped.
+/// The reason why the program stopped.
 #[derive(Debug, Drop, thiserror::Error)]
 pub enum Error {
     /// `env::args` returns no argument at all if one of them is not UTF-8.
@@ -30,7 +30,7 @@ pub enum Error {
 }
 
 impl Error {
-    /// The exit status: 2 for wrong arguments, and 1 for a run that failed.
+    /// Returns the exit status: 2 for wrong arguments, and 1 for a run that failed.
     pub fn status(&self) -> ExitCode {
         match self {
             Error::Read(_) | Error::Write(_) | Error::Memory(_) => ExitCode::from(1),
@@ -38,7 +38,7 @@ impl Error {
         }
     }
 
-    /// A failed read or allocation.
+    /// Returns the error of a failed read or allocation.
     pub fn of_read(error: io::Error) -> Error {
         if error.kind() == ErrorKind::OutOfMemory {
             return Error::Memory(AllocError);
@@ -46,7 +46,7 @@ impl Error {
         Error::Read(error)
     }
 
-    /// A failed write or allocation.
+    /// Returns the error of a failed write or allocation.
     pub fn of_write(error: io::Error) -> Error {
         if error.kind() == ErrorKind::OutOfMemory {
             return Error::Memory(AllocError);

@@ -2,8 +2,8 @@
 //! the line is greatest. When a node is removed, only its own lines move; when one is added, lines
 //! move only to it.
 //!
-//! `example_shards NODE..` prints `NODE<tab>LINE` for each line, and with `--counts` only how many
-//! lines each node has. `--without NODE` removes a node that was named before it.
+//! `example_shards NODE..` prints `NODE<tab>LINE` for each line, and with `--counts` only the
+//! number of lines of each node. `--without NODE` removes a node that was named before it.
 #![tactic(auto)]
 
 mod args;

@@ -1,4 +1,4 @@
-//! Nodes, and which of them has a key.
+//! Nodes, and the node of a key.
 
 ghost use Rattle.std.specs.Prelude.{◌≡◌, true, false};
 ghost use Rattle.std.specs.String.{string_bytes};
@@ -18,7 +18,7 @@ pub struct Node {
 impl Node {
     ghost use Rattle.example_shards.specs.Nodes.{score_of};
 
-    /// The node of this name.
+    /// Returns the node with this name.
     pub fn new(name: String) -> Node
         ensures name { result.name ≡ name }
         ensures seed { result.secrets.seed ≡
@@ -33,7 +33,7 @@ impl Node {
         }
     }
 
-    /// The hash of a key under the node's secrets.
+    /// Returns the hash of a key under the node's secrets.
     #[tactic(auto, unfolding(crate::specs::Nodes::score_of))]
     pub fn score(&self, key: &[u8]) -> u64
         ensures { result ≡ score_of key.now self.now }

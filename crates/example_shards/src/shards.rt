@@ -1,4 +1,4 @@
-//! Which node has a key, and what moves when a node is added or removed.
+//! The node of a key, and the keys that move when a node is added or removed.
 
 ghost use Rattle.std.specs.Prelude.{◌≡◌, ◌≢◌, ◌⊎◌, ◌<◌, ◌≤◌, ℕ, Some, List, All, IfSome, OnOk, OnErr, length, insert, remove, slice_get};
 ghost use Rattle.example_shards.specs.Nodes.{node_of, score_of};
@@ -6,7 +6,8 @@ ghost use Rattle.example_shards.specs.Nodes.{node_of, score_of};
 use crate::nodes::Node;
 use std::alloc::AllocError;
 
-/// The place of a key's node: the one whose hash of the key is greatest, among equals the first.
+/// Returns the place of a key's node: the one whose hash of the key is greatest, among equals the
+/// first.
 pub fn pick(nodes: &[Node], key: &[u8]) -> usize
     requires { 0 < length nodes.now }
     ensures inside { result < length nodes.now }

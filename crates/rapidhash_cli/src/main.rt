@@ -1,4 +1,4 @@
-//! The program: it collects its arguments, does what they ask for, and reports an error in one line
+//! The program: it collects its arguments, carries out their plan, and reports an error in one line
 //! on standard error, with status 1. All rules are in `rapidhash_tool`.
 #![tactic(auto)]
 
@@ -26,7 +26,7 @@ fn gather(rt: &HostRuntime) -> Result<Vec<String>, CliFault> {
     Ok(args)
 }
 
-// How many bytes of the file are hashed, or 0 if the version reads it to its end.
+// Returns the number of bytes of the file to hash, or 0 if the version reads it to its end.
 fn length(version: &RapidhashVersion, file: &File) -> Result<u64, CliFault> {
     if !version.needs_length() {
         return Ok(0);

@@ -1,11 +1,11 @@
-//! What the arguments ask for.
+//! The plan that the arguments select.
 
 ghost use Rattle.std.specs.Prelude.{◌≡◌, length, map, not, position, string_bytes};
 ghost use Rattle.rapidhash_tool.specs.CommandLine.{NamesFileBelow, is_option, occurs, plan_of};
 
 use crate::version::{Plan, RapidhashVersion};
 
-/// Returns the plan that the arguments request. The first of them is the program's name.
+/// Returns the plan that the arguments select. The first of them is the program's name.
 ///
 /// It is the help if there are no arguments or one of them is `--help` or `-h`. Otherwise those
 /// after the name select the version, and the first of them that does not begin with a hyphen names
@@ -27,7 +27,7 @@ pub fn plan(args: &[String]) -> Plan
     }
 }
 
-// Whether a text is among the arguments.
+// Returns whether a text is among the arguments.
 pub(crate) fn has(args: &[String], arg: &str) -> bool
     ensures { result ≡ occurs arg.now (map string_bytes args.now) }
 {
@@ -40,7 +40,7 @@ fn begins_with_hyphen(arg: &str) -> bool
     matches!(arg.as_bytes(), [b'-', ..])
 }
 
-// The place of the first argument that does not begin with a hyphen.
+// Returns the place of the first argument that does not begin with a hyphen.
 pub(crate) fn first_plain(args: &[String]) -> Option<usize>
     ensures { result ≡ position (λ w. not (is_option w)) (map string_bytes args.now) }
 {

@@ -1,9 +1,9 @@
-//! What can go wrong on the command line.
+//! The errors of the command line.
 
 ghost use Rattle.std.specs.Prelude.{◌≡◌};
 ghost use Rattle.rapidhash_tool.specs.Faults.{number_of, text_of};
 
-/// Why the tool stopped.
+/// The reason why the tool stopped.
 #[derive(Debug, Clone, Copy, PartialEq, Eq)]
 pub enum CliFault {
     /// The arguments name two versions.

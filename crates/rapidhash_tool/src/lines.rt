@@ -1,4 +1,4 @@
-//! What a run prints, and how it is written.
+//! The output of a run.
 
 ghost use Rattle.std.specs.Prelude.{◌≡◌, ◌≤◌, drop, IfErr, IfSome, OnOk};
 ghost use Rattle.std.specs.Io.KnownBytes.{Appends};

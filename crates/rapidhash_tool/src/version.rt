@@ -1,4 +1,4 @@
-//! The versions that the tool hashes by, and the plans that its arguments can ask for.
+//! The versions of the tool, and the plans that its arguments can select.
 
 ghost use Rattle.std.specs.Prelude.{◌≡◌, ◌↔◌, map, string_bytes, IsTrue};
 ghost use Rattle.rapidhash_tool.specs.CommandLine.{version_of, versions, option_of};
@@ -49,7 +49,7 @@ pub enum RapidhashVersion {
     },
 }
 
-/// What the arguments ask for.
+/// The plan that the arguments select.
 #[derive(Debug, Clone, Copy, PartialEq, Eq)]
 pub enum Plan {
     /// To print the help.

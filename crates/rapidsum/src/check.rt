@@ -1,4 +1,4 @@
-//! Whether files still have the hashes in a list.
+//! Checks of the files in a list against their hashes.
 
 ghost use Rattle.std.specs.Prelude.{◌≡◌, IfOk};
 ghost use Rattle.std.specs.List.{list_all};
@@ -53,7 +53,7 @@ impl<A: Allocator> Checked<A> {
     }
 }
 
-/// What is informed of each line as it is checked.
+/// A receiver of the result for each line.
 pub trait Report {
     /// Reports a checked file. The error is that of a file that could not be opened or read.
     fn tell(

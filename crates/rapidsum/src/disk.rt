@@ -7,7 +7,7 @@ use std::fs::File;
 use std::io::{Error, ErrorKind, IsTerminal, Read, Result, Stdin, Write};
 use std::str;
 
-/// After this many bytes of a file the progress line is written again.
+/// The number of bytes after which the progress line is written again.
 const STEP: u64 = 1 << 27;
 
 /// Files by their names; `-` is standard input.
@@ -18,7 +18,7 @@ pub struct Disk<'a> {
 }
 
 impl<'a> Disk<'a> {
-    /// Progress is shown if standard error is a terminal.
+    /// Returns the files of the system, with progress lines if standard error is a terminal.
     pub fn new(rt: &'a HostRuntime) -> Self {
         Disk {
             rt,
@@ -80,7 +80,7 @@ pub struct OpenFile<'a> {
 }
 
 impl OpenFile<'_> {
-    // Adds to the count of bytes, and shows it from time to time. If that fails, the run goes on.
+    // Adds to the number of bytes, and sometimes shows it. If that fails, the run continues.
     fn count(&mut self, bytes: usize) {
         self.read = self.read.saturating_add(bytes as u64);
         if !self.shows_progress {

@@ -21,18 +21,18 @@ pub struct Entry<A: Allocator> {
     pub name: Vec<u8, A>,
 }
 
-/// What a line of a list is.
+/// A line of a list.
 #[derive(Drop)]
 pub enum Line<A: Allocator> {
-    /// A hash and a name.
+    /// A line with a hash and a name.
     Entry(Entry<A>),
-    /// A line that begins with `#`, or an empty one.
+    /// A line that begins with `#`, or an empty line.
     Comment,
-    /// Neither.
+    /// Any other line.
     Malformed,
 }
 
-// A copy of a name, escapes and all.
+// Returns a copy of a name, with its escapes.
 fn copy<A: Allocator>(alloc: A, name: &[u8]) -> Result<Vec<u8, A>, AllocError>
     ensures { IfOk result (λ copy. copy.items ≡ name.now) }
 {
@@ -41,7 +41,7 @@ fn copy<A: Allocator>(alloc: A, name: &[u8]) -> Result<Vec<u8, A>, AllocError>
     Ok(copy)
 }
 
-// The entry of a line without its first backslash, if the name is escaped.
+// Returns the entry of a line without its first backslash, if the name is escaped.
 #[tactic(auto, using(crate::proofs::Lines::unescape_from_escaped))]
 fn escaped_entry<A: Allocator>(alloc: A, line: &[u8]) -> Result<Option<Entry<A>>, AllocError>
     ensures { (layout : Layout) (algorithm : Algorithm) (hash : ℕ) (name : List ℕ) →
@@ -62,7 +62,7 @@ fn escaped_entry<A: Allocator>(alloc: A, line: &[u8]) -> Result<Option<Entry<A>>
     }))
 }
 
-// The entry of a line, if the name is not escaped.
+// Returns the entry of a line, if the name is not escaped.
 fn plain_entry<A: Allocator>(alloc: A, line: &[u8]) -> Result<Option<Entry<A>>, AllocError>
     ensures { (layout : Layout) (algorithm : Algorithm) (hash : ℕ) (name : List ℕ) →
         Fits algorithm hash →
@@ -79,7 +79,7 @@ fn plain_entry<A: Allocator>(alloc: A, line: &[u8]) -> Result<Option<Entry<A>>, 
     }))
 }
 
-// The entry of a line, if it has one.
+// Returns the entry of a line, if it has one.
 #[tactic(auto, using(crate::proofs::Lines::behind_backslash, crate::proofs::Lines::no_backslash))]
 fn entry_of<A: Allocator>(alloc: A, line: &[u8]) -> Result<Option<Entry<A>>, AllocError>
     ensures { (layout : Layout) (algorithm : Algorithm) (hash : ℕ) (name : List ℕ) →
@@ -94,7 +94,7 @@ fn entry_of<A: Allocator>(alloc: A, line: &[u8]) -> Result<Option<Entry<A>>, All
     }
 }
 
-// The line without the spaces and tabs at its start.
+// Returns the line without the spaces and tabs at its start.
 fn without_indent(line: &[u8]) -> &[u8] {
     let indent = line
         .iter()
@@ -103,8 +103,8 @@ fn without_indent(line: &[u8]) -> &[u8] {
     line.get(indent..).unwrap_or(&[])
 }
 
-/// Returns what a line is, given without its newline. It ignores spaces and tabs at its start, and
-/// a carriage return at its end.
+/// Parses a line without its newline. Ignores spaces and tabs at its start and a carriage return at
+/// its end.
 ///
 /// # Errors
 ///

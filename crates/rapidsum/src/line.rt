@@ -17,7 +17,7 @@ use crate::names::{needs_escape, push_escaped};
 use hex::encode_to_slice;
 use std::alloc::{AllocError, Allocator};
 
-/// How a line is laid out.
+/// The layout of a line.
 #[derive(Clone, Copy, PartialEq, Eq)]
 pub enum Layout {
     /// The digits, two spaces and the name.
@@ -28,7 +28,7 @@ pub enum Layout {
     Tagged,
 }
 
-/// The layout of each line, and how it ends.
+/// The layout and the end of each line.
 #[derive(Clone, Copy)]
 pub struct Style {
     pub layout: Layout,
@@ -45,7 +45,7 @@ fn push_digits<A: Allocator>(text: &mut Vec<u8, A>, number: u64) -> Result<(), A
     text.extend_from_slice(&digits)
 }
 
-// A version as a tag has it.
+// Returns the text of a version in a tag.
 #[tactic(auto, unfolding(crate::specs::Line::version_text))]
 fn version_text(version: Version) -> &'static [u8]
     ensures { result.now ≡ version_text version }
@@ -61,7 +61,7 @@ fn version_text(version: Version) -> &'static [u8]
     }
 }
 
-// Adds a seed word as a tag has it.
+// Adds the text of a seed word in a tag.
 #[tactic(auto, unfolding(crate::specs::Line::seed_text))]
 fn push_seed<A: Allocator>(text: &mut Vec<u8, A>, seed: Option<u64>) -> Result<(), AllocError>
     ensures { OnOk result (text.new.items ≡ text.old.items ++ seed_text seed) }
@@ -75,7 +75,7 @@ fn push_seed<A: Allocator>(text: &mut Vec<u8, A>, seed: Option<u64>) -> Result<(
     }
 }
 
-// Adds what a tagged line begins with.
+// Adds the tag of a line.
 fn push_tag<A: Allocator>(text: &mut Vec<u8, A>, algorithm: Algorithm) -> Result<(), AllocError>
     ensures { OnOk result (text.new.items ≡ text.old.items ++ tag_of algorithm) }
 {
@@ -85,7 +85,7 @@ fn push_tag<A: Allocator>(text: &mut Vec<u8, A>, algorithm: Algorithm) -> Result
     Ok(())
 }
 
-// Adds what follows a tag.
+// Adds the text after a tag.
 fn push_value<A: Allocator>(line: &mut Vec<u8, A>, hash: u64, text: &[u8]) -> Result<(), AllocError>
     ensures { OnOk result (line.new.items ≡ line.old.items ++ value_of hash text.now) }
 {
@@ -145,7 +145,7 @@ pub fn line_of<A: Allocator + Copy>(
     Ok(line)
 }
 
-/// Returns what is printed for a hash and a name.
+/// Returns the printed text for a hash and a name.
 ///
 /// # Errors
 ///

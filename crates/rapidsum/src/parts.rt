@@ -10,17 +10,17 @@ use crate::algorithm::Algorithm;
 use crate::tag::split_tag;
 use hex::FromHex;
 
-/// What a line has before its name is unescaped.
+/// The parts of a line, whose name is still escaped.
 #[derive(Clone, Copy)]
 pub struct Parts<'a> {
     /// The version and seed, if the line names them.
     pub algorithm: Option<Algorithm>,
     pub hash: u64,
-    /// The name as it is printed.
+    /// The name as printed.
     pub text: &'a [u8],
 }
 
-// The number of 16 digits, in either case.
+// Returns the number of 16 digits, in either case.
 #[tactic(auto, using(crate::proofs::Lines::digits_decode, crate::proofs::Lines::hash_of_bytes))]
 fn number_of(digits: &[u8]) -> Option<u64>
     ensures { (number : ℕ) → number < 2 ^ 64 → digits.now ≡ digits_of number →
@@ -32,7 +32,7 @@ fn number_of(digits: &[u8]) -> Option<u64>
     }
 }
 
-// The text without the carriage return at its end, if it has one.
+// Returns the text without the carriage return at its end, if it has one.
 #[tactic(auto, using(crate::proofs::Lines::no_return_at, crate::proofs::Lines::no_return_behind))]
 fn without_return(text: &[u8]) -> &[u8]
     ensures name { (name : List ℕ) → text.now ≡ escaped name → result.now ≡ text.now }
@@ -47,7 +47,7 @@ fn without_return(text: &[u8]) -> &[u8]
     }
 }
 
-// The text of the name after the digits and two spaces, or a space and an asterisk.
+// Returns the text of the name after the digits and two spaces, or a space and an asterisk.
 fn name_behind(rest: &[u8]) -> Option<&[u8]>
     ensures text { (name : List ℕ) → rest.now ≡ 32 ∷ 32 ∷ escaped name →
         IsSomeAnd result (λ text. text.now ≡ escaped name) }
@@ -60,7 +60,7 @@ fn name_behind(rest: &[u8]) -> Option<&[u8]>
     Some(without_return(text))
 }
 
-// A number at the start of a text, and what follows it.
+// Returns the number at the start of a text, and the text after it.
 #[tactic(auto, using(crate::proofs::Lines::digits_part, crate::proofs::Lines::rest_part))]
 pub fn split_digits(text: &[u8]) -> Option<(u64, &[u8])>
     ensures { (number : ℕ) (rest : List ℕ) → number < 2 ^ 64 →
@@ -71,7 +71,7 @@ pub fn split_digits(text: &[u8]) -> Option<(u64, &[u8])>
     Some((number_of(digits)?, rest))
 }
 
-// The text before its last bytes, and these.
+// Returns the text before its last bytes, and these bytes.
 #[tactic(auto, using(crate::proofs::Lines::front_part, crate::proofs::Lines::back_part))]
 fn split_end(text: &[u8], count: usize) -> Option<(&[u8], &[u8])>
     ensures { (front back : List ℕ) → text.now ≡ front ++ back → length back ≡ count →
@@ -80,7 +80,7 @@ fn split_end(text: &[u8], count: usize) -> Option<(&[u8], &[u8])>
     text.split_at_checked(text.len().checked_sub(count)?)
 }
 
-// What follows a space and an opening parenthesis.
+// Returns the text after a space and an opening parenthesis.
 fn behind_parenthesis(text: &[u8]) -> Option<&[u8]>
     ensures { (rest : List ℕ) → text.now ≡ 32 ∷ 40 ∷ rest →
         IsSomeAnd result (λ behind. behind.now ≡ rest) }
@@ -91,14 +91,14 @@ fn behind_parenthesis(text: &[u8]) -> Option<&[u8]>
     }
 }
 
-// Whether a text is the closing parenthesis and the equals sign.
+// Returns whether a text is the closing parenthesis and the equals sign.
 fn is_equals_sign(text: &[u8]) -> bool
     ensures { text.now ≡ 41 ∷ 32 ∷ 61 ∷ 32 ∷ [] → result ≡ true }
 {
     matches!(text, [b')', b' ', b'=', b' '])
 }
 
-// The text of a name in parentheses, before an equals sign.
+// Returns the text of a name in parentheses, before an equals sign.
 fn within_parentheses(text: &[u8]) -> Option<&[u8]>
     ensures { (name : List ℕ) → text.now ≡ (32 ∷ 40 ∷ name) ++ 41 ∷ 32 ∷ 61 ∷ 32 ∷ [] →
         IsSomeAnd result (λ within. within.now ≡ name) }
@@ -111,7 +111,7 @@ fn within_parentheses(text: &[u8]) -> Option<&[u8]>
     Some(name)
 }
 
-// The text of a name in parentheses, and the number after it.
+// Returns the text of a name in parentheses, and the number after it.
 fn split_value(rest: &[u8]) -> Option<(&[u8], u64)>
     ensures { (hash : ℕ) (text : List ℕ) → hash < 2 ^ 64 → rest.now ≡ value_of hash text →
         IsSomeAnd result (λ parts. (parts.0.now ≡ text) × (parts.1 ≡ hash)) }
@@ -122,7 +122,7 @@ fn split_value(rest: &[u8]) -> Option<(&[u8], u64)>
     Some((text, hash))
 }
 
-// The parts of a line that begins with the digits.
+// Returns the parts of a line that begins with the digits.
 fn split_plain(line: &[u8]) -> Option<Parts<'_>>
     ensures text { (hash : ℕ) (name : List ℕ) → hash < 2 ^ 64 →
         line.now ≡ digits_of hash ++ 32 ∷ 32 ∷ escaped name →
@@ -139,7 +139,7 @@ fn split_plain(line: &[u8]) -> Option<Parts<'_>>
     })
 }
 
-// The parts of a line that begins with a tag.
+// Returns the parts of a line that begins with a tag.
 fn split_tagged(line: &[u8]) -> Option<Parts<'_>>
     ensures { (algorithm : Algorithm) (hash : ℕ) (text : List ℕ) → Fits algorithm hash →
         line.now ≡ tag_of algorithm ++ value_of hash text →
@@ -154,7 +154,7 @@ fn split_tagged(line: &[u8]) -> Option<Parts<'_>>
     })
 }
 
-// Whether a line begins as a tag does: no hexadecimal digit is an R.
+// Returns whether a line begins as a tag does: no hexadecimal digit is an R.
 fn begins_as_tag(line: &[u8]) -> bool
     ensures { result ≡ (slice_index line.now 0 == 82) }
 {

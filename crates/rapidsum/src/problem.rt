@@ -1,10 +1,10 @@
-//! What can go wrong.
+//! The errors of the program.
 
 use std::alloc::{AllocError, AllocFailed};
 use std::io::ErrorKind;
 use std::{fmt, io};
 
-/// Why a call failed.
+/// The reason for a failed call.
 #[derive(Drop)]
 pub enum Problem {
     /// An allocation failed.

@@ -1,4 +1,4 @@
-//! What a call of the program does.
+//! A call of the program: it prints or checks files.
 
 use crate::algorithm::Algorithm;
 use crate::arguments::bytes_of;
@@ -37,7 +37,7 @@ pub fn run_files(rt: &HostRuntime, matches: &ArgMatches<'_>) -> Result<bool, Pro
     Ok(passed)
 }
 
-// Prints the line of a file, or says why it cannot be read.
+// Prints the line of a file, or reports why it cannot be read.
 fn print_sum(
     console: &Console<'_>,
     name: &[u8],
@@ -56,14 +56,14 @@ fn print_sum(
     }
 }
 
-// The whole text of a list.
+// Returns the whole text of a list.
 fn read_whole(alloc: Global, disk: &Disk<'_>, name: &[u8]) -> io::Result<Vec<u8>> {
     let mut text = Vec::new(alloc);
     disk.open(name)?.read_to_end(&mut text)?;
     Ok(text)
 }
 
-// Checks the files of the list that has this name.
+// Checks the files of the list with this name.
 fn check_list(console: &mut Console<'_>, name: &[u8], given: Algorithm) -> Result<bool, Problem> {
     let rt = console.rt;
     let disk = Disk::new(rt);

@@ -1,4 +1,4 @@
-//! Where files come from, and the hash of a file.
+//! A source of files, and the hash of a file.
 
 ghost use Rattle.std.specs.Prelude.{◌≡◌, ℕ, List, Option, IfOk, IfSome};
 ghost use Rattle.rapidsum.specs.Algorithm.{hash_of};
@@ -8,15 +8,15 @@ use std::alloc::Allocator;
 use std::io;
 use std::io::Read;
 
-/// Where files come from: a disk, or a test.
+/// A source of files: a disk, or a test.
 pub trait Store {
     /// An open file.
     type Reader: Read + Drop;
 
-    // The bytes of the file of a name, if they are known.
+    // The bytes of the file with a name, if they are known.
     ghost told: { Self → List ℕ → Option (List ℕ) };
 
-    /// Opens the file of a name.
+    /// Opens the file with a name.
     fn open(&self, name: &[u8]) -> io::Result<Self::Reader>
         ensures { IfOk result (λ reader. Self.Reader.remaining reader ≡ told self.now name.now) };
 
@@ -24,7 +24,7 @@ pub trait Store {
     fn length(&self, reader: &Self::Reader) -> Option<u64>;
 }
 
-/// Returns the hash of the file that has a name.
+/// Returns the hash of the file with a name.
 ///
 /// # Errors
 ///

@@ -8,7 +8,7 @@ ghost use Rattle.rapidsum.specs.Line.{digits_of, tag_of};
 use crate::algorithm::{Algorithm, Version};
 use crate::parts::split_digits;
 
-// What follows the start that all tags have.
+// Returns the text after the start that all tags share.
 fn behind_prefix(line: &[u8]) -> Option<&[u8]>
     ensures { (rest : List ℕ) → line.now ≡ codes "RAPIDHASH-V" ++ rest →
         IsSomeAnd result (λ behind. behind.now ≡ rest) }
@@ -32,7 +32,7 @@ fn behind_prefix(line: &[u8]) -> Option<&[u8]>
     }
 }
 
-// A version at the start of a text, and what follows it.
+// Returns the version at the start of a text, and the text after it.
 fn split_version(text: &[u8]) -> Option<(Version, &[u8])>
     ensures { ReadsVersions text.now result }
 {
@@ -48,7 +48,7 @@ fn split_version(text: &[u8]) -> Option<(Version, &[u8])>
     }
 }
 
-// A seed word at the start of a text, if there is one, and what follows it.
+// Returns the seed word at the start of a text, if there is one, and the text after it.
 fn split_seed(text: &[u8]) -> Option<(Option<u64>, &[u8])>
     ensures default { (rest : List ℕ) → text.now ≡ 32 ∷ rest →
         IsSomeAnd result (λ parts. (parts.0 ≡ None) × (parts.1.now ≡ 32 ∷ rest)) }
@@ -63,7 +63,7 @@ fn split_seed(text: &[u8]) -> Option<(Option<u64>, &[u8])>
     Some((Some(digits), rest))
 }
 
-// A version and a seed at the start of a line, and what follows them.
+// Returns the version and the seed at the start of a line, and the text after them.
 pub fn split_tag(line: &[u8]) -> Option<(Algorithm, &[u8])>
     ensures { (algorithm : Algorithm) (rest : List ℕ) → line.now ≡ tag_of algorithm ++ 32 ∷ rest →
         IfSome algorithm.seed (λ word. word < 2 ^ 64) →

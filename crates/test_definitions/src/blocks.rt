@@ -67,7 +67,7 @@ pub(crate) fn end_after(end: (usize, usize), item: Absorbed<'_>) -> (usize, usiz
     }
 }
 
-/// What an item adds to the number of a block.
+/// Returns the number that an item adds to that of a block.
 fn share(place: usize, end: (usize, usize), item: Absorbed<'_>) -> u128
     requires count { end.0 + 1 < 2 ^ 64 }
     requires inside { end.1 ≤ 128 }
@@ -85,7 +85,7 @@ fn share(place: usize, end: (usize, usize), item: Absorbed<'_>) -> u128
     }
 }
 
-/// Where the integers of a list end.
+/// Returns the end of the integers of a list.
 pub(crate) fn end_of(items: &[Absorbed<'_>]) -> (usize, usize)
     ensures end { result ≡ end_of (map item_of items.now) }
     ensures inside { result.1 ≤ 128 }

@@ -41,7 +41,7 @@ impl Version {
         Version::Nano,
     ];
 
-    /// Its common name.
+    /// Returns its common name.
     pub fn name(self) -> &'static str {
         match self {
             Version::V1 => "v1",
@@ -55,12 +55,12 @@ impl Version {
         }
     }
 
-    /// Whether the library has compact code for it.
+    /// Returns whether the library has compact code for it.
     pub fn has_compact(self) -> bool {
         !matches!(self, Version::Micro | Version::Nano)
     }
 
-    /// Its form in the definition.
+    /// Returns its form in the definition.
     pub fn form(self) -> Form
         ensures { IsForm result }
     {
@@ -86,7 +86,7 @@ pub struct Secrets {
     pub seven: v3::RapidSecrets,
 }
 
-/// The library's hash of a version.
+/// Returns the library's hash of a version.
 fn hash<const AVALANCHE: bool, const COMPACT: bool, const PROTECTED: bool>(
     version: Version,
     secrets: &Secrets,
@@ -106,7 +106,7 @@ fn hash<const AVALANCHE: bool, const COMPACT: bool, const PROTECTED: bool>(
     }
 }
 
-/// The library's hash of a version and options.
+/// Returns the library's hash of a version and options.
 pub fn body<const COMPACT: bool>(
     version: Version,
     options: Options,
@@ -121,7 +121,7 @@ pub fn body<const COMPACT: bool>(
     }
 }
 
-/// The definition's value of a version and options.
+/// Returns the definition's value of a version and options.
 pub fn defined(version: Version, options: Options, secrets: &Secrets, bytes: &[u8]) -> u64 {
     let form = version.form();
     let three = &secrets.three;
@@ -138,7 +138,8 @@ pub fn defined(version: Version, options: Options, secrets: &Secrets, bytes: &[u
     }
 }
 
-/// The same by the bytes' length and the words that the version reads of them.
+/// Returns the same value, from the length of the bytes and the words that the version reads of
+/// them.
 pub fn defined_by_words(
     alloc: Global,
     version: Version,
@@ -165,7 +166,7 @@ pub fn defined_by_words(
     })
 }
 
-/// The in-memory core's value of some options.
+/// Returns the in-memory core's value of some options.
 pub fn memory_body<const COMPACT: bool>(options: Options, secrets: &Secrets, bytes: &[u8]) -> u64 {
     let seed = secrets.seven.seed;
     let words = &secrets.seven.secrets;

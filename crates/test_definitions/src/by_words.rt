@@ -22,8 +22,8 @@ impl Pairs for Words<'_> {
     }
 }
 
-/// The value of a length and the words that a form reads of a message. V2's minor must be at most
-/// 2, and V3's lanes 1 to 7.
+/// Returns the value of a length and the words that a form reads of a message. V2's minor must be
+/// at most 2, and V3's lanes 1 to 7.
 pub fn value_of_words(
     form: Form,
     options: Options,

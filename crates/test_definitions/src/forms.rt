@@ -1,5 +1,5 @@
-//! What each form is: how it cuts a message, which seeds and secrets it takes, and the two words
-//! that a message ends in.
+//! The forms: how each cuts a message, its seeds and secrets, and the two words at the end of a
+//! message.
 
 ghost use Rattle.std.specs.Prelude.{◌≡◌, ◌≤◌, ◌<◌, length};
 ghost use Rattle.rapidhash_portable.specs.Form.{IsForm, shape_of, start_seed, tail_seed, tail_places, masks};
@@ -112,7 +112,7 @@ pub(crate) fn tail_places(form: Form, n: usize) -> &'static [usize]
     }
 }
 
-/// The two words that a message ends in.
+/// The two words at the end of a message.
 #[tactic(auto, using(crate::proofs::Cases::tests), unfolding(crate::proofs::Cases::last_words))]
 pub(crate) fn last_words(form: Form, bytes: &[u8]) -> (u64, u64)
     ensures { result ≡ last_words form bytes.now }
@@ -180,7 +180,7 @@ fn words_to_3(form: Form, bytes: &[u8]) -> (u64, u64)
     }
 }
 
-/// What becomes of them.
+/// The two words, mixed.
 #[tactic(auto, using(crate::proofs::Cases::tests), unfolding(crate::proofs::Cases::mixed_words))]
 pub(crate) fn mixed_words(form: Form, n: usize, t: usize, words: (u64, u64)) -> (u64, u64)
     ensures { result ≡ mixed_words form n t words }
@@ -198,7 +198,7 @@ pub(crate) fn mixed_words(form: Form, n: usize, t: usize, words: (u64, u64)) -> 
     }
 }
 
-/// What the avalanche mixes into the halves of the last product.
+/// The masks that the avalanche mixes into the halves of the last product.
 pub(crate) fn masks(form: Form, secrets: &[u64], n: usize, t: usize) -> (u64, u64)
     ensures { result ≡ masks form secrets.now n t }
 {

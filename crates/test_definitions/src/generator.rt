@@ -8,13 +8,13 @@ ghost use Rattle.rapidhash_portable.specs.Secrets.{s1};
 
 use crate::walk::mix;
 
-/// What a step adds to the state: the first default secret.
+/// The number that a step adds to the state: the first default secret.
 const STEP: u64 = 0x2d35_8dcc_aa6c_78a5;
 
-/// What a word mixes its state with: the second.
+/// The number with which a word mixes its state: the second default secret.
 const MASK: u64 = 0x8bb8_4b93_962e_acc9;
 
-/// The state after `count` steps from a seed.
+/// Returns the state after `count` steps from a seed.
 pub fn state_after(seed: u64, count: u64) -> u64
     ensures { result ≡ state_after seed count }
 {
@@ -22,14 +22,14 @@ pub fn state_after(seed: u64, count: u64) -> u64
     (sum % 0x1_0000_0000_0000_0000) as u64
 }
 
-/// The word that a state gives.
+/// Returns the word of a state.
 pub fn word_of(state: u64) -> u64
     ensures { result ≡ word_of state }
 {
     mix(false, state, state ^ MASK)
 }
 
-/// The other word of a state, which the crate calls not portable.
+/// Returns the other word of a state, which the crate calls not portable.
 pub fn other_word_of(state: u64) -> u64
     ensures { result ≡ mix false state s1 }
 {
@@ -43,7 +43,7 @@ fn moment_of(secs: u64, nanos: u32) -> u64
     secs % 0x1_0000_0000 * 0x1_0000_0000 + u64::from(nanos)
 }
 
-/// The seed that a time makes from another.
+/// Returns the seed that a time derives from another.
 pub fn seed_at_moment(seed: u64, secs: u64, nanos: u32) -> u64
     ensures { result ≡ seed_at_moment seed secs nanos }
 {

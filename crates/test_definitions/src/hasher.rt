@@ -12,7 +12,7 @@ use crate::walk::mix;
 use rapidhash::laws::Num;
 use rapidhash_portable::form::Options;
 
-/// What a hasher absorbs.
+/// An item that a hasher absorbs.
 #[derive(Clone, Copy)]
 pub enum Absorbed<'d> {
     /// Bytes.
@@ -113,8 +113,8 @@ fn close(options: Options, secrets: &[u64], seed: u64, pending: u128, width: usi
     }
 }
 
-/// The hash of a hasher that starts from a seed and absorbs the items in order. With a sponge it
-/// packs integers into blocks of 128 bits.
+/// Returns the hash of a hasher that starts from a seed and absorbs the items in order. With a
+/// sponge it packs integers into blocks of 128 bits.
 pub fn finished(
     options: Options,
     sponge: bool,

@@ -27,7 +27,7 @@ impl Pairs for Message<'_> {
     }
 }
 
-/// The portable hash of `bytes`. V2's minor must be at most 2, and V3's lanes 1 to 7.
+/// Returns the portable hash of `bytes`. V2's minor must be at most 2, and V3's lanes 1 to 7.
 pub fn portable_hash(form: Form, options: Options, seed: u64, secrets: &[u64], bytes: &[u8]) -> u64
     requires { IsForm form }
     ensures { result ≡ portable_hash form options seed secrets.now bytes.now }
@@ -44,7 +44,7 @@ pub fn portable_hash(form: Form, options: Options, seed: u64, secrets: &[u64], b
     )
 }
 
-/// The value of the in-memory core.
+/// Returns the value of the in-memory core.
 #[tactic(auto, unfolding(crate::proofs::Cases::core_hash, crate::proofs::Cases::after_pairs))]
 pub fn core_hash(options: Options, bytes: &[u8], seed: u64, secrets: &[u64]) -> u64
     ensures { result ≡ core_hash options bytes.now seed secrets.now }

@@ -50,7 +50,7 @@ fn premixed(word: u64, place: usize) -> u64
     repaired(word ^ mix(false, word ^ 0x4b33_a62e_d433_d4a3, other))
 }
 
-/// A word after `count` premixes. Secret k that a number makes is its seed after k + 1 of them.
+/// Returns a word after `count` premixes. Secret k of a number is its seed after k + 1 of them.
 pub fn chained(word: u64, count: usize) -> u64
     ensures { result ≡ chained word count }
 {
@@ -61,7 +61,7 @@ pub fn chained(word: u64, count: usize) -> u64
     last
 }
 
-/// The seed that a number makes.
+/// Returns the seed derived from a number.
 #[tactic(auto, unfolding(rapidhash_portable::specs::Secrets::seeded))]
 pub fn seeded(number: u64) -> u64
     ensures { result ≡ seeded number }
@@ -69,7 +69,7 @@ pub fn seeded(number: u64) -> u64
     premixed(number, 0)
 }
 
-/// The seed that a number makes, with the default secrets.
+/// Returns the seed derived from a number with the default secrets.
 #[tactic(auto, unfolding(rapidhash_portable::specs::Secrets::cpp_seeded))]
 pub fn cpp_seeded(number: u64, place: usize) -> u64
     ensures { result ≡ cpp_seeded number place }
@@ -78,7 +78,7 @@ pub fn cpp_seeded(number: u64, place: usize) -> u64
     number ^ mix(false, number ^ first, 0x8bb8_4b93_962e_acc9)
 }
 
-/// The seed made of a seed.
+/// Returns the seed derived from a seed.
 #[tactic(auto, unfolding(rapidhash_portable::specs::Secrets::reseeded))]
 pub fn reseeded(seed: u64, place: usize) -> u64
     ensures { result ≡ reseeded seed place }
@@ -86,7 +86,7 @@ pub fn reseeded(seed: u64, place: usize) -> u64
     premixed(seed, place)
 }
 
-/// The global seed that a random word gives.
+/// Returns the global seed of a random word.
 #[tactic(auto, unfolding(rapidhash_portable::specs::Secrets::global_seed))]
 pub fn global_seed(random: u64) -> u64
     ensures { result ≡ global_seed random }
@@ -94,7 +94,7 @@ pub fn global_seed(random: u64) -> u64
     mix(false, random ^ 0x2d35_8dcc_aa6c_78a5, 0xbdd8_9aa9_8270_4029)
 }
 
-/// What a random word's secrets are made of, after `count` of them.
+/// The state from which a random word's secrets are derived, after `count` of them.
 fn made_state(random: u64, count: usize) -> u64
     ensures { result ≡ made_state random count }
 {
@@ -106,7 +106,7 @@ fn made_state(random: u64, count: usize) -> u64
     state
 }
 
-/// The seven secrets that a random word makes.
+/// Returns the seven secrets of a random word.
 #[tactic(auto, unfolding(rapidhash_portable::specs::Secrets::made_secrets))]
 pub fn made_secrets(random: u64) -> [u64; 7]
     ensures { result ≡ made_secrets random }
@@ -122,7 +122,7 @@ pub fn made_secrets(random: u64) -> [u64; 7]
     ]
 }
 
-/// Where the counter of a seed source starts, by a global seed and a second random word.
+/// Returns the start of the counter of a seed source, from a global seed and a second random word.
 #[tactic(auto, unfolding(rapidhash_portable::specs::Secrets::source_start))]
 pub fn source_start(global: u64, random: u64) -> u64
     ensures { result ≡ source_start global random }
@@ -135,14 +135,14 @@ pub fn source_start(global: u64, random: u64) -> u64
     )
 }
 
-/// The counter of a seed source after one more seed.
+/// Returns the counter of a seed source after one more seed.
 pub fn source_next(counter: u64) -> u64
     ensures { result ≡ source_next counter }
 {
     counter.wrapping_add(0x2d35_8dcc_aa6c_78a5)
 }
 
-/// The seed that a seed source returns at a counter.
+/// Returns the seed that a seed source returns at a counter.
 #[tactic(auto, unfolding(rapidhash_portable::specs::Secrets::source_answer))]
 pub fn source_answer(random: u64, counter: u64) -> u64
     ensures { result ≡ source_answer random counter }

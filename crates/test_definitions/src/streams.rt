@@ -11,7 +11,7 @@ use rapidhash_portable::form::{Form, Options};
 use rapidhash_portable::v3::RapidSecrets;
 use std::alloc::{AllocError, Global};
 
-/// How many chunks of `n` bytes are folded; the last byte is in no folded chunk.
+/// Returns the number of folded chunks of `n` bytes; the last byte is in no folded chunk.
 pub fn chunk_count(lanes: usize, n: usize) -> usize
     requires { IsLaneCount lanes }
     ensures { result ≡ chunk_count lanes n }
@@ -19,7 +19,7 @@ pub fn chunk_count(lanes: usize, n: usize) -> usize
     n.saturating_sub(1) / (16 * lanes)
 }
 
-/// The hashes of a run: each is that of the bytes written since the last reset.
+/// Returns the hashes of a run: each is that of the bytes written since the last reset.
 pub fn finishes(
     alloc: Global,
     lanes: usize,

@@ -1,5 +1,5 @@
-//! The hash of a message, or of the words that a form reads of one. Every lane folds its own column
-//! of all pairs alone, as in the definition.
+//! The hash of a message, or of the words that a form reads of a message. Every lane folds its own
+//! column of all pairs alone, as in the definition.
 
 ghost use Rattle.std.specs.Prelude.{◌≡◌, ◌≤◌, ◌<◌, ◌+◌, ◌*◌, ◌-◌, ◌/◌, ℕ, length};
 ghost use Rattle.rapidhash_portable.specs.Form.{IsForm};
@@ -13,12 +13,12 @@ use crate::secrets::secret;
 use rapidhash_portable::form::{Form, Options, Shape};
 use rapidhash_portable::util::{rapid_mix, rapid_mum};
 
-/// What pairs are read from.
+/// A source of pairs.
 pub(crate) trait Pairs {
     // The pair at a place.
     ghost pair_at: { Self → ℕ → ℕ × ℕ };
 
-    // How many places may be read.
+    // The number of places that may be read.
     ghost places: { Self → ℕ };
 
     /// Pair `k`.
@@ -38,7 +38,7 @@ fn multiply(protected: bool, a: u64, b: u64) -> (u64, u64)
     }
 }
 
-/// The two folded into one word.
+/// Returns the two folded into one word.
 pub fn mix(protected: bool, a: u64, b: u64) -> u64
     ensures { result ≡ mix protected a b }
 {
@@ -161,7 +161,7 @@ pub(crate) fn close(
     }
 }
 
-/// The value of `n` bytes, of their pairs, and of the two words that they end in.
+/// The value of `n` bytes, of their pairs, and of the two words at their end.
 #[tactic(auto, unfolding(rapidhash_portable::specs::Hash::value))]
 pub(crate) fn value<P: Pairs>(
     form: Form,

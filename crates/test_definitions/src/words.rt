@@ -9,7 +9,7 @@ use rapidhash_portable::form::Form;
 use rapidhash_portable::util::read_u64;
 use std::alloc::{AllocError, Global};
 
-/// How many pairs of `n` bytes are folded: those of the rows, and those of the tail.
+/// The number of folded pairs of `n` bytes: those of the rows, and those of the tail.
 fn pairs_in(form: Form, n: usize) -> usize
     requires { IsForm form }
     ensures pairs { result ≡ pairs_in form n }
@@ -20,8 +20,8 @@ fn pairs_in(form: Form, n: usize) -> usize
     rows + (n - 16 * rows).saturating_sub(1) / 16
 }
 
-/// The words that a form reads, in pairs: those of the rows and of the tail in the message's order,
-/// and then the last two. V2's minor must be at most 2, and V3's lanes 1 to 7.
+/// Returns the words that a form reads, in pairs: those of the rows and of the tail in the
+/// message's order, and then the last two. V2's minor must be at most 2, and V3's lanes 1 to 7.
 pub fn absorbed_words(
     alloc: Global,
     form: Form,

@@ -1,4 +1,4 @@
-//! How many chunk steps a stream hasher makes for a message in one piece, in two, and in single
+//! The chunk steps that a stream hasher makes for a message in one piece, in two, and in single
 //! bytes. `proofs/StandardFacts.antt` has the count at lengths around each chunk.
 
 ghost use Rattle.std.specs.Prelude.{◌≡◌, ◌+◌, ◌++◌, false, length};
@@ -7,7 +7,7 @@ ghost use Rattle.rapidhash_portable.specs.Stream.{StreamRepresents, chunk_count,
 
 use rapidhash_portable::v3::{RapidSecrets, RapidStreamHasherLanes};
 
-/// A hasher after one piece.
+/// Returns a hasher after one piece.
 pub fn after_one_piece<'a, const LANES: usize>(
     secrets: &'a RapidSecrets,
     bytes: &[u8],
@@ -21,7 +21,7 @@ pub fn after_one_piece<'a, const LANES: usize>(
     hasher
 }
 
-/// A hasher after one byte a piece.
+/// Returns a hasher after pieces of one byte.
 pub fn after_single_bytes<'a, const LANES: usize>(
     secrets: &'a RapidSecrets,
     bytes: &[u8],
@@ -37,7 +37,7 @@ pub fn after_single_bytes<'a, const LANES: usize>(
     hasher
 }
 
-/// A hasher after two pieces.
+/// Returns a hasher after two pieces.
 pub fn after_two_pieces<'a, const LANES: usize>(
     secrets: &'a RapidSecrets,
     first: &[u8],

@@ -1,7 +1,7 @@
 //! Tests of the portable hashes (of slices, pieces and readers) and of the command line.
 //!
-//! The counts of chunk steps are contracts ([`counts`]); the rest is what no contract says, with
-//! numbers worked out by hand or taken from the Rust crate.
+//! The counts of chunk steps are contracts ([`counts`]); the rest is in no contract, with numbers
+//! worked out by hand or those of the Rust crate.
 #![tactic(auto)]
 
 pub mod counts;

@@ -1,4 +1,4 @@
-//! Secrets and seeds that are made of random words.
+//! Secrets and seeds of random words.
 
 use rapidhash::fast;
 use rapidhash_portable::seeding::{GlobalSecrets, SeedSource};
@@ -57,14 +57,14 @@ fn test_create_secrets(rt: HostRuntime) {
     }
 }
 
-/// What a value hashes to as the key of a map.
+/// The hash of a value as the key of a map.
 fn hashed<T: Hash>(value: &T) -> u64 {
     let mut hasher = fast::SeedableState::fixed().build_hasher();
     value.hash(&mut hasher);
     hasher.finish()
 }
 
-/// Secrets of V1 with one part taken away: the seed, or one of the secrets.
+/// Secrets of V1 without one part: the seed, or one of the secrets.
 fn without_a_part_of_three(secrets: v1::RapidSecrets) -> [v1::RapidSecrets; 4] {
     let mut all = [secrets; 4];
     all[3].seed = 0;
@@ -115,8 +115,8 @@ fn made_secrets_are_equal_by_their_word(rt: HostRuntime) {
     assert!(rt; global != GlobalSecrets::new(4712));
 }
 
-/// A counter that is 0 goes on like any other. This second random word makes the counter start
-/// there, whatever the seed. The expected values come from an independent program.
+/// A counter that is 0 goes on like any other. This second random word starts the counter there,
+/// whatever the seed. The expected values come from an independent program.
 #[test]
 fn a_seed_source_goes_on_from_0(rt: HostRuntime) {
     for word in WORDS {

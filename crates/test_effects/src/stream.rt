@@ -96,7 +96,7 @@ fn cuts_change_nothing(rt: HostRuntime) -> Result<(), Fail> {
 }
 
 /// A stream hasher is a reference, seven lanes whatever their number, 128 bytes, a length and a
-/// flag: its count of chunk steps takes no memory.
+/// flag: its count of chunk steps needs no memory.
 #[test]
 fn sizes_in_memory(rt: HostRuntime) {
     let size = 8 + 56 + 128 + 8 + 8;

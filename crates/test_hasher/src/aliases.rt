@@ -1,4 +1,4 @@
-//! The options of the short names: what `fast` and `quality` name.
+//! The options of the short names in `fast` and `quality`.
 
 use rapidhash::inner::{GlobalSecrets, SeedSource};
 use rapidhash::{fast, inner, quality};
@@ -8,8 +8,8 @@ use std::hash::{BuildHasher, Hasher};
 /// The hasher with a sponge, and with no other option but an avalanche.
 type Sponge<'s, const AVALANCHE: bool> = inner::RapidHasher<'s, AVALANCHE, true, false, false>;
 
-// Each of these functions takes a value by its short name and returns it by its full one, so it
-// compiles only if the two are one type.
+// Each of these functions accepts a value by its short name and returns it by its full one, so it
+// compiles only if the two are the same type.
 
 fn fast_hasher(hasher: fast::RapidHasher<'_>) -> inner::RapidHasher<'_, false, true, false, false> {
     hasher

@@ -89,7 +89,7 @@ fn room_that_is_refused(rt: HostRuntime) -> Result<(), Fail> {
     let mut sets = 0usize;
     for blocks in 0..64usize {
         let heap = LocalHeap::new(rt.alloc(), 16 * (blocks + 1))?;
-        // A heap has one block at least, so a byte takes one.
+        // A heap has one block at least, so a byte needs one.
         let _taken = Box::new(&heap, 0u8)?;
         let map: Result<RapidHashMap<u32, u32, _>, _> = HashMapExt::with_capacity(&heap, 10, state);
         match map {
@@ -166,7 +166,7 @@ fn room_for_ten(rt: HostRuntime) -> Result<(), Fail> {
     Ok(())
 }
 
-// How many bytes of a heap a map and a set with room for ten keys hold.
+// The number of bytes of a heap that a map and a set with room for ten keys hold.
 fn held_by_ten(alloc: Global, state: fast::RandomState) -> Result<usize, AllocError> {
     let heap = LocalHeap::new(alloc, 4096)?;
     let map: RapidHashMap<u32, u32, _> = HashMapExt::with_capacity(&heap, 10, state)?;

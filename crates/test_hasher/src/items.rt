@@ -22,7 +22,7 @@ fn mixing<'s, const COMPACT: bool>() -> Mixing<'s, COMPACT> {
     SeedableState::custom(0, &SECRETS).build_hasher()
 }
 
-/// What the hasher returns after fifteen bytes of 0, each an integer.
+/// The hash after fifteen bytes of 0, each an integer.
 fn fifteen<'s, const COMPACT: bool>() -> Packing<'s, COMPACT> {
     let mut hasher = packing::<COMPACT>();
     for _ in 0..15u8 {

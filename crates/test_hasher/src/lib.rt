@@ -1,6 +1,6 @@
 //! The tests of the in-memory hasher, its states, maps and sets, of the generator and of the laws:
-//! what no contract says. The numbers are worked out by hand, or are those of the Rust crate;
-//! messages of every length are compared with the definition.
+//! properties without a contract. The numbers are worked out by hand, or are those of the Rust
+//! crate; messages of every length are compared with the definition.
 #![tactic(auto)]
 
 #[cfg(test)]

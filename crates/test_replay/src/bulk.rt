@@ -16,7 +16,7 @@ pub const COLUMNS: &str =
 /// The columns of a file of the in-memory core.
 pub const MEMORY_COLUMNS: &str = "avalanche\tprotected\tmessage\tlength\tsecrets\texpected";
 
-/// The version of a case.
+/// Returns the version of a case.
 pub fn version_of(form: &str, bug: &str, minor: &str) -> Option<Version> {
     match (form, bug, minor) {
         ("v1", "0", _) => Some(Version::V1),
@@ -31,7 +31,7 @@ pub fn version_of(form: &str, bug: &str, minor: &str) -> Option<Version> {
     }
 }
 
-/// The options of a case.
+/// Returns the options of a case.
 pub fn options_of(avalanche: &str, protected: &str) -> Options {
     Options {
         avalanche: avalanche == "1",

@@ -30,7 +30,7 @@ pub const OPTIONS: [Options; 4] = [
     },
 ];
 
-/// How a body and its compact code compare with the definition's value, which is the expected one.
+/// The result of comparing a body and its compact code with the definition's value.
 fn of_bodies(expected: u64, body: u64, compact: Option<u64>) -> Agreement {
     Agreement {
         definition: None,
@@ -79,7 +79,7 @@ fn core_agrees(secrets: &Secrets, bytes: &[u8]) -> Tally {
     tally
 }
 
-/// Compares every version on the lengths 0 to 512; returns how many values differ.
+/// Compares every version on the lengths 0 to 512; returns the number of values that differ.
 fn print_versions(rt: &impl Print, secrets: &Secrets, bytes: &[u8]) -> Result<u64> {
     let mut differing = 0u64;
     for version in Version::ALL {
@@ -91,7 +91,7 @@ fn print_versions(rt: &impl Print, secrets: &Secrets, bytes: &[u8]) -> Result<u6
     Ok(differing)
 }
 
-/// Prints a line for each comparison; returns how many values differ.
+/// Prints a line for each comparison; returns the number of values that differ.
 pub fn compare(rt: &(impl Print + AllocGlobal)) -> Result<u64> {
     let secrets = secrets_of("seed:0")?;
     let bytes = message(rt.alloc(), "rng:0", 1025)?;

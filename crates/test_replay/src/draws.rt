@@ -31,7 +31,7 @@ fn defined(alloc: Global, seed: u64, count: u64) -> Result<Vec<u64>, AllocError>
     Ok(all)
 }
 
-/// What the calls return.
+/// The results of the calls.
 fn drawn(alloc: Global, seed: u64, count: u64) -> Result<Vec<u64>, AllocError> {
     let mut all = Vec::new(alloc);
     let mut state = seed;
@@ -77,7 +77,7 @@ pub fn replay_time(alloc: Global, line: &str) -> Result<Agreement> {
     Ok(agreement(expected.as_slice(), &[word_of(made), made], &[word, left]))
 }
 
-/// Replays how many steps lead from one state to another.
+/// Replays the number of steps from one state to another.
 pub fn replay_steps(alloc: Global, line: &str) -> Result<Agreement> {
     let fields: Vec<&str> = line.split("\t").collect(alloc)?;
     let [first, second, expected] = fields.as_slice() else {

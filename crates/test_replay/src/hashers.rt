@@ -15,7 +15,7 @@ use test_definitions::finished;
 /// The columns of a file of items.
 pub const COLUMNS: &str = "avalanche\tsponge\tprotected\tsecrets\titems\texpected";
 
-/// What the hasher of a seedable state returns.
+/// The results of the hasher of a seedable state.
 fn answer<const AVALANCHE: bool, const SPONGE: bool, const COMPACT: bool, const PROTECTED: bool>(
     start: &RapidSecrets,
     items: &[Item],

@@ -1,4 +1,4 @@
-//! What a hasher of maps absorbs, and how a vector file names it.
+//! The items of a hasher of maps, and their names in a vector file.
 
 use anyhow::{Result, bail};
 use rapidhash::inner::RapidHasher;
@@ -7,7 +7,7 @@ use std::alloc::Global;
 use std::hash::Hasher;
 use test_definitions::Absorbed;
 
-/// Bytes, or an integer by the call that takes it.
+/// Bytes, or an integer by the call for it.
 #[derive(Drop)]
 pub enum Item {
     Bytes(Vec<u8>),
@@ -26,7 +26,7 @@ pub enum Item {
 }
 
 impl Item {
-    /// What the definition sees of it.
+    /// Returns the item of the definition.
     pub fn absorbed(&self) -> Absorbed<'_> {
         match self {
             Item::Bytes(bytes) => Absorbed::Bytes(bytes.as_slice()),
@@ -93,7 +93,7 @@ fn named(alloc: Global, word: &str) -> Result<Item> {
     })
 }
 
-/// The items of a field, `(none)` for none.
+/// Returns the items of a field, `(none)` for none.
 pub fn listed(alloc: Global, field: &str) -> Result<Vec<Item>> {
     let mut all = Vec::new(alloc);
     if field == "(none)" {

@@ -10,15 +10,15 @@ use test_definitions::bodies::{Secrets, Version, body};
 struct Known {
     first: Version,
     second: Version,
-    /// Where they differ, in words.
+    /// The lengths at which they differ, in words.
     words: &'static str,
     /// The same as the first and the last length of each run.
     runs: &'static [(usize, usize)],
 }
 
-/// What is known. Of V3 and a relative, the one with fewer lanes folds its first chunk at the first
-/// length at which they differ, and the V1 bug shows only at 48 bytes. V2.0 begins its
-/// rows at 57 bytes and not at 65, and V2.2 reads up to 3 bytes in another way and takes another
+/// The known differences. Of V3 and a relative, the one with fewer lanes folds its first chunk at
+/// the first length at which they differ, and the V1 bug shows only at 48 bytes. V2.0 begins its
+/// rows at 57 bytes and not at 65, and V2.2 reads up to 3 bytes in another way and has another
 /// secret for the third pair of a tail.
 const ALL: [Known; 5] = [
     Known {
@@ -61,14 +61,14 @@ impl Known {
             .any(|&(first, last)| first <= n && n <= last)
     }
 
-    /// Whether they do on these bytes as is known.
+    /// Whether they differ on these bytes as is known.
     fn holds(&self, options: Options, secrets: &Secrets, x: &[u8]) -> bool {
         let first = body::<false>(self.first, options, secrets, x);
         let second = body::<false>(self.second, options, secrets, x);
         (first != second) == self.differ(x.len())
     }
 
-    /// On how many of the lengths below the bytes' own it holds with all options.
+    /// The number of lengths below the bytes' own at which it holds with all options.
     fn lengths(&self, secrets: &Secrets, bytes: &[u8]) -> u64 {
         let mut lengths = 0u64;
         for n in 0..bytes.len() {
@@ -82,8 +82,8 @@ impl Known {
     }
 }
 
-/// Prints on how many of the lengths 0 to 512 two versions agree or differ as is known; returns at
-/// how many lengths they do not.
+/// Prints the number of lengths from 0 to 512 at which two versions agree or differ as is known;
+/// returns the number of the others.
 pub fn print_lengths(rt: &impl Print, secrets: &Secrets, bytes: &[u8]) -> Result<u64> {
     let all = bytes.len() as u64;
     let mut otherwise = 0u64;

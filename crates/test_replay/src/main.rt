@@ -26,7 +26,7 @@ use std::rt::{Env, Files};
 use std::{env, fs};
 use tally::{Agreement, Tally};
 
-/// How the program is called.
+/// The usage.
 const USAGE: &str = "usage: test_replay [--compare] [FILE]..
 
 Compares the values of vector files with the definitions and the library, and
@@ -54,7 +54,7 @@ fn main(rt: HostRuntime) -> Result<ExitCode> {
     Ok(ExitCode::SUCCESS)
 }
 
-/// Replays one file, by the kind of cases that its column names say.
+/// Replays one file, whose column names select the kind of its cases.
 fn replay(rt: &(impl Files + Print + Eprint + AllocGlobal), name: &str) -> Result<Tally> {
     let text = fs::read_to_string(rt, name).context(format_args!("reading {name}"))?;
     let mut lines = text.lines().filter(|line| !line.starts_with("#"));

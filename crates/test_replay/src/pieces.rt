@@ -8,8 +8,8 @@ use anyhow::Result;
 use rapidhash_portable::v3::RapidStreamHasherLanes;
 use test_definitions::bodies::{Secrets, Version, body};
 
-/// How many of the lengths below the bytes' own a stream hasher of `LANES` lanes hashes as the bulk
-/// call does, by pieces of one size, each length after a reset.
+/// The number of lengths below the bytes' own at which a stream hasher of `LANES` lanes hashes as
+/// the bulk call does, in pieces of one size, each length after a reset.
 fn pieces_agree<const LANES: usize>(
     version: Version,
     secrets: &Secrets,
@@ -40,7 +40,7 @@ const SIZES: [usize; 14] = [
     1, 2, 15, 16, 17, 111, 112, 113, 128, 223, 224, 225, 511, 1024,
 ];
 
-/// Compares by pieces of each size; returns how many values differ.
+/// Compares in pieces of each size; returns the number of values that differ.
 fn print_sizes(rt: &impl Print, secrets: &Secrets, bytes: &[u8]) -> Result<u64> {
     let lengths = bytes.len() as u64;
     let mut differing = 0u64;
@@ -59,7 +59,7 @@ fn print_sizes(rt: &impl Print, secrets: &Secrets, bytes: &[u8]) -> Result<u64> 
     Ok(differing)
 }
 
-/// How many pairs of pieces V3's stream hasher hashes as the bulk call does, with a hash asked for
+/// The number of pairs of pieces that V3's stream hasher hashes as the bulk call does, with a hash
 /// after each piece and a reset after each pair.
 fn pairs_agree(secrets: &Secrets, bytes: &[u8]) -> u64 {
     let [options, ..] = OPTIONS;
@@ -82,7 +82,7 @@ fn pairs_agree(secrets: &Secrets, bytes: &[u8]) -> u64 {
     agreed
 }
 
-/// Pieces of 111, 112, 113 and 128 bytes in every order of two: where the first ends, and the
+/// Pieces of 111, 112, 113 and 128 bytes in every order of two: the end of the first, and of the
 /// second.
 const PAIRS: [(usize, usize); 16] = [
     (111, 222),
@@ -103,7 +103,7 @@ const PAIRS: [(usize, usize); 16] = [
     (128, 256),
 ];
 
-/// Compares by pieces of one size and by pairs of pieces; returns how many values differ.
+/// Compares in pieces of one size and by pairs of pieces; returns the number of values that differ.
 pub fn print_pieces(rt: &impl Print, secrets: &Secrets, bytes: &[u8]) -> Result<u64> {
     let sizes = print_sizes(rt, secrets, bytes)?;
     let agreed = pairs_agree(secrets, bytes);

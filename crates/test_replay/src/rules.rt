@@ -70,7 +70,7 @@ fn word_byte(seed: u64, i: u64) -> u8 {
     word.to_le_bytes()[(i % 8) as usize]
 }
 
-/// The message of a rule and a length.
+/// Returns the message of a rule and a length.
 pub fn message(alloc: Global, rule: &str, length: u64) -> Result<Vec<u8>> {
     if let Some(text) = rule.strip_prefix("text:") {
         return written(alloc, text, length);
@@ -114,7 +114,7 @@ fn placed(alloc: Global, places: &str, length: u64) -> Result<Vec<u8>> {
     Ok(bytes)
 }
 
-/// The secrets of a rule.
+/// Returns the secrets of a rule.
 pub fn secrets_of(rule: &str) -> Result<Secrets> {
     if rule == "default" {
         return Ok(Secrets {
@@ -195,7 +195,7 @@ fn of_words(words: [u64; 8]) -> Secrets {
     }
 }
 
-/// A decimal number.
+/// Parses a decimal number.
 pub fn number(text: &str) -> Result<u64> {
     text.parse::<u64>()
         .context(format_args!("reading the number {text}"))

@@ -1,4 +1,4 @@
-//! Cases of secrets made of a seed or of random words.
+//! Cases of secrets derived from a seed or from random words.
 
 use crate::rules::number;
 use crate::tally::Agreement;
@@ -31,7 +31,7 @@ fn listed(alloc: Global, seed: u64, secrets: &[u64]) -> Result<Vec<u64>, AllocEr
     Ok(words)
 }
 
-/// What the library's calls make.
+/// The results of the library's calls.
 fn made(alloc: Global, form: &str, call: &str, number: u64) -> Result<Vec<u64>> {
     let seven = match (form, call) {
         ("v1", "seed") => {
@@ -57,7 +57,7 @@ fn made(alloc: Global, form: &str, call: &str, number: u64) -> Result<Vec<u64>> 
     Ok(listed(alloc, seven.seed, &seven.secrets)?)
 }
 
-/// What the definitions make.
+/// The values of the definitions.
 fn defined(alloc: Global, form: &str, call: &str, number: u64) -> Result<Vec<u64>, AllocError> {
     let default = v3::DEFAULT_RAPID_SECRETS.secrets;
     let (count, first, last) = if form == "v1" { (3, 0, 2) } else { (7, 2, 6) };
@@ -86,7 +86,7 @@ pub fn numbers(alloc: Global, field: &str) -> Result<Vec<u64>> {
     Ok(all)
 }
 
-/// Whether two lists are equal, for the library's calls and for the definitions.
+/// Returns whether two lists are equal, for the library's calls and for the definitions.
 pub fn agreement(expected: &[u64], defined: &[u64], made: &[u64]) -> Agreement {
     Agreement::new(defined == expected, made == expected)
 }

@@ -1,4 +1,4 @@
-//! Cases of the stream hasher: messages in pieces, with a hash asked for between them.
+//! Cases of the stream hasher: messages in pieces, with hashes between them.
 
 ghost use Rattle.rapidhash_portable.specs.Lanes.{IsLaneCount};
 
@@ -20,7 +20,7 @@ pub const COLUMNS: &str = "avalanche\tprotected\tmessage\tlength\tsecrets\topera
 pub const LANES_COLUMNS: &str =
     "lanes\tavalanche\tprotected\tmessage\tlength\tsecrets\toperations\tsteps\texpected";
 
-/// A message, cut from its beginning on: `f` asks for a hash, `r` resets, a number is a size.
+/// A message, cut from its beginning on: `f` is a hash, `r` a reset, and a number a size.
 fn cut<'d>(alloc: Global, bytes: &'d [u8], operations: &str) -> Result<Vec<StreamOp<'d>>> {
     let mut steps = Vec::new(alloc);
     let mut rest = bytes;
@@ -42,7 +42,7 @@ fn cut<'d>(alloc: Global, bytes: &'d [u8], operations: &str) -> Result<Vec<Strea
     Ok(steps)
 }
 
-/// What the stream hasher of `LANES` lanes returns.
+/// The results of the stream hasher of `LANES` lanes.
 fn answers<const LANES: usize>(
     alloc: Global,
     options: Options,
@@ -59,7 +59,7 @@ fn answers<const LANES: usize>(
     }
 }
 
-/// How many chunks are folded at each hash that is asked for, by the definition.
+/// The number of folded chunks at each hash, by the definition.
 fn counts(alloc: Global, lanes: usize, steps: &[StreamOp<'_>]) -> Result<Vec<u64>, AllocError>
     requires { IsLaneCount lanes }
 {

@@ -2,8 +2,7 @@
 
 use std::fmt;
 
-/// Which of the values of one case agree with the expected one. There is none if the case has no
-/// such value.
+/// For each value of a case, whether it agrees with the expected one, if the case has such a value.
 #[derive(Clone, Copy)]
 pub struct Agreement {
     /// The definition's, computed as it is written.
@@ -19,7 +18,7 @@ pub struct Agreement {
 }
 
 impl Agreement {
-    /// Of a definition and of the library, which has no compact code for it.
+    /// Returns the agreement of a definition and of the library, which has no compact code for it.
     pub fn new(definition: bool, body: bool) -> Agreement {
         Agreement {
             definition: Some(definition),
@@ -31,7 +30,7 @@ impl Agreement {
     }
 }
 
-/// How many values of one kind were compared, and how many agree.
+/// The number of compared values of one kind, and of those that agree.
 #[derive(Clone, Copy)]
 struct Count {
     compared: u64,
@@ -59,7 +58,7 @@ impl Count {
     }
 }
 
-/// How many cases there are, and how many of their values agree.
+/// The number of cases, and of their values that agree.
 #[derive(Clone, Copy)]
 pub struct Tally {
     cases: u64,
@@ -93,7 +92,7 @@ impl Tally {
         definition || words || body || compact || steps
     }
 
-    /// How many values differ.
+    /// Returns the number of values that differ.
     pub fn differing(&self) -> u64 {
         let mut differing = 0u64;
         for count in [

@@ -1,4 +1,4 @@
-//! Compares the laws that tell two messages apart with the words that a form reads of them.
+//! Compares the laws that distinguish two messages with the words that a form reads of them.
 
 use crate::tally::{Agreement, Tally};
 use anyhow::Result;
@@ -54,7 +54,8 @@ fn words_tell(alloc: Global, version: Version, bytes: &[u8]) -> Result<Tally, Al
     Ok(tally)
 }
 
-/// Prints a line for each version, on the lengths 0 to 255; returns how many values differ.
+/// Prints a line for each version, on the lengths 0 to 255; returns the number of values that
+/// differ.
 pub fn print_words(rt: &(impl Print + AllocGlobal), bytes: &[u8]) -> Result<u64> {
     let mut differing = 0u64;
     for version in Version::ALL {

@@ -4,36 +4,36 @@ ghost use Rattle.std.specs.Prelude.{Some};
 
 use std::io::{Error, ErrorKind, Read, Result};
 
-/// Returns at most a given number of bytes a read, counts its reads, and fails at the read with a
-/// given number.
+/// Returns at most a number of bytes per read, counts its reads, and fails at the read with a
+/// number.
 #[derive(Drop)]
 pub struct CountingReader<'a> {
     /// The bytes that it still has.
     pub left: &'a [u8],
     /// The most bytes that a read returns. At 0 it returns one.
     pub most: usize,
-    /// How many reads were made, with the failing one and those at its end.
+    /// The number of reads, with the failing one and those at its end.
     pub reads: u64,
     /// The length of the longest buffer that was passed to it.
     pub longest: usize,
     /// The number of the read that fails, from 1 on, or 0 for none. A failing read consumes no
     /// byte, and the next one goes on.
     pub fails_at: u64,
-    /// How it fails.
+    /// The kind of its error.
     pub kind: ErrorKind,
 }
 
 impl<'a> CountingReader<'a> {
     ghost use Rattle.test_effects.specs.Readers.{Starts};
 
-    /// A reader without reads so far, which never fails.
+    /// Returns a reader without reads so far, which never fails.
     pub fn new(left: &'a [u8], most: usize) -> Self
         ensures { Starts result left.now most 0 ErrorKind.Other }
     {
         CountingReader::failing(left, most, 0, ErrorKind::Other)
     }
 
-    /// A reader without reads so far, which fails at one read.
+    /// Returns a reader without reads so far, which fails at one read.
     pub fn failing(left: &'a [u8], most: usize, fails_at: u64, kind: ErrorKind) -> Self
         ensures { Starts result left.now most fails_at kind }
     {

@@ -4,17 +4,17 @@ ghost use Rattle.std.specs.Prelude.{[], Some};
 
 use std::io::{Error, ErrorKind, Result, Write};
 
-/// Accepts one byte a write, and fails at the write with a given number.
+/// Accepts one byte per write, and fails at the write with a number.
 #[derive(Drop)]
 pub struct OneByteWriter {
     /// The bytes that it accepted.
     pub held: Vec<u8>,
-    /// How many writes were made, with the failing one.
+    /// The number of writes, with the failing one.
     pub writes: u64,
     /// The number of the write that fails, from 1 on, or 0 for none. A failing write accepts no
     /// byte, and the next one goes on.
     pub fails_at: u64,
-    /// How many flushes were made. Each of them fails.
+    /// The number of flushes. Each of them fails.
     pub flushes: u64,
 }
 

@@ -1,4 +1,4 @@
-//! What a call over a reader returns, and what it leaves unread.
+//! The results of calls over a reader, and the bytes left unread.
 
 ghost use Rattle.std.specs.Prelude.{◌≤◌};
 
@@ -9,7 +9,7 @@ use rapidhash_portable::{v1, v2};
 use std::io;
 use std::io::ErrorKind;
 
-/// The result of a call, whether the error flag was set after it, and how many bytes were left.
+/// The result of a call, whether the error flag was set after it, and the number of bytes left.
 #[derive(Debug, Clone, Copy, PartialEq, Eq)]
 pub(crate) struct Asked {
     answer: Result<u64, ErrorKind>,
@@ -44,12 +44,12 @@ pub(crate) fn failed(kind: ErrorKind, left: usize) -> Asked {
     }
 }
 
-/// A reader of one byte a read, which fails at one of them.
+/// A reader of one byte per read, which fails at one of them.
 pub(crate) fn drip(bytes: &[u8], fails_at: u64, kind: ErrorKind) -> CountingReader<'_> {
     CountingReader::failing(bytes, 1, fails_at, kind)
 }
 
-/// A reader of one byte a read, which never fails.
+/// A reader of one byte per read, which never fails.
 pub(crate) fn sound(bytes: &[u8]) -> CountingReader<'_> {
     drip(bytes, 0, ErrorKind::Other)
 }
@@ -74,7 +74,7 @@ pub(crate) fn v1_of(reader: CountingReader<'_>, len: u64) -> Asked {
     told(answer, flag, source.into_inner().left.len())
 }
 
-/// V1 of `len` bytes of a slice as a reader, which returns all that it is asked for.
+/// V1 of `len` bytes of a slice as a reader, which returns all requested bytes.
 pub(crate) fn v1_of_slice(bytes: &[u8], len: u64) -> Asked {
     let mut source = Source::new(bytes);
     let answer = v1::rapidhash_v1_source::<&[u8], false>(
@@ -86,7 +86,7 @@ pub(crate) fn v1_of_slice(bytes: &[u8], len: u64) -> Asked {
     told(answer, flag, source.into_inner().len())
 }
 
-/// V1 of `len` bytes by each file form with default secrets, over readers of one byte a read that
+/// V1 of `len` bytes by each file form with default secrets, over readers of one byte per read that
 /// fail at one of them.
 pub(crate) fn v1_of_files(bytes: &[u8], len: u64, fails_at: u64) -> [Outcome; 3] {
     let secrets = &v1::DEFAULT_RAPID_SECRETS;
@@ -117,7 +117,7 @@ pub(crate) fn v2_of<const MINOR: u8>(reader: CountingReader<'_>, len: u64) -> As
     told(answer, flag, source.into_inner().left.len())
 }
 
-/// V2 of `len` bytes of a slice as a reader, which returns all that it is asked for.
+/// V2 of `len` bytes of a slice as a reader, which returns all requested bytes.
 pub(crate) fn v2_of_slice<const MINOR: u8>(bytes: &[u8], len: u64) -> Asked
     requires { MINOR ≤ 2 }
 {
@@ -131,7 +131,7 @@ pub(crate) fn v2_of_slice<const MINOR: u8>(bytes: &[u8], len: u64) -> Asked
     told(answer, flag, source.into_inner().len())
 }
 
-/// V2 of `len` bytes by the file form with all options, over a reader of one byte a read.
+/// V2 of `len` bytes by the file form with all options, over a reader of one byte per read.
 pub(crate) fn v2_of_file<const MINOR: u8>(bytes: &[u8], len: u64) -> Outcome
     requires { MINOR ≤ 2 }
 {

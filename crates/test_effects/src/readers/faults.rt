@@ -62,8 +62,8 @@ fn a_failed_read_sets_the_flag(rt: HostRuntime) {
     assert!(rt; (reader.reads, reader.longest, reader.left.len()) == (3, 4, 8));
 }
 
-/// V3 of ten bytes that come one a read, over a source: if one of the eleven reads fails, its error
-/// is returned and the flag is set. No twelfth read is made. The number is the Rust crate's.
+/// V3 of ten bytes, one per read, over a source: if one of the eleven reads fails, its error is
+/// returned and the flag is set. No twelfth read is made. The number is the Rust crate's.
 #[test]
 fn each_failed_read_sets_the_flag(rt: HostRuntime) {
     for fails_at in 1..13u64 {

@@ -1,5 +1,5 @@
-//! The hashes of a number of bytes of a reader, V1 and V2: what each asks its reader for, and what
-//! is returned if a read fails.
+//! The hashes of a number of bytes of a reader, V1 and V2: the bytes that each requests, and the
+//! result if a read fails.
 
 mod form;
 
@@ -9,8 +9,8 @@ use form::{FORMS, Form};
 use std::io::ErrorKind;
 use std::process::Abort;
 
-/// Hashes ten bytes that come one a read. Each read in turn fails: its own error is returned, the
-/// bytes before it are gone, and no read follows.
+/// Hashes ten bytes, one per read. Each read in turn fails: its own error is returned, the bytes
+/// before it are gone, and no read follows.
 fn each_of_ten_reads_fails(rt: &impl Abort, form: Form, kind: ErrorKind) {
     for fails_at in 1..11u64 {
         let reader = CountingReader::failing(b"something\nmore", 1, fails_at, kind);
@@ -33,8 +33,8 @@ fn a_failed_read_is_returned_at_once(rt: HostRuntime) {
     }
 }
 
-/// Hashes 140000 bytes, which take three reads of a reader that returns all it is asked for. Each
-/// of them in turn fails, and no read follows.
+/// Hashes 140000 bytes in three reads of a reader that returns all requested bytes. Each of them in
+/// turn fails, and no read follows.
 fn each_of_three_reads_fails(rt: &impl Abort, form: Form, bytes: &[u8]) {
     for fails_at in 1..4u64 {
         let kind = ErrorKind::Interrupted;
@@ -55,7 +55,7 @@ fn a_failed_read_of_a_long_message(rt: HostRuntime) {
     }
 }
 
-/// A reader that returns all it is asked for, with two bytes after the length. At most 8192 bytes
+/// A reader that returns all requested bytes, with two bytes after the length. At most 8192 bytes
 /// are read at once, and more in pieces of 65520 bytes and a last one of at most 65535.
 fn reads_of_lengths(rt: &impl Abort, form: Form, bytes: &[u8]) {
     for (n, reads, longest) in [
@@ -88,7 +88,7 @@ fn few_reads(rt: HostRuntime) {
     }
 }
 
-/// A reader of one byte a read takes one read for each byte. If it ends one byte early, the read
+/// Over a reader of one byte per read, each byte is a read. If it ends one byte early, the read
 /// that returns 0 is the last one.
 fn reads_of_single_bytes(rt: &impl Abort, form: Form, bytes: &[u8]) {
     for n in [0usize, 1, 16, 17, 300, 9000] {

@@ -1,11 +1,11 @@
-//! What a hash over a fake reader returned, and what it asked the reader for.
+//! The result of a hash over a fake reader, and its requests.
 
 use crate::fakes::CountingReader;
 use std::io;
 use std::io::ErrorKind;
 
-/// What a call returned, how many reads it made, the most bytes that one of them asked for, and how
-/// many bytes are left.
+/// The result of a call, the number of its reads, the largest request, and the number of bytes
+/// left.
 #[derive(Clone, Copy, PartialEq, Eq)]
 pub(crate) struct Outcome {
     pub(crate) returned: Result<u64, ErrorKind>,
@@ -15,7 +15,7 @@ pub(crate) struct Outcome {
 }
 
 impl Outcome {
-    /// The outcome of a call, from what it returned and the reader after the call.
+    /// The outcome of a call, from its result and the reader after the call.
     pub(crate) fn new(returned: io::Result<u64>, reader: &CountingReader<'_>) -> Self {
         Outcome {
             returned: returned.map_err(|error| error.kind()),

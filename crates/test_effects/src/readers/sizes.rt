@@ -12,8 +12,8 @@ use std::io;
 use std::io::ErrorKind;
 use std::test::Fail;
 
-/// At how many lengths below that of the bytes both sized forms return the hash of the bytes and
-/// ask for `SIZE` bytes a read.
+/// The number of lengths below that of the bytes at which both sized forms return the hash of the
+/// bytes and request `SIZE` bytes per read.
 fn lengths_agreed<const SIZE: usize>(bytes: &[u8], secrets: &RapidSecrets) -> io::Result<usize>
     requires { 0 < SIZE }
 {
@@ -75,8 +75,8 @@ fn an_interrupted_read_keeps_its_kind(rt: HostRuntime) {
     }
 }
 
-/// Short reads gather in the buffer, and no read requests less than half of it: 300 bytes, three a
-/// read, into 8.
+/// Short reads gather in the buffer, and no read requests less than half of it: 300 bytes, three
+/// per read, into 8.
 #[test]
 fn gathered_reads_are_not_cut_short(rt: HostRuntime) -> Result<(), Fail> {
     let bytes = [7; 300];

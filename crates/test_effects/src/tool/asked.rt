@@ -1,5 +1,5 @@
-//! What a run asks of its reader and its writer: no read past what it hashes or past the end, and
-//! no flush.
+//! The requests of a run to its reader and its writer: no read past the hashed bytes or past the
+//! end, and no flush.
 
 use crate::tool::ends::{SOMETHING, counted, versions, whole, writer};
 use rapidhash_tool::{run_file, run_help, run_stdin};
@@ -26,10 +26,10 @@ fn reads_up_to_a_length(rt: HostRuntime) {
     }
 }
 
-// What a read asks for: the capacity of a Linux pipe.
+// The bytes that a read requests: the capacity of a Linux pipe.
 const PIECE: usize = 65536;
 
-// If the input is read to its end, a read for each byte is followed by one that finds the end.
+// If the input is read to its end, a read per byte is followed by one that finds the end.
 #[test]
 fn reads_up_to_the_end(rt: HostRuntime) {
     let bytes = counted();

@@ -1,5 +1,5 @@
-//! The Rust crate's own tests of its command line, by their names: the arguments, and what is
-//! printed for a text. The numbers are those of the Rust crate.
+//! The Rust crate's own tests of its command line, by their names: the arguments, and the output
+//! for a text. The numbers are those of the Rust crate.
 
 use crate::tool::ends::{of_file, of_stdin, whole, writer};
 use crate::tool::plans::gathered;
@@ -9,7 +9,7 @@ use std::test::Fail;
 
 const TEXT: &[u8] = b"test input\n";
 
-// The line that V3 prints for it.
+// V3's line for it.
 const LINE: &[u8] = b"10591916791569766038\n";
 
 // Arguments that name no file print this line for the text on standard input.

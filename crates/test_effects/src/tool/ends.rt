@@ -14,16 +14,16 @@ pub const V3: RapidhashVersion = RapidhashVersion::V3 { protected: false };
 /// The bytes that most tests hash.
 pub const SOMETHING: &[u8] = b"something\n";
 
-/// The line that V1 prints for them.
+/// V1's line for them.
 pub const SOMETHING_LINE: &[u8] = b"15965596575264898037\n";
 
-/// The line that V2 prints for them.
+/// V2's line for them.
 pub const V2_LINE: &[u8] = b"9564150447897697404\n";
 
-/// The line that V3, micro and nano print for them.
+/// The line of V3, micro and nano for them.
 pub const V3_LINE: &[u8] = b"11612086640089003834\n";
 
-/// The bytes 0 to 199.
+/// Returns the bytes 0 to 199.
 pub fn counted() -> [u8; 200] {
     let mut bytes = [0u8; 200];
     for i in 0..200u8 {
@@ -32,7 +32,7 @@ pub fn counted() -> [u8; 200] {
     bytes
 }
 
-/// All versions.
+/// Returns all versions.
 pub fn versions(protected: bool) -> [RapidhashVersion; 7] {
     [
         RapidhashVersion::V1 { protected },
@@ -54,17 +54,17 @@ pub fn versions(protected: bool) -> [RapidhashVersion; 7] {
     ]
 }
 
-/// A reader of the bytes that never fails.
+/// Returns a reader of the bytes that never fails.
 pub fn whole(bytes: &[u8]) -> CountingReader<'_> {
     failing(bytes, 0, ErrorKind::Other)
 }
 
-/// A reader of the bytes that fails at a read.
+/// Returns a reader of the bytes that fails at a read.
 pub fn failing(bytes: &[u8], fails_at: u64, kind: ErrorKind) -> CountingReader<'_> {
     CountingReader::failing(bytes, 1, fails_at, kind)
 }
 
-/// A writer that holds nothing yet and fails at a write.
+/// Returns a writer that holds nothing yet and fails at a write.
 pub fn writer(held: Vec<u8>, fails_at: u64) -> OneByteWriter {
     OneByteWriter {
         held,
@@ -74,7 +74,7 @@ pub fn writer(held: Vec<u8>, fails_at: u64) -> OneByteWriter {
     }
 }
 
-/// What a run returned, and what it wrote.
+/// The result of a run, and its output.
 #[derive(Drop)]
 pub struct Ended {
     /// The run's result.

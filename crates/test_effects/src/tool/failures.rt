@@ -12,7 +12,7 @@ use rapidhash_tool::{CliFault, RapidhashVersion, run_help, run_stdin};
 use std::io::ErrorKind;
 use std::process::Abort;
 
-// Forty bytes: a vector that takes them one by one grows four times.
+// Forty bytes: a vector that accepts them one by one grows four times.
 const FORTY: &[u8] = b"a line of forty bytes, not one byte more";
 
 // Each byte of the line is a separate write, and each of them fails in turn.
@@ -99,8 +99,8 @@ fn reads_of_a_file_that_fail(rt: HostRuntime) {
     }
 }
 
-// A run over a heap with room for a given number of blocks of 16 bytes, and how many reads it made.
-// It frees what it allocated.
+// A run over a heap with room for a number of blocks of 16 bytes, and the number of its reads. It
+// frees what it allocated.
 fn in_a_heap(
     rt: &(impl Abort + AllocGlobal),
     version: RapidhashVersion,
@@ -110,7 +110,7 @@ fn in_a_heap(
     requires { blocks < 16 }
 {
     let heap = LocalHeap::new(rt.alloc(), 16 * (blocks + 1)).expect(rt, "no memory for a heap");
-    // A heap has one block at least, so a byte takes one.
+    // A heap has one block at least, so a byte needs one.
     let _taken = Box::new(&heap, 0u8).expect(rt, "no room for a byte");
     assert!(rt; heap.free() == 16 * blocks);
     let mut input = input;
@@ -121,8 +121,8 @@ fn in_a_heap(
     (Ended { result, written }, input.reads)
 }
 
-// How many reads the runs made that returned `Memory`, in heaps with more and more room. They write
-// nothing, and all other runs, in the larger heaps, print the line.
+// The numbers of reads of the runs that returned `Memory`, in heaps with more and more room. They
+// write nothing, and all other runs, in the larger heaps, print the line.
 fn reads_at_failures(
     rt: &(impl Abort + AllocGlobal),
     version: RapidhashVersion,

@@ -1,4 +1,4 @@
-//! The lines that are printed.
+//! The printed lines.
 
 use crate::fakes::FullWriter;
 use crate::tool::ends::{
@@ -8,7 +8,7 @@ use rapidhash_tool::{CliFault, help, run_file, run_help, run_stdin};
 use std::process::Abort;
 use std::test::Fail;
 
-// What the Rust crate's hashes are, for V1, V2.0, V2.1, V2.2, V3, micro and nano.
+// The hashes of the Rust crate, for V1, V2.0, V2.1, V2.2, V3, micro and nano.
 const OF_SOMETHING: [u64; 7] = [
     15965596575264898037,
     9564150447897697404,
@@ -118,7 +118,7 @@ fn all_versions(rt: HostRuntime) -> Result<(), Fail> {
     Ok(())
 }
 
-// The hashes themselves, which the lines are made of.
+// The hashes in these lines.
 #[test]
 fn hashes_by_themselves(rt: HostRuntime) {
     let all = versions(false);
@@ -144,7 +144,7 @@ fn short_inputs(rt: HostRuntime) {
     }
 }
 
-// V1 and V2 hash as many bytes as the length says, and the others all.
+// V1 and V2 hash as many bytes as the length, and the others all.
 #[test]
 fn lengths_of_files(rt: HostRuntime) {
     for version in versions(false) {

@@ -1,10 +1,10 @@
-//! What the arguments ask for.
+//! The plans that the arguments select.
 
 use rapidhash_tool::{Minor, Plan, RapidhashVersion, plan};
 use std::alloc::AllocError;
 use std::test::Fail;
 
-/// The arguments.
+/// Returns the arguments as strings.
 pub fn gathered(rt: &impl AllocGlobal, line: &[&str]) -> Result<Vec<String>, AllocError> {
     let mut args = Vec::new(rt.alloc());
     for arg in line {

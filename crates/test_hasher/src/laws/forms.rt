@@ -3,7 +3,7 @@
 use rapidhash::laws::{micro_is_v3, nano_is_v3, v1_is_v1_with_its_bug, v2_0_is_v2_1, v2_1_is_v2_2};
 use rapidhash::{v1, v2, v3};
 
-/// What the laws return for a message.
+/// The results of the laws for a message.
 fn answers(x: &[u8]) -> [bool; 5] {
     [
         micro_is_v3(x),
@@ -14,7 +14,7 @@ fn answers(x: &[u8]) -> [bool; 5] {
     ]
 }
 
-/// Whether the hashes of each pair of forms are one.
+/// Whether the hashes of each pair of forms are equal.
 fn agreements(x: &[u8]) -> [bool; 5] {
     let secrets = v3::RapidSecrets::default_ref();
     let hash = v3::rapidhash_v3(x);
@@ -34,8 +34,8 @@ fn agreements(x: &[u8]) -> [bool; 5] {
     ]
 }
 
-// The law says that the hashes agree if it returns true. On this message they also differ whenever
-// it returns false, so no law leaves out a length at which the forms do agree.
+// By the law the hashes agree if it returns true. On this message they also differ whenever it
+// returns false, so no law leaves out a length at which the forms do agree.
 #[test]
 fn forms_agree_at_the_lengths_of_the_laws(rt: HostRuntime) {
     let bytes = [0x5au8; 130];

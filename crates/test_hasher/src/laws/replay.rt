@@ -16,8 +16,8 @@ const ZEROS: RapidSecrets = RapidSecrets {
 /// The hash of one byte 0 with these and an avalanche. That of no byte is 0.
 const OF_ONE: u64 = 12297829382473034410;
 
-/// How many allocations the vector of the hashes makes here: it has room for four of them, then for
-/// eight, and so on.
+/// The number of allocations of the vector of the hashes here: it has room for four of them, then
+/// for eight, and so on.
 const ALLOCATIONS: u32 = 18;
 
 /// A replay with seven lanes or with five, which agree up to 80 bytes.
@@ -64,7 +64,7 @@ fn has_room(
     ops: &[StreamOp<'_>],
 ) -> Result<bool, AllocError> {
     let heap = LocalHeap::new(rt.alloc(), bytes.saturating_add(16))?;
-    // A heap has 16 bytes at least, so a byte takes these.
+    // A heap has 16 bytes at least, so a byte needs these.
     let _taken = Box::new(&heap, 0u8)?;
     assert!(rt; heap.free() == bytes);
     let has_room = match replayed(&heap, five_lanes, ops) {
@@ -98,8 +98,9 @@ fn each_allocation_fails(
     Ok(())
 }
 
-/// How many bytes the vector's blocks take until it has room for this many hashes. A block is freed
-/// only once the next one is there, and all freed blocks together are too small for the one after.
+/// The number of bytes of the vector's blocks until it has room for this many hashes. A block is
+/// freed only once the next one is there, and all freed blocks together are too small for the one
+/// after.
 fn held_by(answers: usize) -> usize {
     answers.saturating_sub(2).saturating_mul(16)
 }

@@ -1,10 +1,10 @@
-//! Messages that differ are told apart by each form.
+//! Each form distinguishes messages that differ.
 
 use rapidhash::laws::{
     same_words_micro, same_words_nano, same_words_v1, same_words_v2, same_words_v3,
 };
 
-/// What the calls return, one of each form.
+/// The results of the calls, one of each form.
 fn answers(x: &[u8], y: &[u8]) -> [bool; 5] {
     [
         same_words_v1::<false>(x, y),

@@ -1,6 +1,6 @@
 // Made by scripts/rust_crate from crates/test_effects/src/secrets.rt: change that file.
 
-//! Secrets and seeds that are made of random words.
+//! Secrets and seeds of random words.
 
 use rapidhash::fast;
 use rapidhash::inner::{GlobalSecrets, SeedSource};
@@ -59,14 +59,14 @@ fn test_create_secrets() {
     }
 }
 
-/// What a value hashes to as the key of a map.
+/// The hash of a value as the key of a map.
 fn hashed<T: Hash>(value: &T) -> u64 {
     let mut hasher = fast::SeedableState::fixed().build_hasher();
     value.hash(&mut hasher);
     hasher.finish()
 }
 
-/// Secrets of V1 with one part taken away: the seed, or one of the secrets.
+/// Secrets of V1 without one part: the seed, or one of the secrets.
 fn without_a_part_of_three(secrets: v1::RapidSecrets) -> [v1::RapidSecrets; 4] {
     let mut all = [secrets; 4];
     all[3].seed = 0;
@@ -117,8 +117,8 @@ fn made_secrets_are_equal_by_their_word() {
     assert!(global != GlobalSecrets::new(4712));
 }
 
-/// A counter that is 0 goes on like any other. This second random word makes the counter start
-/// there, whatever the seed. The expected values come from an independent program.
+/// A counter that is 0 goes on like any other. This second random word starts the counter there,
+/// whatever the seed. The expected values come from an independent program.
 #[test]
 fn a_seed_source_goes_on_from_0() {
     for word in WORDS {

@@ -97,7 +97,7 @@ fn cuts_change_nothing() -> Result<(), Fail> {
 }
 
 /// A stream hasher is a reference, seven lanes whatever their number, 128 bytes, a length and a
-/// flag: its count of chunk steps takes no memory.
+/// flag: its count of chunk steps needs no memory.
 #[cfg(target_pointer_width = "64")]
 #[test]
 fn sizes_in_memory() {

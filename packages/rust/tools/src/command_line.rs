@@ -1,10 +1,10 @@
 // Made by scripts/rust_crate from crates/rapidhash_tool/src/command_line.rt: change that file.
 
-//! What the arguments ask for.
+//! The plan that the arguments select.
 
 use crate::version::{Plan, RapidhashVersion};
 
-/// Returns the plan that the arguments request. The first of them is the program's name.
+/// Returns the plan that the arguments select. The first of them is the program's name.
 ///
 /// It is the help if there are no arguments or one of them is `--help` or `-h`. Otherwise those
 /// after the name select the version, and the first of them that does not begin with a hyphen names
@@ -23,7 +23,7 @@ pub fn plan(args: &[String]) -> Plan {
     }
 }
 
-// Whether a text is among the arguments.
+// Returns whether a text is among the arguments.
 pub(crate) fn has(args: &[String], arg: &str) -> bool {
     args.iter().any(|other| other.as_str() == arg)
 }
@@ -32,7 +32,7 @@ fn begins_with_hyphen(arg: &str) -> bool {
     matches!(arg.as_bytes(), [b'-', ..])
 }
 
-// The place of the first argument that does not begin with a hyphen.
+// Returns the place of the first argument that does not begin with a hyphen.
 pub(crate) fn first_plain(args: &[String]) -> Option<usize> {
     args.iter()
         .position(|arg| !begins_with_hyphen(arg.as_str()))

@@ -1,8 +1,8 @@
 // Made by scripts/rust_crate from crates/rapidhash_tool/src/faults.rt: change that file.
 
-//! What can go wrong on the command line.
+//! The errors of the command line.
 
-/// Why the tool stopped.
+/// The reason why the tool stopped.
 #[derive(Debug, Clone, Copy, PartialEq, Eq)]
 pub enum CliFault {
     /// The arguments name two versions.

@@ -111,7 +111,7 @@ fn hash_v2_file<R: Read>(
     }
 }
 
-// V3, micro or nano of all that a reader has. It allocates nothing.
+// Returns V3, micro or nano of a reader's remaining bytes. It allocates nothing.
 fn hash_v3<R: Read, const LANES: usize>(protected: bool, reader: R) -> io::Result<u64> {
     let secrets = v3::RapidSecrets::default_ref();
     if protected {
@@ -121,8 +121,8 @@ fn hash_v3<R: Read, const LANES: usize>(protected: bool, reader: R) -> io::Resul
     }
 }
 
-// Reads all that is left. Each piece is read before memory for it is allocated, and an interrupted
-// read is an error like any other. It is out of line because of its large array.
+// Reads a reader's remaining bytes. Each piece is read before memory for it is allocated, and an
+// interrupted read is an error like any other. It is out of line because of its large array.
 #[inline(never)]
 fn read_whole<A: Allocator, R: Read>(alloc: A, input: &mut R) -> Result<Vec<u8, A>, CliFault> {
     let mut whole = Vec::new(alloc);

@@ -1,6 +1,6 @@
 // Made by scripts/rust_crate from crates/rapidhash_tool/src/lines.rt: change that file.
 
-//! What a run prints, and how it is written.
+//! The output of a run.
 
 use crate::faults::CliFault;
 use crate::usage::help;

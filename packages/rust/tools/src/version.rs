@@ -1,6 +1,6 @@
 // Made by scripts/rust_crate from crates/rapidhash_tool/src/version.rt: change that file.
 
-//! The versions that the tool hashes by, and the plans that its arguments can ask for.
+//! The versions of the tool, and the plans that its arguments can select.
 
 use crate::command_line::has;
 
@@ -47,7 +47,7 @@ pub enum RapidhashVersion {
     },
 }
 
-/// What the arguments ask for.
+/// The plan that the arguments select.
 #[derive(Debug, Clone, Copy, PartialEq, Eq)]
 pub enum Plan {
     /// To print the help.

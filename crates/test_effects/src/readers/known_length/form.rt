@@ -129,7 +129,7 @@ impl Form {
         }
     }
 
-    /// What the call returned, and what it asked a reader for.
+    /// The result of a call, and its requests.
     pub(crate) fn outcome(self, reader: CountingReader<'_>, len: u64) -> Outcome {
         let mut reader = reader;
         let returned = self.hash(&mut reader, len);

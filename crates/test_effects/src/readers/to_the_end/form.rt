@@ -113,7 +113,7 @@ impl Form {
         }
     }
 
-    /// How many bytes a read asks for: 8192 if the call names no size.
+    /// The number of bytes that a read requests: 8192 if the call names no size.
     pub(crate) fn size(self) -> usize
         ensures { 0 < result }
     {
@@ -128,7 +128,7 @@ impl Form {
         }
     }
 
-    /// What the call returned, and what it asked a reader for.
+    /// The result of a call, and its requests.
     pub(crate) fn outcome(self, reader: CountingReader<'_>) -> Outcome {
         let mut reader = reader;
         let returned = self.hash(&mut reader);

@@ -12,8 +12,8 @@ use std::io;
 use std::io::ErrorKind;
 type Fail = Box<dyn std::error::Error>;
 
-/// At how many lengths below that of the bytes both sized forms return the hash of the bytes and
-/// ask for `SIZE` bytes a read.
+/// The number of lengths below that of the bytes at which both sized forms return the hash of the
+/// bytes and request `SIZE` bytes per read.
 fn lengths_agreed<const SIZE: usize>(bytes: &[u8], secrets: &RapidSecrets) -> io::Result<usize> {
     let mut agreed = 0usize;
     for n in 0..bytes.len() {
@@ -69,8 +69,8 @@ fn an_interrupted_read_keeps_its_kind() {
     }
 }
 
-/// Short reads gather in the buffer, and no read requests less than half of it: 300 bytes, three a
-/// read, into 8.
+/// Short reads gather in the buffer, and no read requests less than half of it: 300 bytes, three
+/// per read, into 8.
 #[test]
 fn gathered_reads_are_not_cut_short() -> Result<(), Fail> {
     let bytes = [7; 300];

@@ -1,7 +1,7 @@
 // Made by scripts/rust_crate from crates/test_effects/src/readers/to_the_end.rt: change that file.
 
-//! The hashes of all that a reader has, V3, micro and nano: what each asks its reader for, and what
-//! is returned if a read fails.
+//! The hashes of all that a reader has, V3, micro and nano: the bytes that each requests, and the
+//! result if a read fails.
 
 mod form;
 
@@ -14,8 +14,8 @@ use rapidhash::v3;
 use std::io::ErrorKind;
 type Fail = Box<dyn std::error::Error>;
 
-/// Hashes ten bytes that come one a read; an eleventh read finds the end. Each read in turn fails:
-/// its own error is returned, the bytes before it are gone, and no read follows.
+/// Hashes ten bytes, one per read; an eleventh read finds the end. Each read in turn fails: its own
+/// error is returned, the bytes before it are gone, and no read follows.
 fn each_read_fails(form: Form, kind: ErrorKind) {
     for fails_at in 1..12u64 {
         let reader = CountingReader::failing(b"something\n", 1, fails_at, kind);
@@ -38,8 +38,8 @@ fn a_failed_read_is_returned_at_once() {
     }
 }
 
-/// A reader that returns all it is asked for takes one read for each buffer, the last one partly
-/// filled, and one for the end, and each asks for the call's own number of bytes.
+/// Over a reader that returns all requested bytes, a call makes one read per buffer, the last one
+/// partly filled, and one for the end. Each requests the call's own number of bytes.
 fn reads_of_buffers(form: Form, bytes: &[u8]) {
     let size = form.size();
     for n in [0usize, 1, 112, 113, 8191, 8192, 8193, 25000] {
@@ -55,7 +55,7 @@ fn reads_of_buffers(form: Form, bytes: &[u8]) {
     }
 }
 
-/// No read asks for more or less than the size, and none follows the one that returned 0.
+/// No read requests more or less than the size, and none follows the one that returned 0.
 #[test]
 fn each_read_asks_for_the_size() {
     let bytes = [3; 25000];
@@ -64,7 +64,7 @@ fn each_read_asks_for_the_size() {
     }
 }
 
-/// A reader of one byte a read takes a read for each byte and one for the end.
+/// Over a reader of one byte per read, each byte is a read, and the end another.
 fn reads_of_single_bytes(form: Form, bytes: &[u8]) {
     for n in [0usize, 1, 16, 17, 113, 9000] {
         let message = &bytes[..n.min(bytes.len())];
@@ -110,7 +110,7 @@ fn compare_rapidhash_file() -> Result<(), Fail> {
     Ok(())
 }
 
-/// With a seed and secrets of 0 the hash of zeros is made of the length alone: the two halves of
+/// With a seed and secrets of 0 the hash of zeros depends on the length alone: the two halves of
 /// the length times 0xaaaa_aaaa_aaaa_aaaa, by `^`.
 #[test]
 fn lengths_make_the_difference() -> Result<(), Fail> {

@@ -1,6 +1,6 @@
 // Made by scripts/rust_crate from crates/rapidsum/src/check.rt: change that file.
 
-//! Whether files still have the hashes in a list.
+//! Checks of the files in a list against their hashes.
 
 use rapidhash_tool::kit::Vec;
 use crate::algorithm::Algorithm;
@@ -49,7 +49,7 @@ impl<A: Allocator> Checked<A> {
     }
 }
 
-/// What is informed of each line as it is checked.
+/// A receiver of the result for each line.
 pub trait Report {
     /// Reports a checked file. The error is that of a file that could not be opened or read.
     fn tell(

@@ -1,6 +1,6 @@
 // Made by scripts/rust_crate from crates/rapidsum/src/console.rt: change that file.
 
-//! What the program writes to standard output and standard error.
+//! Output to standard output and standard error.
 
 use rapidhash_tool::kit::HostRuntime;
 use rapidhash_tool::kit::Vec;
@@ -13,7 +13,7 @@ use rapidhash_tool::kit::alloc::Global;
 use std::io;
 use std::io::Write;
 
-/// Standard output, standard error and the options that select what goes there.
+/// Standard output, standard error, and the options that select the output.
 pub struct Console<'a> {
     /// The system.
     pub rt: &'a HostRuntime,
@@ -21,7 +21,7 @@ pub struct Console<'a> {
     pub options: Options,
 }
 
-// A name as a line shows it, and a text after it.
+// A name as in a line, and a text after it.
 fn with_name(alloc: Global, start: &str, name: &[u8], end: &str) -> Result<Vec<u8>, Problem> {
     let mut text = Vec::new(alloc);
     text.extend_from_slice(start.as_bytes())?;
@@ -34,7 +34,7 @@ fn with_name(alloc: Global, start: &str, name: &[u8], end: &str) -> Result<Vec<u
 }
 
 impl Console<'_> {
-    /// Says on standard error why a file or a list is refused.
+    /// Reports on standard error why a file or a list is refused.
     pub fn complain(&self, name: &[u8], why: &str) -> Result<(), Problem> {
         let mut text = with_name(self.rt.alloc(), "rapidsum: ", name, ": ")?;
         text.extend_from_slice(why.as_bytes())?;
@@ -45,13 +45,13 @@ impl Console<'_> {
             .map_err(Problem::Write)
     }
 
-    /// Says why a file could not be opened or read.
+    /// Reports on standard error why a file could not be opened or read.
     pub fn complain_of(&self, name: &[u8], error: io::Error) -> Result<(), Problem> {
         let why = rapidhash_tool::kit::format(self.rt.alloc(), format_args!("{error}"))?;
         self.complain(name, why.as_str())
     }
 
-    // Names one malformed line of a list.
+    // Reports a malformed line of a list.
     fn warn_of_line(&self, name: &[u8], number: u64) -> Result<(), Problem> {
         let why = rapidhash_tool::kit::format(
             self.rt.alloc(),
@@ -60,7 +60,7 @@ impl Console<'_> {
         self.complain(name, why.as_str())
     }
 
-    /// Names each malformed line of a list, if an option asks for it.
+    /// Reports each malformed line of a list, if the option `--warn` is set.
     pub fn warn_of_lines(&self, name: &[u8], list: &List) -> Result<(), Problem> {
         if !self.options.warn {
             return Ok(());
@@ -71,7 +71,7 @@ impl Console<'_> {
         Ok(())
     }
 
-    // Says how many lines or files are wrong, if there are any.
+    // Prints a warning with the number of wrong lines or files, if there are any.
     fn warn(&self, count: usize, one: &str, several: &str) -> Result<(), Problem> {
         if count == 0 || self.options.status {
             return Ok(());
@@ -82,7 +82,7 @@ impl Console<'_> {
             .map_err(Problem::Write)
     }
 
-    /// Says at the end of a list how much of it is wrong, unless the option `--status` is given.
+    /// Prints the warnings at the end of a list, unless the option `--status` is set.
     pub fn warn_of_verdicts(
         &self,
         name: &[u8],

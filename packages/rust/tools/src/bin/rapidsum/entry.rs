@@ -17,24 +17,24 @@ pub struct Entry<A: Allocator> {
     pub name: Vec<u8, A>,
 }
 
-/// What a line of a list is.
+/// A line of a list.
 pub enum Line<A: Allocator> {
-    /// A hash and a name.
+    /// A line with a hash and a name.
     Entry(Entry<A>),
-    /// A line that begins with `#`, or an empty one.
+    /// A line that begins with `#`, or an empty line.
     Comment,
-    /// Neither.
+    /// Any other line.
     Malformed,
 }
 
-// A copy of a name, escapes and all.
+// Returns a copy of a name, with its escapes.
 fn copy<A: Allocator>(alloc: A, name: &[u8]) -> Result<Vec<u8, A>, AllocError> {
     let mut copy = Vec::new(alloc);
     copy.extend_from_slice(name)?;
     Ok(copy)
 }
 
-// The entry of a line without its first backslash, if the name is escaped.
+// Returns the entry of a line without its first backslash, if the name is escaped.
 fn escaped_entry<A: Allocator>(alloc: A, line: &[u8]) -> Result<Option<Entry<A>>, AllocError> {
     let parts = if let Some(parts) = split_line(line) {
         parts
@@ -53,7 +53,7 @@ fn escaped_entry<A: Allocator>(alloc: A, line: &[u8]) -> Result<Option<Entry<A>>
     }))
 }
 
-// The entry of a line, if the name is not escaped.
+// Returns the entry of a line, if the name is not escaped.
 fn plain_entry<A: Allocator>(alloc: A, line: &[u8]) -> Result<Option<Entry<A>>, AllocError> {
     let parts = if let Some(parts) = split_line(line) {
         parts
@@ -67,7 +67,7 @@ fn plain_entry<A: Allocator>(alloc: A, line: &[u8]) -> Result<Option<Entry<A>>, 
     }))
 }
 
-// The entry of a line, if it has one.
+// Returns the entry of a line, if it has one.
 fn entry_of<A: Allocator>(alloc: A, line: &[u8]) -> Result<Option<Entry<A>>, AllocError> {
     if !line.is_empty() && line[0] == b'\\' {
         escaped_entry(alloc, &line[1..])
@@ -76,7 +76,7 @@ fn entry_of<A: Allocator>(alloc: A, line: &[u8]) -> Result<Option<Entry<A>>, All
     }
 }
 
-// The line without the spaces and tabs at its start.
+// Returns the line without the spaces and tabs at its start.
 fn without_indent(line: &[u8]) -> &[u8] {
     let indent = line
         .iter()
@@ -85,8 +85,8 @@ fn without_indent(line: &[u8]) -> &[u8] {
     line.get(indent..).unwrap_or(&[])
 }
 
-/// Returns what a line is, given without its newline. It ignores spaces and tabs at its start, and
-/// a carriage return at its end.
+/// Parses a line without its newline. Ignores spaces and tabs at its start and a carriage return at
+/// its end.
 ///
 /// # Errors
 ///

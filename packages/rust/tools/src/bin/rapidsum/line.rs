@@ -8,7 +8,7 @@ use crate::names::{needs_escape, push_escaped};
 use rapidhash_tool::kit::hex::encode_to_slice;
 use rapidhash_tool::kit::alloc::{AllocError, Allocator};
 
-/// How a line is laid out.
+/// The layout of a line.
 #[derive(Clone, Copy, PartialEq, Eq)]
 pub enum Layout {
     /// The digits, two spaces and the name.
@@ -19,7 +19,7 @@ pub enum Layout {
     Tagged,
 }
 
-/// The layout of each line, and how it ends.
+/// The layout and the end of each line.
 #[derive(Clone, Copy)]
 pub struct Style {
     pub layout: Layout,
@@ -34,7 +34,7 @@ fn push_digits<A: Allocator>(text: &mut Vec<u8, A>, number: u64) -> Result<(), A
     text.extend_from_slice(&digits)
 }
 
-// A version as a tag has it.
+// Returns the text of a version in a tag.
 fn version_text(version: Version) -> &'static [u8] {
     match version {
         Version::V1 => b"1",
@@ -47,7 +47,7 @@ fn version_text(version: Version) -> &'static [u8] {
     }
 }
 
-// Adds a seed word as a tag has it.
+// Adds the text of a seed word in a tag.
 fn push_seed<A: Allocator>(text: &mut Vec<u8, A>, seed: Option<u64>) -> Result<(), AllocError> {
     match seed {
         None => Ok(()),
@@ -58,7 +58,7 @@ fn push_seed<A: Allocator>(text: &mut Vec<u8, A>, seed: Option<u64>) -> Result<(
     }
 }
 
-// Adds what a tagged line begins with.
+// Adds the tag of a line.
 fn push_tag<A: Allocator>(text: &mut Vec<u8, A>, algorithm: Algorithm) -> Result<(), AllocError> {
     text.extend_from_slice(b"RAPIDHASH-V")?;
     text.extend_from_slice(version_text(algorithm.version))?;
@@ -66,7 +66,7 @@ fn push_tag<A: Allocator>(text: &mut Vec<u8, A>, algorithm: Algorithm) -> Result
     Ok(())
 }
 
-// Adds what follows a tag.
+// Adds the text after a tag.
 fn push_value<A: Allocator>(
     line: &mut Vec<u8, A>,
     hash: u64,
@@ -122,7 +122,7 @@ pub fn line_of<A: Allocator + Copy>(
     Ok(line)
 }
 
-/// Returns what is printed for a hash and a name.
+/// Returns the printed text for a hash and a name.
 ///
 /// # Errors
 ///

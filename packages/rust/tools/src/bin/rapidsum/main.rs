@@ -29,7 +29,8 @@ use std::process::ExitCode;
 // The status that a shell reports for a program ended by the signal SIGPIPE.
 const BROKEN_PIPE: u8 = 141;
 
-// Does what the arguments ask for. Returns whether all files could be read and all checks passed.
+// Carries out the request in the arguments. Returns whether all files could be read and all checks
+// passed.
 fn run(rt: &HostRuntime) -> Result<bool, Problem> {
     let texts = texts_of(rt, rt.alloc())?;
     let args = strings_of(rt.alloc(), texts.as_slice())?;

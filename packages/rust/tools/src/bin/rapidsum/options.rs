@@ -7,18 +7,18 @@ use crate::line::{Layout, Style};
 use rapidhash_tool::kit::clap::{Arg, ArgAction, ArgMatches, Command, ValueParser};
 use rapidhash_tool::kit::alloc::{AllocError, Global};
 
-/// What the options of a check ask for.
+/// The options of a check.
 #[derive(Clone, Copy)]
 pub struct Options {
-    /// Print no line for a file that has its hash.
+    /// Prints no line for a file that has its hash.
     pub quiet: bool,
-    /// Print nothing but errors.
+    /// Prints nothing but errors.
     pub status: bool,
-    /// Ignore files that are missing.
+    /// Ignores missing files.
     pub ignore_missing: bool,
-    /// Fail if a line is malformed.
+    /// Fails if a line is malformed.
     pub strict: bool,
-    /// Name each malformed line.
+    /// Reports each malformed line.
     pub warn: bool,
 }
 
@@ -35,7 +35,7 @@ impl Options {
     }
 }
 
-// The versions as the command line names them.
+// The versions in the arguments.
 static NAMES: [&str; 7] = ["v1", "v2.0", "v2.1", "v2.2", "v3", "v3-micro", "v3-nano"];
 
 fn version_named(name: &str) -> Version {
@@ -58,7 +58,7 @@ pub fn algorithm_of(matches: &ArgMatches<'_>) -> Algorithm {
     }
 }
 
-/// Returns how the arguments want a line to be laid out.
+/// Returns the layout of a line that the arguments choose.
 pub fn style_of(matches: &ArgMatches<'_>) -> Style {
     let layout = if matches.get_flag("tag") {
         Layout::Tagged
@@ -78,7 +78,7 @@ fn flag<'a>(alloc: Global, name: &'a str, help: &'a str) -> Arg<'a> {
         .help(help)
 }
 
-// The flags of a check, and what the help says of each.
+// The flags of a check, each with its line of the help.
 const CHECK_FLAGS: [(&str, &str); 5] = [
     ("quiet", "Don't print OK for each file that matches"),
     ("status", "Don't print anything but errors"),
@@ -90,13 +90,13 @@ const CHECK_FLAGS: [(&str, &str); 5] = [
     ("warn", "Warn about each improperly formatted line"),
 ];
 
-// A flag that only a check reads.
+// Returns a flag of a check.
 fn check_flag<'a>(alloc: Global, name: &'a str, help: &'a str) -> Result<Arg<'a>, AllocError> {
     let it = flag(alloc, name, help).requires_arg("check")?;
     Ok(if name == "warn" { it.short('w') } else { it })
 }
 
-// Adds the options that say how a line is printed.
+// Adds the options for the layout of a line.
 fn with_styles<'a>(alloc: Global, command: Command<'a>) -> Result<Command<'a>, AllocError> {
     let binary = flag(alloc, "binary", "Print an asterisk before each name")
         .short('b')

@@ -1,12 +1,12 @@
 // Made by scripts/rust_crate from crates/rapidsum/src/problem.rt: change that file.
 
-//! What can go wrong.
+//! The errors of the program.
 
 use rapidhash_tool::kit::alloc::{AllocError, AllocFailed};
 use std::io::ErrorKind;
 use std::{fmt, io};
 
-/// Why a call failed.
+/// The reason for a failed call.
 pub enum Problem {
     /// An allocation failed.
     Memory,

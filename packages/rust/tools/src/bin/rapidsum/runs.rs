@@ -1,6 +1,6 @@
 // Made by scripts/rust_crate from crates/rapidsum/src/runs.rt: change that file.
 
-//! What a call of the program does.
+//! A call of the program: it prints or checks files.
 
 use rapidhash_tool::kit::HostRuntime;
 use rapidhash_tool::kit::Vec;
@@ -40,7 +40,7 @@ pub fn run_files(rt: &HostRuntime, matches: &ArgMatches<'_>) -> Result<bool, Pro
     Ok(passed)
 }
 
-// Prints the line of a file, or says why it cannot be read.
+// Prints the line of a file, or reports why it cannot be read.
 fn print_sum(
     console: &Console<'_>,
     name: &[u8],
@@ -59,14 +59,14 @@ fn print_sum(
     }
 }
 
-// The whole text of a list.
+// Returns the whole text of a list.
 fn read_whole(alloc: Global, disk: &Disk<'_>, name: &[u8]) -> io::Result<Vec<u8>> {
     let mut text = Vec::new(alloc);
     rapidhash_tool::kit::read_to_end(&mut disk.open(name)?, &mut text)?;
     Ok(text)
 }
 
-// Checks the files of the list that has this name.
+// Checks the files of the list with this name.
 fn check_list(console: &mut Console<'_>, name: &[u8], given: Algorithm) -> Result<bool, Problem> {
     let rt = console.rt;
     let disk = Disk::new(rt);

@@ -1,27 +1,27 @@
 // Made by scripts/rust_crate from crates/rapidsum/src/store.rt: change that file.
 
-//! Where files come from, and the hash of a file.
+//! A source of files, and the hash of a file.
 
 use crate::algorithm::Algorithm;
 use rapidhash_tool::kit::alloc::Allocator;
 use std::io;
 use std::io::Read;
 
-/// Where files come from: a disk, or a test.
+/// A source of files: a disk, or a test.
 pub trait Store {
     /// An open file.
     type Reader: Read;
 
-    // The bytes of the file of a name, if they are known.
+    // The bytes of the file with a name, if they are known.
 
-    /// Opens the file of a name.
+    /// Opens the file with a name.
     fn open(&self, name: &[u8]) -> io::Result<Self::Reader>;
 
     /// Returns the number of bytes of an open file, if it is known before they are read.
     fn length(&self, reader: &Self::Reader) -> Option<u64>;
 }
 
-/// Returns the hash of the file that has a name.
+/// Returns the hash of the file with a name.
 ///
 /// # Errors
 ///

@@ -5,7 +5,7 @@
 use crate::algorithm::{Algorithm, Version};
 use crate::parts::split_digits;
 
-// What follows the start that all tags have.
+// Returns the text after the start that all tags share.
 fn behind_prefix(line: &[u8]) -> Option<&[u8]> {
     match line {
         [
@@ -26,7 +26,7 @@ fn behind_prefix(line: &[u8]) -> Option<&[u8]> {
     }
 }
 
-// A version at the start of a text, and what follows it.
+// Returns the version at the start of a text, and the text after it.
 fn split_version(text: &[u8]) -> Option<(Version, &[u8])> {
     match text {
         [b'1', rest @ ..] => Some((Version::V1, rest)),
@@ -40,7 +40,7 @@ fn split_version(text: &[u8]) -> Option<(Version, &[u8])> {
     }
 }
 
-// A seed word at the start of a text, if there is one, and what follows it.
+// Returns the seed word at the start of a text, if there is one, and the text after it.
 fn split_seed(text: &[u8]) -> Option<(Option<u64>, &[u8])> {
     let rest = if let [b':', rest @ ..] = text {
         rest
@@ -51,7 +51,7 @@ fn split_seed(text: &[u8]) -> Option<(Option<u64>, &[u8])> {
     Some((Some(digits), rest))
 }
 
-// A version and a seed at the start of a line, and what follows them.
+// Returns the version and the seed at the start of a line, and the text after them.
 pub fn split_tag(line: &[u8]) -> Option<(Algorithm, &[u8])> {
     let rest = behind_prefix(line)?;
     let (version, rest) = split_version(rest)?;
