@@ -17,7 +17,7 @@ max_r x y is below = omega arith
 max_one : (x y : ℕ) → max x y ≡ 1 → (x ≡ 1) ⊎ (y ≡ 1)
 max_one x y is = ⊎_elim (λ (one : x ≡ 1). inl one) (λ other. inr (omega arith)) (cases_eq x 1)
 
--- each of some zeros is 0, and so is what stands behind them
+-- each of some zeros is 0, and so are the elements behind them
 zero_there : (count place : ℕ) → get_or {A = ℕ} (replicate count 0) place 0 ≡ 0
 zero_there count place =
     ⊎_elim

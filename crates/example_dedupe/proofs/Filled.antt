@@ -5,7 +5,7 @@ use Rattle.std.proofs.Common.{◌≡◌, ℕ, ◌+◌, ◌-◌, ◌≤◌, List,
 use Rattle.std.proofs.lemmas.List.{length-take-le}
 use Rattle.std.proofs.lemmas.Slice.{take-put_mid_below}
 
--- the filled front, and what a read put behind it
+-- the filled front, and the bytes of a read behind it
 pub filled_more : (at n : ℕ) (buf part : List ℕ) → at ≤ length buf → n ≤ length part →
     take at buf ++ take n part ≡ take (at + n) (put_mid at (length buf - at) buf part)
 filled_more at n buf part within fits =

@@ -49,7 +49,7 @@ pieces_end (Some x) (Some x') (Some y) (Some y') p q of_left of_right left_end r
     let whole : x ≡ y = of_left ∙ ap (λ (l : List ℕ). p ++ l) (left_end ∙ sym right_end) ∙ ap (λ (l : List ℕ). l ++ y') same ∙ sym of_right in
     ((λ (yes : true ≡ true). whole), (λ (equal : x ≡ y). refl))
 
--- what holds behind a common front holds of the whole
+-- a property behind a common front holds for the whole
 pub behind_front : (a a' b b' : Option (List ℕ)) (same : Bool) → SharesFront a a' b b' → SameBytes same a' b' → SameBytes same a b
 behind_front None a' b b' same shared rest = tt
 behind_front (Some x) None b b' same shared rest = absurd shared.of_left
@@ -75,7 +75,7 @@ no_front a b = record { front = []; of_left = kept a; of_right = kept b }
     kept None = tt
     kept (Some x) = refl
 
--- what the buffers say of the readers, where their filled fronts differ
+-- if the filled fronts of the buffers differ, so do the readers
 pub read_differ : (a a' b b' : Option (List ℕ)) (left right : List ℕ) (n m : ℕ) → Consumes a a' (take n left) → Consumes b b' (take m right) → n ≤ length left → m ≤ length right → length left ≡ length right → (n < length left → IsAtEnd a') → (m < length right → IsAtEnd b') → take n left ≢ take m right → SameBytes false a b
 read_differ a a' b b' left right n m of_left of_right left_in right_in size left_end right_end differ =
     let n_is : length (take n left) ≡ n = length-take-le n left left_in in

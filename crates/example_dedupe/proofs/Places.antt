@@ -1,4 +1,4 @@
--- Places of files, one more each turn.
+-- Places of files, one more per iteration.
 use Rattle.std.proofs.Common.{◌≡◌, ◌≢◌, ◌⊎◌, ◌<◌, ℕ, zero, suc, List, [], ◌∷◌, ◌++◌, Some, length, get_or, refl, ap, subst, arith, ◌∙◌, sym, ⊎_elim, inl, inr}
 use Rattle.std.specs.Prelude.{All, Contains, Result, Ok, Err, slice_get}
 use Rattle.std.specs.declared.io.Error.{Error}

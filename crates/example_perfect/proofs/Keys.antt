@@ -8,13 +8,13 @@ use Rattle.std.specs.Bool.{Decides}
 use Rattle.example_perfect.specs.Table.{place_of}
 use lib.Pointwise.{pointwise}
 
--- what stands at an index is the key with that index
+-- the element at an index is the key with that index
 pub key_there : (keys : List (Bor (List ℕ))) (i : ℕ) (d : Bor (List ℕ)) → i < length keys
     → slice_get (map (λ key. key.now) keys) i ≡ Some (get_or keys i d).now
 key_there keys i d inside =
     slice_get-map (λ (key : Bor (List ℕ)). key.now) keys i ∙ ap (option_map (λ (key : Bor (List ℕ)). key.now)) (slice_get-get_or keys i d inside)
 
--- the key with an index stands there
+-- the key with an index is there
 pub key_within : (keys : List (Bor (List ℕ))) (i : ℕ) (key : List ℕ) → slice_get (map (λ key. key.now) keys) i ≡ Some key → i < length keys
 key_within keys i key at =
     subst (λ (n : ℕ). i < n) (length-map keys (λ (key : Bor (List ℕ)). key.now)) (slice_get_within (map (λ (key : Bor (List ℕ)). key.now) keys) i key at)
@@ -27,7 +27,7 @@ pub place_inside : (key : List ℕ) (seed places : ℕ) → 0 < places → place
 unfolding place_of
 place_inside key seed places some = mod-lt _ some
 
--- a comparison with what stands at an index tells whether it is the key with that index
+-- a comparison with the element at an index decides whether it is the key with that index
 pub is_key : (keys : List (Bor (List ℕ))) (i : ℕ) (found : Bor (List ℕ)) (key : List ℕ) (r : Bool)
     → i < length keys → found ≡ get_or keys i found → r ≡ pointwise nat_eq found.now key
     → (r ≡ true) ↔ (slice_get (map (λ key. key.now) keys) i ≡ Some key)

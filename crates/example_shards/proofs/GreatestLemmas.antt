@@ -15,7 +15,7 @@ greater_assoc score (Some a) None c = refl
 greater_assoc score (Some a) (Some b) None = grind (arith, nat_tests)
 greater_assoc score (Some a) (Some b) (Some c) = grind (arith, nat_tests)
 
--- an element is taken out, where the others have the greatest `a` before it and `b` behind it
+-- an element is removed, and the others have the greatest `a` before it and `b` behind it
 without_one : {X : Type 0} (score : X → ℕ) (a b : Option X) (x : X) → greater score a (greater score (Some x) b) ≢ Some x → greater score a b ≡ greater score a (greater score (Some x) b)
 without_one score None None x other = grind (arith, nat_tests)
 without_one score None (Some b) x other = grind (arith, nat_tests)

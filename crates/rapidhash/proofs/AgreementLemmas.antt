@@ -66,7 +66,7 @@ unfolding last_words short_words
 same_v2_0 x lengths =
     ⊎_elim (λ few. same-v2-rowless 0 1 x few refl (λ secrets. refl)) (λ many. same-v2-rows 0 1 x many) lengths
 
--- the first two of three numbers do not tell the third
+-- the first two of three numbers do not depend on the third
 take-two : (a b c d k : ℕ) → k ≤ 2 → take k (a ∷ b ∷ c ∷ []) ≡ take k (a ∷ b ∷ d ∷ [])
 take-two a b c d zero h = refl
 take-two a b c d (suc zero) h = refl

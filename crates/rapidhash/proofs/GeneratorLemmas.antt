@@ -5,7 +5,7 @@ use Rattle.std.specs.Int.{w64, to_le_bytes}
 use Rattle.rand_core.specs.Steps.{word_bytes, first_bytes, fill_via_u64}
 use Rattle.rapidhash.specs.Generator.{state_after, word_of, next_word, bytes_of_words, words_for, first_bytes_of}
 
--- the bytes of the next words are those of words 1 to `count`, and as many steps are taken
+-- the bytes of the next words are those of words 1 to `count`, after as many steps
 words_are : (count seed : ℕ) → seed < 2 ^ 64 → word_bytes (to_le_bytes w64) next_word count seed ≡ (bytes_of_words seed count, state_after seed count)
 unfolding word_bytes
 words_are zero seed h = ap (λ (n : ℕ). let p : List ℕ × ℕ = ([], n) in p) (sym (mod-eq_of_lt h) ∙ omega arith)

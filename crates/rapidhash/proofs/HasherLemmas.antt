@@ -1,4 +1,4 @@
--- One item more: what it does to the steps, to the seed and to the last block of a hasher.
+-- One more item: its effect on the steps, the seed and the last block of a hasher.
 use Rattle.std.proofs.Common.{Fits, w8, get_or, ◌≡◌, ℕ, ◌+◌, ◌*◌, ◌^◌, ◌<◌, ◌≤◌, Bool, true, false, nat_le, List, [], ◌∷◌, ◌++◌, refl, sym, ap, ◌∙◌, arith, fold, All, append_assoc}
 use Rattle.std.proofs.lemmas.List.{append-nil, get_or_default}
 use Rattle.std.proofs.lemmas.List.Elements.{All-append, All-cons, All-nil}
@@ -68,7 +68,7 @@ width-snoc xs y = ap (λ (c : ℕ × ℕ). c.1) (end_from-snoc (0, 0) xs y)
 items-snoc : (xs : List Item) (y : Item) → All IsItem xs → IsItem y → All IsItem (xs ++ y ∷ [])
 items-snoc xs y h i = All-append IsItem xs (y ∷ []) h (All-cons IsItem y [] i (All-nil IsItem))
 
--- with a sponge: one item more, by what it does to the seed and to the last block
+-- with a sponge: one more item, by its effect on the seed and the last block
 represents-snoc : (options : Options) (s : List ℕ) (seed v w start : ℕ) (xs : List Item) (y : Item) (seed' v' w' : ℕ) → IsItem y
     → seed' ≡ fold (step options s) seed (steps_of (block xs) (end_of xs) y)
     → w' ≡ (end_after (end_of xs) y).1
@@ -140,7 +140,7 @@ represents-wide options true s seed v w start xs n seed' i d h =
     represents-snoc options s seed v w start xs (Wide n) seed' v w i d h.bits_are (omega (arith, h.number_is)) h
 represents-wide options false s seed v w start xs n seed' i d h = rw d (represents-step options s seed v w start xs (Wide n) i h)
 
--- the answer from what represents a start and a list
+-- the hash of a hasher that represents a start and a list
 pub represents-finish : (options : Options) (sponge : Bool) (s : List ℕ) (seed v w start : ℕ) (xs : List Item)
     → NumbersRepresent options sponge s seed v w start xs → closed options s seed v w ≡ finished options sponge s start xs
 unfolding finished

@@ -13,7 +13,7 @@ num_of : ℕ → ℕ → Num
 num_of width value =
     cond (nat_eq width 8) (N8 value) (cond (nat_eq width 16) (N16 value) (cond (nat_eq width 32) (N32 value) (N64 value)))
 
--- a number is that of its own width and value, so that these two tell it
+-- a number is that of its own width and value, so these two determine it
 num_of-is : (a : Num) → num_of (width_of a) (value_of a) ≡ a
 unfolding num_of
 num_of-is (N8 v) = refl

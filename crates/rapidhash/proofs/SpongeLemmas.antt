@@ -1,4 +1,4 @@
--- Integers packed into blocks: what one item more adds, and how an integer is read back out of its block.
+-- Integers packed into blocks: the share of one more item, and an integer read back from its block.
 use Rattle.std.proofs.Common.{◌⊎◌, inl, inr, ◌≡◌, ℕ, ◌+◌, ◌*◌, ◌^◌, ◌%◌, ◌/◌, ◌<◌, ◌≤◌, Bool, true, false, cond, nat_le, nat_eq, List, [], ◌∷◌, ◌++◌, refl, sym, ap, ◌∙◌, arith}
 use Rattle.std.proofs.lemmas.Nat.{pow-add, pow_pos}
 use Rattle.std.proofs.Math.Nat.{mul-div_cancel, mod-eq_of_lt, add-mul-mod_self_right}
@@ -67,7 +67,7 @@ block_from-before m c (x ∷ xs) h =
     let rest = block_from-before m (end_after c x) xs (omega (arith, g)) in
     omega (arith, here, rest)
 
--- what an integer and those behind it add to block `c.0` is a multiple of 2^c.1, if it is so behind the integer
+-- an integer and those behind it add a multiple of 2^c.1 to block `c.0`, if those behind it do
 number-multiple : (fits : Bool) (c : ℕ × ℕ) (w v : ℕ) (xs : List Item) → ((d : ℕ × ℕ) → (k : ℕ) × (block_from d.0 d xs ≡ k * 2 ^ d.1))
     → let place = cond fits c (c.0 + 1, 0) in
     (k : ℕ) × (cond (nat_eq place.0 c.0) (v * 2 ^ place.1) 0 + block_from c.0 (place.0, place.1 + w) xs ≡ k * 2 ^ c.1)

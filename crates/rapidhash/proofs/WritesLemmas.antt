@@ -10,7 +10,7 @@ use Rattle.rapidhash.specs.declared.inner.hasher.RapidHasher.{RapidHasher}
 use Rattle.rapidhash.specs.Sponge.{IsItem, Item, Num, end_of}
 use Rattle.rapidhash.proofs.HasherLemmas.{represents-behind}
 
--- a hasher that represents what two lists have in common with another one represents the other list too
+-- a hasher that shares a list with another hasher represents the lists of the other too
 represents-same : {options : Options} {sponge : Bool} {secrets : List ℕ} {seed number width seed' number' width' start : ℕ} {items items' : List Item}
     → NumbersRepresent options sponge secrets seed number width start items → NumbersRepresent options sponge secrets seed' number' width' start items
     → NumbersRepresent options sponge secrets seed' number' width' start items' → NumbersRepresent options sponge secrets seed number width start items'

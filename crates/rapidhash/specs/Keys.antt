@@ -8,6 +8,6 @@ use Rattle.std.proofs.lemmas.Slice.Eq.{bytes_eq-Decides}
 abbrev pub one_write : List ℕ → HashWrites
 one_write bytes = bytes ∷ []
 
--- equal bytes make the same write: the law of `Hash`
+-- equal bytes are written in the same way: the law of `Hash`
 pub one_write-Alike : Alike (pointwise nat_eq) one_write
 one_write-Alike = same_Alike one_write bytes_eq-Decides

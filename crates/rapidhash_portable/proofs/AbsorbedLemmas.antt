@@ -21,7 +21,7 @@ use Rattle.rapidhash_portable.proofs.WordsLemmas.{SameBytes, last_words-long, la
 use Rattle.rapidhash_portable.proofs.LanesLemmas.{map-same}
 use Rattle.rapidhash_portable.proofs.BytesLemmas.{same_in_pair}
 
--- two ways to take pairs agree on the first `n`
+-- two ways to read pairs agree on the first `n`
 abbrev pub Agree : ℕ → (ℕ → ℕ × ℕ) → (ℕ → ℕ × ℕ) → Type 0
 Agree n pair pair' = (k : ℕ) → k < n → pair k ≡ pair' k
 
@@ -130,7 +130,7 @@ module _ (x y : List ℕ) (x_bytes : (k : ℕ) → get_or x k 0 < 256) (y_bytes 
       (λ l. same_last x y x_bytes y_bytes size last i (behind_pairs (length x) (row_pairs (shape_of form (length x))) i l h) h long)
       (cases_lt (i / 16) (pairs_in form (length x)))
 
-  -- the length and the absorbed words tell the message
+  -- the length and the absorbed words determine the message
   pub same_from_words : (form : Form) → absorbed_words form x ≡ absorbed_words form y → x ≡ y
   same_from_words form words =
       same_number_lists x y size (λ i h. ⊎_elim

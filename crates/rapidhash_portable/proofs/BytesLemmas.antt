@@ -9,7 +9,7 @@ use Rattle.std.proofs.lemmas.List.Sums.{sum_by-append}
 use Rattle.std.proofs.lemmas.Nat.{mul-add-lt, same_from_place}
 use Rattle.rapidhash_portable.specs.Lanes.{pair_at}
 
--- a word of what is left of a message
+-- a word of the rest of a message
 pub word64-drop : (x : List ℕ) (n at : ℕ) → word64 (drop n x) at ≡ word64 x (n + at)
 unfolding word64
 word64-drop x n at = simp (get_or-drop, add_assoc)

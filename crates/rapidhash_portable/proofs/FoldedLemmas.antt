@@ -104,7 +104,7 @@ PrefixIsFolded-all {x = x} {width = width} {least = least} {rest = rest} f few =
 
 -- ---- all rows joined
 
--- what a lane that started from the seed holds after its rows
+-- the value of a lane that started from the seed after its rows
 lane_from_seed : {protected : Bool} {secrets x : List ℕ} {width : ℕ} {held : List ℕ} {rows : ℕ} (n seed : ℕ) →
     HaveFolded protected secrets x width (replicate n seed) held rows → width ≤ n → (i : ℕ) → i < width →
     get_or held i 0 ≡ lane_of protected (get_or secrets i 0) (pairs_of (pair_of x) 0 width rows i) seed
@@ -135,7 +135,7 @@ AfterRows-wide {protected} {secrets} {x} {lanes} {least} {held} {rest} n seed al
       rest = rw rows (f.rest_is ∙ ap (λ k. drop k x) at);
     }
 
--- how many rows of three stand behind the rows of seven
+-- the number of rows of three behind the rows of seven
 threes_are : (n rows left threes rest : ℕ) → 112 * rows + left ≡ n → left < 112 → 48 * threes + rest ≡ left → rest < 48 → n % 112 / 48 ≡ threes
 threes_are n rows left threes rest e few e' few' = omega arith
 

@@ -8,7 +8,7 @@ use Rattle.rapidhash_portable.specs.InMemory.{after_pairs, core_tail_places, cor
 use Rattle.rapidhash_portable.proofs.FoldedLemmas.{AfterRows-none}
 use Rattle.rapidhash_portable.proofs.TailLemmas.{after_tail-rest, after_tail-short}
 
--- the seed of the memory core, made piece by piece
+-- the seed of the in-memory core, piece by piece
 pub after_pairs-is : (protected : Bool) (seed : ℕ) (secrets x rest : List ℕ) (joined all : ℕ)
     → AfterRows protected secrets x (core_shape (length x)) seed joined rest
     → all ≡ after_tail protected (picked secrets core_tail_places) (pair_of rest) 0 (length rest) joined

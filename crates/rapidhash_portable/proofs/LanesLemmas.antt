@@ -13,7 +13,7 @@ use Rattle.rapidhash_portable.proofs.BytesLemmas.{word64-drop, word64-append}
 
 -- ---- pairs
 
--- a pair of what is left of a message
+-- a pair of the rest of a message
 pub pair_at-drop : (x : List ℕ) (n at : ℕ) → pair_at (drop n x) at ≡ pair_at x (n + at)
 pair_at-drop x n at = simp (word64-drop, add_assoc)
 
@@ -21,13 +21,13 @@ pair_at-drop x n at = simp (word64-drop, add_assoc)
 pub pair_at-append : (x y : List ℕ) (at : ℕ) → at + 16 ≤ length x → pair_at (x ++ y) at ≡ pair_at x at
 pair_at-append x y at h = cc (word64-append x y at (omega arith), word64-append x y (at + 8) (omega arith))
 
--- functions that agree below `n` make one list
+-- functions that agree below `n` yield the same list
 pub map-same : {X : Type 0} (f g : ℕ → X) (n : ℕ) (d : X) → ((i : ℕ) → i < n → f i ≡ g i) → map f (range_with_len 0 n) ≡ map g (range_with_len 0 n)
 map-same f g n d same =
     fill_by_all g (map f (range_with_len 0 n)) n d (length-map-range_with_len f 0 n)
     (λ i l. get_or-map-range_with_len f 0 n i i d l (zero-add i) ∙ same i l)
 
--- the rows of what is left of a message are the message's own
+-- the rows of the rest of a message are the message's own
 pub pairs_of-drop : (x : List ℕ) (first width rows place : ℕ) →
     pairs_of (pair_of (drop (16 * first) x)) 0 width rows place ≡ pairs_of (pair_of x) first width rows place
 unfolding pairs_of

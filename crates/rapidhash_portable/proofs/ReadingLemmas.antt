@@ -1,4 +1,4 @@
--- What was taken of a reader, read by read, and what a hash returns of it.
+-- The bytes of a reader, read by read, and the hash of them.
 use Rattle.std.proofs.Common.{◌≡◌, ℕ, ◌+◌, ◌-◌, ◌*◌, ◌≤◌, ◌<◌, Bool, false, List, [], ◌++◌, Option, Result, Ok, Err, length, replicate, refl, sym, ap, subst, ◌∙◌, append_assoc, arith, length-append}
 use Rattle.std.proofs.KnownBytes.{Consumes-nil, Consumes-trans, Consumes-whole}
 use Rattle.std.proofs.lemmas.Bool.{false≢true, true≢false}
@@ -90,7 +90,7 @@ FellShort-front f s h = record {
 
 -- ---- the hash of the next bytes
 
--- what a source makes of a hash's answer
+-- a source's result from that of a hash
 pub FlagsFailures-settles : (answer : Result ℕ Stop) (result : Result ℕ Error) (flag : Bool) →
     Settles answer result false flag → FlagsFailures result flag UnexpectedEof
 FlagsFailures-settles (Ok h) result flag settled = rw (settled.0, settled.1) (record { clean = refl; kind_is = tt })
@@ -131,7 +131,7 @@ HaveRead-added {kept = kept} Represents' h adds = let all = append-nil (h.front 
   some = omega (arith, h.some, ap length all);
 }
 
--- all bytes that were known were taken
+-- all known bytes were read
 pub HashesAll-known : {E : Type 0} {old new : Option (List ℕ)} (result : Result ℕ E) {failed : E → Bool} {hash : List ℕ → ℕ} →
     HashesAll old new result failed hash → HashesKnown old result hash
 HashesAll-known (Ok h) {hash = hash} all = Consumes-whole _ _ all.bytes (λ x. h ≡ hash x) all.taken all.ok.1 all.ok.0

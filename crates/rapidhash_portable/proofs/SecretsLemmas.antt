@@ -1,4 +1,4 @@
--- Secrets made one of the other, each with a set bit in its three parts, and the default seeds as numbers.
+-- Secrets derived from one another, each with a set bit in its three parts, and the default seeds as numbers.
 use Rattle.std.proofs.Common.{◌≡◌, ◌≢◌, ℕ, nat_eq, bit_and, bit_or, min, max, refl, ap, sym, ◌∙◌, arith, suc, ◌+◌, ◌≤◌, ◌<◌, false, bit_xor, List, length, get_or, set, subst, length-set}
 use Rattle.std.proofs.lemmas.Bool.{cond_both, eqb-false}
 use Rattle.std.proofs.lemmas.List.Edits.{fill_by_more}

@@ -63,7 +63,7 @@ PartsRepresent-none protected lanes s held steps any len =
 
 -- ---- amid a piece
 
--- `more` chunks of `n` bytes, which stand at the head of the rest
+-- `more` chunks of `n` bytes, at the head of the rest
 pub Running-more : {protected : Bool} {secrets x : List ℕ} {lanes seed : ℕ} {held : List ℕ} {steps : ℕ} {rest : List ℕ} →
     Running protected secrets x lanes seed held steps rest → (held' rest' : List ℕ) (steps' more n : ℕ) →
     HaveFolded protected secrets rest lanes held held' more → steps' ≡ steps + more → n ≡ 16 * (lanes * more) → n < length rest →
@@ -74,7 +74,7 @@ Running-more r held' rest' steps' more n folded counted size room next = record 
   counted = counted ∙ ap (λ k. k + more) r.counted;
 }
 
--- what is left behind the last whole chunk is buffered
+-- the bytes behind the last whole chunk are buffered
 pub PartsRepresent-rest : (protected : Bool) {lanes : ℕ} (s : Parts) (y carried tail kept' kept'' : List ℕ) (i j : ℕ) → IsLaneCount lanes →
     (r : Running protected s.secrets.now.secrets y lanes s.secrets.now.seed s.folded.lanes s.folded.count.steps tail) → length tail ≤ 16 * lanes → length tail < length y →
     s.any ≡ true → length s.kept ≡ 128 → length carried ≡ 16 → carried ≡ take 16 (drop (length y - length tail - 16) y) →
@@ -110,7 +110,7 @@ module _ {protected : Bool} {lanes : ℕ} {s : Parts} {x : List ℕ}
   pub length-buffered : folded_bytes lanes (length x) + s.len ≡ length x
   length-buffered = omega (arith, low, length-drop (folded_bytes lanes (length x)) x, ap length h.buffered, length-kept)
 
-  -- the buffered bytes and a piece are what follows the chunks
+  -- the buffered bytes and a piece follow the chunks
   pub buffered-append : (d : List ℕ) → take s.len (drop 16 s.kept) ++ d ≡ drop (folded_bytes lanes (length x)) (x ++ d)
   buffered-append d = ap (λ (l : List ℕ). l ++ d) h.buffered ∙ sym (drop-append-le (folded_bytes lanes (length x)) x d (omega (arith, low)))
 
@@ -173,7 +173,7 @@ module _ {protected : Bool} {lanes : ℕ} {s : Parts} {x : List ℕ}
       let some = mul_some lanes (chunk_count lanes (length x)) (ltb-true 0 (chunk_count lanes (length x)) (sym h.any ∙ on)) in
       omega (arith, low)
 
-  -- its rows are in the lanes, and its tail is what is buffered
+  -- its rows are in the lanes, and its tail is buffered
   pub AfterRows-represents : s.any ≡ true → (all : ℕ) → all ≡ joined (take lanes s.folded.lanes) →
       AfterRows protected s.secrets.now.secrets x (shape_of (V3 lanes) (length x)) s.secrets.now.seed all (take s.len (drop 16 s.kept))
   unfolding shape_of

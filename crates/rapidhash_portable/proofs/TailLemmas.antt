@@ -57,7 +57,7 @@ pub after_tail-whole : (protected : Bool) (table : List ℕ) (pair : ℕ → ℕ
 after_tail-whole protected table pair t seed n e =
     ap (λ cs. after_tail protected cs pair 0 t seed) (take_all n table (omega arith))
 
--- the pairs of what is left of a message are the message's own
+-- the pairs of the rest of a message are the message's own
 fold_pairs-drop : (protected : Bool) (cs x : List ℕ) (first at place seed : ℕ) → place ≡ first + at
     → fold_pairs protected cs (pair_of (drop (16 * first) x)) at seed ≡ fold_pairs protected cs (pair_of x) place seed
 unfolding fold_pairs
@@ -67,7 +67,7 @@ fold_pairs-drop protected (c ∷ cs) x first at place seed e =
     fold_pairs-drop protected cs x first (at + 1) (place + 1) (step protected c seed (pair_of (drop (16 * first) x) at)) (omega arith)
     ∙ ap (λ p. fold_pairs protected cs (pair_of x) (place + 1) (step protected c seed p)) (pair_at-drop x (16 * first) (16 * at) ∙ ap (pair_at x) here)
 
--- a tail as what is left of a message
+-- a tail as the rest of a message
 pub after_tail-rest : (protected : Bool) (table x rest : List ℕ) (first seed : ℕ) → rest ≡ drop (16 * first) x
     → after_tail protected table (pair_of rest) 0 (length rest) seed ≡ after_tail protected table (pair_of x) first (length x - 16 * first) seed
 unfolding after_tail

@@ -67,7 +67,7 @@ SameBytes x y = (i : ℕ) → i < length x → get_or x i 0 ≡ get_or y i 0
 same_at : (x y : List ℕ) (a b i : ℕ) → get_or x a 0 ≡ get_or y b 0 → i ≡ a → i ≡ b → get_or x i 0 ≡ get_or y i 0
 same_at x y a b i e f g = cc
 
--- two messages of bytes, of one length: their last words tell the bytes that they are made of
+-- two messages of bytes with the same length: their last words determine their last bytes
 module _ (x y : List ℕ) (x_bytes : (k : ℕ) → get_or x k 0 < 256) (y_bytes : (k : ℕ) → get_or y k 0 < 256) (size : length x ≡ length y) where
   -- the last sixteen bytes
   pub same_last : last_16 x ≡ last_16 y → (i : ℕ) → length x - 16 ≤ i → i < length x → 16 < length x → get_or x i 0 ≡ get_or y i 0

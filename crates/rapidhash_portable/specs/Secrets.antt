@@ -45,7 +45,7 @@ pub record IsGood (word : ℕ) : Type 0 where
 unfoldable pub with_bit : ℕ → ℕ → ℕ → ℕ
 with_bit word mask bit = if bit_and word mask == 0 then bit_or word bit else word
 
--- a word, made good with at most one further bit in each part
+-- a word, repaired with at most one further bit in each part
 unfoldable pub repaired : ℕ → ℕ
 repaired word =
     let upper = with_bit word 0xffff000000000000 0x8000000000000000 in

@@ -1,4 +1,4 @@
--- What a stream hasher represents.
+-- The message that a stream hasher represents.
 use Rattle.std.specs.Prelude.{◌≡◌, ℕ, ◌-◌, ◌*◌, ◌<◌, Bool, false, List, [], length, replicate, take, drop, nat_lt}
 use Rattle.rapidhash_portable.specs.Folded.{HaveFolded}
 use Rattle.rapidhash_portable.specs.Lanes.{rows_in}

@@ -1,4 +1,4 @@
--- What is true of the verdicts of a list, as one more line is checked.
+-- Properties of the verdicts of a list, as one more line is checked.
 use Rattle.std.proofs.Common.{◌≡◌, ℕ, suc, ◌+◌, ◌<◌, ◌&&◌, Bool, true, false, List, get_or, take-suc, arith, [], ◌∷◌, ◌++◌, length, take, Option, refl, sym, ap, ◌∙◌}
 use Rattle.std.proofs.lemmas.List.Folds.{list_all-append}
 use Rattle.std.specs.List.{list_all}

@@ -1,4 +1,4 @@
--- What is true of printed lines, for the functions that read them.
+-- Properties of printed lines, for the functions that read them.
 use Rattle.std.proofs.Common.{◌≡◌, ℕ, ◌+◌, ◌-◌, ◌/◌, ◌%◌, ◌^◌, ◌<◌, ◌≤◌, Bool, true, false, cond, List, [], ◌∷◌, ◌++◌, length, slice_index, ◌||◌, ◌==◌, is_some, zero, suc, Ok, take, drop, ◌⊎◌, inl, inr, ⊎_elim, Option, None, Some, IsSomeAnd, option_and_then, refl, sym, ap, ◌∙◌, arith}
 use Rattle.std.proofs.Math.Seq.{take-length, take-append_seam, drop-append_seam}
 use Rattle.std.proofs.lemmas.List.{append-nil, append_assoc, get_or-append-add, length-append, length-drop}
@@ -107,7 +107,7 @@ digits_decode hash = decode_sized-encode_lower (to_be_bytes w64 hash) 8 refl (by
 pub hash_of_bytes : (hash : ℕ) → hash < 2 ^ 64 → from_be_bytes w64 (to_be_bytes w64 hash) ≡ hash
 hash_of_bytes hash fits = from_be_bytes-to_be_bytes_8 hash fits
 
--- the digits and what follows them
+-- the digits and the text after them
 pub digits_part : (hash : ℕ) (rest : List ℕ) → take 16 (digits_of hash ++ rest) ≡ digits_of hash
 unfolding encode_with
 digits_part hash rest = refl

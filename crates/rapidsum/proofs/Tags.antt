@@ -1,4 +1,4 @@
--- What is true of tags, for the functions that read them.
+-- Properties of tags, for the functions that read them.
 use denote.Ref.{Bor}
 use Rattle.std.proofs.Common.{◌≡◌, ◌<◌, ◌^◌, ℕ, List, ◌∷◌, ◌++◌, Option, None, Some, IfSome, IsSomeAnd, slice_index, codes, ap, ◌∙◌, arith}
 use Rattle.std.proofs.lemmas.List.{append_assoc}
@@ -20,7 +20,7 @@ by_version V3 rest text result reads is plain = reads.v3 rest is plain
 by_version V3Micro rest text result reads is plain = reads.micro rest is
 by_version V3Nano rest text result reads is plain = reads.nano rest is
 
--- what follows a version does not begin with a hyphen
+-- the text after a version does not begin with a hyphen
 no_hyphen : (seed : Option ℕ) (rest : List ℕ) → slice_index (seed_text seed ++ 32 ∷ rest) 0 ≡ 45 → ⊥
 unfolding seed_text
 no_hyphen None rest found = let bad : 32 ≡ 45 = found in absurd (omega (arith, bad))

@@ -33,7 +33,7 @@ shifted v w k i room =
 pub share-own : (place : ℕ) (end : ℕ × ℕ) (w v : ℕ) → (place_of end w).0 ≡ place → share place end (Num w v) ≡ v * 2 ^ (place_of end w).1
 share-own place end w v own = rw (← own, own_block) refl
 
--- what the items so far add to block `place`, where their integers end at `end`
+-- the share of the items so far in block `place`, if their integers end at `end`
 pub record IsPartOf (place : ℕ) (end : ℕ × ℕ) (sum : ℕ) : Type 0 where
   pub here : end.0 ≡ place → sum < 2 ^ end.1
   pub before : end.0 < place → sum ≡ 0
@@ -82,7 +82,7 @@ items-from : (items : List Absorbed) (i : ℕ) (d : Absorbed) → i < length ite
     → map item_of (drop i items) ≡ item_of (get_or items i d) ∷ map item_of (drop (i + 1) items)
 items-from items i d h = rw (add-one, drop-cons items i d h) refl
 
--- so a sum of what they add goes on with what item `i` adds
+-- so a sum of their shares goes on with that of item `i`
 pub one_more : (items : List Absorbed) (i : ℕ) (d : Absorbed) (place : ℕ) (end after : ℕ × ℕ) (whole sum more : ℕ) → i < length items
     → more ≡ share place end (item_of (get_or items i d)) → after ≡ end_after end (item_of (get_or items i d))
     → whole ≡ sum + block_from place end (map item_of (drop i items)) → whole ≡ sum + more + block_from place after (map item_of (drop (i + 1) items))

@@ -1,4 +1,4 @@
--- What definitions by cases are proved by: tests of numbers, and the definitions to open.
+-- The facts by which definitions by cases are proved: tests of numbers, and the definitions to unfold.
 use Rattle.std.proofs.lemmas.Bool.Decides.{nat_tests}
 pub use Rattle.rapidhash_portable.specs.Form.{shape_of, tail_seed, tail_places}
 pub use Rattle.rapidhash_portable.specs.InMemory.{after_pairs, core_hash, core_shape}

@@ -5,7 +5,7 @@ use Rattle.std.proofs.lemmas.List.Elements.{All-more}
 use Rattle.std.proofs.lemmas.List.{take_all}
 use Rattle.example_dedupe.proofs.groups.find_equal.Goals as goal
 
--- whether two files are the same, by the bytes that are told
+-- whether two files are the same, by their known bytes
 told_apart : (same : Bool) (left right : Option (List ℕ)) (xs ys : List ℕ) → IfSome left (λ x. IfSome right (λ y. IsTrue same ↔ (x ≡ y))) → left ≡ Some xs → right ≡ Some ys → IsTrue same ↔ (xs ≡ ys)
 told_apart same left right xs ys answer is also = rw also at (rw is at answer)
 

@@ -17,7 +17,7 @@ loop-i-preserved c = λ (i : ℕ) (key : List ℕ) below at.
     (λ other. c.loop-i.invariant i key (omega arith) at)
     (cases_eq i c.loop-i.i)
 
--- where the index of a key does not stand at its place, the table is not perfect
+-- if the index of a key is not at its place, the table is not perfect
 pub returns-then-index-i : goal.returns-then-index-i
 returns-then-index-i c =
     let none : Bor (List ℕ) = record { ref_ptr = (0, 0); now = [] } in

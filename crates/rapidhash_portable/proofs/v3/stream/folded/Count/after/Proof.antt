@@ -1,4 +1,4 @@
--- `after` makes the empty struct and gives its ghost field one more than the number that it is lent.
+-- `after` makes the empty struct, whose ghost field is one more than the number that it is lent.
 use Rattle.std.proofs.Common.{◌+◌, [], ◌∷◌, refl}
 use Rattle.std.proofs.raw_atomic.Walks.{proved}
 use mir.Syntax.{named}

@@ -1,4 +1,4 @@
--- `new` makes the empty struct and gives its ghost field the number 0.
+-- `new` makes the empty struct, whose ghost field is 0.
 use Rattle.std.proofs.Common.{[], ◌∷◌, refl}
 use Rattle.std.proofs.raw_atomic.Walks.{proved}
 use mir.Val.{vstruct, vnil}
