@@ -1,3 +1,4 @@
 mod Checks
 mod Lines
+mod Lists
 mod Tags

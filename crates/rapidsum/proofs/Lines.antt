@@ -96,7 +96,7 @@ last-digit hash byte none found =
     cc (sym read ∙ ap hex_digit_value found ∙ none)
 
 -- the bytes of a hash are bytes
-bytes-small : (hash i : ℕ) → slice_index (to_be_bytes w64 hash) i < 256
+pub bytes-small : (hash i : ℕ) → slice_index (to_be_bytes w64 hash) i < 256
 bytes-small hash i = grind (arith)
 
 -- the digits of a hash decode to its bytes

@@ -2,3 +2,4 @@ pub mod Algorithm
 pub mod Check
 pub mod Entry
 pub mod Line
+pub mod List

@@ -1,5 +1,10 @@
 //! The lines of a list.
 
+ghost use Rattle.std.specs.Prelude.{◌≡◌, ◌≢◌, ◌++◌, ◌∷◌, ◌≤◌, ◌<◌, ◌==◌, false, length, slice_index, take, IsOkUnless};
+ghost use Rattle.std.specs.Prelude.{ℕ, List as TheList};
+ghost use Rattle.std.specs.List.{All, list_any};
+ghost use Rattle.rapidsum.specs.List.{ReadsBack};
+
 use crate::entry::{Entry, Line, read_line};
 use crate::problem::Problem;
 use std::alloc::Global;
@@ -13,14 +18,48 @@ pub struct List {
     pub malformed: Vec<u64>,
 }
 
+// Returns the number of bytes before the first newline, or of all bytes if there is none.
+fn line_length(text: &[u8]) -> usize
+    ensures within { result ≤ length text.now }
+    ensures before { All (λ byte. byte ≢ 10) (take result text.now) }
+    ensures found { result < length text.now → slice_index text.now result ≡ 10 }
+{
+    text.iter()
+        .position(|byte| *byte == b'\n')
+        .unwrap_or(text.len())
+}
+
+// Returns the first line of a text, without its newline, and the text after it.
+#[tactic(auto, using(crate::proofs::Lists::line_parts))]
+fn next_line(text: &[u8]) -> (&[u8], &[u8])
+    ensures parts { (line rest : TheList ℕ) → list_any (λ byte. byte == 10) line ≡ false →
+        text.now ≡ line ++ 10 ∷ rest → (result.0.now ≡ line) × (result.1.now ≡ rest) }
+    ensures shorter { 0 < length text.now → length result.1.now < length text.now }
+{
+    let (line, rest) = text.split_at(line_length(text));
+    match rest {
+        [_, rest @ ..] => (line, rest),
+        [] => (line, rest),
+    }
+}
+
 /// Reads the lines of a list.
-pub fn read_list(alloc: Global, text: &[u8]) -> Result<List, Problem> {
+///
+/// # Errors
+///
+/// If an allocation fails.
+pub fn read_list(alloc: Global, text: &[u8]) -> Result<List, Problem>
+    ensures reads_back { ReadsBack text.now result }
+    ensures memory { IsOkUnless result Problem.Memory }
+{
     let mut list = List {
         entries: Vec::new(alloc),
         malformed: Vec::new(alloc),
     };
-    let mut number = 0u64;
-    for line in text.split(|byte| *byte == b'\n') {
+    let (mut rest, mut number) = (text, 0u64);
+    while !rest.is_empty() {
+        let (line, more) = next_line(rest);
+        rest = more;
         number = number.saturating_add(1);
         match read_line(alloc, line)? {
             Line::Entry(entry) => list.entries.push(entry)?,

@@ -1,5 +1,8 @@
 //! The errors of the program.
 
+ghost use Rattle.std.specs.Prelude.{◌≡◌};
+ghost use Rattle.rapidsum.specs.declared.problem.Problem.TheVariants.{Memory};
+
 use std::alloc::{AllocError, AllocFailed};
 use std::io::ErrorKind;
 use std::{fmt, io};
@@ -25,12 +28,16 @@ impl Problem {
 }
 
 impl From<AllocError> for Problem {
+    ghost from_gives = { λ error problem. problem ≡ Memory };
+
     fn from(_error: AllocError) -> Problem {
         Problem::Memory
     }
 }
 
 impl<T: Drop> From<AllocFailed<T>> for Problem {
+    ghost from_gives = { λ failed problem. problem ≡ Memory };
+
     fn from(_error: AllocFailed<T>) -> Problem {
         Problem::Memory
     }

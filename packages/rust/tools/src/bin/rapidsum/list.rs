@@ -15,14 +15,36 @@ pub struct List {
     pub malformed: Vec<u64>,
 }
 
+// Returns the number of bytes before the first newline, or of all bytes if there is none.
+fn line_length(text: &[u8]) -> usize {
+    text.iter()
+        .position(|byte| *byte == b'\n')
+        .unwrap_or(text.len())
+}
+
+// Returns the first line of a text, without its newline, and the text after it.
+fn next_line(text: &[u8]) -> (&[u8], &[u8]) {
+    let (line, rest) = text.split_at(line_length(text));
+    match rest {
+        [_, rest @ ..] => (line, rest),
+        [] => (line, rest),
+    }
+}
+
 /// Reads the lines of a list.
+///
+/// # Errors
+///
+/// If an allocation fails.
 pub fn read_list(alloc: Global, text: &[u8]) -> Result<List, Problem> {
     let mut list = List {
         entries: Vec::new(alloc),
         malformed: Vec::new(alloc),
     };
-    let mut number = 0u64;
-    for line in text.split(|byte| *byte == b'\n') {
+    let (mut rest, mut number) = (text, 0u64);
+    while !rest.is_empty() {
+        let (line, more) = next_line(rest);
+        rest = more;
         number = number.saturating_add(1);
         match read_line(alloc, line)? {
             Line::Entry(entry) => list.entries.push(entry)?,
