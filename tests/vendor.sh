@@ -20,11 +20,11 @@ is_copy() {
   [ "$(ls -A "$1" "$1/crates" | tr '\n' ' ')" = "$1: crates  $1/crates: rapidhash rapidhash_portable " ]
 }
 
-# Checks that a command fails and that its last line is this message: MESSAGE COMMAND..
+# Checks that a command fails and that its last line on standard error is this message: MESSAGE COMMAND..
 refused() {
   local message=$1
   shift
-  "$@" >"$room/said" 2>&1
+  "$@" 2>"$room/said" >/dev/null
   [ $? -eq 1 ] && cat "$room/said" && [ "$(tail -n 1 "$room/said")" = "vendor: $message" ]
 }
 
@@ -69,6 +69,14 @@ keeps_what_was_there() {
     prlimit --fsize=4096 "$vendor" "$room/a folder" && is_copy "$room/a folder"
 }
 
+# Here no new copy can be moved to its place, only the previous one away and back.
+puts_it_back() {
+  local message="cannot put rapidhash_portable into $room/a folder/crates; fix this and run make vendor again"
+  printf '#!/bin/sh\ncase $1:$2 in *.before:*) ;; *:*/crates/*) exit 1 ;; esac\nexec /bin/mv "$@"\n' >"$room/mv" &&
+    chmod +x "$room/mv" && refused "$message" env PATH="$room:$PATH" "$vendor" "$room/a folder" &&
+    is_copy "$room/a folder"
+}
+
 # Runs the merge gate of a repository with the library and the program of docs/RATTLE.md. It proves all three crates
 # from scratch, runs the library's tests, and checks that the program prints its values.
 passes_the_gate() {
@@ -91,6 +99,7 @@ try another_crate refuses_a_crate_of_another
 # Nobody, not even root, can create a directory in /proc.
 try not_writable refused 'cannot write to /proc' "$vendor" /proc
 try full_disk keeps_what_was_there
+try failed_move puts_it_back
 if [ "${1:-}" = ci ]; then
   echo 'the merge gate of a repository with the library: some minutes'
   try gate passes_the_gate
