@@ -1,6 +1,6 @@
 #!/usr/bin/env bash
 # Builds the Python package from source, installs it in fresh environments without a network, and tests the installed
-# copy. RAPIDHASH_TEST_PYTHONS can name further interpreters with setuptools and wheel, which build and test the source
+# copy. The interpreters that RAPIDHASH_TEST_PYTHONS names, with setuptools and wheel, also build and test the source
 # distribution. Missing programs are named, and their cases are not counted.
 . "$(dirname "$0")/../../../tests/cases.sh"
 # The Python for which Debian has the packages that build wheels.
@@ -109,7 +109,7 @@ try no_compiler without_a_compiler
 # Without a network, pip cannot get setuptools.
 try no_setuptools fails_and_leaves_nothing setuptools --symlinks
 try no_header without_the_header
-for other in ${RAPIDHASH_TEST_PYTHONS:-}; do
+for other in "$python" ${RAPIDHASH_TEST_PYTHONS:-}; do
   try "$other" works_with "$other"
 done
 
