@@ -43,13 +43,14 @@ passes() {
   java -ea -cp "$jar:$room/tests:$junit" org.junit.runner.JUnitCore "$package.$1"
 }
 
-# Checks that the module has the version of the pom, and that its users need no other package.
+# Checks that the module has the version of the pom, which has the licences and no package that its users need.
 pom_is_current() {
   local version
   version=$(jar -f "$jar" -d | sed -n "s/^$package@\\([0-9.]*\\) .*/\\1/p") && [[ $(<"$folder/pom.xml") == *"
   <groupId>example.yervound</groupId>
   <artifactId>yervound-rapidhash</artifactId>
   <version>$version</version>"* ]] &&
+    grep -x ' *<name>MIT OR Apache-2.0</name>' "$folder/pom.xml" &&
     [ "$(grep -c '<artifactId>' "$folder/pom.xml")" -eq $((1 + $(grep -cx ' *<scope>test</scope>' "$folder/pom.xml"))) ]
 }
 
