@@ -96,10 +96,11 @@ used_by() {
   echo "$1"
 }
 
-# Checks that make builds each product again after an edit of any crate that it uses.
+# Checks that make builds each product again after an edit of any crate that it uses, or of the C header.
 each_edit_counts() {
   local crate
   make -pq -C "$top" >rules 2>/dev/null
+  [ "$(grep -cE '^build/(rapidhash\.(so|wasm)|wheels/made): .*packages/c/include/rapidhash_c\.h' rules)" -eq 3 ] || return
   for crate in rapidhash_c rapidhash_cli rapidsum example_{bloom,perfect,shards,dedupe}; do
     diff <(used_by "$crate" | sort -u) \
       <(grep -oE "^crates/$crate/out/[^.]*(\.a)?: .*" rules | grep -oE '[ ]crates/[^/]*/src ' | cut -d / -f 2 | sort -u) || return 1
@@ -129,7 +130,9 @@ calls first_call_by_cargo 0 'cargo one a' 1 "$of_cargo" a
 calls second_call_by_cargo 0 'cargo one' 1 ''
 echo two >repo/packages/rust/src/lib.rs
 calls edited_source_by_cargo 0 'cargo two' 2 "$of_cargo"
+echo >repo/packages/rust/tools/src/lib.rs
+calls edited_tool_by_cargo 0 'cargo two' 3 "$of_cargo"
 programs=$room/kit:$PATH
-calls the_kit_instead_of_cargo 7 $'first\ninput' 3 "$told"
+calls the_kit_instead_of_cargo 7 $'first\ninput' 4 "$told"
 
 finish
