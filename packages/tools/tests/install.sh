@@ -102,6 +102,11 @@ links_both_by_cmake() {
     ! readelf -d "$room/cmake/cpp_rapidhash_c_static" | grep -F librapidhash_c
 }
 
+# Nobody, not even root, can create a directory in /proc.
+fails_if_a_copy_fails() {
+  ! installs PREFIX="$room/failed" DATADIR=/proc/none
+}
+
 # Installs below DESTDIR, with separate directories for programs and libraries.
 serves_a_packager() {
   local stage=$room/stage pc=$room/stage/usr/lib/here/pkgconfig/rapidhash_c.pc
@@ -193,6 +198,7 @@ for name in rapidhash rapidsum; do try "completions_of_$name" has_its_completion
 for folder in PREFIX=usr BINDIR= LIBDIR='/a b' INCLUDEDIR="/a'b" DATADIR=$'/a\nb'; do
   try "refuses ${folder//$'\n'/ }" refuses "$folder"
 done
+try failed_copy fails_if_a_copy_fails
 try folders_of_a_packager serves_a_packager
 try headers_elsewhere serves_headers_elsewhere
 try nothing_built wants_a_build_first

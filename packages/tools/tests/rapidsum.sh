@@ -203,6 +203,7 @@ runs closed_pipe 141 '' '' to_a_closed_pipe "$program" first first
 for words in '--tag -c' '--tag --text' '--zero -c' '--binary -c' '--text -c' '-a v9' '--seed=-1' '--seed 1 --seed 2'; do
   says "refuses ${words// /_}" "for more information, try '--help'" "$program" $words first
 done
+says help_to_a_full_disk 'No space left' to_a_full_disk "$program" --help
 says list_that_is_a_folder '.: Is a directory' "$program" -c .
 says list_of_which_a_read_fails 'list: Input/output error' failing read:error=EIO:when=2 list "$program" -c list
 runs rest_of_a_short_write 0 $'b469390773a  first\n' '' failing write:retval=5:when=1 out "$program" first
