@@ -13,7 +13,8 @@ try() {
 # LINES SCRIPT
 ends() {
   local status
-  mkdir -p "$room/tests" && cp "$top/tests/cases.sh" "$top/tests/cases.py" "$room/tests" &&
+  mkdir -p "$room/tests/examples" && cp "$top"/tests/cases.{sh,py} "$room/tests" &&
+    cp "$top/tests/examples/room.sh" "$room/tests/examples" &&
     printf '%s\n' "$3" >"$room/tests/script" && "${4:-bash}" "$room/tests/script" >"$room/said" 2>&1
   status=$?
   [ "$status" = "$1" ] && [ "$(grep -v '^# ' "$room/said")" = "$2" ] && { [ "$1" -eq 0 ] || grep -q '^# ' "$room/said"; }
@@ -35,7 +36,7 @@ edit_ends() {
 gate_ends() {
   local copy=$room/gate file
   rm -rf "$copy" && mkdir -p "$copy"/{.ci,bin,tests,packages/one/tests} && cp "$top"/.ci/{run,skips} "$copy/.ci" &&
-    cd "$copy" && for file in .ci/setup bin/{make,rt} packages/one/tests/one.sh tests/two.sh; do
+    cd "$copy" && for file in .ci/setup bin/{make,rt} packages/one/tests/one.py tests/two.sh; do
       printf '#!/bin/sh\necho 3 passed, 0 failed\necho ok - a\necho 1..1\n' >"$file" && chmod +x "$file"
     done && printf '#!/bin/sh\n%s\n' "$3" >tests/two.sh && { [ -z "${4-}" ] || echo 'exit 1' >>"$4"; } &&
     PATH="$copy/bin:$PATH" .ci/run >"$room/said" 2>&1
@@ -49,7 +50,8 @@ pages_refuse() (
 )
 
 start='. "$(dirname "$0")/cases.sh"; cd "$room"; echo >a'
-try a_failing_case ends 1 $'ok - a\nnot ok - b\n1..2' "$start; try a true; try b sh -c 'echo why; exit 1'; finish"
+try a_failing_case ends 1 $'ok - a\nnot ok - b\nnot ok - c\n1..3' \
+  "$start; try a true; try b sh -c 'echo why; exit 1'; try_with c sh false; finish"
 try a_skipped_case ends 0 $'ok - a\nok - b # SKIP no nothing\n1..2' "$start; try a true; try_with b nothing true; finish"
 try a_skipped_script ends 0 '1..0 # SKIP no rt' "$start; PATH=/usr/bin:/bin; needs_the_toolchain; finish"
 for bad in 'runs bad 0 "" "" echo more' 'runs bad 0 "" "" sh -c "exit 3"' 'runs bad 0 "" "" sh -c "echo more >&2"' \
@@ -58,6 +60,12 @@ for bad in 'runs bad 0 "" "" echo more' 'runs bad 0 "" "" sh -c "exit 3"' 'runs 
   [[ $bad != try* ]] || can_trace || continue
   name=bad && [[ $bad != prepare* ]] || name=prepare
   try "a_failure_of $bad" ends 1 "not ok - $name"$'\n1..1' "$start; $bad; finish"
+done
+of_program='BUILT=$0; . "$(dirname "$0")/examples/room.sh"'
+for bad in 'answers bad a "" echo b' 'answers bad "" "" false' 'answers bad "" "" sh -c "echo more >&2"' \
+  'fault bad 1 a sh -c "echo script: a >&2"' 'fault bad 1 a sh -c "echo script: b >&2; exit 1"' \
+  'fault bad 1 a sh -c "echo more; echo script: a >&2; exit 1"'; do
+  try "a_failure_of $bad" ends 1 $'not ok - bad\n1..1' "$of_program; $bad; finish"
 done
 long='from cases import *; compare("bad", [1] * 100 + [2], [1] * 100 + [3]); compare("a", shell("false; true")[0], 1)'
 try long_values_that_differ ends 1 $'not ok - bad\nok - a\n1..2' "$long; finish()" python3
@@ -77,7 +85,7 @@ try a_gate_with_a_case_too_few gate_ends 5 1 'printf "ok - a\n1..2\n"'
 try a_gate_with_a_named_skip gate_ends 4 0 'printf "ok - a # SKIP strace cannot trace here\n1..1\n"'
 try a_gate_with_another_skip gate_ends 4 1 'printf "ok - a # SKIP no go\n1..1\n"'
 try a_gate_with_a_skipped_script gate_ends 4 1 'echo "1..0 # SKIP no go"'
-for file in .ci/setup bin/{make,rt} packages/one/tests/one.sh; do
+for file in .ci/setup bin/{make,rt} packages/one/tests/one.py; do
   try "a_gate_in_which $file fails" gate_ends 6 1 'printf "ok - a\nok - b\n1..2\n"' "$file"
 done
 while read -r case file edit; do try "pages_refuse $case" pages_refuse "$case" "$file" "$edit"; done <<'EDITS'
