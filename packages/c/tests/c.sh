@@ -158,6 +158,14 @@ v3_protected 70 40 141 3008
 COUNTS
 }
 
+# Checks by the products that a loop of the header folds two rows per iteration and then one, by GCC only with three
+# lanes. With single rows the same values would take longer: COMPILER COUNTS
+folds_two_rows() {
+  "$1" -O2 "-I$include" -c "$top/packages/c/rapidhash_c.c" -o "$room/rows.o" && for form in v3 micro nano; do
+    objdump --disassemble="rapidhash_rows_${form}_" "$room/rows.o" | grep -c '\smul '
+  done | xargs | grep -x "$2"
+}
+
 # Compares the header's hashes of a million inputs from libFuzzer.
 fuzz() {
   beside_rust clang -O1 -fsanitize=fuzzer,address,undefined -fno-sanitize-recover=all &&
@@ -231,6 +239,8 @@ try manual_and_header manual_has_the_header
 try example_of_the_manual manual_example_runs
 try_with random_messages rustc random_messages
 try_with instructions rustc counts_instructions
+try_with rows_per_iteration gcc folds_two_rows gcc '15 11 13'
+try_with rows_per_iteration_clang clang folds_two_rows clang '29 21 13'
 try_with fuzz clang fuzz
 
 # The library that cc compiles from the header replaces the proved one on other machines.
