@@ -5,10 +5,10 @@ needs_the_toolchain
 
 # What a developer's builds have left in the directories must not be packed.
 makes_the_archive() {
-  local left=("$top"/packages/rust{,/tools}/target/left)
+  local left=("$top"/packages/{rust{,/tools}/target,python/rapidhash/__pycache__}/left)
   for file in "${left[@]}"; do install -D /dev/null "$file"; done
   make -s -C "$top" dist </dev/null && rm -f "${left[@]}" && tar -C "$room" -xzf "$top"/build/yervound-*.tar.gz &&
-    mv "$room"/yervound-* "$room/unpacked" && [ -z "$(find "$room/unpacked" -name left)" ] &&
+    mv "$room"/yervound-* "$room/unpacked" && [ -z "$(find "$room/unpacked" -name left -o -name make.mk)" ] &&
     has_the_licences "$room/unpacked"
 }
 
