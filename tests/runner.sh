@@ -31,15 +31,15 @@ edit_ends() {
   [ "$?:$(head -n 1 "$room/said")" = "$(($(grep -c ^not <<<"$1"))):$1 - one/a" ]
 }
 
-# Runs the gate in a repository in which this is one of two scripts, and another file perhaps fails. Its last line must
-# count these cases: PASSED FAILED SCRIPT [FILE]
+# Runs the gate, with the word in `mode`, in a repository in which this is one of two scripts, and another file perhaps
+# fails. Its last line must count these cases: PASSED FAILED SCRIPT [FILE]
 gate_ends() {
   local copy=$room/gate file
   rm -rf "$copy" && mkdir -p "$copy"/{.ci,bin,tests,packages/one/tests} && cp "$top"/.ci/{run,skips} "$copy/.ci" &&
     cd "$copy" && for file in .ci/setup bin/{make,rt} packages/one/tests/one.py tests/two.sh; do
       printf '#!/bin/sh\necho 3 passed, 0 failed\necho ok - a\necho 1..1\n' >"$file" && chmod +x "$file"
     done && printf '#!/bin/sh\n%s\n' "$3" >tests/two.sh && { [ -z "${4-}" ] || echo 'exit 1' >>"$4"; } &&
-    PATH="$copy/bin:$PATH" .ci/run >"$room/said" 2>&1
+    PATH="$copy/bin:$PATH" .ci/run ${mode-} >"$room/said" 2>&1
   [ "$?:$(tail -n 1 "$room/said")" = "$(($2 > 0)):$1 passed, $2 failed" ]
 }
 
@@ -78,6 +78,7 @@ for said in 'ok:not proved: `goal`' 'not ok:not proved: `other`' 'not ok:proved:
   try "edit_of_which_the_checker_says ${said#*:}" edit_ends "${said%%:*}" "${said#*:}"
 done
 try a_gate gate_ends 6 0 'printf "ok - a\nok - b\n1..2\n"'
+mode=source try a_gate_of_sources gate_ends 3 0 'command -v rt && exit 1; printf "ok - a\nok - b\n1..2\n"'
 try a_gate_with_a_failure gate_ends 5 1 'printf "ok - a\nnot ok - b\n1..2\n"'
 try a_gate_with_a_bad_status gate_ends 5 1 'printf "ok - a\n1..1\n"; exit 1'
 try a_gate_with_a_script_that_dies gate_ends 5 1 'echo ok - a; kill $$'
