@@ -35,16 +35,27 @@ readme_runs() {
 }
 
 # Links the crate without its default feature into a library with its own handler of panics: a library that uses std has
-# two of them and does not compile.
+# two of them and does not compile. The names in this library have the constants of generic functions.
 needs_core_alone() {
   local project=$room/bare
   mkdir -p "$project/src" && printf '%s\n' '[package]' 'name = "bare"' 'version = "0.0.0"' 'edition = "2021"' '[lib]' \
     'crate-type = ["staticlib"]' '[dependencies]' \
     "yervound-rapidhash = { path = \"$top/packages/rust\", default-features = false }" \
     '[profile.dev]' 'panic = "abort"' >"$project/Cargo.toml" &&
-    printf '%s\n' '#![no_std]' '#[panic_handler]' 'fn stop(_: &core::panic::PanicInfo) -> ! { loop {} }' \
-      '#[no_mangle]' 'pub extern "C" fn hello() -> u64 { rapidhash::v3::rapidhash_v3(b"hello") }' >"$project/src/lib.rs" &&
-    (cd "$project" && cargo build)
+    printf '%s\n' '#![no_std]' 'use rapidhash::{v1, v2, v3};' \
+      '#[panic_handler]' 'fn stop(_: &core::panic::PanicInfo) -> ! { loop {} }' \
+      '#[no_mangle]' 'pub extern "C" fn hello(a: &v1::RapidSecrets, b: &v3::RapidSecrets) -> u64 {' \
+      'v1::rapidhash_v1(b"hello") ^ v2::rapidhash_v2_2(b"hello") ^ v3::rapidhash_v3(b"hello") ^' \
+      'v1::rapidhash_v1_seeded(b"", a) ^ v2::rapidhash_v2_2_seeded(b"", b) ^ v3::rapidhash_v3_seeded(b"", b) }' \
+      >"$project/src/lib.rs" &&
+    (cd "$project" && RUSTFLAGS=-Csymbol-mangling-version=v0 cargo build)
+}
+
+# Checks by the names in that library that no default hash folds one row at a time, which is slower: the options in the
+# name are AVALANCHE, COMPACT and PROTECTED.
+folds_two_rows() {
+  nm -C "$CARGO_TARGET_DIR/debug/libbare.a" 2>/dev/null | grep -o 'with_rows::<.*' | sort -u | diff - <(
+    printf 'with_rows::<%strue, false, false%s>\n' '2, ' '' '3, ' '' '5, ' '' '7, ' '' '' ', false')
 }
 
 # Checks what the registry and lawyers read of the manifests: MANIFEST
@@ -87,6 +98,7 @@ for features in --all-features --no-default-features; do
 done
 try tests_in_release tests_pass cargo test --release --tests
 try core_alone needs_core_alone
+try rows_per_iteration folds_two_rows
 for manifest in Cargo.toml compat/Cargo.toml; do try "metadata_of_$manifest" has_the_metadata "$manifest"; done
 try examples tests_pass cargo test --doc
 try_with pedantic cargo-clippy cargo clippy -- -D warnings -W clippy::pedantic
