@@ -18,6 +18,11 @@ folds_many_rows() {
   done | diff - <(printf '%s\n' 21 15 12)
 }
 
+# Checks by the calls in that program that a stream copies whole pieces: byte by byte, short ones would take longer.
+copies_whole_pieces() {
+  [ "$(go tool objdump -s 'Stream..(Write|fold)$' "$room/test" | grep -c 'CALL runtime.memmove')" -eq 5 ]
+}
+
 command -v go >/dev/null || skip_all 'no go'
 cd "$top/packages/go" || exit 1
 prepare_by write_vectors "$room"
@@ -33,6 +38,7 @@ try_with arm64 qemu-aarch64 env GOARCH=arm64 go test -count 1 -short -exec qemu-
 try_with s390x qemu-s390x env GOARCH=s390x go test -count 1 -short -exec qemu-s390x .
 for os in linux windows darwin; do try "vet_$os" env GOOS="$os" GOARCH=amd64 go vet .; done
 try rows_per_iteration folds_many_rows
+try copies copies_whole_pieces
 try vet_formulas go vet -tags formulas ./...
 try lines_of_the_page runs_the_page
 try page works_as_its_page_says README.md
