@@ -7,7 +7,7 @@ use rapidhash::rng::{RapidRng, rapidrng_fast, rapidrng_time};
 use rapidhash::{fast, quality, v1, v2, v3};
 use std::fs::File;
 use std::hash::BuildHasher;
-use std::io::{Seek, Write};
+use std::io::{Seek, SeekFrom, Write};
 
 const HELLO: u64 = v3::rapidhash_v3(b"hello");
 static SEEDED: u64 = v2::rapidhash_v2_2_seeded(b"hello", &v2::DEFAULT_RAPID_SECRETS);
@@ -51,9 +51,13 @@ impl Named for v3::RapidSecrets {
 #[test]
 fn secrets_of_two_versions() {
     assert_ne!(v2::RapidSecrets::NAME, v3::RapidSecrets::NAME);
-    let (two, three) = (v2::RapidSecrets::seed(7), v3::RapidSecrets::seed(7));
-    assert_eq!((two.seed, two.secrets), (three.seed, three.secrets));
-    assert_eq!(two.reseed().seed, three.reseed().seed);
+    let number = u64::MAX - 7;
+    let two = [v2::RapidSecrets::seed, v2::RapidSecrets::seed_cpp].map(|make| make(number));
+    let three = [v3::RapidSecrets::seed, v3::RapidSecrets::seed_cpp].map(|make| make(number));
+    for (two, three) in two.iter().zip(&three) {
+        assert_eq!((two.seed, two.secrets), (three.seed, three.secrets));
+        assert_eq!(two.reseed().seed, three.reseed().seed);
+    }
     assert_ne!(
         v2::RapidSecrets::random().seed,
         v2::RapidSecrets::random().seed
@@ -87,17 +91,25 @@ fn files_by_their_metadata() -> std::io::Result<()> {
     // The file is at its end now.
     let short = v1::rapidhash_v1_file(&mut file).unwrap_err();
     assert_eq!(short.kind(), std::io::ErrorKind::UnexpectedEof);
+    // The rest alone has as many bytes as the lower half of the length.
+    File::create(&path)?.set_len((1 << 32) + 5)?;
+    let mut file = File::open(&path)?;
+    for call in [v1::rapidhash_v1_file, v2::rapidhash_v2_2_file] {
+        file.seek(SeekFrom::Start(1 << 32))?;
+        assert!(call(&mut file).is_err());
+    }
     std::fs::remove_file(&path)
 }
 
 #[test]
 fn generator() {
     use rand_core::{RngCore, SeedableRng};
-    let (mut ours, mut state) = (RapidRng::seed_from_u64(5), 5);
+    let number = u64::MAX - 5;
+    let (mut ours, mut state) = (RapidRng::seed_from_u64(number), number);
     assert_eq!(RngCore::next_u64(&mut ours), rapidrng_fast(&mut state));
     let mut bytes = [0; 12];
-    RapidRng::from_seed(5u64.to_le_bytes()).fill_bytes(&mut bytes);
-    let mut state = 5;
+    RapidRng::from_seed(number.to_le_bytes()).fill_bytes(&mut bytes);
+    let mut state = number;
     assert_eq!(bytes[..8], rapidrng_fast(&mut state).to_le_bytes());
     assert_eq!(bytes[8..], rapidrng_fast(&mut state).to_le_bytes()[..4]);
     assert_eq!(RapidRng::new(1).next_u32(), RapidRng::new(1).next() as u32);
