@@ -56,7 +56,8 @@ fn a_copy_of_a_stream_goes_on_alone() {
     assert!(format!("{:?}", Source::new(b"x".as_slice())).starts_with("Source"));
 }
 
-/// A single write is larger than every buffer inside, and its parts differ.
+/// A single write is larger than every buffer inside, and its parts differ. It leaves the state of the stream's write:
+/// byte by byte, which takes longer, other bytes would stay in the buffer.
 #[test]
 fn a_large_write() {
     let message: Vec<u8> = (0..2_000_003u32)
@@ -65,9 +66,15 @@ fn a_large_write() {
     let mut stream = RapidStreamHasherV3::new(&DEFAULT_RAPID_SECRETS);
     assert_eq!(Write::write(&mut stream, &message).unwrap(), message.len());
     assert_eq!(stream.finish(), rapidhash_v3(&message));
+    let mut own = RapidStreamHasherV3::new(&DEFAULT_RAPID_SECRETS);
+    own.write(&message);
+    assert_eq!(format!("{stream:?}"), format!("{own:?}"));
     let mut lanes = RapidStream::new(7, &DEFAULT_RAPID_SECRETS);
     assert_eq!(Write::write(&mut lanes, &message).unwrap(), message.len());
     assert_eq!(lanes.finish(), rapidhash_v3(&message));
+    let mut own = RapidStream::new(7, &DEFAULT_RAPID_SECRETS);
+    own.write(&message);
+    assert_eq!(format!("{lanes:?}"), format!("{own:?}"));
 }
 
 #[test]
