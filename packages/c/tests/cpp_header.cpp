@@ -205,8 +205,9 @@ static void check_zeros(unsigned long long size, std::uint64_t known)
     if (zeros == nullptr)
         std::printf("skipped zeros:%llu: no memory for it\n", size);
     else
-        for (std::uint64_t value : {rapidhash::hash({zeros, range.count}), rapidhash::hash(range),
-                                    rapidhash::stream().update(zeros, range.count).finish()})
+        for (std::uint64_t value : {rapidhash::hash({zeros, range.count}), rapidhash::hash(range, rapidhash::seed(0)),
+                                    rapidhash::hash(range, rapidhash::seed_secrets(rapidhash::seed(0))),
+                                    rapidhash::hash(range), rapidhash::stream().update(zeros, range.count).finish()})
             compare("zeros", value, known);
     std::free(zeros);
 }
