@@ -60,6 +60,12 @@ class Vectors(unittest.TestCase):
             self.assertEqual(found, {f"{int(value):016x}"}, (version, rule, digits[:20]))
         self.assertEqual((len(lines), {line[0] for line in lines}), (3568, set(VERSIONS)))
 
+    def test_a_length_above_32_bits_with_a_seed_and_with_secrets(self):
+        with mmap.mmap(-1, 2**32 + 5, mmap.MAP_PRIVATE | mmap.MAP_ANONYMOUS, mmap.PROT_READ) as zeros:
+            for options in {"seed": 5}, {"secrets": rapidhash.make_secrets(5)}:
+                found = {rapidhash.v3(zeros, **options), *rapidhash.each([zeros], **options)}
+                self.assertEqual(found, {rapidhash.V3(zeros, **options).intdigest()})
+
 
 if __name__ == "__main__":
     unittest.main()
