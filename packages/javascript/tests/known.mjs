@@ -70,6 +70,20 @@ test("long messages", () => {
   assert.equal(new V3().update(message).digest(), 3141031059669918984n);
 });
 
+// Byte by byte, the same values would take longer.
+test("bytes are copied at once", () => {
+  const typed = Object.getPrototypeOf(Uint8Array.prototype);
+  const { set } = typed;
+  const copied = [];
+  typed.set = function (bytes, ...rest) {
+    copied.push(bytes.length);
+    set.call(this, bytes, ...rest);
+  };
+  v3(data);
+  typed.set = set;
+  assert.deepEqual(copied, [120]);
+});
+
 test("hashers do not disturb each other", () => {
   const [left, right] = [new V3({ seed: 1n }), new V3({ secrets: own })];
   for (let at = 0; at < 120; at += 10)
