@@ -118,6 +118,7 @@ static void check_uneven_pieces(const struct stream_form *form)
     form->start(&stream, &own);
     rapidhash_stream_write(&stream, bytes, 100);
     rapidhash_stream_reset(&stream);
+    rapidhash_stream_write(&stream, NULL, 0);
     for (at = 0, size = 1; at < sizeof bytes; at += size, size++) {
         if (size > sizeof bytes - at)
             size = sizeof bytes - at;
