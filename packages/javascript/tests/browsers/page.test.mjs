@@ -3,7 +3,7 @@
 // hashes by each version of the package come from TOOL, the program rapidhash.
 import assert from "node:assert/strict";
 import { execFileSync } from "node:child_process";
-import { writeFileSync } from "node:fs";
+import { rmSync, writeFileSync } from "node:fs";
 import { join } from "node:path";
 import { after, before, test } from "node:test";
 
@@ -130,6 +130,17 @@ test("stopped files", async () => {
       return [all.length, all[0].dataset.end, all[0].querySelector("button")]`, name);
     assert.deepEqual(shown, [2, "stopped", null]);
   }
+});
+
+// The file is gone when its turn comes, after a larger one.
+test("a file that cannot be read", async () => {
+  writeFileSync(join(FILES, "gone"), "gone");
+  await choose("double", "gone");
+  rmSync(join(FILES, "gone"));
+  const { end, state, rows } = await ended("gone", 120);
+  assert.match(end, /^could not be hashed: ./);
+  assert.equal(state, `4 bytes, ${end}`);
+  assert.equal(Object.values(rows).flat().join(""), "");
 });
 
 test("keys and names", async () => {
