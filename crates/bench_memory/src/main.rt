@@ -1,5 +1,5 @@
-//! Times the generator, the stream hasher, and the hasher of maps: `bench_memory FORM NUMBER
-//! PLACE`, for `bench/memory`. It prints a number that depends on all of its work, and the time in
+//! Times the generator, the stream hasher, and the hasher of maps: `bench/memory` calls
+//! `bench_memory FORM NUMBER PLACE`. Prints a number that depends on all of its work, and the
 //! nanoseconds.
 #![tactic(auto)]
 

@@ -1,4 +1,4 @@
-//! The stream hasher, by pieces of the same size, and the hash of the same message in one call.
+//! The stream hasher, in pieces of the same size, and the hash of the same message in one call.
 
 use anyhow::Result;
 use rapidhash::rng::RapidRng;

@@ -20,7 +20,7 @@ pub struct Row<'x> {
 }
 
 impl Row<'_> {
-    /// Hashes the texts by a form, and returns a sum that depends on all hashes.
+    /// Hashes the texts with a form and returns a sum that depends on all hashes.
     pub fn work<const SEEDED: bool>(&self, form: &str, sum: u64) -> Result<u64> {
         match form {
             "v1" => self.by_form::<V1<SEEDED>>(sum),

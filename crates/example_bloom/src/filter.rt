@@ -8,7 +8,7 @@ use crate::shape::Shape;
 use rapidhash::v3::rapidhash_v3;
 use std::alloc::{AllocError, Global};
 
-/// A set of keys that may find more keys than were inserted, and never fewer.
+/// A set of keys that finds every inserted key, and perhaps others.
 ///
 /// A key has a fixed number of marks. Each is a bit of the words, at a place that the key's hash
 /// determines. To insert a key sets its marks. A key is found if all of its marks are set.

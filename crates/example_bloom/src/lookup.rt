@@ -1,4 +1,4 @@
-//! The work on the bytes of files: lists are inserted, and lines looked up.
+//! Inserts the lines of lists and looks up the lines of the input.
 
 ghost use Rattle.std.specs.Prelude.{IfOk};
 ghost use Rattle.example_bloom.specs.Filter.{HasWords, KeepsAll};
@@ -8,7 +8,7 @@ use crate::shape::{Shape, ShapeError};
 use std::alloc::{AllocError, Global};
 use std::io::{self, BufRead, ErrorKind, Write};
 
-/// The reason why the program stops between its files.
+/// An error that stops the program between its files.
 #[derive(Debug, thiserror::Error, Drop)]
 pub enum LookupError {
     /// There is no filter for this many keys at this rate.

@@ -7,7 +7,7 @@ For each line of standard input, prints 'maybe LINE' if it may be in a LIST,
 or 'no LINE' if it definitely is not. At most about one in N lines that are in
 no LIST is reported as 'maybe' (default: 100).";
 
-/// The reason why the arguments are refused.
+/// An error in the arguments.
 #[derive(Debug, Clone, Copy, thiserror::Error, Drop)]
 pub enum OptionsError<'a> {
     /// No list is named.

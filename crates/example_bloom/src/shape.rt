@@ -6,7 +6,7 @@ ghost use Rattle.example_bloom.specs.Shape.{Refuses, Serves};
 /// The most bits of a filter, 512 MiB: places come from the 32-bit halves of a hash.
 pub const MOST_BITS: u64 = 4294967296;
 
-/// The reason why there is no filter for these numbers.
+/// An error of [`Shape::new`]: no filter fits the numbers.
 #[derive(Debug, Clone, Copy, thiserror::Error, Drop)]
 pub enum ShapeError {
     /// A filter that finds one in one other key finds them all.
@@ -25,8 +25,7 @@ pub struct Shape {
 }
 
 impl Shape {
-    /// Returns the shape for `keys` keys, at which at most one in `one_in` other keys should be
-    /// found.
+    /// Returns the shape for `keys` keys that should find at most one in `one_in` other keys.
     ///
     /// A key has k marks, with the smallest k such that 2^k is at least `one_in`. The number of
     /// bits is 1.4427 times that of all marks, at which about half of them are set in the end.

@@ -10,7 +10,7 @@ use std::io::{ErrorKind, Read};
 // The number of bytes of each reader that are compared at once.
 const PIECE: usize = 16384;
 
-// Reads until the buffer is full or the reader has no more, and returns the number of bytes.
+// Reads until the buffer is full or the reader ends, then returns the number of bytes.
 fn fill<R: Read>(reader: &mut R, buf: &mut [u8]) -> io::Result<usize>
     ensures within { IfOk result (λ count. count ≤ length buf.new) }
     ensures taken { IfOk result (λ count.

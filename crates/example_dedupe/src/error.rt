@@ -5,7 +5,7 @@ use std::io;
 use std::io::ErrorKind;
 use std::process::ExitCode;
 
-/// The reason why the program stopped. A file that cannot be read does not stop it.
+/// An error that stops the program. A file that cannot be read does not stop it.
 #[derive(Debug, Drop, thiserror::Error)]
 pub enum Error {
     /// `env::args` returns no argument at all if one of them is not UTF-8.

@@ -36,8 +36,7 @@ fn print_group<W: Write>(
 }
 
 /// Prints each group of two or more files: one name per line, and an empty line after the group.
-/// Reports each file that could not be read or compared on standard error, and returns their
-/// number.
+/// Reports on standard error each file that could not be read or compared. Returns their number.
 pub fn print_groups<W: Write>(
     rt: &HostRuntime,
     out: &mut W,

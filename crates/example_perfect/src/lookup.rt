@@ -1,4 +1,4 @@
-//! The work on the bytes of files: a list is made into keys, and lines are looked up.
+//! Splits a list into keys and looks up the lines of the input.
 
 ghost use Rattle.example_perfect.specs.Table.{IsPerfect};
 
@@ -6,7 +6,7 @@ use crate::table::Table;
 use std::alloc::{AllocError, Global};
 use std::io::{self, BufRead, ErrorKind, Write};
 
-/// The reason why a look-up stops.
+/// An error that stops a lookup.
 #[derive(Debug, thiserror::Error, Drop)]
 pub enum LookupError {
     /// An allocation failed.

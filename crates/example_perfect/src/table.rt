@@ -8,7 +8,7 @@ use crate::displace::displace;
 use rapidhash::v3::{RapidSecrets, rapidhash_v3, rapidhash_v3_seeded};
 use std::alloc::{AllocError, Global};
 
-/// The reason why there is no table of these keys.
+/// An error of a table's construction.
 #[derive(Debug, thiserror::Error, Drop)]
 pub enum BuildError {
     /// There are more than 2^32 - 2 keys.
@@ -51,7 +51,7 @@ pub(crate) fn bucket(key: &[u8], buckets: usize) -> usize
     (rapidhash_v3(key) % buckets as u64) as usize
 }
 
-/// Returns the place of a key by a seed.
+/// Returns the place of a key with a seed.
 #[tactic(auto, unfolding(crate::specs::Table::place_of))]
 pub(crate) fn place(key: &[u8], seed: u32, places: usize) -> usize
     requires { 0 < places }
@@ -104,7 +104,7 @@ impl<'k> Table<'k> {
         place(key, seed, self.places.len())
     }
 
-    /// Returns the index of a key, or `None` if it is no key of the set.
+    /// Returns the index of a key, or `None` for any other string.
     pub fn find(&self, key: &[u8]) -> Option<usize>
         requires { IsPerfect self.now }
         ensures { (i : ℕ) → (result ≡ Some i ↔ IsKeyAt self.now i key.now) }

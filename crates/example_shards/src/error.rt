@@ -5,7 +5,7 @@ use std::io;
 use std::io::ErrorKind;
 use std::process::ExitCode;
 
-/// The reason why the program stopped.
+/// An error that stops the program.
 #[derive(Debug, Drop, thiserror::Error)]
 pub enum Error {
     /// `env::args` returns no argument at all if one of them is not UTF-8.

@@ -1,4 +1,4 @@
-//! Reads lines, and prints the node of each.
+//! Reads lines and prints the node of each.
 
 use crate::error::Error;
 use crate::nodes::Node;
