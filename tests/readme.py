@@ -48,8 +48,11 @@ def check_statements():
     page = (TOP / "docs/PROVED.md").read_text()
     command, _, wanted = blocks("docs/PROVED.md", "sh")[0].strip().partition("  # ")
     compare(command, shell(f"{{ {command}; }} 2>/dev/null")[1].strip(), wanted)
+    # What rt ci printed for each crate in this run, which is nothing of a proof that an earlier run has kept.
+    proofs = re.split(r"^== (\w+)$", Path(os.environ.get("PROOFS", os.devnull)).read_text(), flags=re.M)
+    of_crate = dict(zip(proofs[1::2], proofs[2::2]))
     rows = re.findall(r"^\| `(\w+)`: [^|]* \| (none|\d+) \|$", page, re.M)
-    said = [shell("rt check", TOP / "crates" / crate)[1] for crate, _ in rows]
+    said = [of_crate.get(crate) or shell("rt check", TOP / "crates" / crate)[1] for crate, _ in rows]
     found = [re.findall(r"^logic=proved functions=\d+ (?:axioms=(\d+) )?target=", text, re.M) for text in said]
     compare("axioms", [count[-1:] for count in found], [["" if count == "none" else count] for _, count in rows])
     files = re.findall(r"`(\w+)`", re.search(r"The whole definition is in seven .*? lines: (.*?);", page, re.S)[1])
