@@ -70,7 +70,7 @@ test("long messages", () => {
   assert.equal(new V3().update(message).digest(), 3141031059669918984n);
 });
 
-// Byte by byte, the same values would take longer.
+// Byte by byte, through another array or in a stream, the same values would take longer.
 test("bytes are copied at once", () => {
   const typed = Object.getPrototypeOf(Uint8Array.prototype);
   const { set } = typed;
@@ -79,9 +79,11 @@ test("bytes are copied at once", () => {
     copied.push(bytes.length);
     set.call(this, bytes, ...rest);
   };
-  v3(data);
+  v3(data.subarray(0, 9));
+  v3(data, { seed: 1 });
+  v3("a".repeat(43690), { seed: 1 });
   typed.set = set;
-  assert.deepEqual(copied, [120]);
+  assert.deepEqual(copied, [9, 120]);
 });
 
 test("hashers do not disturb each other", () => {
@@ -90,6 +92,19 @@ test("hashers do not disturb each other", () => {
     for (const hasher of [left, right]) hasher.update(data.subarray(at, at + 10));
   assert.equal(left.digest(), 8806718467852582029n);
   assert.equal(right.digest(), 13105958653737073913n);
+});
+
+test("calls of a hasher after those of another", () => {
+  const saved = new V3().update("hello").save();
+  const calls = [(hasher) => hasher.update("lo"), (hasher) => hasher.clone().update("lo"),
+    (hasher) => hasher.reset().update("hello"), (hasher) => hasher.load(saved),
+    (hasher) => new V3().load(hasher.save()).update("lo")];
+  for (const call of calls) {
+    const hasher = new V3().update("hel");
+    const other = new V3({ seed: 1n }).update(data);
+    assert.equal(call(hasher).digest(), 3327445792987248966n);
+    assert.equal(other.digest(), 8806718467852582029n);
+  }
 });
 
 test("a hasher keeps its secrets when the caller's change", () => {

@@ -41,10 +41,15 @@ test("a module by its bytes, and compiled", async () => {
   const bytes = await readFile(new URL("rapidhash.wasm", import.meta.url));
   assert.ok(bytes.length <= 40000);
   const module = new WebAssembly.Module(bytes);
-  for (const other of [await load(bytes), await load(module), loadSync(bytes), loadSync(module)])
+  const foreign = runInNewContext("new WebAssembly.Module(bytes)", { bytes });
+  for (const other of [await load(bytes), await load(module), loadSync(bytes), loadSync(module), loadSync(foreign)])
     assert.equal(other.v3("hello"), 3327445792987248966n);
-  const without = Buffer.from(bytes.latin1Slice().replace("v3_nano_low", "v3_nano_no "), "latin1");
-  assert.throws(() => loadSync(without), { name: "TypeError", message: /^the module is not that of this version/ });
+  // Modules without one of the exports, whose names follow their lengths, and of another version.
+  const names = WebAssembly.Module.exports(module).map(({ name }) => String.fromCharCode(name.length) + name);
+  const others = [...names.map((name) => [name, name.replace(/.$/, "?")]), ["A\xe4\0\v", "A\xe5\0\v"]];
+  for (const [old, changed] of others)
+    assert.throws(() => loadSync(Buffer.from(bytes.latin1Slice().replace(old, changed), "latin1")),
+      { name: "TypeError", message: /^the module is not that of this version/ });
 });
 
 test("objects of another realm", () => {
@@ -74,6 +79,17 @@ test("a message too large for the memory", () => {
   // The length of the whole needs more than 32 bits.
   const whole = new Uint8Array(2 ** 32);
   const long = whole.subarray(0, room + 1);
+  // The longest message needs each page of 4 GiB. The memory does not grow here.
+  const { prototype } = WebAssembly.Memory;
+  const { grow } = prototype;
+  let pages;
+  prototype.grow = function (more) {
+    pages = this.buffer.byteLength / 65536 + more;
+    throw new RangeError();
+  };
+  assert.throws(() => v1(whole.subarray(0, room)), RangeError);
+  prototype.grow = grow;
+  assert.equal(pages, 65536);
   const message = `not enough memory in WebAssembly for ${room + 1} bytes at once: ` +
     "V3, micro and nano hash such a message in pieces";
   for (const call of [v1, v3Protected])

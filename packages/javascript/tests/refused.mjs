@@ -149,9 +149,18 @@ test("refused encodings, modules and states", async () => {
     assert.throws(() => kept.load(saved.map((byte, place) => place === at ? byte ^ 1 : byte)), state);
   for (const part of [saved.subarray(1), saved.subarray(0, -1), new Uint8Array(0), new Uint8Array(saved.length)])
     assert.throws(() => kept.load(part), state);
+  // Changed states with the hash of their bytes. The last three places are a flag, a length and the lanes.
+  const forge = (at, byte) => {
+    const forged = saved.map((old, place) => place === at ? byte : old);
+    new DataView(forged.buffer).setBigUint64(280, v3(forged.subarray(0, 280)), true);
+    return forged;
+  };
+  for (const [at, byte] of [[0, 0], [3, 2], [4, 5], [7, 1], [136, 2], [268, 113], [271, 1], [272, 5], [275, 1]])
+    assert.throws(() => kept.load(forge(at, byte)), state);
   assert.equal(kept.digest(), 3327445792987248966n);
   assert.throws(() => new library.V3Nano().load(saved), state);
   assert.throws(() => new V3().load("text"), state);
+  for (const [at, byte] of [[8, 255], [136, 0], [268, 112]]) new V3().load(forge(at, byte));
 });
 
 test("refused messages", () => {
