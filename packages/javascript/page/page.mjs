@@ -58,7 +58,9 @@ function hash(file, parts) {
       resolve();
     };
     parts.stop = () => end("stopped");
-    worker.addEventListener("error", (event) => end(`could not be hashed: ${event.message}`));
+    // The event of a script that does not load has no message.
+    worker.addEventListener("error",
+      ({ message }) => end(`could not be hashed: ${message ?? "worker.mjs does not load"}`));
     worker.addEventListener("message", ({ data }) => {
       if (data.done !== undefined) {
         parts.progress.value = file.size ? data.done / file.size : 1;

@@ -69,6 +69,7 @@ test("two chosen files, one of 200 MB, as it goes", async () => {
     const { double } = await browser.run(look);
     return (double?.part > 0 || double?.end) && double;
   });
+  assert.equal((await browser.run(look)).large.end, "done");
   assert.ok(halfway.part < 1);
   assert.match(halfway.state, /^\d[\d,]+ of 200,000,000 bytes$/);
   assert.match(halfway.rows.v3[0], /^[0-9a-f]{16}$/);
@@ -96,6 +97,15 @@ test("a dropped file", async () => {
   const { end, rows } = await ended("dropped");
   assert.equal(end, "done");
   assert.deepEqual(rows.v3, ["2e2d7651b45f7946", "3327445792987248966"]);
+});
+
+// Without its refusal, a browser would leave the page for a dropped file.
+test("events of a drop", async () => {
+  const found = await browser.run(`const dataTransfer = new DataTransfer();
+    return ["dragenter", "dragover", "dragleave", "dragover", "drop"].map((name) =>
+      [document.body.dispatchEvent(new DragEvent(name, { dataTransfer, bubbles: true, cancelable: true })),
+        document.getElementById("zone").className])`);
+  assert.deepEqual(found, [[false, "over"], [false, "over"], [false, ""], [false, "over"], [false, ""]]);
 });
 
 test("an empty file", async () => {
@@ -153,6 +163,33 @@ test("keys and names", async () => {
   assert.equal(await browser.label(await browser.find("progress")), "Progress of empty");
   assert.equal(await browser.label(await browser.find("table")), "Hashes of empty");
   assert.equal(await browser.run(`return document.querySelector("[role=status]").textContent`), "empty: done");
+});
+
+// A worker that loads a style sheet has no script, and one that loads the page has no document.
+test("workers that fail, and end", async () => {
+  await browser.run(`const { Worker } = window;
+    window.ended = [];
+    window.Worker = class extends Worker {
+      constructor(url, options) {
+        super(window.script ?? url, options);
+        this.script = window.script;
+      }
+      terminate() {
+        window.ended.push(this.script);
+        super.terminate();
+      }
+    }`);
+  for (const [script, reason] of [["style.css", /: worker.mjs does not load$/], ["page.mjs", /document is not/]]) {
+    await browser.run("window.script = arguments[0]", script);
+    await drop(script);
+    const { end } = await ended(script);
+    assert.match(end, reason);
+  }
+  assert.deepEqual(await browser.run("return window.ended"), ["style.css", "page.mjs"]);
+});
+
+test("no request of the page", async () => {
+  assert.equal(await browser.run(`return fetch("page.mjs").then(() => "sent", () => "refused")`), "refused");
 });
 
 test("the package in a browser", async () => {
