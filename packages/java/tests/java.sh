@@ -74,7 +74,8 @@ has_its_names() {
 
 # Checks by the calls in its code that a stream copies whole arrays: byte by byte, short pieces would take twice as long.
 copies_whole_arrays() {
-  [ "$(javap -c -p -cp "$jar" "$package.RapidhashStream" | grep -c 'java/lang/System.arraycopy')" -eq 2 ]
+  [ "$(javap -c -p -cp "$jar" "$package.RapidhashStream" |
+    grep -cE 'Method (java/lang/System.arraycopy|java/nio/ByteBuffer.get:\(\[B|append):?')" -eq 8 ]
 }
 
 [ -f /usr/share/java/junit4.jar ] && command -v javac >/dev/null || skip_all 'no javac or no junit4'

@@ -12,6 +12,7 @@ import java.lang.management.ManagementFactory;
 import java.nio.ByteBuffer;
 import java.nio.ByteOrder;
 import java.nio.charset.StandardCharsets;
+import java.util.stream.IntStream;
 import org.junit.Test;
 
 public class RapidhashTest {
@@ -51,6 +52,9 @@ public class RapidhashTest {
         long before = counter.getThreadAllocatedBytes(Thread.currentThread().getId());
         stream.update(direct.duplicate());
         assertEquals(Rapidhash.V3.hash(direct), stream.getValue());
+        for (int at = 0; at < 1 << 16; at++) {
+            stream.update(at);
+        }
         assertTrue(counter.getThreadAllocatedBytes(Thread.currentThread().getId()) - before < 1 << 18);
     }
 
@@ -66,6 +70,10 @@ public class RapidhashTest {
             refuses(() -> Rapidhash.V3.stream().update(HELLO, range[0], range[1]));
         }
         assertEquals(Rapidhash.V3.hash(new byte[0]), Rapidhash.V3.hash(HELLO, 5, 0));
+        RapidhashStream stream = Rapidhash.V3.stream();
+        stream.update(Messages.bytes(300));
+        refuses(() -> stream.update(Messages.bytes(300), 100, 300));
+        assertEquals(Rapidhash.V3.hash(Messages.bytes(300)), stream.getValue());
     }
 
     private static void refuses(org.junit.function.ThrowingRunnable call) {
@@ -100,13 +108,27 @@ public class RapidhashTest {
         assertEquals(Secrets.make(7), Secrets.make(7));
         assertEquals(Secrets.make(7).hashCode(), Secrets.make(7).hashCode());
         assertNotEquals(Secrets.make(7), Secrets.make(8));
+        assertNotEquals(Secrets.make(7).hashCode(), Secrets.make(8).hashCode());
+        assertNotEquals(OWN, OWN.toString());
         assertNotEquals(Secrets.of(1, 2, 3, 5, 7, 11, 13, 18), OWN);
         assertNotEquals(Secrets.of(2, 2, 3, 5, 7, 11, 13, 17), OWN);
         assertNotEquals(Secrets.of(1 | 1L << 32, 2, 3, 5, 7, 11, 13, 17), OWN);
         OWN.secrets()[0] = 9;
         assertArrayEquals(new long[] {2, 3, 5, 7, 11, 13, 17}, OWN.secrets());
         assertEquals("Secrets[hidden]", OWN.toString());
-        assertThrows(IllegalArgumentException.class, () -> Secrets.of(1, 2, 3, 5));
+        for (int count : new int[] {0, 6, 8}) {
+            Exception refused = assertThrows(IllegalArgumentException.class, () -> Secrets.of(1, new long[count]));
+            assertEquals("seven secrets are needed, not " + count, refused.getMessage());
+        }
+    }
+
+    @Test
+    public void threads() {
+        byte[] message = Messages.bytes(200);
+        for (Rapidhash version : Rapidhash.values()) {
+            long known = version.hash(message);
+            assertTrue(IntStream.range(0, 100_000).parallel().allMatch(call -> version.hash(message) == known));
+        }
     }
 
     @Test
