@@ -1,7 +1,9 @@
 package rapidhash
 
 import (
+	"bytes"
 	"io"
+	"sync"
 	"testing"
 )
 
@@ -86,6 +88,35 @@ func TestZeroStreams(t *testing.T) {
 	other.Write(data())
 	compare(t, "reset and copied", other.Sum64(), 7088138960297660729)
 	compare(t, "block size", uint64(sized.BlockSize()), 112)
+	saved, _ := new(Stream).MarshalBinary()
+	if known, _ := NewV3(nil).MarshalBinary(); !bytes.Equal(saved, known) {
+		t.Errorf("%x is not %x", saved, known)
+	}
+}
+
+func TestSeedOf0(t *testing.T) {
+	secrets := Secrets{0, own.Secrets}
+	stream := NewV3(&secrets)
+	stream.Write(data())
+	compare(t, "stream", stream.Sum64(), V3Seeded(data(), &secrets))
+}
+
+// TestConcurrentCalls runs calls that must not share anything, as the race detector also checks.
+func TestConcurrentCalls(t *testing.T) {
+	var group sync.WaitGroup
+	for name, call := range calls {
+		for worker := 0; worker < 4; worker++ {
+			name, call := name, call
+			group.Add(1)
+			go func() {
+				defer group.Done()
+				for count := 0; count < 1000; count++ {
+					compare(t, name, call.plain(data()[:call.size]), call.known)
+				}
+			}()
+		}
+	}
+	group.Wait()
 }
 
 func TestNilSecretsPanic(t *testing.T) {

@@ -13,6 +13,9 @@ func TestDefaultSeeds(t *testing.T) {
 		t.Error("a default seed is not that of its word")
 	}
 	compare(t, "v3", V3WithSeed([]byte("hello"), 0), 3327445792987248966)
+	if SeedSecrets(1) == SeedSecrets(1) || SeedSecretsV1(1) == SeedSecretsV1(1) || MakeSecrets(1) == MakeSecrets(1) {
+		t.Error("two calls share their secrets")
+	}
 }
 
 // TestKnownSecrets compares the secrets of the Rust crate, for numbers up to 2^64 - 1. RAPIDHASH_SECRETS names their

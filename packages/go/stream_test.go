@@ -42,14 +42,18 @@ func TestTakesWhatWritersTake(t *testing.T) {
 	compare(t, "copied", stream.Sum64(), V3(message))
 	stream.Reset()
 	for at := range message {
-		stream.Write(message[at : at+1])
+		if written, err := stream.Write(message[at : at+1]); written != 1 || err != nil {
+			t.Fatal(written, err)
+		}
 	}
 	compare(t, "in single bytes", stream.Sum64(), V3(message))
 	for name, call := range calls {
 		compare(t, name+" of a long string", call.text(string(message)), call.plain(message))
 	}
 	stream.Reset()
-	stream.WriteString(string(message))
+	if written, err := stream.WriteString(string(message)); written != len(message) || err != nil {
+		t.Error(written, err)
+	}
 	compare(t, "a long string", stream.Sum64(), V3(message))
 	sum := stream.Sum([]byte{7})
 	if len(sum) != 1+stream.Size() || sum[0] != 7 || sum[1] != byte(stream.Sum64()>>56) {
