@@ -98,17 +98,32 @@ static int number_of_3_24(void)
     return 3024999;
 }
 
+static int number_of_3_25(void)
+{
+    return 3025000;
+}
+
 static const char *name_of_3_24(void)
 {
     return "3.24";
 }
 
-/* Loads the extension into a SQLite without window functions. Returns 0 if it is not refused by its name. */
+/* Loads the extension into the first SQLite with window functions, and into one without. Returns 0 if it refuses the
+ * first, or does not refuse the other by its name. */
 static int check_old(void)
 {
     sqlite3_api_routines old = *routines;
+    sqlite3 *database = NULL;
     char *error = NULL;
     int status;
+    old.libversion_number = number_of_3_25;
+    status = sqlite3_open(":memory:", &database);
+    if (status == SQLITE_OK)
+        status = sqlite3_rapidhash_init(database, &error, &old);
+    sqlite3_close(database);
+    sqlite3_free(error);
+    if (status != SQLITE_OK)
+        return 0;
     old.libversion_number = number_of_3_24;
     old.libversion = name_of_3_24;
     old.create_window_function = NULL;
@@ -133,7 +148,7 @@ int main(void)
         if (!check(queries[at]))
             return 1;
     if (!check_old()) {
-        puts("SQLite 3.24 is not refused");
+        puts("SQLite 3.24 is not refused, or 3.25 is");
         return 1;
     }
     puts("every failed allocation ended in SQLITE_NOMEM");
