@@ -144,9 +144,10 @@ in_kibibytes() (ulimit -v "$1" && exec "${@:2}")
 
 # Runs a command in which system calls on a file fail, as strace's option inject describes: FAILURE FILE COMMAND..
 failing() { can_trace && strace -qqo /dev/null -P "$PWD/$2" -e "inject=$1" "${@:3}"; }
-# Checks that a command reads a file in at most this many calls: CALLS FILE COMMAND..
+# Checks that a command reads a file, in at most this many calls: CALLS FILE COMMAND..
 reads_in() {
-  can_trace && strace -qqo "$room/calls" -P "$PWD/$2" -e trace=read "${@:3}" && [ "$(wc -l <"$room/calls")" -le "$1" ]
+  can_trace && strace -qqo "$room/calls" -P "$PWD/$2" -e trace=read "${@:3}" && [ -s "$room/calls" ] &&
+    [ "$(wc -l <"$room/calls")" -le "$1" ]
 }
 # Checks that a command needs at most 60 system calls for its memory, because each buffer grows by a factor: COMMAND..
 grows_by_a_factor() {

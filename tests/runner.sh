@@ -56,7 +56,7 @@ try a_skipped_case ends 0 $'ok - a\nok - b # SKIP no nothing\n1..2' "$start; try
 try a_skipped_script ends 0 '1..0 # SKIP no rt' "$start; PATH=/usr/bin:/bin; needs_the_toolchain; finish"
 for bad in 'runs bad 0 "" "" echo more' 'runs bad 0 "" "" sh -c "exit 3"' 'runs bad 0 "" "" sh -c "echo more >&2"' \
   'prepare_by false' 'try bad failing read:error=EIO a wc -w a' 'try bad reads_in 1 a wc -w a' \
-  "try bad grows_by_a_factor perl -e '\$a = 1 x 1e6 x \$_ for 1..99'"; do
+  'try bad reads_in 1 a true' "try bad grows_by_a_factor perl -e '\$a = 1 x 1e6 x \$_ for 1..99'"; do
   [[ $bad != try* ]] || can_trace || continue
   name=bad && [[ $bad != prepare* ]] || name=prepare
   try "a_failure_of $bad" ends 1 "not ok - $name"$'\n1..1' "$start; $bad; finish"
