@@ -93,6 +93,8 @@ done
 try node_require runs_required
 try_with esbuild esbuild bundles esbuild src/index.js --bundle --outfile=bundle/main.js
 try_with webpack webpack bundles webpack --mode production --output-path bundle
+# A type that accepts anything would hide mistakes.
+try types_without_any [ "$(grep -cE '[^a-z ] any\b' "$top/packages/javascript/index.d.ts")" = 0 ]
 try_with types tsc compiles --lib es2020,dom types.mts
 try_with types_alone tsc compiles --lib es2020 node_modules/yervound-rapidhash/index.d.ts
 # Each browser, if the program that drives it is installed.
