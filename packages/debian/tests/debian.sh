@@ -31,9 +31,9 @@ needs_others() {
   mkdir -p "$library" "$root/usr/lib64" "$root"/var/lib/dpkg/{info,updates} && ln -s usr/lib usr/lib64 "$root" &&
     touch "$root/var/lib/dpkg/status" && listed >"$room/bare" || return 1
   ! in_the_root --install "$packages"/*.deb 2>"$room/refused" &&
-    sed -nE 's/^ ([^: ]*).* depends on (.* \(.?=) .*/\1: \2/p' "$room/refused" | sort | diff - <(printf '%s\n' \
+    sed -nE 's/^ ([^: ]*).* depends on ([^ ;]+( \(.?=)?).*/\1: \2/p' "$room/refused" | sort | diff - <(printf '%s\n' \
       'librapidhash-c-dev: librapidhash-c1 (=' 'librapidhash-c1: libc6 (>=' 'postgresql-15-rapidhash: libc6 (>=' \
-      'rapidhash-tools: libc6 (>=' 'rapidhash-tools: libgcc-s1 (>=')
+      'postgresql-15-rapidhash: postgresql-15' 'rapidhash-tools: libc6 (>=' 'rapidhash-tools: libgcc-s1 (>=')
 }
 
 installs() {
