@@ -3,11 +3,11 @@
 //! are those of the crate.
 
 use rapidhash::fast::{HashMapExt, HashSetExt, RapidHashMap, RapidHashSet};
-use rapidhash::rng::{RapidRng, rapidrng_fast, rapidrng_time};
-use rapidhash::{fast, quality, v1, v2, v3};
+use rapidhash::rng::{RapidRng, rapidrng_fast, rapidrng_fast_not_portable, rapidrng_time};
+use rapidhash::{fast, inner, quality, v1, v2, v3};
 use std::fs::File;
 use std::hash::BuildHasher;
-use std::io::{Seek, SeekFrom, Write};
+use std::io::{Result, Seek, SeekFrom, Write};
 
 const HELLO: u64 = v3::rapidhash_v3(b"hello");
 static SEEDED: u64 = v2::rapidhash_v2_2_seeded(b"hello", &v2::DEFAULT_RAPID_SECRETS);
@@ -56,41 +56,62 @@ fn secrets_of_two_versions() {
     let three = [v3::RapidSecrets::seed, v3::RapidSecrets::seed_cpp].map(|make| make(number));
     for (two, three) in two.iter().zip(&three) {
         assert_eq!((two.seed, two.secrets), (three.seed, three.secrets));
-        assert_eq!(two.reseed().seed, three.reseed().seed);
+        let (two, three) = (two.reseed(), three.reseed());
+        assert_eq!((two.seed, two.secrets), (three.seed, three.secrets));
     }
     assert_ne!(
         v2::RapidSecrets::random().seed,
         v2::RapidSecrets::random().seed
     );
+    assert_eq!(
+        v2::RapidSecrets::random().secrets,
+        v3::RapidSecrets::random().secrets
+    );
 }
 
-/// V1 and V2 hash the rest of a file by its metadata, and report a file that is shorter than that.
+/// V1 and V2 hash the rest of a file by its metadata, and report a file that is shorter than that. The minor versions
+/// of V2 differ at 60 bytes.
 #[test]
-fn files_by_their_metadata() -> std::io::Result<()> {
+fn files_by_their_metadata() -> Result<()> {
     let path = std::env::temp_dir().join(format!("drop_in_{}", std::process::id()));
-    let text = [7u8; 70_000];
-    File::create(&path)?.write_all(&text)?;
-    let mut file = File::open(&path)?;
-    assert_eq!(v1::rapidhash_v1_file(&mut file)?, v1::rapidhash_v1(&text));
-    file.rewind()?;
-    let own = v1::RapidSecrets::seed(3);
-    let hash = v1::rapidhash_v1_file_seeded(&mut file, &own)?;
-    assert_eq!(hash, v1::rapidhash_v1_seeded(&text, &own));
-    file.rewind()?;
-    assert_eq!(
-        v2::rapidhash_v2_2_file(&mut file)?,
-        v2::rapidhash_v2_2(&text)
-    );
-    file.rewind()?;
-    let own = v2::RapidSecrets::seed(3);
-    let hash = v2::rapidhash_v2_file_inline::<1, true>(&mut file, &own)?;
-    assert_eq!(
-        hash,
-        v2::rapidhash_v2_inline::<1, true, false, true>(&text, &own)
-    );
-    // The file is at its end now.
-    let short = v1::rapidhash_v1_file(&mut file).unwrap_err();
-    assert_eq!(short.kind(), std::io::ErrorKind::UnexpectedEof);
+    let (one, two) = (v1::RapidSecrets::seed(3), v2::RapidSecrets::seed(3));
+    let three = v3::RapidSecrets::seed(3);
+    for size in [60, 70_000] {
+        let text = vec![7u8; size];
+        File::create(&path)?.write_all(&text)?;
+        let mut file = File::open(&path)?;
+        let calls: [(&dyn Fn(&mut File) -> Result<u64>, u64); 7] = [
+            (&v1::rapidhash_v1_file, v1::rapidhash_v1(&text)),
+            (
+                &|file| v1::rapidhash_v1_file_seeded(file, &one),
+                v1::rapidhash_v1_seeded(&text, &one),
+            ),
+            (
+                &|file| v1::rapidhash_v1_file_inline::<true>(file, &one),
+                v1::rapidhash_v1_inline::<true, false, true, false>(&text, &one),
+            ),
+            (&v2::rapidhash_v2_2_file, v2::rapidhash_v2_2(&text)),
+            (
+                &|file| v2::rapidhash_v2_2_file_seeded(file, &two),
+                v2::rapidhash_v2_2_seeded(&text, &two),
+            ),
+            (
+                &|file| v2::rapidhash_v2_file_inline::<1, true>(file, &two),
+                v2::rapidhash_v2_inline::<1, true, false, true>(&text, &two),
+            ),
+            (
+                &|file| v3::rapidhash_v3_file_seeded(file, &three),
+                v3::rapidhash_v3_seeded(&text, &three),
+            ),
+        ];
+        for (call, hash) in calls {
+            file.rewind()?;
+            assert_eq!(call(&mut file)?, hash);
+        }
+        // The file is at its end now.
+        let short = v1::rapidhash_v1_file(&mut file).unwrap_err();
+        assert_eq!(short.kind(), std::io::ErrorKind::UnexpectedEof);
+    }
     // The rest alone has as many bytes as the lower half of the length.
     File::create(&path)?.set_len((1 << 32) + 5)?;
     let mut file = File::open(&path)?;
@@ -108,18 +129,54 @@ fn generator() {
     let (mut ours, mut state) = (RapidRng::seed_from_u64(number), number);
     assert_eq!(RngCore::next_u64(&mut ours), rapidrng_fast(&mut state));
     let mut bytes = [0; 12];
-    RapidRng::from_seed(number.to_le_bytes()).fill_bytes(&mut bytes);
-    let mut state = number;
+    let mut filled = RapidRng::from_seed(number.to_le_bytes());
+    filled.fill_bytes(&mut bytes);
+    let (mut tried, mut state) = ([0; 12], number);
+    RapidRng::new(number).try_fill_bytes(&mut tried).unwrap();
     assert_eq!(bytes[..8], rapidrng_fast(&mut state).to_le_bytes());
     assert_eq!(bytes[8..], rapidrng_fast(&mut state).to_le_bytes()[..4]);
+    assert_eq!((tried, filled), (bytes, RapidRng::new(state)));
+    assert_eq!(filled.state(), state.to_le_bytes());
+    let mut before_one = 0xd2ca_7233_5593_875c;
+    let word = rapidrng_fast_not_portable(&mut before_one);
+    assert_eq!((word, before_one), (0x8bb8_4b93_962e_acc9, 1));
     assert_eq!(RapidRng::new(1).next_u32(), RapidRng::new(1).next() as u32);
     let mut seed = 1;
     assert_ne!(rapidrng_time(&mut seed), rapidrng_time(&mut seed));
+    assert_ne!(seed, 1);
     assert_ne!(RapidRng::default().state(), RapidRng::default().state());
+}
+
+/// Uses the names of V3 that no other test uses. `inline` of V2 without the avalanche has a hash of its own.
+#[test]
+fn hashes_with_every_option() {
+    let (bytes, secrets) = ((0..120).collect::<Vec<u8>>(), v3::RapidSecrets::seed_cpp(1));
+    let known = v3::rapidhash_v3_seeded(&bytes, &secrets);
+    let mut plain = v3::RapidStreamHasherV3::new(&secrets);
+    let mut inline = v3::RapidStreamHasherInlineV3::<true, false>::new(&secrets);
+    plain.write(&bytes);
+    inline.write(&bytes);
+    assert_eq!((plain.finish(), inline.finish()), (known, known));
+    let all = v3::rapidhash_v3_inline::<true, false, false>(&bytes, &secrets);
+    let read = v3::rapidhash_v3_file_inline::<&[u8], false>(&bytes, &secrets).unwrap();
+    assert_eq!((all, read), (known, known));
+    let micro = v3::rapidhash_v3_micro_inline::<true, false>(&bytes, &secrets);
+    assert_eq!(micro, 13208658450986943527);
+    let nano = v3::rapidhash_v3_nano_inline::<true, false>(&bytes, &v3::DEFAULT_RAPID_SECRETS);
+    assert_eq!(nano, 3778853990780631382);
+    let own = v2::RapidSecrets::seed(3);
+    let mixed = v2::rapidhash_v2_inline::<2, true, false, false>(&bytes, &own);
+    assert_ne!(
+        mixed,
+        v2::rapidhash_v2_inline::<2, false, false, false>(&bytes, &own)
+    );
+    assert_eq!(mixed, v2::rapidhash_v2_2_seeded(&bytes, &own));
 }
 
 #[test]
 fn maps_by_the_names_of_fast() {
+    let _: inner::SeedableState<true, true> = quality::SeedableState::fixed();
+    let _: rapidhash::RapidHashMap<u8, u8> = RapidHashMap::default();
     let (mut map, mut set) = (RapidHashMap::new(), RapidHashSet::with_capacity(9));
     map.insert("answer", 42);
     assert!(set.insert("answer") && map["answer"] == 42 && set.capacity() >= 9);
