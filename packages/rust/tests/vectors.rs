@@ -18,10 +18,20 @@ fn every_vector_file_is_replayed() {
 #[test]
 #[cfg(all(target_pointer_width = "64", not(debug_assertions)))]
 fn a_message_above_4_gib_has_its_whole_length() {
+    use rapidhash::v3::{DEFAULT_RAPID_SECRETS, RapidStream, RapidStreamHasherV3};
+    use std::io::Write;
+
     let zeros = vec![0; (1 << 32) + 5];
     assert_eq!(rapidhash::v3::rapidhash_v3(&zeros), 8938949028826169308);
     let read = rapidhash::v3::rapidhash_v3_file(zeros.as_slice()).unwrap();
-    assert_eq!(read, 8938949028826169308);
+    let mut stream = RapidStreamHasherV3::new(&DEFAULT_RAPID_SECRETS);
+    let mut lanes = RapidStream::new(7, &DEFAULT_RAPID_SECRETS);
+    for writer in [&mut stream as &mut dyn Write, &mut lanes] {
+        assert_eq!(writer.write(&zeros).unwrap(), zeros.len());
+    }
+    for hash in [read, stream.finish(), lanes.finish()] {
+        assert_eq!(hash, 8938949028826169308);
+    }
 }
 
 /// There are ten thousand messages, or a million if the environment variable `MESSAGES` is set. Both
