@@ -110,7 +110,13 @@ static int hash_item(const struct column *column, Py_ssize_t at, PyObject *item)
         return -1;
     if (read_message(item, "item", &message) < 0)
         return name_item(at, item), -1;
-    put(column, at, message.bytes, message.len);
+    if (message.len > LONG) {
+        Py_BEGIN_ALLOW_THREADS
+        put(column, at, message.bytes, message.len);
+        Py_END_ALLOW_THREADS
+    } else {
+        put(column, at, message.bytes, message.len);
+    }
     release_message(&message);
     return 0;
 }

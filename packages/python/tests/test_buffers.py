@@ -1,5 +1,6 @@
 """Tests buffers, files, and memory maps with an installed copy of the package. packages/python/tests/python.sh runs it per wheel."""
 
+import array
 import hashlib
 import io
 import mmap
@@ -31,7 +32,7 @@ def lets_others_run(call):
     try:
         thread.start()
         before = count[0]
-        return any(call() is not None and count[0] != before for _ in range(1000))
+        return any(call() is not None and count[0] != before for _ in range(20_000))
     finally:
         done.set()
         sys.setswitchinterval(interval)
@@ -90,10 +91,13 @@ class Buffers(unittest.TestCase):
             rapidhash.v3(whole)
 
     def test_other_threads_run_meanwhile(self):
-        data, hasher = bytes(1 << 24), rapidhash.V3()
-        self.assertTrue(lets_others_run(lambda: rapidhash.v3(data)))
-        self.assertTrue(lets_others_run(lambda: hasher.update(data)))
-        self.assertFalse(lets_others_run(lambda: (rapidhash.v3(DATA), hasher.update(DATA))))
+        data, short, hasher = bytes(65_537), bytes(65_536), rapidhash.V3()
+        offsets = array.array("i", [0, 8])
+        for call in (lambda: rapidhash.v3(data), lambda: hasher.update(data), lambda: rapidhash.each([data]),
+                     lambda: rapidhash.each_row(data, 65_537), lambda: rapidhash.each_slice(data, offsets)):
+            self.assertTrue(lets_others_run(call))
+        for call in (lambda: rapidhash.v3(short), lambda: hasher.update(short), lambda: rapidhash.each([short])):
+            self.assertFalse(lets_others_run(call))
 
 
 class Files(unittest.TestCase):
