@@ -101,6 +101,19 @@ fn maps_and_sets() {
     assert_eq!((empty.0.capacity(), empty.1.capacity()), (0, 0));
 }
 
+/// No machine has memory for it, but for its lower 32 bits.
+#[test]
+#[should_panic(expected = "capacity overflow")]
+fn a_map_of_too_many_entries() {
+    let _: RapidHashMap<u64, u64> = HashMapExt::with_capacity(usize::MAX / 16 + 1);
+}
+
+#[test]
+#[should_panic(expected = "capacity overflow")]
+fn a_set_of_too_many_keys() {
+    let _: RapidHashSet<[u64; 2]> = HashSetExt::with_capacity(usize::MAX / 16 + 1);
+}
+
 #[test]
 fn a_generator_from_a_moment() {
     let mut seed = 0xbdd8_9aa9_8270_4029;

@@ -1,6 +1,7 @@
 //! Tests the states of `fast`, `quality`, and `inner`, with secrets of the caller and the process.
 
 use rapidhash::inner::{GlobalSecrets, SeedSource};
+use rapidhash::rng::RapidRng;
 use rapidhash::v3::RapidSecrets;
 use rapidhash::{fast, inner, quality};
 use std::hash::{BuildHasher, Hasher};
@@ -14,6 +15,11 @@ fn hash_by(mut hasher: impl Hasher) -> u64 {
 
 fn hash_of<S: BuildHasher>(state: &S) -> u64 {
     hash_by(state.build_hasher())
+}
+
+/// Returns the seed of a state of `fast`: a hasher that has absorbed nothing returns it.
+fn seed_of<S: BuildHasher + Copy>(state: &S) -> u64 {
+    state.build_hasher().finish()
 }
 
 /// The expected hashes are those of the crate, from hashers with these seeds and secrets.
@@ -67,7 +73,6 @@ fn aliases_name_their_options() {
     assert_ne!(hasher.finish(), fast.build_hasher().finish());
 }
 
-#[cfg(feature = "std")]
 #[test]
 fn aliases_of_random_states() {
     let _: inner::RandomState<false, true, false, false> = fast::RandomState::new();
@@ -80,11 +85,11 @@ fn aliases_of_random_states() {
 fn states_are_equal_by_seed_and_secrets() {
     let state = fast::SeedableState::custom(1, &[2; 7]);
     assert!(state == fast::SeedableState::with_seed(1, &[2; 7]));
+    assert!(state != fast::SeedableState::with_seed(1 << 40 | 1, &[2; 7]));
     assert!(state != fast::SeedableState::custom(2, &[2; 7]));
     assert!(state != fast::SeedableState::custom(1, &[2, 2, 2, 2, 2, 2, 3]));
 }
 
-#[cfg(feature = "std")]
 #[test]
 fn states_without_words() {
     let (one, other) = (fast::RandomState::new(), fast::RandomState::default());
@@ -96,19 +101,40 @@ fn states_without_words() {
     assert!(fast::SeedableState::new(5) == fast::SeedableState::new(5));
     assert!(fast::SeedableState::new(5) != fast::SeedableState::new(6));
     let own = RapidSecrets::random().secrets;
-    let five = fast::SeedableState::custom(RapidSecrets::seed_cpp(5).seed, &own);
-    assert!(fast::SeedableState::new(5) == five);
-    assert!(RapidSecrets::random() != RapidSecrets::random());
-    let debug = format!(
-        "{:?} {:?} {:?}",
-        one,
-        fast::GlobalState::new(),
-        fast::SeedableState::fixed()
+    assert_eq!(
+        own == RapidSecrets::seed_cpp(0).secrets,
+        cfg!(not(feature = "std"))
     );
+    let seed = RapidSecrets::seed_cpp(5 << 40).seed;
+    assert!(fast::SeedableState::new(5 << 40) == fast::SeedableState::custom(seed, &own));
+    let random = fast::SeedableState::random();
+    assert!(random == fast::SeedableState::custom(seed_of(&random), &own));
+    let same = fast::SeedableState::custom(seed_of(&one), &own);
+    assert_eq!(hash_of(&one), hash_of(&same));
+    let global = fast::GlobalState::new();
+    let same = fast::SeedableState::custom(seed_of(&global), &own);
+    assert_eq!(hash_of(&global), hash_of(&same));
+    assert!(RapidSecrets::random() != RapidSecrets::random());
+    let debug = format!("{:?} {:?} {:?}", one, global, fast::SeedableState::fixed());
     assert_eq!(
         debug,
         "RandomState { .. } GlobalState { .. } SeedableState { .. }"
     );
+}
+
+/// Each bit of a seed is set in some states and generators alone.
+#[test]
+fn seeds_have_64_bits() {
+    for next in [
+        || RapidSecrets::random().seed,
+        || u64::from_le_bytes(RapidRng::default().state()),
+        || seed_of(&fast::RandomState::new()),
+        || seed_of(&fast::SeedableState::random()),
+    ] {
+        let seeds: Vec<u64> = (0..200).map(|_| next()).collect();
+        assert_eq!(seeds.iter().fold(0, |all, seed| all | seed), u64::MAX);
+        assert_eq!(seeds.iter().fold(u64::MAX, |all, seed| all & seed), 0);
+    }
 }
 
 /// All threads have the secrets of the process, but no thread has the seeds of another.
