@@ -14,10 +14,10 @@ archive=$top/crates/rapidhash_c/out/librapidhash_c.a
 shared=$top/build/librapidhash_c.so.1
 vectors=("$room/rapidhash_vectors.tsv" "$top/crates/test_replay/data/secrets.tsv")
 
-# Compiles a program of every call, with an archive if `linked` names one, and compares its values with the vectors:
-# COMPILER ARGUMENT..
+# Compiles a program of every call, with an archive if `linked` names one, and compares its values with the vectors. A
+# second file of the program includes the header too: COMPILER ARGUMENT..
 has_the_values() {
-  "$@" "-I$include" "$tests/c_library.c" ${linked:+-x none "$linked"} \
+  "$@" "-I$include" "$tests/c_library.c" "$room/second.c" ${linked:+-x none "$linked"} \
     -o "$room/c_library" && "$room/c_library" "${vectors[@]}"
 }
 
@@ -68,7 +68,7 @@ calls_from_c() {
 # Tests the whole C++ header with the vectors, in a program without exceptions: COMPILER STANDARD
 calls_from_cpp() {
   "$1" "-std=$2" -O2 -Wall -Wextra -Wpedantic -Werror -fno-exceptions "-I$include" "$tests/cpp_header.cpp" \
-    -o "$room/cpp_header" && "$room/cpp_header" "$room/rapidhash_vectors.tsv"
+    "$room/second.cpp" -o "$room/cpp_header" && "$room/cpp_header" "$room/rapidhash_vectors.tsv"
 }
 
 # Compiles a stream of one piece without a warning: its length is constant, so that a compiler follows each copy.
@@ -203,6 +203,8 @@ test_both_files() {
 prepare_by make -s -C "$top"
 prepare_by make -s -C "$top" install PREFIX="$room"
 prepare_by write_vectors "$room"
+echo '#include <rapidhash_c.h>' >"$room/second.c"
+echo '#include <rapidhash.hpp>' >"$room/second.cpp"
 
 # Messages above 4 GiB take some seconds. The standard does not change their hashes, so the first one hashes them all.
 for compiler in gcc clang; do

@@ -60,7 +60,24 @@ static_assert(!std::is_convertible<std::vector<std::uint16_t>, bytes>::value, "n
 static_assert(!std::is_convertible<std::nullptr_t, bytes>::value, "nothing is no text");
 static_assert(!std::is_convertible<int, rapidhash::seed>::value, "a number is no seed");
 static_assert(std::is_copy_assignable<rapidhash::stream>::value, "a stream can be copied");
-static_assert(noexcept(rapidhash::hasher()(std::string())), "a hasher throws nothing");
+template <class From, class To> using converts = std::is_convertible<From, To>;
+using rapidhash::hasher;
+using rapidhash::seed;
+using rapidhash::stream;
+static_assert(!converts<seed, hasher>::value && !converts<rapidhash::secrets, hasher>::value
+                  && !converts<seed, stream>::value && !converts<rapidhash::secrets, stream>::value,
+              "a seed is neither a hasher nor a stream");
+static_assert(std::is_same<decltype(stream().update("").update("", 0)), stream &>::value, "update copies no stream");
+static_assert(seed(7).word == 7, "a seed can be a constant");
+static_assert(noexcept(hasher()(std::string())) && noexcept(hasher(seed(1))("")) && noexcept(hasher(own)({"", 0}))
+                  && noexcept(rapidhash::hash("")) && noexcept(rapidhash::hash({bytes("").data(), 0}, own))
+                  && noexcept(bytes("").size())
+                  && noexcept(rapidhash::hash("", rapidhash::seed_secrets(seed(rapidhash::make_secrets(1).seed))))
+                  && noexcept(rapidhash::hash("", seed(1))) && noexcept(stream(stream())) && noexcept(stream().reset())
+                  && noexcept(stream(seed(1)) = stream(own)) && noexcept(stream().update("").update("", 0).finish())
+                  && noexcept(rapidhash::from_canonical(rapidhash::to_canonical(1)))
+                  && noexcept(rapidhash::from_hex("", std::declval<std::uint64_t &>())),
+              "a hash throws nothing");
 
 static void check_texts()
 {
