@@ -79,9 +79,9 @@ works_with() {
     done
 }
 
-# Runs a test file with the installed wheel: FILE
+# Runs a test file with the installed wheel, and stops it at a write outside of its memory: FILE
 runs_installed() {
-  cd "$room/tests" && "$room/fresh/bin/python" -B "$1.py"
+  cd "$room/tests" && PYTHONMALLOC=debug "$room/fresh/bin/python" -B "$1.py"
 }
 
 accepts_the_types() {

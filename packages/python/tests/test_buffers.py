@@ -90,6 +90,14 @@ class Buffers(unittest.TestCase):
         with self.assertRaises(ValueError):
             rapidhash.v3(whole)
 
+    @unittest.skipIf(sys.version_info < (3, 12), "classes define buffers from 3.12 on")
+    def test_a_buffer_of_a_subclass_of_bytes(self):
+        class Other(bytes):
+            def __buffer__(self, flags):
+                return memoryview(DATA)
+
+        self.assertEqual((rapidhash.v3(Other(b"a")), rapidhash.V3(Other(b"a")).intdigest()), (KNOWN, KNOWN))
+
     def test_other_threads_run_meanwhile(self):
         data, short, hasher = bytes(65_537), bytes(65_536), rapidhash.V3()
         offsets = array.array("i", [0, 8])

@@ -88,7 +88,9 @@ class Out(unittest.TestCase):
         self.assertEqual((room[0], room[1:201], room[201]), (7, wanted, 7))
         unaligned = memoryview(bytearray(8 * 200 + 1))[1:].cast("Q")
         self.assertEqual(rapidhash.each_slice(WHOLE, array.array("I", OFFSETS), out=unaligned).tolist(), list(wanted))
-        self.assertEqual(list(rapidhash.each([b"hello"], out=(ctypes.c_uint64 * 1)())), [3327445792987248966])
+        words = array.array("L" if array.array("L").itemsize == 8 else "Q", [0])  # NumPy's format on Linux
+        for one in ((ctypes.c_uint64 * 1)(), words, memoryview(bytearray(8)).cast("@Q")):
+            self.assertEqual(list(rapidhash.each([b"hello"], out=one)), [3327445792987248966])
         part.release()
         room.append(1)  # An array refuses this while its buffer is exported.
 
@@ -102,6 +104,7 @@ class Out(unittest.TestCase):
             (lambda: rapidhash.each([b""], out=array.array("q", [0])), TypeError, "out must be a buffer of unsigned"),
             (lambda: rapidhash.each([b""], out=array.array("d", [0])), TypeError, "out must be a buffer of unsigned"),
             (lambda: rapidhash.each([b""], out=bytes(8)), BufferError, ""),
+            (lambda: rapidhash.each([b"", b""], out=memoryview(array.array("Q", bytes(32)))[::2]), BufferError, ""),
             (lambda: rapidhash.each_row(one, 8, out=one), ValueError, "out must not overlap data"),
             (lambda: rapidhash.each_slice(b"", two[:2], out=two[1:2]), ValueError, "out must not overlap offsets$"),
             (lambda: rapidhash.each_slice(one, array.array("i", [0, 1]), out=one), ValueError, "out must not overlap"),

@@ -3,6 +3,7 @@
 import contextlib
 import copy
 import importlib.metadata
+import importlib.util
 import inspect
 import pickle
 import subprocess
@@ -42,6 +43,20 @@ def run(program):
     done = subprocess.run([sys.executable, "-B", "-c", program], text=True,
                           stdout=subprocess.PIPE, stderr=subprocess.STDOUT)
     return done.returncode, done.stdout
+
+
+# Each of the first allocations of a hasher and its copy fails.
+NO_MEMORY = """
+import _testcapi, rapidhash
+for failing in range(1, 40):
+    _testcapi.set_nomemory(failing, failing + 1)
+    try:
+        rapidhash.V3(b"hello").copy().intdigest()
+    except MemoryError:
+        pass
+    finally:
+        _testcapi.remove_mem_hooks()
+"""
 
 
 class Power:
@@ -119,6 +134,15 @@ class Calls(unittest.TestCase):
                 with self.assertRaisesRegex(OverflowError, r"^seed must be from 0 to 2\*\*64 - 1$"):
                     call(data, seed=seed)
         data.append(120)  # A bytearray refuses this while its buffer is exported.
+
+    def test_an_error_of_the_argument(self):
+        class Odd:
+            @property
+            def __class__(self):
+                raise LookupError("no class")
+
+        for call in (rapidhash.v3, rapidhash.V3):
+            self.assertRaisesRegex(LookupError, "^no class$", call, DATA, None, Odd())
 
     def test_errors_name_the_argument(self):
         made_v1 = rapidhash.make_secrets(1, version=1)
@@ -212,6 +236,9 @@ class Hashers(unittest.TestCase):
             def __init__(self):
                 pass
 
+        for lanes, size in ((0, 64), (1, 64), (4, 64), (6, 64), (9, 64), (7, 63), (7, 65)):
+            with self.assertRaisesRegex(ValueError, "^a hasher must have 3, 5 or 7 lanes and secrets of 64 bytes$"):
+                Idle()._start(lanes, bytes(size))
         data = bytearray(DATA)
         for call in (lambda: Idle().update(data), Idle().intdigest, Idle().reset, Idle().copy):
             with self.assertRaises(ValueError):
@@ -240,6 +267,10 @@ class Hashers(unittest.TestCase):
             tracemalloc.stop()
         self.assertLess(more - memory, 1 << 12)
         self.assertEqual(count, same)
+
+    @unittest.skipUnless(importlib.util.find_spec("_testcapi"), "no module of CPython's own tests")
+    def test_no_memory(self):
+        self.assertEqual(run(NO_MEMORY), (0, ""))
 
     def test_threads_share_a_hasher_of_long_pieces(self):
         """Runs in its own process, because a write that overlaps another can end the interpreter."""
