@@ -98,6 +98,16 @@ class Buffers(unittest.TestCase):
 
         self.assertEqual((rapidhash.v3(Other(b"a")), rapidhash.V3(Other(b"a")).intdigest()), (KNOWN, KNOWN))
 
+    def test_a_piece_is_hashed_at_once(self):
+        def time_of(call):
+            start = time.thread_time()
+            call(data)
+            return time.thread_time() - start
+
+        data, hasher = bytes(1 << 22), rapidhash.V3()
+        alone = min(time_of(rapidhash.v3) for _ in range(9))
+        self.assertLess(min(time_of(hasher.update) for _ in range(9)), 8 * alone)  # Byte by byte it is 30 or more.
+
     def test_other_threads_run_meanwhile(self):
         data, short, hasher = bytes(65_537), bytes(65_536), rapidhash.V3()
         offsets = array.array("i", [0, 8])
