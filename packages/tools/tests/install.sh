@@ -60,8 +60,8 @@ listed() {
 refuses() {
   local target said
   for target in install uninstall; do
-    ! said=$(PATH=$path make -s -C "$top" "$target" DESTDIR="$room/refused" "$1" 2>&1) && [ ! -e "$room/refused" ] &&
-      [ "$(grep -v '^make: ' <<<"$said")" = \
+    ! said=$(PATH=$path make -s -C "$top" "$target" DESTDIR="$room/refused" "${1//$/\$\$}" 2>&1) &&
+      [ ! -e "$room/refused" ] && [ "$(grep -v '^make: ' <<<"$said")" = \
         "make install: ${1%%=*} must be an absolute path without spaces or any of \"'\\\`\$#|&;: ${1#*=}" ] || return 1
   done
 }
@@ -170,10 +170,10 @@ has_the_modes() {
       <(printf '%s\n' librapidhash_c.so.1 rapidhash rapidsum)
 }
 
-# Checks that a removal leaves a file of another alone.
+# Checks that a removal leaves a file of another alone, and no directory of its own.
 removes_its_files() {
   echo mine >"$prefix/bin/mine" && make -s -C "$top" uninstall PREFIX="$prefix" &&
-    [ "$(listed "$prefix")" = ./bin/mine ]
+    [ "$(listed "$prefix")" = ./bin/mine ] && [ ! -e "$prefix/share/doc/rapidhash" ]
 }
 
 try build make -s -C "$top"
@@ -195,7 +195,8 @@ cd "$top" || exit 1
 try options_of_the_manual names_every_option rapidhash 8
 try options_of_the_manual_of_sums names_every_option rapidsum 14
 for name in rapidhash rapidsum; do try "completions_of_$name" has_its_completions "$name"; done
-for folder in PREFIX=usr BINDIR= LIBDIR='/a b' INCLUDEDIR="/a'b" DATADIR=$'/a\nb'; do
+for folder in PREFIX=usr BINDIR= LIBDIR='/a b' INCLUDEDIR="/a'b" DATADIR=$'/a\nb' \
+  'PREFIX=/a"' PREFIX=/a\\ PREFIX=/a\` PREFIX=/a\$ PREFIX=/a\# PREFIX=/a\| PREFIX=/a\& PREFIX=/a\;; do
   try "refuses ${folder//$'\n'/ }" refuses "$folder"
 done
 try failed_copy fails_if_a_copy_fails
