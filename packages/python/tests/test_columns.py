@@ -129,13 +129,23 @@ class Out(unittest.TestCase):
 
 class Refused(unittest.TestCase):
     def test_items(self):
-        for items in ([b"", 7], iter([b"", 7]), (b"", 7)):
+        for items in ([b"", 7], iter([b"", 7]), (b"", 7), [b"", 7, b""]):
             with self.assertRaisesRegex(TypeError, r"^items\[1\] must be bytes, .* not <class 'int'>$"):
                 rapidhash.each(items)
         with self.assertRaises(BufferError):
             rapidhash.each([memoryview(b"abc")[::2]])
         with self.assertRaises(TypeError):
             rapidhash.each(7)
+
+    @unittest.skipIf(sys.version_info < (3, 12), "classes define buffers from 3.12 on")
+    def test_a_list_that_an_item_empties(self):
+        class Last(bytes):
+            def __buffer__(self, flags):
+                items.clear()
+                return memoryview(b"")
+
+        items = [Last(), b""]
+        self.assertRaises(IndexError, rapidhash.each, items)
 
     def test_offsets(self):
         for numbers in ([0, 4], [2, 1], [-1, 2], [0, 3, 2], [0, 2**62], [-2**63, 0], [2**62, 2**62 + 1]):
