@@ -67,6 +67,16 @@ class Columns(unittest.TestCase):
         for found in (rapidhash.each([]), rapidhash.each_row(b"", 4), rapidhash.each_slice(b"", array.array("i")),
                       rapidhash.each_slice(b"", array.array("i", [0])), rapidhash.each([], out=empty)):
             self.assertEqual(found, empty)
+        for found in (rapidhash.each([], out=empty), rapidhash.each_row(b"", 4, out=empty),
+                      rapidhash.each_slice(b"", array.array("i"), out=empty)):
+            self.assertIs(found, empty)
+
+    def test_a_class_over_list(self):
+        class Hello(list):
+            def __iter__(self):
+                return iter([b"hello"])
+
+        self.assertEqual(list(rapidhash.each(Hello())), [3327445792987248966])
 
     def test_a_long_column(self):
         whole, places = array.array("I", range(100_000)).tobytes(), range(0, 400_000, 4)
