@@ -153,7 +153,10 @@ class Calls(unittest.TestCase):
             (lambda: rapidhash.v3(1), "data must be bytes, another buffer, or a str, not <class 'int'>"),
             (lambda: rapidhash.v3(None), "data must be bytes, another buffer, or a str, not <class 'NoneType'>"),
             (lambda: rapidhash.v3(b"", seed=1.5), "seed must be an integer, not <class 'float'>"),
+            (lambda: rapidhash.V3(None), "data must be bytes, another buffer, or a str, not <class 'NoneType'>"),
             (lambda: rapidhash.V3(b"", seed="1"), "seed must be an integer, not <class 'str'>"),
+            (lambda: rapidhash.V3(b"", seed=""), "seed must be an integer, not <class 'str'>"),
+            (lambda: rapidhash.V3(b"", 0, rapidhash.make_secrets(1)), "pass either seed or secrets, not both"),
             (lambda: rapidhash.make_secrets("1"), "number must be an integer, not <class 'str'>"),
             (lambda: rapidhash.make_secrets(1, "1"), "version must be an integer, not <class 'str'>"),
             (lambda: rapidhash.make_secrets(1, None), "version must be an integer, not <class 'NoneType'>"),
@@ -183,8 +186,8 @@ class Secrets(unittest.TestCase):
         for made in (rapidhash.make_secrets(5), rapidhash.make_secrets(5, version=1)):
             for other in (copy.copy(made), copy.deepcopy(made), pickle.loads(pickle.dumps(made))):
                 self.assertEqual((type(other), other.seed, other.secrets), (type(made), made.seed, made.secrets))
-            with self.assertRaises(ValueError):
-                type(made)(made[:-1])
+            for wrong in (made[:-1], made + b"\0"):
+                self.assertRaises(ValueError, type(made), wrong)
 
     def test_their_text_has_no_words(self):
         made = rapidhash.make_secrets(0x12345678)
@@ -248,7 +251,7 @@ class Hashers(unittest.TestCase):
     def test_an_end_of_64_bits(self):
         hasher = rapidhash.V3(b"hello")
         self.assertEqual(hasher.digest(), (3327445792987248966).to_bytes(8, "big"))
-        self.assertEqual(hasher.hexdigest(), "2e2d7651b45f7946")
+        self.assertEqual((hasher.hexdigest(), rapidhash.V3().hexdigest()), ("2e2d7651b45f7946", "0338dc4be2cecdae"))
 
     def test_nothing_is_left(self):
         def use(count):
