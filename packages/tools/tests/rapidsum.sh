@@ -209,6 +209,9 @@ says list_of_which_a_read_fails 'list: Input/output error' failing read:error=EI
 runs rest_of_a_short_write 0 $'b469390773a  first\n' '' failing write:retval=5:when=1 out "$program" first
 says option_without_check --check "$program" --quiet first
 says unknown_option unknown "$program" --unknown
+says version_in_capitals "invalid value 'V1' for" "$program" -a=V1 first
+says seed_with_an_equals_sign "invalid value '1=2' for" "$program" --seed=1=2 first
+says three_options_in_conflict '^  --check$' "$program" --tag -ct first
 
 # A list larger than the available memory, and the same file as input, which is read in pieces.
 head -c 67108864 /dev/zero | tr '\0' 'x' >large
