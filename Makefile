@@ -111,16 +111,13 @@ test:
 	@rt all test
 	@prove --exec "" packages/tools/tests tests/examples
 
-# Each file of figures has a bench with its name, except as stated. A bench that fails leaves the figures unchanged.
-bench: $(patsubst %,bench/%.tsv,slices speed rust c java memory tool packages size)
+# Each file of figures has a bench with its name. A bench that fails leaves the figures unchanged.
+bench: $(patsubst %,bench/%.tsv,slices rust c java memory tool packages size)
 	@bench/figures --write
-
-bench/slices.tsv: measured = slices default seeded
-bench/speed.tsv: measured = slices v3 plot
 
 .PHONY: always
 bench/%.tsv: always
-	@mkdir -p build && bench/$(or $(measured),$*) >build/$*.tsv && mv build/$*.tsv $@
+	@mkdir -p build && bench/$* >build/$*.tsv && mv build/$*.tsv $@
 
 # scripts/install reads the directories from variables, so that the shell interprets none of their characters.
 folders = PREFIX BINDIR LIBDIR INCLUDEDIR DATADIR DESTDIR

@@ -1,6 +1,9 @@
 /* Times the hashes of the C header, or with XXH3 those of XXH3, on the messages of bench/rust.rs and in the same loops.
  * It prints a row per line: the form, the row and the nanoseconds, the minimum of its repeats. */
-#include "common.h"
+#define _POSIX_C_SOURCE 200809L
+#include <stdint.h>
+#include <stdio.h>
+#include <time.h>
 #ifdef XXH3
 #define XXH_INLINE_ALL
 #include <xxhash.h>
@@ -8,15 +11,16 @@
 #include <rapidhash_c.h>
 #endif
 
-enum { BYTES = 8192, MOST = 20000, EQUAL = 18, MIXED = 5, REPEATS = 40, LOOPS = 4 };
+enum { BYTES = 1 << 17, MOST = 20000, EQUAL = 21, MIXED = 5, REPEATS = 40, LOOPS = 4 };
 
 /* The equal lengths of the messages of a row, and the ranges of its mixed lengths. */
-static const size_t equal[EQUAL] = {0, 3, 4, 8, 12, 16, 17, 24, 32, 48, 64, 100, 112, 113, 160, 256, 512, 1024};
+static const size_t equal[EQUAL] = {0, 3, 4, 8, 12, 16, 17, 24, 32, 48, 64, 100, 112, 113, 160, 256, 512, 1024, 4096,
+                                    16384, 65536};
 static const size_t mixed[MIXED][2] = {{1, 16}, {8, 16}, {1, 32}, {1, 64}, {1, 300}};
 static const char *const loops[LOOPS] = {"sum", "store", "join", "chain"};
 static uint8_t bytes[BYTES];
 static struct { size_t start, length; } parts[MOST];
-static struct text texts[MOST];
+static struct { const uint8_t *bytes; size_t length; } texts[MOST];
 /* Not static, so that the compiler must store the hashes. */
 uint64_t stored[MOST];
 static volatile uint64_t sink;
@@ -75,6 +79,23 @@ static const struct form {
     uint64_t (*work[LOOPS])(size_t count);
 } forms[] = {FORMS(LISTED)};
 
+/* Returns the nanoseconds since a fixed moment. */
+static uint64_t now(void)
+{
+    struct timespec time;
+    clock_gettime(CLOCK_MONOTONIC, &time);
+    return (uint64_t)time.tv_sec * 1000000000 + (uint64_t)time.tv_nsec;
+}
+
+/* Returns the next word of RapidRng, from which the other programs draw. */
+static uint64_t next_word(uint64_t *state)
+{
+    __uint128_t product;
+    *state += UINT64_C(0x2d358dccaa6c78a5);
+    product = (__uint128_t)*state * (*state ^ UINT64_C(0x8bb84b93962eacc9));
+    return (uint64_t)product ^ (uint64_t)(product >> 64);
+}
+
 /* Returns the least time of the repeats, per message. */
 static double least(uint64_t (*work)(size_t count), size_t count)
 {
@@ -100,7 +121,8 @@ static void rows(const struct form *form)
         for (size_t at = 0; at < count; at++) {
             parts[at].start = next_word(&state) % 4096;
             parts[at].length = low + next_word(&state) % (high - low + 1);
-            texts[at] = (struct text){bytes + parts[at].start, parts[at].length};
+            texts[at].bytes = bytes + parts[at].start;
+            texts[at].length = parts[at].length;
         }
         for (int loop = 0; loop < LOOPS; loop++) {
             printf(i < EQUAL ? "%s\t%zu" : "%s\t%zu-%zu", form->title, low, high);
@@ -113,7 +135,8 @@ int main(void)
 {
     uint64_t state = 7;
 
-    fill(bytes, BYTES, &state);
+    for (size_t at = 0; at < BYTES; at++)
+        bytes[at] = (uint8_t)next_word(&state);
 #ifndef XXH3
     word = next_word(&state);
     rapidhash_v1_make_secrets(7, &three);

@@ -12,7 +12,7 @@ from statistics import geometric_mean
 
 TOP = Path(__file__).resolve().parent.parent
 ROOM = TOP / "build" / "bench"
-# This library in Rattle or C, its Rust crate, the crate rapidhash if RAPIDHASH_CRATE names its directory, and XXH3.
+# This library in Rattle, its Rust crate, the crate rapidhash if RAPIDHASH_CRATE names its directory, and xxHash.
 LIBRARIES = "ours rust crate xxh3".split()
 CRATES = {"rust": TOP / "packages" / "rust"}
 if "RAPIDHASH_CRATE" in os.environ:
@@ -81,13 +81,14 @@ def random_file(name, megabytes):
 
 
 def take(programs, words, scale):
-    """Runs each program once. Each prints a value, which must be the same for all except XXH3, and its time."""
+    """Runs each program once. Each prints a value, which must be the same for all, and its time."""
     values, times = {}, {}
     for name, program in ((name, program) for name in programs for program in programs[name]):
-        found, time = subprocess.check_output([program, *words], text=True).split()
+        value, time = subprocess.check_output([program, *words], text=True).split()
         keep_least(times, {name: int(time) / scale})
-        if name != "xxh3" and values.setdefault("all", found) != found:
-            sys.exit(f"{' '.join(map(str, words))}: {name} prints {found}, and not {values['all']}")
+        values.setdefault(value, name)
+    if len(values) > 1:
+        sys.exit(f"{' '.join(map(str, words))}: different values {values}")
     return times
 
 

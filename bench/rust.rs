@@ -12,7 +12,8 @@ use std::io::Read;
 use std::ops::Range;
 
 /// The equal lengths of the messages of a row, and the ranges of its mixed lengths.
-const LENGTHS: [usize; 18] = [0, 3, 4, 8, 12, 16, 17, 24, 32, 48, 64, 100, 112, 113, 160, 256, 512, 1024];
+const LENGTHS: [usize; 21] =
+    [0, 3, 4, 8, 12, 16, 17, 24, 32, 48, 64, 100, 112, 113, 160, 256, 512, 1024, 4096, 16_384, 65_536];
 const RANGES: [(usize, usize); 5] = [(1, 16), (8, 16), (1, 32), (1, 64), (1, 300)];
 
 /// Returns a random number from `low` to `high`.
@@ -79,7 +80,7 @@ fn slices(name: &str, bytes: &[u8], hash: impl Fn(&[u8]) -> u64 + Copy) {
 /// Prints the rows of the forms, whose hash is as programs call it: inlined into the loop, if the crate lets the
 /// compiler inline it.
 fn all_slices() {
-    let bytes = random_bytes(&mut RapidRng::new(7), 8192);
+    let bytes = random_bytes(&mut RapidRng::new(7), 1 << 17);
     let (three, seven) = black_box((v1::RapidSecrets::seed(7), v3::RapidSecrets::seed(7)));
     macro_rules! forms {
         ($($name:literal => |$text:ident| $hash:expr,)*) => {
