@@ -1,73 +1,14 @@
-"""Tests calls, secrets, and hashers with an installed copy of the package."""
+"""Tests calls and secrets with an installed copy of the package."""
 
-import contextlib
 import copy
 import importlib.metadata
-import importlib.util
 import inspect
 import pickle
-import subprocess
 import sys
-import tracemalloc
 import unittest
 
 import rapidhash
-from test_rapidhash import VERSIONS
-
-DATA = bytes(range(120))
-KNOWN = 7088138960297660729  # The V3 hash of DATA by the Rust crate, as in test_rapidhash.py
-WITH_SEED_1 = 8806718467852582029
-
-# Four threads write the same piece. Each write takes so long that the threads overlap in the library. Each answer
-# meanwhile must be that of whole pieces.
-SHARED = """
-import threading, rapidhash
-piece, hasher, alone = bytes(range(250)) * 20000, rapidhash.V3(), rapidhash.V3()
-known, found = {alone.update(piece).intdigest() for _ in range(200)}, []
-
-def write():
-    for _ in range(50):
-        found.extend((hasher.update(piece).intdigest(), hasher.copy().intdigest()))
-
-threads = [threading.Thread(target=write) for _ in range(4)]
-for thread in threads:
-    thread.start()
-for thread in threads:
-    thread.join()
-print(hasher.intdigest() == alone.intdigest(), known.issuperset(found))
-"""
-
-
-def run(program):
-    """Runs a program in its own process. Returns its exit status and its output."""
-    done = subprocess.run([sys.executable, "-B", "-c", program], text=True,
-                          stdout=subprocess.PIPE, stderr=subprocess.STDOUT)
-    return done.returncode, done.stdout
-
-
-# Each of the first allocations of a hasher and its copy fails.
-NO_MEMORY = """
-import _testcapi, rapidhash
-for failing in range(1, 40):
-    _testcapi.set_nomemory(failing, failing + 1)
-    try:
-        rapidhash.V3(b"hello").copy().intdigest()
-    except MemoryError:
-        pass
-    finally:
-        _testcapi.remove_mem_hooks()
-"""
-
-
-class Power:
-    """A power of two that counts as an integer."""
-
-    def __init__(self, exponent):
-        self.exponent = exponent
-
-    def __index__(self):
-        return 1 << self.exponent
-
+from test_rapidhash import DATA, KNOWN, VERSIONS, WITH_SEED_1, Power, run
 
 class Package(unittest.TestCase):
     def test_version(self):
@@ -123,6 +64,7 @@ class Calls(unittest.TestCase):
             lambda: rapidhash.v3(data, secrets=bytes(64)), lambda: rapidhash.v3(data, secrets=made_v1),
             lambda: rapidhash.v1(data, secrets=made), lambda: rapidhash.V3(data, secrets=made_v1),
             lambda: rapidhash.V3(data, seed=1, secrets=made), lambda: rapidhash.V3(data, secrets=bytes(64)),
+            lambda: rapidhash.v3(data, seed=1, secrets=made),
             lambda: rapidhash.v3(data, secrets=bytes.__new__(rapidhash.Secrets)), lambda: rapidhash.V3().update(7),
             lambda: rapidhash.make_secrets("1"), lambda: rapidhash.v3(data, secrets=bytes.__new__(Long)),
         ]
@@ -133,6 +75,8 @@ class Calls(unittest.TestCase):
             for call in (rapidhash.v3, rapidhash.V3, rapidhash.v1_hexdigest):
                 with self.assertRaisesRegex(OverflowError, r"^seed must be from 0 to 2\*\*64 - 1$"):
                     call(data, seed=seed)
+        rapidhash.v3(data)
+        rapidhash.V3(data)
         data.append(120)  # A bytearray refuses this while its buffer is exported.
 
     def test_an_error_of_the_argument(self):
@@ -169,8 +113,8 @@ class Calls(unittest.TestCase):
         for version in (0, 4, 99, -1):
             with self.assertRaisesRegex(ValueError, f"^version must be 1, 2 or 3, not {version}$"):
                 rapidhash.make_secrets(5, version)
-        with self.assertRaisesRegex(OverflowError, "^number must be from 0"):
-            rapidhash.make_secrets(2**64)
+        for number in (-1, 2**64):
+            self.assertRaisesRegex(OverflowError, "^number must be from 0", rapidhash.make_secrets, number)
 
 
 class Secrets(unittest.TestCase):
@@ -193,91 +137,6 @@ class Secrets(unittest.TestCase):
         made = rapidhash.make_secrets(0x12345678)
         for text in (repr(made), str(made), f"{made}"):
             self.assertEqual(text, "<Secrets, whose words are not shown>")
-
-
-class Hashers(unittest.TestCase):
-    def test_a_copy_has_its_kind(self):
-        for kind in (rapidhash.V3, rapidhash.V3Micro, rapidhash.V3Nano):
-            first = kind(DATA[:100], seed=1)
-            other = first.copy()
-            self.assertIs(type(other), kind)
-            self.assertEqual(first.update(DATA[100:]).digest(), other.update(DATA[100:]).digest())
-        self.assertEqual(rapidhash.V3Nano(DATA[:100]).copy().update(DATA[100:]).intdigest(), 3778853990780631382)
-
-    def test_a_copy_lives_on_alone(self):
-        first = rapidhash.V3(DATA[:100], seed=1)
-        other = first.copy()
-        del first
-        taken = [rapidhash.V3(secrets=rapidhash.make_secrets(number)) for number in range(100)]
-        self.assertEqual(other.update(DATA[100:]).intdigest(), WITH_SEED_1)
-        other.reset()
-        self.assertEqual(other.update(DATA).intdigest(), WITH_SEED_1)
-        self.assertEqual(len(taken), 100)
-
-    def test_a_copy_has_all_attributes(self):
-        class Named(rapidhash.V3):
-            pass
-
-        first = Named(DATA, seed=2**63)
-        first.title = "one"
-        for other in (first.copy(), copy.copy(first)):
-            self.assertEqual((other.title, other.seed, other.digest()), ("one", 2**63, first.digest()))
-        made = rapidhash.V3(secrets=rapidhash.make_secrets(1))
-        self.assertEqual((rapidhash.V3().seed, made.seed, rapidhash.V3(seed=Power(4)).copy().seed), (0, None, 16))
-
-    def test_a_class_over_one(self):
-        class Named(rapidhash.V3):
-            def __init__(self, title, count):
-                super().__init__(seed=count)
-                self.title = title
-
-        self.assertEqual(Named("one", 1).update(DATA).intdigest(), WITH_SEED_1)
-        self.assertEqual(Named("one", 1).title, "one")
-
-    def test_a_class_that_starts_none(self):
-        class Idle(rapidhash.V3):
-            def __init__(self):
-                pass
-
-        for lanes, size in ((0, 64), (1, 64), (4, 64), (6, 64), (9, 64), (7, 63), (7, 65)):
-            with self.assertRaisesRegex(ValueError, "^a hasher must have 3, 5 or 7 lanes and secrets of 64 bytes$"):
-                Idle()._start(lanes, bytes(size))
-        data = bytearray(DATA)
-        for call in (lambda: Idle().update(data), Idle().intdigest, Idle().reset, Idle().copy):
-            with self.assertRaises(ValueError):
-                call()
-        data.append(120)
-
-    def test_an_end_of_64_bits(self):
-        hasher = rapidhash.V3(b"hello")
-        self.assertEqual(hasher.digest(), (3327445792987248966).to_bytes(8, "big"))
-        self.assertEqual((hasher.hexdigest(), rapidhash.V3().hexdigest()), ("2e2d7651b45f7946", "0338dc4be2cecdae"))
-
-    def test_nothing_is_left(self):
-        def use(count):
-            for _ in range(count):
-                hasher = rapidhash.V3(DATA, secrets=rapidhash.make_secrets(2**63)).copy()
-                with contextlib.suppress(TypeError):
-                    hasher.update(7)
-                rapidhash.v3(DATA, seed=Power(63))
-            return tracemalloc.get_traced_memory()[0], sys.getrefcount(rapidhash.V3)
-
-        tracemalloc.start()
-        try:
-            memory, count = use(10)
-            more, same = use(1000)
-        finally:
-            tracemalloc.stop()
-        self.assertLess(more - memory, 1 << 12)
-        self.assertEqual(count, same)
-
-    @unittest.skipUnless(importlib.util.find_spec("_testcapi"), "no module of CPython's own tests")
-    def test_no_memory(self):
-        self.assertEqual(run(NO_MEMORY), (0, ""))
-
-    def test_threads_share_a_hasher_of_long_pieces(self):
-        """Runs in its own process, because a write that overlaps another can end the interpreter."""
-        self.assertEqual(run(SHARED), (0, "True True\n"))
 
 
 if __name__ == "__main__":
