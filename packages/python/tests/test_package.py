@@ -49,36 +49,6 @@ class Calls(unittest.TestCase):
         self.assertNotEqual(rapidhash.v3(DATA, seed=2**64 - 1), KNOWN)
         self.assertRaisesRegex(ValueError, "^negative shift count$", rapidhash.v3, DATA, Power(-1))
 
-    def test_wrong_arguments_are_refused(self):
-        made, made_v1 = rapidhash.make_secrets(1), rapidhash.make_secrets(1, version=1)
-        data = bytearray(DATA)
-
-        class Long(rapidhash.Secrets):
-            def __len__(self):
-                return 64
-
-        calls = [
-            lambda: rapidhash.v3(), lambda: rapidhash.v3(data, 1, None, 4), lambda: rapidhash.v3(data, sed=1),
-            lambda: rapidhash.v3(data, data=data), lambda: rapidhash.v3_protected(data, seed="1"),
-            lambda: rapidhash.v3(data, seed=1.5), lambda: rapidhash.v3(data, seed="1"), lambda: rapidhash.v3(None),
-            lambda: rapidhash.v3(data, secrets=bytes(64)), lambda: rapidhash.v3(data, secrets=made_v1),
-            lambda: rapidhash.v1(data, secrets=made), lambda: rapidhash.V3(data, secrets=made_v1),
-            lambda: rapidhash.V3(data, seed=1, secrets=made), lambda: rapidhash.V3(data, secrets=bytes(64)),
-            lambda: rapidhash.v3(data, seed=1, secrets=made),
-            lambda: rapidhash.v3(data, secrets=bytes.__new__(rapidhash.Secrets)), lambda: rapidhash.V3().update(7),
-            lambda: rapidhash.make_secrets("1"), lambda: rapidhash.v3(data, secrets=bytes.__new__(Long)),
-        ]
-        for at, call in enumerate(calls):
-            with self.subTest(at), self.assertRaises(TypeError):
-                call()
-        for seed in (-1, 2**64, 2**64 + 1, -2**64):
-            for call in (rapidhash.v3, rapidhash.V3, rapidhash.v1_hexdigest):
-                with self.assertRaisesRegex(OverflowError, r"^seed must be from 0 to 2\*\*64 - 1$"):
-                    call(data, seed=seed)
-        rapidhash.v3(data)
-        rapidhash.V3(data)
-        data.append(120)  # A bytearray refuses this while its buffer is exported.
-
     def test_an_error_of_the_argument(self):
         class Odd:
             @property
@@ -88,33 +58,49 @@ class Calls(unittest.TestCase):
         for call in (rapidhash.v3, rapidhash.V3):
             self.assertRaisesRegex(LookupError, "^no class$", call, DATA, None, Odd())
 
-    def test_errors_name_the_argument(self):
-        made_v1 = rapidhash.make_secrets(1, version=1)
+    def test_wrong_arguments(self):
+        made, made_v1, data = rapidhash.make_secrets(1), rapidhash.make_secrets(1, version=1), bytearray(DATA)
+
+        class Long(rapidhash.Secrets):
+            def __len__(self):
+                return 64
+
+        short, long = bytes.__new__(rapidhash.Secrets), bytes.__new__(Long)
+        no_bytes, of_v3 = "data must be bytes, another buffer, or a str, not <class", "secrets of v3 must come from"
         for call, error in (
-            (lambda: rapidhash.v3(b"", sed=1), r"v3\(\) has no argument 'sed': expected data, seed, or secrets"),
-            (lambda: rapidhash.v1(b"", data=b""), r"v1\(\) got the argument 'data' twice"),
+            (lambda: rapidhash.v3(data, sed=1), r"v3\(\) has no argument 'sed': expected data, seed, or secrets"),
+            (lambda: rapidhash.v1(data, data=data), r"v1\(\) got the argument 'data' twice"),
             (lambda: rapidhash.v2_0(), r"v2_0\(\) is missing its argument data"),
-            (lambda: rapidhash.v3(1), "data must be bytes, another buffer, or a str, not <class 'int'>"),
-            (lambda: rapidhash.v3(None), "data must be bytes, another buffer, or a str, not <class 'NoneType'>"),
-            (lambda: rapidhash.v3(b"", seed=1.5), "seed must be an integer, not <class 'float'>"),
-            (lambda: rapidhash.V3(None), "data must be bytes, another buffer, or a str, not <class 'NoneType'>"),
-            (lambda: rapidhash.V3(b"", seed="1"), "seed must be an integer, not <class 'str'>"),
-            (lambda: rapidhash.V3(b"", seed=""), "seed must be an integer, not <class 'str'>"),
-            (lambda: rapidhash.V3(b"", 0, rapidhash.make_secrets(1)), "pass either seed or secrets, not both"),
+            (lambda: rapidhash.v3(data, 1, None, 4), r"v3\(\) takes at most three arguments: data, seed, secrets"),
+            (lambda: rapidhash.v3(1), f"{no_bytes} 'int'>"), (lambda: rapidhash.v3(None), f"{no_bytes} 'NoneType'>"),
+            (lambda: rapidhash.V3(None), f"{no_bytes} 'NoneType'>"),
+            (lambda: rapidhash.V3().update(7), f"{no_bytes} 'int'>"),
+            (lambda: rapidhash.v3(data, seed=1.5), "seed must be an integer, not <class 'float'>"),
+            (lambda: rapidhash.v3_protected(data, seed="1"), "seed must be an integer, not <class 'str'>"),
+            (lambda: rapidhash.V3(data, seed="1"), "seed must be an integer, not <class 'str'>"),
+            (lambda: rapidhash.V3(data, seed=""), "seed must be an integer, not <class 'str'>"),
+            (lambda: rapidhash.V3(data, 0, made), "pass either seed or secrets, not both"),
+            (lambda: rapidhash.v3(data, seed=1, secrets=made), "pass either seed or secrets, not both"),
             (lambda: rapidhash.make_secrets("1"), "number must be an integer, not <class 'str'>"),
             (lambda: rapidhash.make_secrets(1, "1"), "version must be an integer, not <class 'str'>"),
             (lambda: rapidhash.make_secrets(1, None), "version must be an integer, not <class 'NoneType'>"),
-            (lambda: rapidhash.v3(b"", secrets=made_v1), r"secrets of v3 must come from make_secrets\(number\), and"),
-            (lambda: rapidhash.v1(b"", secrets=b""), r"secrets of v1 must come from make_secrets\(number, version=1\)"),
-            (lambda: rapidhash.V3(secrets=b""), r"secrets of V3 must come from make_secrets\(number\), and"),
+            *((lambda it=it: rapidhash.v3(data, secrets=it), of_v3) for it in (made_v1, bytes(64), short, long)),
+            *((lambda it=it: rapidhash.V3(data, secrets=it), "secrets of V3 must come") for it in (made_v1, bytes(64))),
+            *((lambda it=it: rapidhash.v1(data, secrets=it), "secrets of v1 must come") for it in (made, b"")),
         ):
-            with self.assertRaisesRegex(TypeError, f"^{error}"):
-                call()
-        for version in (0, 4, 99, -1):
-            with self.assertRaisesRegex(ValueError, f"^version must be 1, 2 or 3, not {version}$"):
-                rapidhash.make_secrets(5, version)
+            with self.subTest(error):
+                self.assertRaisesRegex(TypeError, f"^{error}", call)
+        for seed in (-1, 2**64, 2**64 + 1, -2**64):
+            for call in (rapidhash.v3, rapidhash.V3, rapidhash.v1_hexdigest):
+                self.assertRaisesRegex(OverflowError, r"^seed must be from 0 to 2\*\*64 - 1$", call, data, seed=seed)
         for number in (-1, 2**64):
             self.assertRaisesRegex(OverflowError, "^number must be from 0", rapidhash.make_secrets, number)
+        for version in (0, 4, 99, -1):
+            self.assertRaisesRegex(ValueError, f"^version must be 1, 2 or 3, not {version}$",
+                                   rapidhash.make_secrets, 5, version)
+        rapidhash.v3(data)
+        rapidhash.V3(data)
+        data.append(120)  # A bytearray refuses this while its buffer is exported.
 
 
 class Secrets(unittest.TestCase):
