@@ -68,7 +68,7 @@ calls_from_c() {
 # Tests the whole C++ header with the vectors, in a program without exceptions: COMPILER STANDARD
 calls_from_cpp() {
   "$1" "-std=$2" -O2 -Wall -Wextra -Wpedantic -Werror -fno-exceptions "-I$include" "$tests/cpp_header.cpp" \
-    "$room/second.cpp" -o "$room/cpp_header" && "$room/cpp_header" "$room/rapidhash_vectors.tsv"
+    "$tests/cpp_types.cpp" -o "$room/cpp_header" && "$room/cpp_header" "$room/rapidhash_vectors.tsv"
 }
 
 # Compiles a stream of one piece without a warning: its length is constant, so that a compiler follows each copy.
@@ -204,7 +204,6 @@ prepare_by make -s -C "$top"
 prepare_by make -s -C "$top" install PREFIX="$room"
 prepare_by write_vectors "$room"
 echo '#include <rapidhash_c.h>' >"$room/second.c"
-echo '#include <rapidhash.hpp>' >"$room/second.cpp"
 
 # Messages above 4 GiB take some seconds. The standard does not change their hashes, so the first one hashes them all.
 for compiler in gcc clang; do

@@ -46,39 +46,6 @@ static std::vector<unsigned char> counted()
     return message;
 }
 
-/* Finds whether hash can be called with a text and a number, which could be its length or a seed. */
-template <class Number, class = void> struct takes_a_number : std::false_type {};
-template <class Number>
-struct takes_a_number<Number, decltype(void(rapidhash::hash("hello", std::declval<Number>())))> : std::true_type {};
-static_assert(takes_a_number<rapidhash::seed>::value, "the test sees a call that compiles");
-static_assert(!takes_a_number<int>::value && !takes_a_number<std::size_t>::value, "a number is no length of a text");
-
-/* Only a range of bytes converts to bytes, and a length does not convert to a seed. */
-using rapidhash::bytes;
-static_assert(!std::is_convertible<std::wstring, bytes>::value, "a wide string is no bytes");
-static_assert(!std::is_convertible<std::vector<std::uint16_t>, bytes>::value, "numbers of 16 bits are no bytes");
-static_assert(!std::is_convertible<std::nullptr_t, bytes>::value, "nothing is no text");
-static_assert(!std::is_convertible<int, rapidhash::seed>::value, "a number is no seed");
-static_assert(std::is_copy_assignable<rapidhash::stream>::value, "a stream can be copied");
-template <class From, class To> using converts = std::is_convertible<From, To>;
-using rapidhash::hasher;
-using rapidhash::seed;
-using rapidhash::stream;
-static_assert(!converts<seed, hasher>::value && !converts<rapidhash::secrets, hasher>::value
-                  && !converts<seed, stream>::value && !converts<rapidhash::secrets, stream>::value,
-              "a seed is neither a hasher nor a stream");
-static_assert(std::is_same<decltype(stream().update("").update("", 0)), stream &>::value, "update copies no stream");
-static_assert(seed(7).word == 7, "a seed can be a constant");
-static_assert(noexcept(hasher()(std::string())) && noexcept(hasher(seed(1))("")) && noexcept(hasher(own)({"", 0}))
-                  && noexcept(rapidhash::hash("")) && noexcept(rapidhash::hash({bytes("").data(), 0}, own))
-                  && noexcept(bytes("").size())
-                  && noexcept(rapidhash::hash("", rapidhash::seed_secrets(seed(rapidhash::make_secrets(1).seed))))
-                  && noexcept(rapidhash::hash("", seed(1))) && noexcept(stream(stream())) && noexcept(stream().reset())
-                  && noexcept(stream(seed(1)) = stream(own)) && noexcept(stream().update("").update("", 0).finish())
-                  && noexcept(rapidhash::from_canonical(rapidhash::to_canonical(1)))
-                  && noexcept(rapidhash::from_hex("", std::declval<std::uint64_t &>())),
-              "a hash throws nothing");
-
 static void check_texts()
 {
     const std::string text = "hello";

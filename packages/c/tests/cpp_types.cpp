@@ -1,0 +1,40 @@
+/* Checks the types of rapidhash.hpp. This is the second file of the program of cpp_header.cpp, so that a function of a
+ * header that is not inline is defined twice. */
+#include <rapidhash.hpp>
+
+#include <string>
+#include <type_traits>
+#include <utility>
+#include <vector>
+
+using namespace rapidhash;
+template <class From, class To> using converts = std::is_convertible<From, To>;
+extern const secrets own;
+
+/* Finds whether hash can be called with a text and a number, which could be its length or a seed. */
+template <class Number, class = void> struct takes_a_number : std::false_type {};
+template <class Number>
+struct takes_a_number<Number, decltype(void(hash("hello", std::declval<Number>())))> : std::true_type {};
+static_assert(takes_a_number<seed>::value, "the test sees a call that compiles");
+static_assert(!takes_a_number<int>::value && !takes_a_number<std::size_t>::value, "a number is no length of a text");
+
+/* Only a range of bytes converts to bytes, and a length does not convert to a seed. */
+static_assert(!converts<std::wstring, bytes>::value, "a wide string is no bytes");
+static_assert(!converts<std::vector<std::uint16_t>, bytes>::value, "numbers of 16 bits are no bytes");
+static_assert(!converts<std::nullptr_t, bytes>::value, "nothing is no text");
+static_assert(!converts<int, seed>::value, "a number is no seed");
+static_assert(std::is_copy_assignable<stream>::value, "a stream can be copied");
+static_assert(!converts<seed, hasher>::value && !converts<secrets, hasher>::value
+                  && !converts<seed, stream>::value && !converts<secrets, stream>::value,
+              "a seed is neither a hasher nor a stream");
+static_assert(std::is_same<decltype(stream().update("").update("", 0)), stream &>::value, "update copies no stream");
+static_assert(seed(7).word == 7, "a seed can be a constant");
+static_assert(noexcept(hasher()(std::string())) && noexcept(hasher(seed(1))("")) && noexcept(hasher(own)({"", 0}))
+                  && noexcept(hash("")) && noexcept(hash({bytes("").data(), 0}, own))
+                  && noexcept(bytes("").size())
+                  && noexcept(hash("", seed_secrets(seed(make_secrets(1).seed))))
+                  && noexcept(hash("", seed(1))) && noexcept(stream(stream())) && noexcept(stream().reset())
+                  && noexcept(stream(seed(1)) = stream(own)) && noexcept(stream().update("").update("", 0).finish())
+                  && noexcept(from_canonical(to_canonical(1)))
+                  && noexcept(from_hex("", std::declval<std::uint64_t &>())),
+              "a hash throws nothing");
