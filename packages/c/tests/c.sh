@@ -1,10 +1,6 @@
 #!/usr/bin/env bash
-# Builds the C library, static and shared, and tests it and the bindings built on it:
-# - the code of the header by each compiler, C and C++ standard, and option, with all vectors
-# - the names that the two files define, and every call from C and C++
-# - the manual, and the hashes compared with those of the Rust crate
-# - the library that cc alone compiles from the header
-# Languages that are missing on this machine are skipped and not counted.
+# Tests the header by each compiler, standard and option with all vectors; the libraries that the kit and cc build, and
+# their names; the manual; and the hashes beside those of the Rust crate. Missing compilers are skipped.
 . "$(dirname "$0")/../../../tests/cases.sh"
 needs_the_toolchain
 include=$top/packages/c/include
