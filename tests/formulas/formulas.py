@@ -1,7 +1,7 @@
 #!/usr/bin/env python3
 """Compares each implementation of the hashes with the definition as formulas: see tests/formulas/main.rs. The
 definition is the program of crates/test_definitions, which is proved equal to it, without its contracts and over random
-loads and a random product. Fails if fewer formulas are compared than docs/PROVED.md states."""
+loads and a random product. Fails if their number is not that of the lengths in docs/PROVED.md."""
 
 import re
 import shutil
@@ -29,7 +29,8 @@ SUBJECTS = [
     ("java", "native", "javac", JAVA, "java -cp classes example.yervound.rapidhash.Formulas"),
     ("java_direct", "native", "javac", "true", "java -cp classes example.yervound.rapidhash.Formulas direct"),
 ]
-# The formulas of a form up to 4,096 and up to 16,384 bytes, the shortest 64 times each, and of its streams.
+# The formulas up to 4,096 bytes, up to 16,384, and of streams, for a form with its options. Those up to 16 bytes are
+# compared 64 times each. Then, how often a subject of each kind has these.
 SLICES, LONG, STREAMS = 17 * 64 + 4080, 17 * 64 + 16368, 301 * 302 // 2 + 4097
 COUNTS = {"native": 6 * SLICES + 2 * LONG + 3 * STREAMS, "kernels": 52 * SLICES + 4 * LONG + 12 * STREAMS}
 

@@ -101,7 +101,7 @@ fn maps_and_sets() {
     assert_eq!((empty.0.capacity(), empty.1.capacity()), (0, 0));
 }
 
-/// No machine has memory for it, but for its lower 32 bits.
+/// No machine has memory for so many entries. The lower 32 bits of a capacity of 64 bits are 0.
 #[test]
 #[should_panic(expected = "capacity overflow")]
 fn a_map_of_too_many_entries() {

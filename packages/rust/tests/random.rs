@@ -12,7 +12,7 @@ use std::hash::{BuildHasher, Hasher};
 use std::process::Command;
 
 thread_local! {
-    /// The number of allocations of this thread. Meanwhile, the harness of tests allocates in another.
+    /// The number of allocations of this thread. The test harness allocates in its own thread.
     static COUNTED: Cell<usize> = const { Cell::new(0) };
 }
 
