@@ -12,7 +12,8 @@
 # make jar         builds the package for Java, which needs a JDK alone
 # make page        copies packages/javascript/page and the npm package to build/browser, for any file server
 # make install     installs the built files, manual pages, and completions under PREFIX; uninstall removes them
-# make dist        packs everything that a user without the toolchain needs into a single archive in build/
+# make dist        packs everything that a user without the toolchain needs into a single archive in build/. It needs
+#                  the toolchain. PARTIAL=yes leaves out and names the packages whose build tools are missing
 # make deb         builds the Debian source package and its packages in build/debian, by Debian's tools alone
 # make release     makes the archive, the packages and their checksums in build/release, from a tree without changes
 # make vendor      copies the library into another Rattle repository: make vendor INTO=FOLDER
@@ -38,17 +39,22 @@ tools = $(kit_tools)
 else
 archive = build/header/librapidhash_c.a
 shared = build/header/$(soname)
-tools = $(if $(shell command -v cargo),build/cargo/release/rapidhash build/cargo/release/rapidsum)
+cargo := $(shell command -v cargo)
+tools = $(if $(cargo),build/cargo/release/rapidhash build/cargo/release/rapidsum)
 endif
 name = yervound-1.0-x86_64-linux
 
-.PHONY: all tool sums library wasm npm page wheel jar sqlite postgresql deb check check-source quick test fmt bench \
+.PHONY: all built tool sums library wasm npm page wheel jar sqlite postgresql deb check check-source quick test fmt bench \
   install uninstall clean dist vendor release products test-edits test-machines test-vendor rapidhash_c \
   rapidhash_cli rapidsum example_bloom example_perfect example_shards example_dedupe
 .DELETE_ON_ERROR:
 MAKEFLAGS += --no-builtin-rules
 
-all: $(tools) library
+all: built
+	$(say_left_out)
+
+built: $(tools) library
+say_left_out = $(if $(tools),,@echo 'make: the programs are left out: install cargo (Rust 1.63 or newer) and run make again' >&2)
 
 tool: $(or $(firstword $(tools)),build/cargo/release/rapidhash)
 sums: $(or $(lastword $(tools)),build/cargo/release/rapidsum)
@@ -58,6 +64,9 @@ library: $(archive) $(shared)
 # a build counts. Two builds of a crate cannot overlap, because rt makes the second wait.
 sources := $(shell find crates.txt crates/*/src crates/*/specs crates/*/proofs 2>/dev/null)
 
+# Prints of the output of rt how many functions of a crate it has checked so far.
+show_progress = sed -unE '/^== /{s///;h;}; /^so far: [1-9]/{G;s/^so far: ([0-9]+ of [0-9]+ functions) checked.*\n(.*)/make: \2: \1 checked/p;}' >&2
+
 # The rule for a crate's product: CRATE, PRODUCT, the arguments for rt, the libraries that it uses. Each library has its
 # own call, because rt reads the sources again, for about 10 seconds, if it builds several.
 define product
@@ -66,8 +75,10 @@ $(2): $$(filter crates.txt $(patsubst %,crates/%/%,$(1) $(4)),$$(sources))
 	@command -v rt >/dev/null || { echo 'make: rt, the command of the Rattle kit, is not on PATH' >&2; exit 2; }
 	@echo 'make: proving and building $(1), some minutes the first time' >&2
 	@mkdir -p build && touch build/$(1).begun
-	@(for library in $(4); do (cd crates/$$$$library && rt lib) || exit; done && \
-	  cd crates/$(1) && rt $(3)) </dev/null >build/$(1).log 2>&1 || { grep -m 20 -E 'error|not proved' build/$(1).log || \
+	@{ (for library in $(4); do echo "== $$$$library" && (cd crates/$$$$library && rt lib) || exit; done && \
+	  echo '== $(1)' && cd crates/$(1) && rt $(3)); echo $$$$? >build/$(1).status; } </dev/null 2>&1 | \
+	  tee build/$(1).log | $$(show_progress)
+	@[ "$$$$(cat build/$(1).status)" = 0 ] || { grep -m 20 -E 'error|not proved' build/$(1).log || \
 	  tail -n 5 build/$(1).log; echo 'make: the build failed; full output: build/$(1).log'; exit 2; } >&2
 	@touch -r build/$(1).begun $(2)
 endef
@@ -81,6 +92,10 @@ $(eval $(call program,example_bloom,--help,$(both)))
 $(eval $(call program,example_perfect,--help,$(both)))
 $(eval $(call program,example_shards,red,$(both)))
 $(eval $(call program,example_dedupe,args,$(both)))
+
+# The archive and the release hold the proved programs and the proved library: TARGET
+needs_the_kit = [ -n '$(kit)' ] || { echo 'make $(1): rt, the command of the Rattle kit, is not on PATH: it builds the' \
+  'proved programs and library for the archive' >&2; exit 2; }
 
 # Says so once, before the first product.
 unproved = $(if $(said),:,$(eval said := yes)echo 'make: rt is not on PATH: building with $(if \
@@ -124,8 +139,9 @@ folders = PREFIX BINDIR LIBDIR INCLUDEDIR DATADIR DESTDIR
 $(foreach name,$(folders),$(eval install uninstall: export $(name) := $$($(name))))
 
 install:
-	@$(MAKE) -q all || { echo 'make install: something is missing or out of date: run make first' >&2; exit 2; }
+	@$(MAKE) -q built || { echo 'make install: something is missing or out of date: run make first' >&2; exit 2; }
 	@ARCHIVE='$(archive)' SHARED='$(shared)' TOOLS='$(tools)' scripts/install
+	$(say_left_out)
 
 uninstall:
 	@scripts/install --remove
@@ -138,6 +154,7 @@ clean:
 
 # Without changes, the results are those of a commit.
 release:
+	@$(call needs_the_kit,release)
 	@[ -z "$$(git status --porcelain)" ] || { echo 'make release: the tree has changes: commit them first' >&2; exit 2; }
 	@$(MAKE) -s dist deb
 	@rm -rf build/release && mkdir build/release && git rev-parse HEAD >build/release/COMMIT

@@ -1,15 +1,26 @@
-# The archive with everything that a user without the toolchain needs.
-dist: all npm wheel jar
+# The archive with everything that a user without the toolchain needs. With PARTIAL=yes, the packages whose tools are
+# missing are left out, and named on its page.
+has_npm = $(and $(shell command -v clang),$(shell command -v wasm-ld),$(shell command -v esbuild),$(shell command -v npm))
+has_wheel = $(shell $(PYTHON) -c 'import setuptools, wheel' 2>/dev/null && echo yes)
+has_jar = $(shell command -v javac)
+packed = $(foreach part,npm wheel jar,$(if $(filter-out yes,$(PARTIAL))$(has_$(part)),$(part)))
+unpacked = $(filter-out $(packed),npm wheel jar)
+
+dist:
+	@$(call needs_the_kit,dist)
+	$(MAKE) -s all $(packed)
 	rm -rf build/$(name)
 	$(MAKE) -s install DESTDIR= PREFIX='$(CURDIR)/build/$(name)'
 	tar --exclude=__pycache__ --exclude=target --exclude=tests --exclude=make.mk -hcf - packages/c/include \
 	  packages/go packages/java packages/postgresql packages/python packages/rust packages/sqlite | tar -C build/$(name) -xf -
-	cp -r build/npm build/$(name)/packages/javascript
-	install -D -m 644 -t build/$(name)/wheels $(wheels)/*.whl $(wheels)/*.tar.gz
-	install -m 644 $(jar) build/$(name)/packages/java
+	$(if $(filter npm,$(packed)),cp -r build/npm build/$(name)/packages/javascript)
+	$(if $(filter wheel,$(packed)),install -D -m 644 -t build/$(name)/wheels $(wheels)/*.whl $(wheels)/*.tar.gz)
+	$(if $(filter jar,$(packed)),install -m 644 $(jar) build/$(name)/packages/java)
 	install -m 644 LICENSE-MIT LICENSE-APACHE NOTICE docs/C.md docs/CPP.md docs/ALGORITHM.md build/$(name)
 	install -D -m 644 docs/images/lanes.svg build/$(name)/images/lanes.svg
 	install -m 644 packages/archive/README.md build/$(name)/README.md
+	$(if $(unpacked),printf '\nLeft out, because the tools to build them were missing: %s\n' '$(unpacked)' | \
+	  tee -a build/$(name)/README.md >&2)
 	install -m 644 packages/c/tests/c_library.c build/$(name)/check_vectors.c
 	python3 scripts/vectors.py crates/test_replay/data >build/$(name)/rapidhash_vectors.tsv
 	tar -C build -czf build/$(name).tar.gz $(name)

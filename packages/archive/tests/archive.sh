@@ -1,7 +1,7 @@
 #!/usr/bin/env bash
-# Builds the archive for users without the kit, unpacks it in a temporary directory, and uses its contents.
+# Builds the archive for users without the kit, unpacks it in a temporary directory, and uses its contents. Without the
+# kit, make must refuse to build it.
 . "$(dirname "$0")/../../../tests/cases.sh"
-needs_the_toolchain
 
 # What a developer's builds have left in the directories must not be packed.
 makes_the_archive() {
@@ -78,7 +78,26 @@ refuses_changes() {
     grep -x 'make release: the tree has changes: commit them first' "$room/said" && [ ! -e "$room/changed/build" ]
 }
 
+# Checks that make without the kit refuses before it builds anything: TARGET
+refuses_without_the_kit() {
+  git clone -q -s "$top" "$room/$1" && ! make -s -C "$room/$1" kit= "$1" >"$room/said" 2>&1 &&
+    head -n 1 "$room/said" | grep -x "make $1: rt, the command of the Rattle kit, is not on PATH: it builds the proved programs and library for the archive" &&
+    [ ! -e "$room/$1/build" ]
+}
+
+# Checks that make packs what it can if asked to, and names what it leaves out, also on the archive's page.
+packs_a_part() {
+  make -s -C "$top" dist PARTIAL=yes has_npm= has_jar= 2>&1 | tee "$room/said" &&
+    grep -x 'Left out, because the tools to build them were missing: npm jar' "$room/said" &&
+    mkdir "$room/part" && tar -C "$room/part" --strip-components 1 -xzf "$top"/build/yervound-*.tar.gz && cd "$room/part" &&
+    diff <(tail -n 1 README.md) "$room/said" && [ -x bin/rapidsum ] && [ -d wheels ] && [ ! -e packages/javascript ] &&
+    [ -z "$(ls packages/java/*.jar 2>/dev/null)" ]
+}
+
+for target in dist release; do try "${target}_without_the_kit" refuses_without_the_kit "$target"; done
+needs rt esbuild wasm-ld clang npm javac /usr/lib/python3/dist-packages/{setuptools,wheel}
 try release_of_a_changed_tree refuses_changes
+try partial_archive packs_a_part
 try archive makes_the_archive
 try results_of_make has_what_make_builds
 try program prints_the_known_hash "$room/unpacked"

@@ -68,6 +68,9 @@ calls edit_during_a_build 7 $'first\ninput' 1 "$told"
 echo >during
 calls call_after_such_an_edit 7 $'third\ninput' 2 "$told"
 
+new_repository 'echo "so far: 0 of 7 functions checked; the verdict comes last"; echo "so far: 3 of 7 functions checked"'
+calls progress_of_a_build 7 $'first\ninput' 1 "$told"$'\nmake: rapidhash_cli: 3 of 7 functions checked'
+
 new_repository 'sleep 1'
 export PATH=$room/kit:$PATH
 echo input | "$tool" >first_out 2>/dev/null &
