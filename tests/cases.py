@@ -3,6 +3,7 @@ functions that print cases in the Test Anything Protocol (TAP), run commands, an
 repository."""
 
 import atexit
+import glob
 import os
 import re
 import shutil
@@ -30,6 +31,19 @@ def skip(name, reason):
     """Prints a case that cannot run on this machine."""
     results.append(True)
     print(f"ok - {name} # SKIP {reason}", flush=True)
+
+
+def has(tool):
+    """Returns whether a program is on the PATH, or a file has a name that matches a pattern."""
+    return bool(glob.glob(tool) if tool[0] == "/" else shutil.which(tool))
+
+
+def lacks(*tools):
+    """Returns the first of these tools that is missing, with its package in .ci/packages, or nothing."""
+    rows = [line.split() for line in (TOP / ".ci/packages").read_text().splitlines() if line[:1] not in ("", "#")]
+    packages = {tool: package for package, *found in rows for tool in found}
+    missing = [tool for tool in tools if not has(tool)]
+    return f"no {missing[0]} ({packages[missing[0]]})" if missing else None
 
 
 def compare(name, found, wanted):
@@ -62,7 +76,7 @@ def skip_all(reason):
     sys.exit()
 
 
-def needs_the_toolchain():
-    """Ends a script that cannot run without the toolchain."""
-    if not shutil.which("rt"):
-        skip_all("no rt")
+def needs(*tools):
+    """Ends a script that cannot run without these tools."""
+    if reason := lacks(*tools):
+        skip_all(reason)

@@ -1,9 +1,11 @@
 # The common start of the test scripts: `room`, a temporary directory that is removed when the script ends, and
-# functions that print cases in the Test Anything Protocol (TAP), which `prove` reads. `top` is the repository.
+# functions that print cases in the Test Anything Protocol (TAP), which `prove` reads. `top` is the repository. A missing
+# tool of .ci/packages skips the cases that need it.
 # shellcheck shell=bash
 set -u
 
 top=$(cd "$(dirname "${BASH_SOURCE[0]}")/.." && pwd) || exit 1
+. "$top/tests/tools.sh"
 room=$(mktemp -d) || exit 1
 trap 'chmod -R u+rwx "$room"; rm -rf "$room"' EXIT
 cases=0
@@ -28,7 +30,7 @@ skip() {
 # Prints a failed case with its reason, unless it needs strace, which this machine does not allow: NAME REASON
 fail() {
   if rm "$room/untraced" 2>/dev/null; then
-    skip "$1" 'strace cannot trace here'
+    skip "$1" "$(lacks strace || echo 'strace cannot trace here')"
     return
   fi
   failed=$((failed + 1))
@@ -49,15 +51,11 @@ try() {
   tell "$name" $?
 }
 
-# Does the same if a program is installed on this machine: NAME PROGRAM COMMAND..
+# Does the same if these tools, separated by spaces, are on this machine: NAME TOOLS COMMAND..
 try_with() {
-  local name=$1 program=$2
-  shift 2
-  if command -v "$program" >/dev/null; then
-    try "$name" "$@"
-  else
-    skip "$name" "no $program"
-  fi
+  local tools reason
+  read -ra tools <<<"$2"
+  if reason=$(lacks "${tools[@]}"); then skip "$1" "$reason"; else try "$1" "${@:3}"; fi
 }
 
 # Runs a command, which must exit with this status and write this output: NAME STATUS OUT ERR COMMAND..
@@ -153,7 +151,12 @@ reads_in() {
 grows_by_a_factor() {
   can_trace && strace -qqo "$room/calls" -e trace=brk,mmap,mremap "$@" && [ "$(wc -l <"$room/calls")" -le 60 ]
 }
-can_trace() { strace -qqo /dev/null true || { : >"$room/untraced" && return 1; }; }
+can_trace() { has strace && strace -qqo /dev/null true || { : >"$room/untraced" && return 1; }; }
+
+# Prints the paths of the programs that make has built, or nothing without the kit and cargo.
+built_programs() {
+  make -s -C "$top" --eval='show: ; @echo $(addprefix $(CURDIR)/,$(tools))' show
+}
 
 # Prints the number of cases and exits with status 1 if one failed.
 finish() {
@@ -161,15 +164,17 @@ finish() {
   exit $((failed > 0))
 }
 
-# Ends a script that cannot run on this machine: REASON
+# Ends a script whose other cases cannot run on this machine: REASON
 skip_all() {
+  [ "$cases" -eq 0 ] || { skip 'all other cases' "$1" && finish; }
   echo "1..0 # SKIP $1"
   exit
 }
 
-# Ends a script that cannot run without the toolchain.
-needs_the_toolchain() {
-  command -v rt >/dev/null || skip_all 'no rt'
+# Ends a script whose other cases need these tools, if one is missing: TOOL..
+needs() {
+  local reason
+  ! reason=$(lacks "$@") || skip_all "$reason"
 }
 
 # Runs a command that prepares the cases, and ends the script if it fails: COMMAND..

@@ -1,7 +1,7 @@
 #!/usr/bin/env python3
 """Runs each command of the shell blocks of README.md and docs/COMMANDS.md, and the program of docs/RATTLE.md in a new
 repository with a copy of the library. The numbers in docs/PROVED.md are those that the checker prints. The values are
-those of the Rust crate. With the arguments --repository FOLDER, it only writes that repository, for tests/vendor.sh."""
+those of the Rust crate. Without the kit, it only runs the commands, with cargo's programs. With the arguments --repository FOLDER, it only writes that repository, for tests/vendor.sh."""
 
 import os
 import re
@@ -9,10 +9,10 @@ import shutil
 import sys
 from pathlib import Path
 
-from cases import ROOM, TOP, blocks, compare, finish, needs_the_toolchain, shell, tell
+from cases import ROOM, TOP, blocks, compare, finish, has, lacks, shell, skip, tell
 
 # Commands that other tests run: the gate itself, and packages/tools/tests/install.sh.
-ELSEWHERE = ('make && make install PREFIX="$HOME/.local"', 'make uninstall PREFIX="$HOME/.local"', "make check",
+ELSEWHERE = ('make && make install PREFIX="$HOME/.local"', 'make uninstall PREFIX="$HOME/.local"', "make check", "make check-source",
              'lib="$HOME/.local/lib" && export PKG_CONFIG_PATH="$lib/pkgconfig"',
              'cc hello.c $(pkg-config --cflags --libs rapidhash_c) -Wl,-rpath,"$lib" && ./a.out')
 
@@ -31,8 +31,8 @@ def run_shell_blocks():
     programs = ROOM / "bin"
     programs.mkdir()
     shell("make -s tool sums")
-    for crate, name in (("rapidhash_cli", "rapidhash"), ("rapidsum", "rapidsum")):
-        os.symlink(TOP / "crates" / crate / "out" / crate, programs / name)
+    for path in shell("make -s --eval='show: ; @echo $(tools)' show")[1].split():
+        os.symlink(TOP / path, programs / Path(path).name.removesuffix("_cli"))
     for line in "".join(blocks("README.md", "sh") + blocks("docs/COMMANDS.md", "sh")).splitlines():
         command, _, comment = line.partition(" #")
         command, said = command.strip(), re.search(r"prints (\d+)", comment)
@@ -88,8 +88,14 @@ def run_program():
 if sys.argv[1:2] == ["--repository"]:
     write_repository(Path(sys.argv[2]))
 else:
-    needs_the_toolchain()
-    run_shell_blocks()
-    check_statements()
-    run_program()
+    if reason := lacks("rt" if has("rt") else "cargo"):
+        skip("commands", reason)
+    else:
+        run_shell_blocks()
+    if reason := lacks("rt"):
+        skip("statements of a proof", reason)
+        skip("the program of docs/RATTLE.md", reason)
+    else:
+        check_statements()
+        run_program()
 finish()

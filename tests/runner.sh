@@ -13,7 +13,8 @@ try() {
 # LINES SCRIPT
 ends() {
   local status
-  mkdir -p "$room/tests/examples" && cp "$top"/tests/cases.{sh,py} "$room/tests" &&
+  mkdir -p "$room/tests/examples" "$room/.ci" && cp "$top"/tests/{cases.{sh,py},tools.sh} "$room/tests" &&
+    cp "$top/.ci/packages" "$room/.ci" &&
     cp "$top/tests/examples/room.sh" "$room/tests/examples" &&
     printf '%s\n' "$3" >"$room/tests/script" && "${4:-bash}" "$room/tests/script" >"$room/said" 2>&1
   status=$?
@@ -31,17 +32,24 @@ edit_ends() {
   [ "$?:$(head -n 1 "$room/said")" = "$(($(grep -c ^not <<<"$1"))):$1 - one/a" ]
 }
 
-# Runs the gate, with the word in `mode`, in a repository in which this is one of two scripts, and another file perhaps
-# fails. Its last line must count these cases: PASSED FAILED SCRIPT [FILE]
+# Runs the gate, with the word in `mode`, in a repository in which this is one of two scripts, with `two` cases in
+# .ci/cases, and another file perhaps fails. Its line of results must be this: RESULT SCRIPT [FILE]
 gate_ends() {
   local copy=$room/gate file
-  rm -rf "$copy" && mkdir -p "$copy"/{.ci,bin,tests,packages/one/tests} && cp "$top"/.ci/{run,skips} "$copy/.ci" &&
-    cd "$copy" && for file in .ci/setup bin/{make,rt} packages/one/tests/one.py tests/two.sh; do
+  rm -rf "$copy" && mkdir -p "$copy"/{.ci,bin,kit,tests,packages/one/tests} && cd "$copy" && git init -q &&
+    cp "$top"/.ci/{run,skips} .ci && cp "$top/tests/tools.sh" tests &&
+    printf 'tests/two.sh %s\npackages/one/tests/one.py 1\n' "${two-2}" >.ci/cases &&
+    printf '%s\n' '# a' '*kit rt' 'sh sh' 'golang-go /no/go' >.ci/packages &&
+    for file in .ci/setup kit/rt bin/make packages/one/tests/one.py; do
       printf '#!/bin/sh\necho 3 passed, 0 failed\necho ok - a\necho 1..1\n' >"$file" && chmod +x "$file"
-    done && printf '#!/bin/sh\n%s\n' "$3" >tests/two.sh && { [ -z "${4-}" ] || echo 'exit 1' >>"$4"; } &&
-    PATH="$copy/bin:$PATH" .ci/run ${mode-} >"$room/said" 2>&1
-  [ "$?:$(tail -n 1 "$room/said")" = "$(($2 > 0)):$1 passed, $2 failed" ]
+    done && printf '#!/bin/sh\n%s\n' "$2" >tests/two.sh && chmod +x tests/two.sh &&
+    { [ -z "${3-}" ] || echo 'exit 1' >>"$3"; } && PATH="$copy/kit:$copy/bin:$PATH" .ci/run ${mode-} >"$room/said" 2>&1
+  [ "$?:$(grep -xE '[0-9]+ passed, [0-9]+ failed(, [0-9]+ skipped)?' "$room/said" | tail -n 1)" = \
+    "$([[ $1 == *', 0 failed'* ]]; echo $?):$1" ]
 }
+
+# Does the same, and the gate must also print this line: LINE RESULT SCRIPT [FILE]
+gate_says() { gate_ends "${@:2}"; ends=$? && cat "$room/said" && [ "$ends" -eq 0 ] && grep -qxF -e "$1" "$room/said"; }
 
 # Changes a file in a copy of the repository: tests/pages.py must refuse this case: CASE FILE SED-COMMAND
 pages_refuse() (
@@ -52,8 +60,13 @@ pages_refuse() (
 start='. "$(dirname "$0")/cases.sh"; cd "$room"; echo >a'
 try a_failing_case ends 1 $'ok - a\nnot ok - b\nnot ok - c\n1..3' \
   "$start; try a true; try b sh -c 'echo why; exit 1'; try_with c sh false; finish"
-try a_skipped_case ends 0 $'ok - a\nok - b # SKIP no nothing\n1..2' "$start; try a true; try_with b nothing true; finish"
-try a_skipped_script ends 0 '1..0 # SKIP no rt' "$start; PATH=/usr/bin:/bin; needs_the_toolchain; finish"
+try a_skipped_case ends 0 $'ok - a\nok - b # SKIP no rt (*rattle-kit)\n1..2' \
+  "$start; PATH=/usr/bin:/bin; try a true; try_with b 'sh rt' true; finish"
+try a_skipped_script ends 0 '1..0 # SKIP no rt (*rattle-kit)' "$start; PATH=/usr/bin:/bin; needs sh rt; finish"
+try a_skipped_rest ends 0 $'ok - a\nok - all other cases # SKIP no rt (*rattle-kit)\n1..2' \
+  "$start; PATH=/usr/bin:/bin; try a true; needs sh rt; finish"
+try a_skipped_script_in_python ends 0 '1..0 # SKIP no rt (*rattle-kit)' \
+  'import os; from cases import *; os.environ["PATH"] = "/usr/bin:/bin"; needs("sh", "/usr/b*n", "rt"); finish()' python3
 for bad in 'runs bad 0 "" "" echo more' 'runs bad 0 "" "" sh -c "exit 3"' 'runs bad 0 "" "" sh -c "echo more >&2"' \
   'prepare_by false' 'try bad failing read:error=EIO a wc -w a' 'try bad reads_in 1 a wc -w a' \
   'try bad reads_in 1 a true' "try bad grows_by_a_factor perl -e '\$a = 1 x 1e6 x \$_ for 1..99'"; do
@@ -77,18 +90,51 @@ assert [run("", "", {it: new}) for it, new in changed] == [0, 1, 1, 1]'
 for said in 'ok:not proved: `goal`' 'not ok:not proved: `other`' 'not ok:proved: `goal`'; do
   try "edit_of_which_the_checker_says ${said#*:}" edit_ends "${said%%:*}" "${said#*:}"
 done
-try a_gate gate_ends 6 0 'printf "ok - a\nok - b\n1..2\n"'
-mode=source try a_gate_of_sources gate_ends 3 0 'command -v rt && exit 1; printf "ok - a\nok - b\n1..2\n"'
-try a_gate_with_a_failure gate_ends 5 1 'printf "ok - a\nnot ok - b\n1..2\n"'
-try a_gate_with_a_bad_status gate_ends 5 1 'printf "ok - a\n1..1\n"; exit 1'
-try a_gate_with_a_script_that_dies gate_ends 5 1 'echo ok - a; kill $$'
-try a_gate_with_a_case_too_few gate_ends 5 1 'printf "ok - a\n1..2\n"'
-try a_gate_with_a_named_skip gate_ends 4 0 'printf "ok - a # SKIP strace cannot trace here\n1..1\n"'
-try a_gate_with_another_skip gate_ends 4 1 'printf "ok - a # SKIP no go\n1..1\n"'
-try a_gate_with_a_skipped_script gate_ends 4 1 'echo "1..0 # SKIP no go"'
-for file in .ci/setup bin/{make,rt} packages/one/tests/one.py; do
-  try "a_gate_in_which $file fails" gate_ends 6 1 'printf "ok - a\nok - b\n1..2\n"' "$file"
+two_cases='printf "ok - a\nok - b\n1..2\n"'
+try a_gate gate_ends '6 passed, 0 failed' "$two_cases"
+try a_gate_with_a_failure gate_ends '5 passed, 1 failed' 'printf "ok - a\nnot ok - b\n1..2\n"'
+two=1 try a_gate_with_a_bad_status gate_ends '5 passed, 1 failed' 'printf "ok - a\n1..1\n"; exit 1'
+two=1 try a_gate_with_a_script_that_dies gate_ends '5 passed, 1 failed' 'echo ok - a; kill $$'
+two=1 try a_gate_with_a_plan_of_more_cases gate_ends '5 passed, 1 failed' 'printf "ok - a\n1..2\n"'
+two=3 try a_gate_with_a_lost_case gate_says 'cases: < tests/two.sh 3' '6 passed, 1 failed' "$two_cases"
+two=$'2\ntests/three.sh 1' try a_gate_with_a_lost_script gate_says 'cases: < tests/three.sh 1' '6 passed, 1 failed' \
+  "$two_cases"
+two=1 try a_gate_with_a_named_skip gate_ends '4 passed, 0 failed' 'printf "ok - a # SKIP strace cannot trace here\n1..1\n"'
+skips_go='printf "ok - a # SKIP no /no/go (golang-go)\n1..1\n"'
+two=1 try a_gate_with_a_missing_tool gate_says 'skipped: ok - a # SKIP no /no/go (golang-go)' '4 passed, 1 failed' "$skips_go"
+two=1 try a_gate_that_names_the_packages gate_says 'apt-get install golang-go' '4 passed, 1 failed' "$skips_go"
+two=0 try a_gate_with_a_skipped_script gate_ends '4 passed, 1 failed' 'echo "1..0 # SKIP no /no/go (golang-go)"'
+try a_gate_with_a_file_left_behind gate_says 'left behind: a' '6 passed, 1 failed' "$two_cases; touch a"
+for file in bin/make kit/rt packages/one/tests/one.py; do
+  try "a_gate_in_which $file fails" gate_ends '6 passed, 1 failed' "$two_cases" "$file"
 done
+# A setup that fails counts, but everything is proved and tested.
+try a_gate_in_which_setup_fails gate_ends '6 passed, 1 failed' "$two_cases" .ci/setup
+mode=source
+try a_gate_of_sources gate_ends '3 passed, 0 failed, 0 skipped' "command -v rt && exit 1; $two_cases"
+try a_gate_of_sources_without_a_tool gate_says 'missing: /no/go rt' '2 passed, 0 failed, 2 skipped' \
+  'printf "ok - a\nok - b # SKIP no rt (*kit)\nok - c # SKIP no /no/go (golang-go)\n1..3\n"'
+try a_gate_of_sources_with_a_skip_for_a_tool_that_is_there gate_says 'skipped: ok - b # SKIP no sh (sh)' \
+  '2 passed, 1 failed, 1 skipped' 'printf "ok - a\nok - b # SKIP no sh (sh)\n1..2\n"'
+mode=
+
+# Runs .ci/setup where nothing is installed, over a substitute for apt-get: its last line and status must be these:
+# LINE STATUS SCRIPT-OF-APT-GET
+setup_ends() {
+  local setup=$room/setup
+  rm -rf "$setup" && mkdir -p "$setup"/{.ci,bin,tests} && cp "$top/.ci/setup" "$setup/.ci" &&
+    cp "$top/tests/tools.sh" "$setup/tests" && printf '%s\n' '# a' 'one one' '*other other' 'two two' >"$setup/.ci/packages" &&
+    cd "$setup" && printf '#!/bin/sh\ncd %s\n%s\n' "$setup" "$3" >bin/apt-get && printf '#!/bin/sh\necho one\necho two\n' >bin/apt-cache &&
+    printf '#!/bin/sh\nexit 1\n' >bin/dpkg-query && printf '#!/bin/sh\n' >bin/sleep && chmod +x bin/* &&
+    PATH=$setup/bin:/usr/bin:/bin bash .ci/setup >"$room/said" 2>&1
+  [ "$?:$(tail -n 1 "$room/said")" = "$2:$1" ]
+}
+installs='shift 2; [ "$1" = update ] || for package in $2 $3; do printf "#!/bin/sh\n" >bin/$package; chmod +x bin/$package; done'
+held='[ $(echo run >>runs; wc -l <runs) -gt 5 ] || { echo "E: Could not get lock /a. It is held by process 7 (apt)"; exit 100; }'
+try setup setup_ends 'setup: installing one two' 0 "$installs"
+try setup_with_a_held_lock setup_ends 'setup: installing one two' 0 "$held; $installs"
+try setup_that_fails setup_ends 'setup: could not install one two' 1 'echo E: no network; exit 100'
+try setup_that_installs_a_part setup_ends 'setup: could not install two' 1 "${installs/ \$3/}"
 while read -r case file edit; do try "pages_refuse $case" pages_refuse "$case" "$file" "$edit"; done <<'EDITS'
 links README.md s|(docs/PROVED.md|(docs/PROVEN.md|
 paths CONTRIBUTING.md s|`tests/style.sh`|`tests/stile.sh`|

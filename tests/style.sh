@@ -1,9 +1,8 @@
 #!/usr/bin/env bash
-# Refuses lines over 100 columns in source files, which the layout tool accepts. Also refuses contracts that name a
-# private field, which the checker accepts, although no caller can see the field. Checks the scripts with the linters of
-# their languages, and the newest commits.
+# Refuses lines over 100 columns in source files, which the layout tool accepts. Checks the scripts with the linters of
+# their languages, and the newest commits. With the kit, also refuses contracts that name a private field, which the
+# checker accepts, although no caller can see the field.
 . "$(dirname "$0")/cases.sh"
-needs_the_toolchain
 cd "$top" || exit 1
 
 # Columns are characters. The layout tool keeps a `ghost use` on a single line, so its width has no limit.
@@ -77,14 +76,18 @@ try columns narrow
 try even_lines even
 try_with rust_programs rustfmt formatted_rust
 try executable_scripts can_be_run
-try shell_scripts lints_shell
-try python_scripts lints_python
+try_with shell_scripts shellcheck lints_shell
+try_with python_scripts pyflakes3 lints_python
 try verbs begins_with_verbs
 try commits has_short_subjects
-# Proves the two large libraries, rapidhash_portable and rapidhash, so that no copy must prove them.
-(cd crates/rapidhash && rt lib >/dev/null 2>&1) || echo 'rapidhash is not built'
 # The library crates of the product.
 mapfile -t crates < <(git ls-files 'crates/rapidhash*/src/lib.rt' | cut -d / -f 2)
+if reason=$(lacks rt); then
+  for crate in "${crates[@]}"; do skip "private_fields_of_$crate" "$reason"; done
+  finish
+fi
+# Proves the two large libraries, rapidhash_portable and rapidhash, so that no copy must prove them.
+(cd crates/rapidhash && rt lib >/dev/null 2>&1) || echo 'rapidhash is not built'
 # A file CRATE.ended exists only after the crate's check has ended.
 export room
 export -f hides_its_fields

@@ -3,8 +3,15 @@
 # shellcheck shell=bash
 . "$(dirname "${BASH_SOURCE[0]}")/../cases.sh"
 name=$(basename "$0" .sh)
-[ -n "${BUILT-}" ] || needs_the_toolchain
-[ -n "${BUILT-}" ] || prepare_by make -s -C "$top" "$name"
+# Without the kit, cargo builds the two tools, but not the examples.
+if [ -z "${BUILT-}" ] && [[ $name == rapid* ]] && ! has rt; then
+  needs cargo
+  BUILT=$top/build/cargo/release/${name%_cli}
+  prepare_by make -s -C "$top" "${BUILT#"$top/"}"
+elif [ -z "${BUILT-}" ]; then
+  needs rt
+  prepare_by make -s -C "$top" "$name"
+fi
 program=$room/$name
 cp "${BUILT:-$top/crates/$name/out/$name}" "$program" && mkdir "$room/at" && cd "$room/at" || exit 1
 

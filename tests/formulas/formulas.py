@@ -9,7 +9,7 @@ import sys
 from pathlib import Path
 
 sys.path[0:0] = [str(Path(__file__).parents[2] / folder) for folder in ("tests", "scripts")]
-from cases import ROOM, TOP, finish, shell, skip, tell  # noqa: E402
+from cases import ROOM, TOP, finish, lacks, needs, shell, skip, tell  # noqa: E402
 from eraser import erase  # noqa: E402
 
 FOLDER = TOP / "tests" / "formulas"
@@ -18,16 +18,17 @@ C = ("-std=c99 -Wall -Wextra -Werror -Wno-unused-function '-DRAPIDHASH_PRIMITIVE
 RUST = "rustc -O --edition 2021 --extern rapidhash=librapidhash.rlib $YERVOUND/tests/formulas/subject.rs"
 JAVA = ("mkdir java && cp -r $YERVOUND/packages/java/src/main/java/. $YERVOUND/packages/java/src/formulas/java/. java &&"
         " rm java/module-info.java && javac --release 11 -d classes $(find java -name '*.java')")
+SANITIZERS = "/usr/lib/llvm-*/lib/clang/*/lib/linux/libclang_rt.fuzzer-x86_64.a"
 GO = "(cd $YERVOUND/packages/go && GOCACHE=$OLDPWD/cache GOPROXY=off go test -tags formulas -c -o $OLDPWD/go)"
-# The subjects: name, kind, the program that it needs, and the commands that build and run it in the directory ROOM.
+# The subjects: name, kind, the tools that it needs, and the commands that build and run it in the directory ROOM.
 SUBJECTS = [
     ("c_gcc", "native", "gcc", f"gcc -O2 {C} -o c_gcc", "./c_gcc"),
-    ("c_clang", "native", "clang", f"clang -O1 -fsanitize=address,undefined {C} -o c_clang", "./c_clang"),
+    ("c_clang", "native", f"clang {SANITIZERS}", f"clang -O1 -fsanitize=address,undefined {C} -o c_clang", "./c_clang"),
     ("c_tcc", "native", "tcc", f"tcc {C} -o c_tcc", "./c_tcc"),
     ("rust", "kernels", "rustc", f"{RUST} -o rust", "./rust"),
     ("go", "native", "go", GO, "./go"),
-    ("java", "native", "javac", JAVA, "java -cp classes example.yervound.rapidhash.Formulas"),
-    ("java_direct", "native", "javac", "true", "java -cp classes example.yervound.rapidhash.Formulas direct"),
+    ("java", "native", "javac java", JAVA, "java -cp classes example.yervound.rapidhash.Formulas"),
+    ("java_direct", "native", "javac java", "true", "java -cp classes example.yervound.rapidhash.Formulas direct"),
 ]
 # The formulas up to 4,096 bytes, up to 16,384, and of streams, for a form with its options. Those up to 16 bytes are
 # compared 64 times each. Then, how often a subject of each kind has these.
@@ -59,14 +60,15 @@ def build_crate():
                  " --cfg 'feature=\"std\"' crate/lib.rs", ROOM)
 
 
+needs("rustc")
 for build in (build_definition, build_crate):
     status, output = build()
     if status:
         tell(build.__name__, output[-2000:])
         finish()
 for name, kind, program, build, run in SUBJECTS:
-    if not shutil.which(program):
-        skip(name, f"no {program}")
+    if reason := lacks(*program.split()):
+        skip(name, reason)
         continue
     status, output = shell(f"{build} && ./compare {kind} {run}", ROOM)
     is_whole = output.endswith(f"{COUNTS[kind]} formulas compared, 0 differ\n")

@@ -1,13 +1,10 @@
 #!/usr/bin/env bash
 # Tests the header by each compiler, standard and option with all vectors; the libraries that the kit and cc build, and
-# their names; the manual; and the hashes beside those of the Rust crate. Missing compilers are skipped.
+# their names; the manual; and the hashes beside those of the Rust crate. Without the kit, the library is cc's alone.
 . "$(dirname "$0")/../../../tests/cases.sh"
-needs_the_toolchain
 include=$top/packages/c/include
 header=$include/rapidhash_c.h
 tests=$top/packages/c/tests
-archive=$top/crates/rapidhash_c/out/librapidhash_c.a
-shared=$top/build/librapidhash_c.so.1
 vectors=("$room/rapidhash_vectors.tsv" "$top/crates/test_replay/data/secrets.tsv")
 
 # Compiles a program of every call, with an archive if `linked` names one, and compares its values with the vectors. A
@@ -55,7 +52,7 @@ keeps_unwind_tables() {
     readelf -lW "$room/probe.so" | grep GNU_EH_FRAME
 }
 
-# Does the same with the archive, whose code the program must contain: COMPILER ARGUMENT..
+# Compiles such a program with the archive, whose code it must contain: COMPILER ARGUMENT..
 calls_from_c() {
   linked=$archive has_the_values "$@" -DRAPIDHASH_LINK -O2 -Wall -Wextra -Werror &&
     nm --defined-only "$room/c_library" | grep ' T rapidhash_v3$'
@@ -101,8 +98,8 @@ manual_example_runs() {
   local command
   command=$(sed -n 's/^\.BR "\(cc .*\)" \.$/\1/p' "$top/packages/c/rapidhash_c.3" | sed 's/\\-/-/g') &&
     sed -n '/^\.EX/,/^\.EE/ { /^\.E[XE]/d; s/\\e/\\/g; p }' "$top/packages/c/rapidhash_c.3" >"$room/hello.c" &&
-    (cd "$room" && export PKG_CONFIG_PATH=$room/lib/pkgconfig && bash -c "$command" &&
-      [ "$(LD_LIBRARY_PATH=$room/lib ./a.out | sort | uniq -c | xargs)" = '2 3327445792987248966' ])
+    (cd "$room" && export PKG_CONFIG_PATH=$room/usr/lib/pkgconfig && bash -c "$command" &&
+      [ "$(LD_LIBRARY_PATH=$room/usr/lib ./a.out | sort | uniq -c | xargs)" = '2 3327445792987248966' ])
 }
 
 # Builds the hashes of the Rust crate for a C program.
@@ -168,15 +165,20 @@ fuzz() {
     (cd "$room" && ./beside_rust -max_len=1200 -len_control=0 -runs=1000000)
 }
 
-# Runs make in a copy of the repository, without the Rattle toolchain and without cargo: ARGUMENT..
-make_by_cc_alone() {
-  make -s -C "$room/bare" kit= tools= "$@"
+# Checks that make without the kit and without cargo builds and installs the library alone, and says so.
+builds_from_the_header() {
+  local left='make: the programs are left out: install cargo (Rust 1.63 or newer) and run make again'
+  copy_sources "$room/bare" && make_by_cc_alone >"$room/said" 2>&1 && diff "$room/said" - <<SAID &&
+make: rt is not on PATH: building with cc the library alone, which is not the proved build
+$left
+SAID
+    make_by_cc_alone install PREFIX="$room/usr" >"$room/said" 2>&1 && diff "$room/said" - <<<"$left" &&
+    [ ! -e "$room/usr/bin" ]
 }
 
-builds_from_the_header() {
-  copy_sources "$room/bare" && [ "$(make_by_cc_alone 2>&1)" = \
-    'make: rt is not on PATH: building with cc the library alone, which is not the proved build' ] &&
-    make_by_cc_alone install PREFIX="$room/usr" && [ ! -e "$room/usr/bin" ]
+# Runs make in that copy: ARGUMENT..
+make_by_cc_alone() {
+  make -s -C "$room/bare" kit= cargo= "$@"
 }
 
 # Compiles and runs the programs of docs/C.md and docs/CPP.md with the headers alone, as the pages say.
@@ -189,23 +191,26 @@ first_program_runs() {
     blocks "$top/docs/CPP.md" cpp assert >seeds.cpp && c++ -std=c++11 -Ipackages/c/include seeds.cpp -o seeds && ./seeds
 }
 
-# Tests the names of the two files of a library, and the calls of the archive. A prefix of the cases names it: [PREFIX]
-test_both_files() {
-  try "${1-}names_of_the_archive" defines_the_header '' "$archive"
-  try "${1-}names_of_the_shared_library" defines_the_header @@RAPIDHASH_1 -D "$shared"
-  try "${1-}archive" calls_from_c cc -std=c99
+# Tests the names of the two files of a library, and its calls. Its builder is rt or cc: PREFIX-OF-THE-CASES BUILDER
+# ARCHIVE SHARED
+test_library() {
+  archive=$3 shared=$4
+  try_with "$1names_of_the_archive" "$2" defines_the_header '' "$archive"
+  try_with "$1names_of_the_shared_library" "$2" defines_the_header @@RAPIDHASH_1 -D "$shared"
+  try_with "$1archive" "$2" calls_from_c cc -std=c99
+  try_with "$1cpp_archive" "$2 c++" calls_from_c c++ -x c++ -DIS_FAST=0
+  try_with "$1random_messages" "$2 cargo rustc" random_messages
 }
 
-prepare_by make -s -C "$top"
-prepare_by make -s -C "$top" install PREFIX="$room"
 prepare_by write_vectors "$room"
 echo '#include <rapidhash_c.h>' >"$room/second.c"
+fuzzer='/usr/lib/llvm-*/lib/clang/*/lib/linux/libclang_rt.fuzzer-x86_64.a'
 
 # Messages above 4 GiB take some seconds. The standard does not change their hashes, so the first one hashes them all.
 for compiler in gcc clang; do
   all=1
   for standard in c99 c11 c17 c2x c++11 c++17 c++20; do
-    try_with "header_${standard}_$compiler" "$compiler" has_the_values "$compiler" "-std=$standard" \
+    try_with "header_${standard}_$compiler" "$compiler$([[ $standard != c++* ]] || echo ' c++')" has_the_values "$compiler" "-std=$standard" \
       -x "${standard//[0-9]*/}" -DIS_FAST=$all -O2 -pedantic -Wall -Wextra -Wconversion -Wshadow -Werror
     all=0
   done
@@ -215,36 +220,33 @@ try header_c89 bash -c 'cc -std=c89 -fsyntax-only "$1" 2>&1 | grep -m 1 error: |
 try header_without_int128 has_the_values cc -O2 -DRAPIDHASH_NO_INT128
 try header_without_a_byte_order has_the_values cc -O2 -U__BYTE_ORDER__
 try header_with_assertions has_the_values cc -O3 -include assert.h -DRAPIDHASH_ASSERT=assert
-try_with header_with_sanitizers clang has_the_values clang -O1 -fsanitize=address,undefined -fno-sanitize-recover=all
+try_with header_with_sanitizers "clang $fuzzer" has_the_values clang -O1 -fsanitize=address,undefined \
+  -fno-sanitize-recover=all
 try_with header_tcc tcc has_the_values tcc
-if cc -m32 -include stdio.h -x c - -o "$room/probe" 2>/dev/null <<<'int main(void) { return 0; }'; then
-  try header_32_bits has_the_values cc -m32 -O2
-else
-  skip header_32_bits 'no libraries of 32 bits'
-fi
-test_both_files
-try needed_library needs_the_c_library_alone
-try build_id bash -c 'readelf -n "$1" | grep -E "^ *Build ID: [0-9a-f]{40}\$"' - "$shared"
-try code_and_data keeps_code_and_data_apart
-try unwind_tables keeps_unwind_tables
-try cpp_archive calls_from_c c++ -x c++
+try_with header_32_bits 'gcc /usr/lib/gcc/x86_64-linux-gnu/*/32/libgcc.a' has_the_values gcc -m32 -O2
 for standard in c++11 c++17 c++20; do
   try_with "cpp_header_$standard" g++ calls_from_cpp g++ "$standard"
   try_with "cpp_header_${standard}_clang" clang++ calls_from_cpp clang++ "$standard"
 done
-try manual_and_header manual_has_the_header
-try example_of_the_manual manual_example_runs
-try_with random_messages rustc random_messages
-try_with instructions rustc counts_instructions
 try_with rows_per_iteration gcc folds_two_rows gcc '15 11 13'
 try_with rows_per_iteration_clang clang folds_two_rows clang '29 21 13'
-try_with fuzz clang fuzz
+try_with manual_and_header mandoc manual_has_the_header
 
-# The library that cc compiles from the header replaces the proved one on other machines.
+# The library that cc builds from the header, which replaces the proved one on other machines.
 try header_build builds_from_the_header
-try header_first_program first_program_runs
-archive=$room/usr/lib/librapidhash_c.a shared=$room/usr/lib/librapidhash_c.so.1
-test_both_files header_
-try header_shared builds_by_pkg_config "$room/usr/lib"
+try_with header_first_program c++ first_program_runs
+test_library header_ cc "$room"/usr/lib/librapidhash_c.{a,so.1}
+try_with header_shared pkg-config builds_by_pkg_config "$room/usr/lib"
+try_with example_of_the_manual pkg-config manual_example_runs
+try_with fuzz "cargo rustc clang $fuzzer" fuzz
+
+# The proved library.
+lacks rt >/dev/null || prepare_by make -s -C "$top" library
+test_library '' rt "$top"/{crates/rapidhash_c/out/librapidhash_c.a,build/librapidhash_c.so.1}
+try_with needed_library rt needs_the_c_library_alone
+try_with build_id rt bash -c 'readelf -n "$1" | grep -E "^ *Build ID: [0-9a-f]{40}\$"' - "$shared"
+try_with code_and_data rt keeps_code_and_data_apart
+try_with unwind_tables rt keeps_unwind_tables
+try_with instructions 'rt cargo rustc valgrind' counts_instructions
 
 finish

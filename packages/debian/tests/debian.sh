@@ -105,9 +105,7 @@ leaves_nothing() {
     rm "$library"/lib{c.so.6,gcc_s.so.1} && listed | diff "$room/bare" -
 }
 
-for program in dpkg-buildpackage dh lintian cc /usr/bin/cargo cmake sqlite3 pg_config; do
-  command -v "$program" >/dev/null || skip_all "no $program"
-done
+needs dpkg-buildpackage dh lintian cc /usr/bin/{rustc,cargo} cmake sqlite3 pg_config '/usr/include/postgresql/*/server/postgres.h'
 [ "$(id -u)" -eq 0 ] || skip_all 'not run as root'
 try packages packs_the_same_bytes
 try lintian lintian --allow-root --fail-on error,warning "$packages"/*.changes

@@ -23,19 +23,19 @@ copies_whole_pieces() {
   [ "$(go tool objdump -s 'Stream..(Write|fold)$' "$room/test" | grep -c 'CALL runtime.memmove')" -eq 5 ]
 }
 
-command -v go >/dev/null || skip_all 'no go'
+needs go
 cd "$top/packages/go" || exit 1
 prepare_by write_vectors "$room"
 try licences has_the_licences .
 try layout bash -c '[ -z "$(gofmt -l .)" ]'
 # The functions, methods, and types of the release.
 try names bash -c '[ "$(go doc -all | grep -cE "^(func|type) ")" -eq 56 ]'
-try tests env CGO_ENABLED=0 go test -count 1 .
-try race go test -count 1 -short -race .
-try fuzz go test -run - -fuzz FuzzPieces -fuzztime 20000x .
-try 386 env GOARCH=386 go test -count 1 .
-try_with arm64 qemu-aarch64 env GOARCH=arm64 go test -count 1 -short -exec qemu-aarch64 .
-try_with s390x qemu-s390x env GOARCH=s390x go test -count 1 -short -exec qemu-s390x .
+try tests env CGO_ENABLED=0 go test -timeout 0 -count 1 .
+try race go test -timeout 0 -count 1 -short -race .
+try fuzz go test -timeout 0 -run - -fuzz FuzzPieces -fuzztime 20000x .
+try 386 env GOARCH=386 go test -timeout 0 -count 1 .
+try_with arm64 qemu-aarch64 env GOARCH=arm64 go test -timeout 0 -count 1 -short -exec qemu-aarch64 .
+try_with s390x qemu-s390x env GOARCH=s390x go test -timeout 0 -count 1 -short -exec qemu-s390x .
 for os in linux windows darwin; do try "vet_$os" env GOOS="$os" GOARCH=amd64 go vet .; done
 try rows_per_iteration folds_many_rows
 try copies copies_whole_pieces

@@ -78,7 +78,7 @@ copies_whole_arrays() {
     grep -cE 'Method (java/lang/System.arraycopy|java/nio/ByteBuffer.get:\(\[B|append):?')" -eq 8 ]
 }
 
-[ -f /usr/share/java/junit4.jar ] && command -v javac >/dev/null || skip_all 'no javac or no junit4'
+needs javac java jar /usr/share/java/junit4.jar
 prepare_by make -s -C "$top" jar
 prepare_by write_vectors "$room"
 prepare_by compile "$room/tests" "$jar:$junit" "$folder/src/test"

@@ -3,7 +3,6 @@
 # installed copy. The cases cover Node, the types, and browsers, with the page packages/javascript/page. Missing
 # programs are named, and their cases are not counted.
 . "$(dirname "$0")/../../../tests/cases.sh"
-needs_the_toolchain
 # Prevents all requests to a registry, including those that npm makes by itself.
 export npm_config_offline=true npm_config_audit=false npm_config_update_notifier=false
 
@@ -66,7 +65,7 @@ serve() {
 
 # Lays out the files that are served to both browsers: the tests beside the package, and the page.
 lay_out_for_browsers() {
-  make -s -C "$top" tool page && cp "$top"/packages/javascript/tests/browsers/* "$room/first" && cp -r "$top/build/browser" "$room" &&
+  make -s -C "$top" built page && cp "$top"/packages/javascript/tests/browsers/* "$room/first" && cp -r "$top/build/browser" "$room" &&
     serve && mkdir "$room/files" && cd "$room/files" && mv ../first/large . && cat large large >double &&
     truncate -s 1073741825 long && : >empty
 }
@@ -74,15 +73,13 @@ lay_out_for_browsers() {
 # Tests the package and the page in a browser. The page requests only its own files from its server: PROGRAM
 works_in_a_browser() {
   : >"$room/server.log"
-  cd "$room/first" && BROWSER=$1 SERVER=$server FILES=$room/files TOOL=$top/crates/rapidhash_cli/out/rapidhash_cli \
+  cd "$room/first" && BROWSER=$1 SERVER=$server FILES=$room/files TOOL=$(built_programs | cut -d ' ' -f 1) \
     timeout 300 node --test page.test.mjs && grep -q '"GET /browser/page.mjs HTTP' "$room/server.log" &&
     ! grep '" [0-9]* -$' "$room/server.log" |
     grep -vE '"GET /(browser/[a-z]+\.(html|mjs|css)|first/.*) HTTP/1\.1" (200|304) -$'
 }
 
-for program in node npm; do
-  command -v "$program" >/dev/null || skip_all "no $program"
-done
+needs clang wasm-ld esbuild node npm
 try install works_as_its_page_says "$top/packages/javascript/README.md"
 try files has_its_files
 try lay_out lay_out
@@ -98,8 +95,9 @@ try types_without_any [ "$(grep -cE '[^a-z ] any\b' "$top/packages/javascript/in
 try_with types tsc compiles --lib es2020,dom types.mts
 try_with types_alone tsc compiles --lib es2020 node_modules/yervound-rapidhash/index.d.ts
 # Each browser, if the program that drives it is installed.
-try lay_out_for_browsers lay_out_for_browsers
-try_with chromium chromedriver works_in_a_browser chromium
-try_with firefox-esr firefox-esr works_in_a_browser firefox-esr
+tool=rt && has rt || tool=cargo
+try_with lay_out_for_browsers "$tool" lay_out_for_browsers
+try_with chromium "$tool chromedriver" works_in_a_browser chromium
+try_with firefox-esr "$tool firefox-esr" works_in_a_browser firefox-esr
 jobs -p | xargs kill
 finish

@@ -12,7 +12,7 @@ from itertools import zip_longest
 from pathlib import Path
 
 sys.path.append(str(Path(__file__).parents[3] / "tests"))
-from cases import ROOM, TOP, blocks, compare, finish, shell, skip_all, tell  # noqa: E402
+from cases import ROOM, TOP, blocks, compare, finish, needs, shell, tell  # noqa: E402
 from sql import BINDINGS, HELLO, STREAMS, lines_with_results, unpack, vector_queries  # noqa: E402
 
 PAGE = "packages/postgresql/README.md"
@@ -29,11 +29,8 @@ STORAGES = (("EXTENDED", 100000, "t"), ("EXTERNAL", 100000, "f"), ("PLAIN", 1, "
 
 
 def folders_of_the_server():
-    """Returns the directories of the machine's server, or nothing if the server or its headers are missing."""
-    if not all(map(shutil.which, ("pg_config", "cc", "psql", "setpriv"))):
-        return []
-    found = [Path(shell(f"pg_config --{name}")[1].strip()) for name in ("pgxs", "bindir", "sharedir")]
-    return found[1:] if found[0].exists() and (found[1] / "initdb").exists() else []
+    """Returns the directories of the machine's server."""
+    return [Path(shell(f"pg_config --{name}")[1].strip()) for name in ("bindir", "sharedir")]
 
 
 def ask(query):
@@ -133,10 +130,8 @@ def start(binaries, shared):
     return f"{run}/pg_ctl -D {DATA} -m fast stop"
 
 
-folders = folders_of_the_server()
-if not folders:
-    skip_all("no server with its headers, or no cc, psql or setpriv")
-stop = start(*folders)
+needs("cc", "pg_config", "psql", "setpriv", "/usr/lib/postgresql/*/bin/initdb", "/usr/include/postgresql/*/server/postgres.h")
+stop = start(*folders_of_the_server())
 try:
     for step in (install, installcheck, unpacked_archive, vectors, storages, aggregates, rest):
         step()

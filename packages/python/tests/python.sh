@@ -94,7 +94,7 @@ types_are_those_of_the_package() {
   cd "$room/files" && MYPYPATH=$room/files PYTHONPATH=$room/files "$python" -m mypy.stubtest rapidhash
 }
 
-"$python" -c 'import ensurepip, setuptools, wheel' 2>/dev/null || skip_all 'no ensurepip, setuptools or wheel'
+needs gcc '/usr/lib/python3*/ensurepip' /usr/lib/python3/dist-packages/{pip,setuptools,wheel} '/usr/include/python3*/Python.h'
 try install installs_as_the_page_says
 try files has_its_files
 try exports exports_its_start_alone

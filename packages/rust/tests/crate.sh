@@ -1,7 +1,7 @@
 #!/usr/bin/env bash
 # Checks that the sources of the Rust crate in packages/rust/ are current. Tests its layout and lints, the package that
 # cargo builds, the README's program in its own directory, and the commands of docs/BINDINGS.md. Runs its tests and
-# examples with the machine's compiler and with Debian's. Debian's compiler is skipped if it is not installed.
+# examples with the machine's compiler and with Debian's.
 . "$(dirname "$0")/../../../tests/cases.sh"
 export CARGO_TARGET_DIR=$room/target CARGO_NET_OFFLINE=true
 
@@ -87,8 +87,9 @@ drops_in() {
     (cd "$project" && tests_pass cargo test --test drop_in)
 }
 
+needs cargo rustc
 cd "$top/packages/rust" || exit 1
-try current "$top/scripts/rust_crate" --check
+try_with current rustfmt "$top/scripts/rust_crate" --check
 try licences has_the_licences .
 try_with layout cargo-fmt cargo fmt --check
 for features in --all-features --no-default-features; do
@@ -102,10 +103,11 @@ try rows_per_iteration folds_two_rows
 for manifest in Cargo.toml compat/Cargo.toml; do try "metadata_of_$manifest" has_the_metadata "$manifest"; done
 try examples tests_pass cargo test --doc
 try_with pedantic cargo-clippy cargo clippy -- -D warnings -W clippy::pedantic
-if [ -d /usr/share/cargo/registry ] && [ "$(command -v rustc)" != /usr/bin/rustc ]; then
-  try drop_in drops_in
+# Debian's compiler is too old for a dependency of the tests.
+if [ "$(command -v rustc)" = /usr/bin/rustc ]; then
+  skip drop_in "no rustc but Debian's"
 else
-  skip drop_in "no /usr/share/cargo/registry, or no rustc but Debian's"
+  try_with drop_in "$(printf '/usr/share/cargo/registry/%s ' rand_core-0.6\* hashbrown-0.12\* indexmap-1\*)" drops_in
 fi
 try features_of_the_compiler finds_its_features
 try no_dependency bash -c '[ "$(cargo tree | wc -l)" -eq 1 ]'
@@ -113,14 +115,11 @@ try no_unsafe grep -x '#!\[forbid(unsafe_code)\]' src/lib.rs
 try package packages
 try readme readme_runs README.md cargo
 try readme_of_the_repository readme_runs "$top/README.md" cargo
-if [ -x /usr/bin/rustc ] && [ -x /usr/bin/cargo ]; then
-  try oldest_compiler tests_pass debian test --tests
-  try oldest_compiler_without_std tests_pass debian test --tests --no-default-features
-  try examples_by_the_oldest_compiler tests_pass debian test --doc
-  try readme_by_the_oldest_compiler readme_runs README.md debian
-else
-  skip oldest_compiler 'no /usr/bin/rustc and /usr/bin/cargo'
-fi
+debian='/usr/bin/rustc /usr/bin/cargo'
+try_with oldest_compiler "$debian" tests_pass debian test --tests
+try_with oldest_compiler_without_std "$debian" tests_pass debian test --tests --no-default-features
+try_with examples_by_the_oldest_compiler "$debian" tests_pass debian test --doc
+try_with readme_by_the_oldest_compiler "$debian" readme_runs README.md debian
 try commands works_as_its_page_says <(sed -n '/^## Rust$/,/^## Python$/p' "$top/docs/BINDINGS.md")
 
 finish

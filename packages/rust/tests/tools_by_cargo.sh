@@ -1,8 +1,10 @@
 #!/usr/bin/env bash
-# Builds the tools by cargo, checks their lints, and runs the kit's cases over them.
+# Builds the tools by cargo, checks their lints, and runs the kit's cases over them. Without the kit, the scripts of these
+# cases run by themselves over cargo's tools.
 . "$(dirname "$0")/../../../tests/cases.sh"
 export CARGO_NET_OFFLINE=true
-tools=$top/build/cargo/release
+built=$top/build/cargo/release
+needs cargo rustc
 
 cd "$top/packages/rust/tools" || exit 1
 prepare_by make -s -C "$top" kit= build/cargo/release/rapid{hash,sum}
@@ -10,7 +12,8 @@ try_with layout cargo-fmt cargo fmt --check
 try_with lints cargo-clippy env CARGO_TARGET_DIR="$top/build/cargo" cargo clippy --release -- -D warnings
 try no_unsafe bash -c '[ "$(grep -rlxF "#![forbid(unsafe_code)]" src | wc -l)" -eq 3 ]'
 for script in rapidhash_cli rapidsum; do
-  BUILT=$tools/${script%_cli} "$top/packages/tools/tests/$script.sh" >"$room/lines" || failed=$((failed + 1))
+  has rt || break
+  BUILT=$built/${script%_cli} "$top/packages/tools/tests/$script.sh" >"$room/lines" || failed=$((failed + 1))
   grep -v '^1\.\.' "$room/lines"
   cases=$((cases + $(sed -n 's/^1\.\.//p' "$room/lines")))
 done

@@ -3,13 +3,12 @@
 vectors, types, errors, aggregates, the examples on the page, and each failing allocation. The values are those of the
 Rust crate."""
 
-import shutil
 import sqlite3
 import sys
 from pathlib import Path
 
 sys.path.append(str(Path(__file__).parents[3] / "tests"))
-from cases import ROOM, TOP, blocks, compare, finish, shell, skip_all, tell  # noqa: E402
+from cases import ROOM, TOP, blocks, compare, finish, needs, shell, skip_all, tell  # noqa: E402
 from sql import BINDINGS, DIGITS, HELLO, NOTHING, TEXT, TEXT_HASH  # noqa: E402
 from sql import lines_with_results, signed, unpack, vector_queries  # noqa: E402
 
@@ -129,8 +128,9 @@ def page(database):
     compare("nodes", found, set((crate / "stdout").read_text().splitlines()))
 
 
-if not hasattr(sqlite3.Connection, "enable_load_extension") or not all(map(shutil.which, ("cc", "sqlite3"))):
-    skip_all("no cc or no sqlite3, or this Python loads no extensions")
+needs("cc", "sqlite3", "/usr/include/sqlite3.h")
+if not hasattr(sqlite3.Connection, "enable_load_extension"):
+    skip_all("this Python loads no extensions")
 commands()
 loaded = opened()
 loaded.execute("CREATE TABLE many (place INTEGER, part INTEGER, word TEXT)")

@@ -8,20 +8,19 @@ import shutil
 import sys
 from pathlib import Path
 
-import pexpect
-
 sys.path.append(str(Path(__file__).parents[3] / "tests"))
-from cases import ROOM, TOP, compare, finish, shell, skip_all, tell  # noqa: E402
+from cases import ROOM, TOP, compare, finish, has, needs, shell, tell  # noqa: E402
+
+needs("rt" if has("rt") else "cargo", "/usr/lib/python3/dist-packages/pexpect")
+import pexpect  # noqa: E402
 
 SHARE = TOP / "packages" / "tools"
-if not shutil.which("rt") and not shutil.which("cargo"):
-    skip_all("no rt and no cargo")
 # The programs, which the completions ask for their help: the kit's, or without rt cargo's.
 os.environ["PATH"] = f"{ROOM}/bin:{os.environ['PATH']}"
 status, output = shell("""export MAKEFLAGS= && mkdir $ROOM/bin && make -s $KIT tool sums
     read -r tool sums < <(make -s $KIT --eval='show: ; @echo $(tools)' show)
     ln -s $PWD/$tool $ROOM/bin/rapidhash && ln -s $PWD/$sums $ROOM/bin/rapidsum""",
-                       KIT="" if shutil.which("rt") else "kit=")
+                       KIT="" if has("rt") else "kit=")
 if status:
     tell("programs", output)
     finish()

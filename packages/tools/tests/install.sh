@@ -1,16 +1,19 @@
 #!/usr/bin/env bash
 # Installs the programs and the C library into a temporary directory, uses each installed file, and removes the files
-# again. Further cases set each directory.
+# again. Further cases set each directory. Without the kit, cc and cargo build them; without cargo, cc the library alone.
 . "$(dirname "$0")/../../../tests/cases.sh"
-needs_the_toolchain
 prefix=$room/usr
 cd "$top" || exit 1
 
 # PATH without rt: an installation, perhaps as root, does not need it.
-path=/usr/bin:/bin
+path=/usr/bin:/bin builder=rt
+has rt || path=$PATH builder=cargo
 
+# Checks that make says that it leaves out the programs, if nothing can build them, and no more.
 builds_nothing_anew() {
-  [ -z "$(make -s -C "$top" 2>&1)" ] && [ -z "$(PATH=$path make -s -j3 -C "$top" 2>&1)" ]
+  local said=
+  has "$builder" || said='make: the programs are left out: install cargo (Rust 1.63 or newer) and run make again'
+  [ "$(make -s -C "$top" 2>&1)" = "$said" ] && [ "$(PATH=$path make -s -j3 -C "$top" 2>&1)" = "$said" ]
 }
 
 installs() {
@@ -114,8 +117,8 @@ serves_a_packager() {
   installs "${folders[@]}" || return 1
   told_folder() { realpath -s "$(pkg-config --variable="$1" "$pc")"; }
   [ "$(told_folder prefix)" = "$stage/usr" ] && [ "$(told_folder libdir)" = "$stage/usr/lib/here" ] &&
-    [ "$(told_folder includedir)" = "$stage/usr/include" ] && [ -x "$stage/opt/bin/rapidsum" ] &&
-    [ -e "$stage/opt/share/man/man1/rapidhash.1" ] &&
+    [ "$(told_folder includedir)" = "$stage/usr/include" ] && [ -e "$stage/opt/share/man/man3/rapidhash_c.3" ] &&
+    { ! has "$builder" || [ -x "$stage/opt/bin/rapidsum" ] && [ -e "$stage/opt/share/man/man1/rapidhash.1" ]; } &&
     make -s -C "$top" uninstall "${folders[@]}" && [ -z "$(listed "$stage")" ]
 }
 
@@ -167,43 +170,43 @@ replaces_files() {
 has_the_modes() {
   [ -z "$(find "$prefix" -type f ! -perm 644 ! -perm 755)" ] &&
     diff <(find "$prefix" -type f -perm 755 -printf '%f\n' | sort) \
-      <(printf '%s\n' librapidhash_c.so.1 rapidhash rapidsum)
+      <(printf '%s\n' librapidhash_c.so.1; ! has "$builder" || printf '%s\n' rapidhash rapidsum)
 }
 
 # Checks that a removal leaves a file of another alone, and no directory of its own.
 removes_its_files() {
-  echo mine >"$prefix/bin/mine" && make -s -C "$top" uninstall PREFIX="$prefix" &&
+  mkdir -p "$prefix/bin" && echo mine >"$prefix/bin/mine" && make -s -C "$top" uninstall PREFIX="$prefix" &&
     [ "$(listed "$prefix")" = ./bin/mine ] && [ ! -e "$prefix/share/doc/rapidhash" ]
 }
 
 try build make -s -C "$top"
 try build_again builds_nothing_anew
 try install installs PREFIX="$prefix"
-try program prints_the_known_hash "$prefix"
-try program_of_sums prints_and_checks_a_sum
-try shared_library builds_by_pkg_config "$prefix/lib"
-try first_program runs_as_the_pages_say
-try_with first_program_by_cmake cmake by_cmake_as_the_page_says
-try moved_folder serves_a_moved_folder
-try_with cmake cmake links_both_by_cmake
+try_with program "$builder" prints_the_known_hash "$prefix"
+try_with program_of_sums "$builder" prints_and_checks_a_sum
+try_with shared_library pkg-config builds_by_pkg_config "$prefix/lib"
+try_with first_program 'pkg-config c++' runs_as_the_pages_say
+try_with first_program_by_cmake 'cmake pkg-config c++' by_cmake_as_the_page_says
+try_with moved_folder 'pkg-config c++' serves_a_moved_folder
+try_with cmake 'cmake pkg-config c++' links_both_by_cmake
 try licences has_the_licences "$prefix/share/doc/rapidhash"
 try modes has_the_modes
 try files_in_use replaces_files
-try manuals mandoc -T lint "$prefix"/share/man/man{1/rapidhash.1,1/rapidsum.1,3/rapidhash_c.3}
-try example_of_the_manual compares_by_the_manual
+try_with manuals mandoc mandoc -T lint packages/tools/rapid{hash,sum}.1 packages/c/rapidhash_c.3
+try_with example_of_the_manual "$builder" compares_by_the_manual
 cd "$top" || exit 1
-try options_of_the_manual names_every_option rapidhash 8
-try options_of_the_manual_of_sums names_every_option rapidsum 14
-for name in rapidhash rapidsum; do try "completions_of_$name" has_its_completions "$name"; done
+try_with options_of_the_manual "$builder" names_every_option rapidhash 8
+try_with options_of_the_manual_of_sums "$builder" names_every_option rapidsum 14
+for name in rapidhash rapidsum; do try_with "completions_of_$name" "$builder" has_its_completions "$name"; done
 for folder in PREFIX=usr BINDIR= LIBDIR='/a b' INCLUDEDIR="/a'b" DATADIR=$'/a\nb' \
   'PREFIX=/a"' PREFIX=/a\\ PREFIX=/a\` PREFIX=/a\$ PREFIX=/a\# PREFIX=/a\| PREFIX=/a\& PREFIX=/a\;; do
   try "refuses ${folder//$'\n'/ }" refuses "$folder"
 done
 try failed_copy fails_if_a_copy_fails
-try folders_of_a_packager serves_a_packager
+try_with folders_of_a_packager pkg-config serves_a_packager
 try headers_elsewhere serves_headers_elsewhere
 try nothing_built wants_a_build_first
-try_with without_the_kit /usr/bin/cargo eval '(serves_without_the_kit)'
+try_with without_the_kit 'rt /usr/bin/rustc /usr/bin/cargo' eval '(serves_without_the_kit)'
 try uninstall removes_its_files
 
 finish
