@@ -8,7 +8,7 @@
 _Static_assert(sizeof(struct rapidhash_stream) == 208 && offsetof(struct rapidhash_stream, secrets) == 0, "layout");
 
 /* The fields of a stream that its saved state must keep within bounds. */
-_Static_assert(offsetof(struct rapidhash_stream, any) == 64 && offsetof(struct rapidhash_stream, len) == 196 &&
+_Static_assert(offsetof(struct rapidhash_stream, has_rows) == 64 && offsetof(struct rapidhash_stream, len) == 196 &&
                offsetof(struct rapidhash_stream, lanes) == 200, "layout");
 
 EXPORT(version) uint32_t version(void)

@@ -136,8 +136,8 @@ RAPIDHASH_API uint64_t rapidhash_v3_protected_seeded(
 struct rapidhash_stream {
     const struct rapidhash_secrets *secrets;
     uint64_t lane[7];
-    unsigned char any;
-    unsigned char kept[128];
+    unsigned char has_rows;
+    unsigned char buffer[128];
     size_t len;
     size_t lanes;
 };
@@ -185,17 +185,17 @@ static inline uint64_t rapidhash_from_canonical(const unsigned char *bytes)
 #ifndef RAPIDHASH_LINK
 /* All names from here on that end with an underscore are private. docs/ALGORITHM.md has the algorithm and its terms.
  *
- * A function with FOLD is inlined into a caller whose constant arguments choose its code. Messages above 16 bytes leave
- * the caller for a function with APART; those with rows, which need all registers, for another one. */
+ * A function with FORCE_INLINE is inlined into a caller whose constant arguments choose its code. Messages above 16
+ * bytes leave the caller for a function with NOINLINE; those with rows, which need all registers, for another one. */
 #if defined(__GNUC__)
-#define RAPIDHASH_FOLD static inline __attribute__((always_inline, unused))
-#define RAPIDHASH_APART static __attribute__((noinline, unused))
+#define RAPIDHASH_FORCE_INLINE static inline __attribute__((always_inline, unused))
+#define RAPIDHASH_NOINLINE static __attribute__((noinline, unused))
 #elif defined(_MSC_VER)
-#define RAPIDHASH_FOLD static __forceinline
-#define RAPIDHASH_APART static __declspec(noinline) inline
+#define RAPIDHASH_FORCE_INLINE static __forceinline
+#define RAPIDHASH_NOINLINE static __declspec(noinline) inline
 #else
-#define RAPIDHASH_FOLD static inline
-#define RAPIDHASH_APART static
+#define RAPIDHASH_FORCE_INLINE static inline
+#define RAPIDHASH_NOINLINE static
 #endif
 
 /* A debug build may define this as assert. It states the bounds that every load and copy relies on. */
@@ -213,7 +213,7 @@ static inline uint64_t rapidhash_from_canonical(const unsigned char *bytes)
 #endif
 
 /* Reads 4 bytes as a little-endian number, one at a time if the compiler does not define the byte order. */
-RAPIDHASH_FOLD uint64_t rapidhash_load4_(const uint8_t *p)
+RAPIDHASH_FORCE_INLINE uint64_t rapidhash_load4_(const uint8_t *p)
 {
 #ifdef RAPIDHASH_C_LITTLE
     uint32_t word;
@@ -225,7 +225,7 @@ RAPIDHASH_FOLD uint64_t rapidhash_load4_(const uint8_t *p)
 }
 
 /* Returns the little-endian number of 8 bytes. */
-RAPIDHASH_FOLD uint64_t rapidhash_load8_(const uint8_t *p)
+RAPIDHASH_FORCE_INLINE uint64_t rapidhash_load8_(const uint8_t *p)
 {
 #ifdef RAPIDHASH_C_LITTLE
     uint64_t word;
@@ -237,7 +237,7 @@ RAPIDHASH_FOLD uint64_t rapidhash_load8_(const uint8_t *p)
 }
 
 /* Sets the halves of the 128-bit product. WebAssembly has a 128-bit type, but its product is a call. */
-RAPIDHASH_FOLD void rapidhash_multiply_(uint64_t a, uint64_t b, uint64_t *low, uint64_t *high)
+RAPIDHASH_FORCE_INLINE void rapidhash_multiply_(uint64_t a, uint64_t b, uint64_t *low, uint64_t *high)
 {
 #if defined(__SIZEOF_INT128__) && !defined(__wasm__) && !defined(RAPIDHASH_NO_INT128)
     __extension__ typedef unsigned __int128 rapidhash_product_;
@@ -269,33 +269,33 @@ static const struct rapidhash_secrets rapidhash_default_ = {UINT64_C(0x422765567
     UINT64_C(0x90ed1765281c388c)}};
 #define RAPIDHASH_C_V1_SEED UINT64_C(0x763305bbe7bea536)
 #define RAPIDHASH_C_BITS UINT64_C(0xaaaaaaaaaaaaaaaa)
-/* Returns the XOR of both halves of a product. With `guard`, the factors are XORed into it. */
-RAPIDHASH_FOLD uint64_t rapidhash_mix_(bool guard, uint64_t a, uint64_t b)
+/* Returns the XOR of both halves of a product. With `protect`, the factors are XORed into it. */
+RAPIDHASH_FORCE_INLINE uint64_t rapidhash_mix_(bool protect, uint64_t a, uint64_t b)
 {
     uint64_t low, high;
     rapidhash_multiply_(a, b, &low, &high);
-    return guard ? low ^ a ^ high ^ b : low ^ high;
+    return protect ? low ^ a ^ high ^ b : low ^ high;
 }
 
 /* Folds a pair of words into a lane. */
-RAPIDHASH_FOLD uint64_t rapidhash_fold_(bool guard, const uint8_t *p, uint64_t secret, uint64_t lane)
-{ return rapidhash_mix_(guard, rapidhash_load8_(p) ^ secret, rapidhash_load8_(p + 8) ^ lane); }
+RAPIDHASH_FORCE_INLINE uint64_t rapidhash_fold_(bool protect, const uint8_t *p, uint64_t secret, uint64_t lane)
+{ return rapidhash_mix_(protect, rapidhash_load8_(p) ^ secret, rapidhash_load8_(p + 8) ^ lane); }
 
 /* Returns the hash of the close's factors and of the words that the avalanche mixes in. */
-RAPIDHASH_FOLD uint64_t rapidhash_close_(bool guard, uint64_t a, uint64_t b, uint64_t x, uint64_t y)
+RAPIDHASH_FORCE_INLINE uint64_t rapidhash_close_(bool protect, uint64_t a, uint64_t b, uint64_t x, uint64_t y)
 {
     uint64_t low, high;
     rapidhash_multiply_(a, b, &low, &high);
-    return rapidhash_mix_(guard, (guard ? low ^ a : low) ^ x, (guard ? high ^ b : high) ^ y);
+    return rapidhash_mix_(protect, (protect ? low ^ a : low) ^ x, (protect ? high ^ b : high) ^ y);
 }
 
 /* Folds `count` rows, 1 or 2, of 3, 5, or 7 lanes. */
-RAPIDHASH_FOLD void rapidhash_row_(
-    int lanes, int count, bool guard, uint64_t *lane, const uint8_t *p, const uint64_t *s)
+RAPIDHASH_FORCE_INLINE void rapidhash_row_(
+    int lanes, int count, bool protect, uint64_t *lane, const uint8_t *p, const uint64_t *s)
 {
 #define RAPIDHASH_C_LANE(i) \
-    lane[i] = rapidhash_fold_(guard, p + 16 * i, s[i], lane[i]); \
-    if (count == 2) lane[i] = rapidhash_fold_(guard, p + 16 * (lanes + i), s[i], lane[i])
+    lane[i] = rapidhash_fold_(protect, p + 16 * i, s[i], lane[i]); \
+    if (count == 2) lane[i] = rapidhash_fold_(protect, p + 16 * (lanes + i), s[i], lane[i])
     RAPIDHASH_C_LANE(0); RAPIDHASH_C_LANE(1); RAPIDHASH_C_LANE(2);
     if (lanes > 3) { RAPIDHASH_C_LANE(3); RAPIDHASH_C_LANE(4); }
     if (lanes > 5) { RAPIDHASH_C_LANE(5); RAPIDHASH_C_LANE(6); }
@@ -303,8 +303,8 @@ RAPIDHASH_FOLD void rapidhash_row_(
 }
 
 /* Folds all rows that at least `least` bytes follow. Returns the position after them; `n` becomes the rest's length. */
-RAPIDHASH_FOLD const uint8_t *rapidhash_rows_(
-    int lanes, size_t least, bool guard, uint64_t *lane, const uint8_t *p, size_t *n, const uint64_t *s)
+RAPIDHASH_FORCE_INLINE const uint8_t *rapidhash_rows_(
+    int lanes, size_t least, bool protect, uint64_t *lane, const uint8_t *p, size_t *n, const uint64_t *s)
 {
     const size_t row = 16 * (size_t)lanes;
 #if defined(__GNUC__) && !defined(__clang__)
@@ -313,22 +313,23 @@ RAPIDHASH_FOLD const uint8_t *rapidhash_rows_(
     const bool twice = true;
 #endif
     for (; twice && *n >= 2 * row + least; *n -= 2 * row, p += 2 * row)
-        rapidhash_row_(lanes, 2, guard, lane, p, s);
+        rapidhash_row_(lanes, 2, protect, lane, p, s);
     for (; *n >= row + least; *n -= row, p += row)
-        rapidhash_row_(lanes, 1, guard, lane, p, s);
+        rapidhash_row_(lanes, 1, protect, lane, p, s);
     RAPIDHASH_ASSERT(*n < row + least);
     return p;
 }
 
 /* Returns the XOR of all lanes. */
-RAPIDHASH_FOLD uint64_t rapidhash_join_(int lanes, const uint64_t *lane)
+RAPIDHASH_FORCE_INLINE uint64_t rapidhash_join_(int lanes, const uint64_t *lane)
 {
     const uint64_t three = lane[0] ^ lane[1] ^ lane[2], five = lanes > 3 ? three ^ lane[3] ^ lane[4] : three;
     return lanes > 5 ? five ^ lane[5] ^ lane[6] : five;
 }
 
 /* Sets the last two words of 1 to 16 bytes, in V1 of 1 to 3. V1, V2.0, and V2.1 join up to 3 bytes in one word. */
-RAPIDHASH_FOLD void rapidhash_words_(int shift, bool joined, const uint8_t *p, size_t n, uint64_t *a, uint64_t *b)
+RAPIDHASH_FORCE_INLINE void rapidhash_words_(
+    int shift, bool joined, const uint8_t *p, size_t n, uint64_t *a, uint64_t *b)
 {
     RAPIDHASH_ASSERT(n <= 16);
     if (n >= 4) {
@@ -341,7 +342,7 @@ RAPIDHASH_FOLD void rapidhash_words_(int shift, bool joined, const uint8_t *p, s
 }
 
 /* V1 has 3 lanes, V2 above its limit 7, then rows of three. Returns the hash of their tail, at the end of n bytes. */
-RAPIDHASH_FOLD uint64_t rapidhash_tail_v1_v2_(
+RAPIDHASH_FORCE_INLINE uint64_t rapidhash_tail_v1_v2_(
     uint64_t before, const uint8_t *p, size_t t, uint64_t seed, const uint64_t *s, uint64_t x)
 {
     RAPIDHASH_ASSERT(t <= 48);
@@ -351,7 +352,7 @@ RAPIDHASH_FOLD uint64_t rapidhash_tail_v1_v2_(
     return rapidhash_close_(false, rapidhash_load8_(p - 16) ^ s[1], rapidhash_load8_(p - 8) ^ seed, x, s[1]);
 }
 
-RAPIDHASH_APART uint64_t rapidhash_rows_v1_(const uint8_t *p, size_t n, uint64_t seed, const uint64_t *s)
+RAPIDHASH_NOINLINE uint64_t rapidhash_rows_v1_(const uint8_t *p, size_t n, uint64_t seed, const uint64_t *s)
 {
     uint64_t lane[3] = {seed, seed, seed};
     size_t t = n;
@@ -359,10 +360,10 @@ RAPIDHASH_APART uint64_t rapidhash_rows_v1_(const uint8_t *p, size_t n, uint64_t
     return rapidhash_tail_v1_v2_(s[1], p, t, rapidhash_join_(3, lane), s, s[0] ^ n);
 }
 
-RAPIDHASH_APART uint64_t rapidhash_long_v1_(const uint8_t *p, size_t n, uint64_t seed, const uint64_t *s)
+RAPIDHASH_NOINLINE uint64_t rapidhash_long_v1_(const uint8_t *p, size_t n, uint64_t seed, const uint64_t *s)
 { return n > 48 ? rapidhash_rows_v1_(p, n, seed, s) : rapidhash_tail_v1_v2_(s[1], p, n, seed, s, s[0] ^ n); }
 
-RAPIDHASH_FOLD uint64_t rapidhash_v1_(const uint8_t *p, size_t n, uint64_t seed, const uint64_t *s)
+RAPIDHASH_FORCE_INLINE uint64_t rapidhash_v1_(const uint8_t *p, size_t n, uint64_t seed, const uint64_t *s)
 {
     uint64_t a = 0, b = 0;
     seed ^= n;
@@ -376,7 +377,7 @@ RAPIDHASH_FOLD uint64_t rapidhash_v1_(const uint8_t *p, size_t n, uint64_t seed,
     return rapidhash_close_(false, a ^ s[1], b ^ seed, s[0] ^ n, s[1]);
 }
 
-RAPIDHASH_APART uint64_t rapidhash_rows_v2_(const uint8_t *p, size_t n, uint64_t seed, const uint64_t *s)
+RAPIDHASH_NOINLINE uint64_t rapidhash_rows_v2_(const uint8_t *p, size_t n, uint64_t seed, const uint64_t *s)
 {
     uint64_t lane[7] = {seed, seed, seed, seed, seed, seed, seed}, others = 0;
     size_t t = n;
@@ -388,7 +389,7 @@ RAPIDHASH_APART uint64_t rapidhash_rows_v2_(const uint8_t *p, size_t n, uint64_t
     return rapidhash_tail_v1_v2_(0, p, t, rapidhash_join_(3, lane) ^ others, s, RAPIDHASH_C_BITS ^ n);
 }
 
-RAPIDHASH_FOLD uint64_t rapidhash_v2_(int minor, const uint8_t *p, size_t n, uint64_t seed, const uint64_t *s)
+RAPIDHASH_FORCE_INLINE uint64_t rapidhash_v2_(int minor, const uint8_t *p, size_t n, uint64_t seed, const uint64_t *s)
 {
     uint64_t a = 0, b = 0;
     seed ^= n;
@@ -406,54 +407,54 @@ RAPIDHASH_FOLD uint64_t rapidhash_v2_(int minor, const uint8_t *p, size_t n, uin
 }
 
 /* V3, micro, and nano have 7, 5, and 3 lanes. Returns the hash of their tail, which ends 16 bytes or more. */
-RAPIDHASH_FOLD uint64_t rapidhash_tail_v3_(
-    int lanes, bool guard, const uint8_t *p, size_t t, uint64_t seed, const uint64_t *s)
+RAPIDHASH_FORCE_INLINE uint64_t rapidhash_tail_v3_(
+    int lanes, bool protect, const uint8_t *p, size_t t, uint64_t seed, const uint64_t *s)
 {
     RAPIDHASH_ASSERT(t > 0 && t <= 16 * (size_t)lanes);
-    if (t > 16) seed = rapidhash_fold_(guard, p, s[2], seed);
-    if (t > 32) seed = rapidhash_fold_(guard, p + 16, s[2], seed);
-    if (lanes > 3 && t > 48) seed = rapidhash_fold_(guard, p + 32, s[1], seed);
-    if (lanes > 3 && t > 64) seed = rapidhash_fold_(guard, p + 48, s[1], seed);
-    if (lanes > 5 && t > 80) seed = rapidhash_fold_(guard, p + 64, s[2], seed);
-    if (lanes > 5 && t > 96) seed = rapidhash_fold_(guard, p + 80, s[1], seed);
+    if (t > 16) seed = rapidhash_fold_(protect, p, s[2], seed);
+    if (t > 32) seed = rapidhash_fold_(protect, p + 16, s[2], seed);
+    if (lanes > 3 && t > 48) seed = rapidhash_fold_(protect, p + 32, s[1], seed);
+    if (lanes > 3 && t > 64) seed = rapidhash_fold_(protect, p + 48, s[1], seed);
+    if (lanes > 5 && t > 80) seed = rapidhash_fold_(protect, p + 64, s[2], seed);
+    if (lanes > 5 && t > 96) seed = rapidhash_fold_(protect, p + 80, s[1], seed);
     p += t;
-    return rapidhash_close_(guard, rapidhash_load8_(p - 16) ^ t ^ s[1], rapidhash_load8_(p - 8) ^ seed,
+    return rapidhash_close_(protect, rapidhash_load8_(p - 16) ^ t ^ s[1], rapidhash_load8_(p - 8) ^ seed,
                             RAPIDHASH_C_BITS, s[1] ^ t);
 }
 
-#define RAPIDHASH_C_LONG(form, lanes, guard) \
-    RAPIDHASH_APART uint64_t rapidhash_rows_##form##_(const uint8_t *p, size_t n, uint64_t seed, const uint64_t *s) \
+#define RAPIDHASH_C_LONG(form, lanes, protect) \
+    RAPIDHASH_NOINLINE uint64_t rapidhash_rows_##form##_(const uint8_t *p, size_t n, uint64_t seed, const uint64_t *s) \
     { \
         uint64_t lane[7] = {seed, seed, seed, seed, seed, seed, seed}; \
-        p = rapidhash_rows_(lanes, 1, guard, lane, p, &n, s); \
-        return rapidhash_tail_v3_(lanes, guard, p, n, rapidhash_join_(lanes, lane), s); \
+        p = rapidhash_rows_(lanes, 1, protect, lane, p, &n, s); \
+        return rapidhash_tail_v3_(lanes, protect, p, n, rapidhash_join_(lanes, lane), s); \
     } \
-    RAPIDHASH_APART uint64_t rapidhash_long_##form##_(const uint8_t *p, size_t n, uint64_t seed, const uint64_t *s) \
+    RAPIDHASH_NOINLINE uint64_t rapidhash_long_##form##_(const uint8_t *p, size_t n, uint64_t seed, const uint64_t *s) \
     { \
         return n > 16 * lanes ? rapidhash_rows_##form##_(p, n, seed, s) \
-                              : rapidhash_tail_v3_(lanes, guard, p, n, seed, s); \
+                              : rapidhash_tail_v3_(lanes, protect, p, n, seed, s); \
     }
 RAPIDHASH_C_LONG(v3, 7, false)
 RAPIDHASH_C_LONG(micro, 5, false)
 RAPIDHASH_C_LONG(nano, 3, false)
 RAPIDHASH_C_LONG(protected, 7, true)
 
-RAPIDHASH_FOLD uint64_t rapidhash_v3_(
-    int lanes, bool guard, const uint8_t *p, size_t n, uint64_t seed, const uint64_t *s)
+RAPIDHASH_FORCE_INLINE uint64_t rapidhash_v3_(
+    int lanes, bool protect, const uint8_t *p, size_t n, uint64_t seed, const uint64_t *s)
 {
     uint64_t a = 0, b = 0;
     if (n > 16)
-        return guard        ? rapidhash_long_protected_(p, n, seed, s)
+        return protect        ? rapidhash_long_protected_(p, n, seed, s)
                : lanes == 7 ? rapidhash_long_v3_(p, n, seed, s)
                : lanes == 5 ? rapidhash_long_micro_(p, n, seed, s)
                             : rapidhash_long_nano_(p, n, seed, s);
     rapidhash_words_(45, false, p, n, &a, &b);
     if (n >= 4) seed ^= n;
-    return rapidhash_close_(guard, a ^ s[1], b ^ seed, RAPIDHASH_C_BITS, s[1] ^ n);
+    return rapidhash_close_(protect, a ^ s[1], b ^ seed, RAPIDHASH_C_BITS, s[1] ^ n);
 }
 
 /* Returns the premix of a word with the default secret `i`. */
-RAPIDHASH_FOLD uint64_t rapidhash_premix_(uint64_t x, int i)
+RAPIDHASH_FORCE_INLINE uint64_t rapidhash_premix_(uint64_t x, int i)
 {
     x ^= rapidhash_mix_(false, x ^ rapidhash_default_.secrets[2], rapidhash_default_.secrets[i]);
     x |= (x & UINT64_C(0xffff) << 48) == 0 ? UINT64_C(1) << 63 : 0;
@@ -463,11 +464,11 @@ RAPIDHASH_FOLD uint64_t rapidhash_premix_(uint64_t x, int i)
 }
 
 /* Returns the seed of a seed word. V1 mixes it with secret 0, and the other versions with secret 2. */
-RAPIDHASH_FOLD uint64_t rapidhash_seed_(uint64_t word, int i)
+RAPIDHASH_FORCE_INLINE uint64_t rapidhash_seed_(uint64_t word, int i)
 { return word ^ rapidhash_mix_(false, word ^ rapidhash_default_.secrets[i], rapidhash_default_.secrets[1]); }
 
 /* Sets `count` secrets, the first made from the seed and each other from the one before. Returns the seed. */
-RAPIDHASH_FOLD uint64_t rapidhash_chain_(uint64_t number, int count, uint64_t *secrets)
+RAPIDHASH_FORCE_INLINE uint64_t rapidhash_chain_(uint64_t number, int count, uint64_t *secrets)
 {
     const uint64_t seed = rapidhash_premix_(number, 0);
     for (int i = 0; i < count; i++) secrets[i] = rapidhash_premix_(i == 0 ? seed : secrets[i - 1], i);
@@ -481,7 +482,7 @@ RAPIDHASH_FOLD uint64_t rapidhash_chain_(uint64_t number, int count, uint64_t *s
 #pragma GCC diagnostic ignored "-Wstringop-overread"
 #endif
 /* Copies up to 128 bytes: the first and the last of them, which may overlap. Copies of fixed sizes need no call. */
-RAPIDHASH_FOLD void rapidhash_copy_(uint8_t *to, const uint8_t *from, size_t n)
+RAPIDHASH_FORCE_INLINE void rapidhash_copy_(uint8_t *to, const uint8_t *from, size_t n)
 {
 #define RAPIDHASH_C_ENDS(size) (memcpy(to, from, size), memcpy(to + n - size, from + n - size, size))
     RAPIDHASH_ASSERT(n <= 128);
@@ -498,47 +499,49 @@ RAPIDHASH_FOLD void rapidhash_copy_(uint8_t *to, const uint8_t *from, size_t n)
 #endif
 
 /* Appends a piece that does not fit: fills the buffer and folds it, then folds in place each row of the piece that a
- * further byte follows. The buffer, `kept`, then has the last 16 folded bytes and the rest. */
-RAPIDHASH_FOLD void rapidhash_past_(int lanes, struct rapidhash_stream *stream, const uint8_t *p, size_t n)
+ * further byte follows. The buffer then has the last 16 folded bytes and the rest. */
+RAPIDHASH_FORCE_INLINE void rapidhash_write_slow_(
+    int lanes, struct rapidhash_stream *stream, const uint8_t *p, size_t n)
 {
     const size_t row = 16 * (size_t)lanes, room = row - stream->len;
     const uint64_t *const s = stream->secrets->secrets;
-    uint8_t *const kept = stream->kept, carried[16];
+    uint8_t *const buffer = stream->buffer, carried[16];
     const uint8_t *rest = p + room;
     uint64_t lane[7];
     RAPIDHASH_ASSERT(stream->len <= row && n > room);
     memcpy(lane, stream->lane, sizeof lane);
-    rapidhash_copy_(kept + 16 + stream->len, p, room);
-    rapidhash_row_(lanes, 1, false, lane, kept + 16, s);
+    rapidhash_copy_(buffer + 16 + stream->len, p, room);
+    rapidhash_row_(lanes, 1, false, lane, buffer + 16, s);
     n -= room;
     rest = rapidhash_rows_(lanes, 1, false, lane, rest, &n, s);
-    memcpy(carried, rest == p + room ? kept + row : rest - 16, 16);
-    memcpy(kept, carried, 16);
-    rapidhash_copy_(kept + 16, rest, n);
+    memcpy(carried, rest == p + room ? buffer + row : rest - 16, 16);
+    memcpy(buffer, carried, 16);
+    rapidhash_copy_(buffer + 16, rest, n);
     memcpy(stream->lane, lane, sizeof lane);
-    stream->any = 1;
+    stream->has_rows = 1;
     stream->len = n;
 }
 
-#define RAPIDHASH_C_PAST(lanes) \
-    RAPIDHASH_APART void rapidhash_past_##lanes##_(struct rapidhash_stream *stream, const uint8_t *p, size_t n) \
-    { rapidhash_past_(lanes, stream, p, n); }
-RAPIDHASH_C_PAST(7)
-RAPIDHASH_C_PAST(5)
-RAPIDHASH_C_PAST(3)
+#define RAPIDHASH_C_WRITE_SLOW(lanes) \
+    RAPIDHASH_NOINLINE void rapidhash_write_slow_##lanes##_( \
+        struct rapidhash_stream *stream, const uint8_t *p, size_t n) \
+    { rapidhash_write_slow_(lanes, stream, p, n); }
+RAPIDHASH_C_WRITE_SLOW(7)
+RAPIDHASH_C_WRITE_SLOW(5)
+RAPIDHASH_C_WRITE_SLOW(3)
 
 /* Returns the hash of a stream. A message without a folded row is in the buffer as a whole. */
-RAPIDHASH_FOLD uint64_t rapidhash_finish_(int lanes, const struct rapidhash_stream *stream)
+RAPIDHASH_FORCE_INLINE uint64_t rapidhash_finish_(int lanes, const struct rapidhash_stream *stream)
 {
-    const uint8_t *const p = stream->kept + 16;
+    const uint8_t *const p = stream->buffer + 16;
     const uint64_t *const s = stream->secrets->secrets;
     RAPIDHASH_ASSERT(stream->len <= 16 * (size_t)lanes);
-    return stream->any ? rapidhash_tail_v3_(lanes, false, p, stream->len, rapidhash_join_(lanes, stream->lane), s)
+    return stream->has_rows ? rapidhash_tail_v3_(lanes, false, p, stream->len, rapidhash_join_(lanes, stream->lane), s)
                        : rapidhash_v3_(lanes, false, p, stream->len, stream->secrets->seed, s);
 }
 
 /* Returns the hash of a form of RAPIDHASH_C_VERSIONS. For V3, micro, and nano, it is the number of lanes. */
-RAPIDHASH_FOLD uint64_t rapidhash_form_(int form, const void *bytes, size_t n, uint64_t seed, const uint64_t *s)
+RAPIDHASH_FORCE_INLINE uint64_t rapidhash_form_(int form, const void *bytes, size_t n, uint64_t seed, const uint64_t *s)
 {
     const uint8_t *const p = (const uint8_t *)bytes;
     return form == 1    ? rapidhash_v1_(p, n, seed, s)
@@ -582,14 +585,14 @@ RAPIDHASH_API void rapidhash_stream_write(struct rapidhash_stream *stream, const
     const uint8_t *const p = (const uint8_t *)bytes;
     RAPIDHASH_ASSERT(stream->lanes == 7 || stream->lanes == 5 || stream->lanes == 3);
     if (len <= 16 * stream->lanes - stream->len) {
-        rapidhash_copy_(stream->kept + 16 + stream->len, p, len);
+        rapidhash_copy_(stream->buffer + 16 + stream->len, p, len);
         stream->len += len;
     } else if (stream->lanes == 7)
-        rapidhash_past_7_(stream, p, len);
+        rapidhash_write_slow_7_(stream, p, len);
     else if (stream->lanes == 5)
-        rapidhash_past_5_(stream, p, len);
+        rapidhash_write_slow_5_(stream, p, len);
     else
-        rapidhash_past_3_(stream, p, len);
+        rapidhash_write_slow_3_(stream, p, len);
 }
 
 RAPIDHASH_API uint64_t rapidhash_stream_finish(const struct rapidhash_stream *stream)
@@ -602,7 +605,7 @@ RAPIDHASH_API uint64_t rapidhash_stream_finish(const struct rapidhash_stream *st
 RAPIDHASH_API void rapidhash_stream_reset(struct rapidhash_stream *stream)
 {
     for (int i = 0; i < 7; i++) stream->lane[i] = stream->secrets->seed;
-    stream->any = 0;
+    stream->has_rows = 0;
     stream->len = 0;
 }
 

@@ -188,8 +188,8 @@ static void check_copied_bytes(void)
 
     rapidhash_v3_start(&stream, &own);
     rapidhash_stream_write(&stream, large, len);
-    for (i = 0; i < sizeof stream.kept; i++)
-        differing += stream.kept[i] != (i < 18 ? large[len - 18 + i] : large[i - 16]);
+    for (i = 0; i < sizeof stream.buffer; i++)
+        differing += stream.buffer[i] != (i < 18 ? large[len - 18 + i] : large[i - 16]);
     compare("v3", "bytes that differ in the buffer", differing, 0);
 }
 
