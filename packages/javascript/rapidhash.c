@@ -27,7 +27,7 @@ static uint32_t halve(uint64_t hash)
 EXPORT(high) uint32_t high(void)
 { return (uint32_t)(last >> 32); }
 
-#define HASHES(version, own, form) \
+#define HASHES(version, own) \
     EXPORT(version) uint64_t version(const void *bytes, size_t len, const struct own##_secrets *secrets) \
     { return rapidhash_##version##_seeded(bytes, len, secrets); } \
     EXPORT(version##_low) uint32_t version##_low(const void *bytes, size_t len, const struct own##_secrets *secrets) \

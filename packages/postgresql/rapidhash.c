@@ -53,7 +53,7 @@ static Datum hash_integer(FunctionCallInfo fcinfo, hash_by_word *hash)
     }
 
 /* Defines the calls of a version: by default, with a seed word, and with secrets from a number, of V1 or others. */
-#define VERSION(version, own, form) \
+#define VERSION(version, own) \
     static uint64_t default_##version(const void *bytes, size_t len, uint64_t none) \
     { \
         (void)none; \

@@ -71,11 +71,12 @@ static PyObject *digits_of(uint64_t hash)
 }
 
 /* Defines a version and its two calls. */
-#define FORM(version, own, number) \
+#define FORM(version, own) \
     static uint64_t seeded_##version(const void *bytes, size_t len, const void *secrets) \
     { return rapidhash_##version##_seeded(bytes, len, secrets); } \
     static const struct form form_##version = { \
-        #version, rapidhash_##version, rapidhash_##version##_with_seed, seeded_##version, number == 1}; \
+        #version, rapidhash_##version, rapidhash_##version##_with_seed, seeded_##version, \
+        sizeof(struct own##_secrets) == sizeof(struct rapidhash_v1_secrets)}; \
     static PyObject *call_##version(PyObject *module, PyObject *const *args, Py_ssize_t count, PyObject *names) \
     { \
         uint64_t value; \
@@ -88,7 +89,7 @@ static PyObject *digits_of(uint64_t hash)
         return hash(&form_##version, module, args, count, names, &value) < 0 ? NULL : digits_of(value); \
     }
 RAPIDHASH_C_VERSIONS(FORM)
-#define PLACE(version, own, number) &form_##version,
+#define PLACE(version, own) &form_##version,
 
 const struct form *form_of(PyObject *version)
 {
@@ -118,7 +119,7 @@ MAKER(made_v1, "number", rapidhash_v1_make_secrets, rapidhash_v1_secrets)
 MAKER(seeded, "seed", rapidhash_seed_secrets, rapidhash_secrets)
 
 #define FAST(function) (PyCFunction)(void (*)(void))function
-#define CALLS(name, own, number) \
+#define CALLS(name, own) \
     {#name, FAST(call_##name), METH_FASTCALL | METH_KEYWORDS, \
      PyDoc_STR(#name "($module, data, seed=None, secrets=None)\n--\n\nReturns the " #name " hash of `data`.\n\n" \
                "A str is hashed as its UTF-8. Pass `seed`, a word for the default secrets, or `secrets` from\n" \

@@ -172,7 +172,7 @@ static void lose(sqlite3_context *context, int count, sqlite3_value **values)
 }
 
 /* Defines the hash of a version by default, and with secrets made from a number. V1 has its own type of secrets. */
-#define HASHES(version, own, form) \
+#define HASHES(version, own) \
     static uint64_t default_##version(const void *bytes, size_t len, uint64_t none) \
     { \
         (void)none; \
@@ -187,7 +187,7 @@ static void lose(sqlite3_context *context, int count, sqlite3_value **values)
 
 RAPIDHASH_C_VERSIONS(HASHES)
 
-#define FUNCTIONS(version, own, form) \
+#define FUNCTIONS(version, own) \
     {"rapidhash_" #version, NULL, default_##version}, \
     {"rapidhash_" #version, "seed", rapidhash_##version##_with_seed}, \
     {"rapidhash_" #version "_seeded", "number", seeded_##version},

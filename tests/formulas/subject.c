@@ -41,7 +41,7 @@ static uint64_t hash(const struct record *asked, const uint8_t *bytes)
     if (asked->options & 2)
         return rapidhash_v3_protected_seeded(bytes, asked->length, &asked->own);
     /* V1 has the first of the secrets. */
-#define HASH(version, kind, number) \
+#define HASH(version, kind) \
     if (before-- == 0) { \
         struct kind##_secrets secrets; \
         memcpy(&secrets, &asked->own, sizeof secrets); \

@@ -70,11 +70,11 @@ struct rapidhash_secrets {
     uint64_t secrets[7];
 };
 
-/* All versions, for tables and bindings. Calls X(version, own, form) for each. Its hash is rapidhash_##version, and
- * own##_make_secrets makes its secrets, a struct own##_secrets. `form` is a number that no other version has. */
+/* All versions, for tables and bindings. Calls X(version, own) for each. Its hash is rapidhash_##version, and
+ * own##_make_secrets makes its secrets, a struct own##_secrets. */
 #define RAPIDHASH_C_VERSIONS(X) \
-    X(v1, rapidhash_v1, 1) X(v2_0, rapidhash, 20) X(v2_1, rapidhash, 21) X(v2_2, rapidhash, 22) X(v3, rapidhash, 7) \
-    X(v3_micro, rapidhash, 5) X(v3_nano, rapidhash, 3) X(v3_protected, rapidhash, 70)
+    X(v1, rapidhash_v1) X(v2_0, rapidhash) X(v2_1, rapidhash) X(v2_2, rapidhash) \
+    X(v3, rapidhash) X(v3_micro, rapidhash) X(v3_nano, rapidhash) X(v3_protected, rapidhash)
 
 /* The versions with streams. Calls X(version, lanes) for each. rapidhash_##version##_start starts its streams. */
 #define RAPIDHASH_C_STREAMS(X) X(v3, 7) X(v3_micro, 5) X(v3_nano, 3)
@@ -188,7 +188,7 @@ static inline uint64_t rapidhash_from_canonical(const unsigned char *bytes)
  * A function with FORCE_INLINE is inlined into a caller whose constant arguments choose its code. Messages above 16
  * bytes leave the caller for a function with NOINLINE; those with rows, which need all registers, for another one. */
 #if defined(__GNUC__)
-#define RAPIDHASH_FORCE_INLINE static inline __attribute__((always_inline, unused))
+#define RAPIDHASH_FORCE_INLINE static inline __attribute__((always_inline))
 #define RAPIDHASH_NOINLINE static __attribute__((noinline, unused))
 #elif defined(_MSC_VER)
 #define RAPIDHASH_FORCE_INLINE static __forceinline
@@ -262,13 +262,40 @@ RAPIDHASH_FORCE_INLINE void rapidhash_multiply_(uint64_t a, uint64_t b, uint64_t
 }
 #endif /* RAPIDHASH_PRIMITIVES */
 
-/* The default seed and secrets, V1's default seed, and the word of alternating bits. */
-static const struct rapidhash_secrets rapidhash_default_ = {UINT64_C(0x422765567d8fbfd6), {
+/* The default secrets, and the default seeds of V1 and of the other versions. */
+static const uint64_t rapidhash_default_secrets_[7] = {
     UINT64_C(0x2d358dccaa6c78a5), UINT64_C(0x8bb84b93962eacc9), UINT64_C(0x4b33a62ed433d4a3),
     UINT64_C(0x4d5a2da51de1aa47), UINT64_C(0xa0761d6478bd642f), UINT64_C(0xe7037ed1a0b428db),
-    UINT64_C(0x90ed1765281c388c)}};
-#define RAPIDHASH_C_V1_SEED UINT64_C(0x763305bbe7bea536)
-#define RAPIDHASH_C_BITS UINT64_C(0xaaaaaaaaaaaaaaaa)
+    UINT64_C(0x90ed1765281c388c)};
+static const uint64_t rapidhash_v1_default_seed_ = UINT64_C(0x763305bbe7bea536);
+static const uint64_t rapidhash_default_seed_ = UINT64_C(0x422765567d8fbfd6);
+
+/* The parameters of a version. Each caller of the kernel passes constant ones, so the compiler resolves every test. */
+struct rapidhash_form_ {
+    size_t lanes;                  /* the pairs of a row */
+    size_t limit;                  /* the length of the longest message without a row */
+    size_t least;                  /* the minimum number of bytes after a row */
+    bool threes;                   /* whether rows of three follow */
+    unsigned char with_rows[6];    /* the indices of the secrets for the tail's pairs, after rows */
+    unsigned char without_rows[6]; /* the same in a message without a row */
+    int shift;                     /* of the first of 1 to 3 bytes */
+    bool joined;                   /* whether up to 3 bytes form a single word */
+    bool tail_length;              /* whether the tail's length is mixed in, instead of the message's */
+    bool is_v1;                    /* V1's words of 4 to 16 bytes, mask, and secret before the first pair */
+    bool protect;                  /* whether the factors are XORed into each product */
+};
+
+/* The form of each version, as in crates/rapidhash_portable/specs/Form.antt. */
+static const struct rapidhash_form_
+    rapidhash_v1_form_           = {3,  48, 0, 0, {2, 2},             {2, 2},             56, 1, 0, 1, 0},
+    rapidhash_v2_0_form_         = {7,  56, 0, 1, {2, 2},             {0, 1, 0},          56, 1, 0, 0, 0},
+    rapidhash_v2_1_form_         = {7,  64, 0, 1, {2, 2},             {0, 1, 0},          56, 1, 0, 0, 0},
+    rapidhash_v2_2_form_         = {7,  64, 0, 1, {2, 2},             {0, 1, 1},          56, 0, 0, 0, 0},
+    rapidhash_v3_form_           = {7, 112, 1, 0, {2, 2, 1, 1, 2, 1}, {2, 2, 1, 1, 2, 1}, 45, 0, 1, 0, 0},
+    rapidhash_v3_micro_form_     = {5,  80, 1, 0, {2, 2, 1, 1, 2, 1}, {2, 2, 1, 1, 2, 1}, 45, 0, 1, 0, 0},
+    rapidhash_v3_nano_form_      = {3,  48, 1, 0, {2, 2, 1, 1, 2, 1}, {2, 2, 1, 1, 2, 1}, 45, 0, 1, 0, 0},
+    rapidhash_v3_protected_form_ = {7, 112, 1, 0, {2, 2, 1, 1, 2, 1}, {2, 2, 1, 1, 2, 1}, 45, 0, 1, 0, 1};
+
 /* Returns the XOR of both halves of a product. With `protect`, the factors are XORed into it. */
 RAPIDHASH_FORCE_INLINE uint64_t rapidhash_mix_(bool protect, uint64_t a, uint64_t b)
 {
@@ -281,17 +308,9 @@ RAPIDHASH_FORCE_INLINE uint64_t rapidhash_mix_(bool protect, uint64_t a, uint64_
 RAPIDHASH_FORCE_INLINE uint64_t rapidhash_fold_(bool protect, const uint8_t *p, uint64_t secret, uint64_t lane)
 { return rapidhash_mix_(protect, rapidhash_load8_(p) ^ secret, rapidhash_load8_(p + 8) ^ lane); }
 
-/* Returns the hash of the close's factors and of the words that the avalanche mixes in. */
-RAPIDHASH_FORCE_INLINE uint64_t rapidhash_close_(bool protect, uint64_t a, uint64_t b, uint64_t x, uint64_t y)
-{
-    uint64_t low, high;
-    rapidhash_multiply_(a, b, &low, &high);
-    return rapidhash_mix_(protect, (protect ? low ^ a : low) ^ x, (protect ? high ^ b : high) ^ y);
-}
-
 /* Folds `count` rows, 1 or 2, of 3, 5, or 7 lanes. */
-RAPIDHASH_FORCE_INLINE void rapidhash_row_(
-    int lanes, int count, bool protect, uint64_t *lane, const uint8_t *p, const uint64_t *s)
+RAPIDHASH_FORCE_INLINE void rapidhash_fold_rows_(
+    size_t lanes, int count, bool protect, uint64_t *lane, const uint8_t *p, const uint64_t *s)
 {
 #define RAPIDHASH_C_LANE(i) \
     lane[i] = rapidhash_fold_(protect, p + 16 * i, s[i], lane[i]); \
@@ -303,169 +322,110 @@ RAPIDHASH_FORCE_INLINE void rapidhash_row_(
 }
 
 /* Folds all rows that at least `least` bytes follow. Returns the position after them; `n` becomes the rest's length. */
-RAPIDHASH_FORCE_INLINE const uint8_t *rapidhash_rows_(
-    int lanes, size_t least, bool protect, uint64_t *lane, const uint8_t *p, size_t *n, const uint64_t *s)
+RAPIDHASH_FORCE_INLINE const uint8_t *rapidhash_fold_all_rows_(
+    size_t lanes, size_t least, bool protect, uint64_t *lane, const uint8_t *p, size_t *n, const uint64_t *s)
 {
-    const size_t row = 16 * (size_t)lanes;
+    const size_t row = 16 * lanes;
 #if defined(__GNUC__) && !defined(__clang__)
     const bool twice = lanes == 3; /* GCC has too few registers for two rows of more lanes. */
 #else
     const bool twice = true;
 #endif
     for (; twice && *n >= 2 * row + least; *n -= 2 * row, p += 2 * row)
-        rapidhash_row_(lanes, 2, protect, lane, p, s);
+        rapidhash_fold_rows_(lanes, 2, protect, lane, p, s);
     for (; *n >= row + least; *n -= row, p += row)
-        rapidhash_row_(lanes, 1, protect, lane, p, s);
+        rapidhash_fold_rows_(lanes, 1, protect, lane, p, s);
     RAPIDHASH_ASSERT(*n < row + least);
     return p;
 }
 
 /* Returns the XOR of all lanes. */
-RAPIDHASH_FORCE_INLINE uint64_t rapidhash_join_(int lanes, const uint64_t *lane)
+RAPIDHASH_FORCE_INLINE uint64_t rapidhash_join_(size_t lanes, const uint64_t *lane)
 {
     const uint64_t three = lane[0] ^ lane[1] ^ lane[2], five = lanes > 3 ? three ^ lane[3] ^ lane[4] : three;
     return lanes > 5 ? five ^ lane[5] ^ lane[6] : five;
 }
 
-/* Sets the last two words of 1 to 16 bytes, in V1 of 1 to 3. V1, V2.0, and V2.1 join up to 3 bytes in one word. */
-RAPIDHASH_FORCE_INLINE void rapidhash_words_(
-    int shift, bool joined, const uint8_t *p, size_t n, uint64_t *a, uint64_t *b)
+/* Returns the hash from the factors of the close, for a message of n bytes. The avalanche mixes `mask` into the high
+ * half of the product. */
+RAPIDHASH_FORCE_INLINE uint64_t rapidhash_close_(
+    const struct rapidhash_form_ *form, uint64_t a, uint64_t b, size_t n, uint64_t mask, const uint64_t *s)
 {
-    RAPIDHASH_ASSERT(n <= 16);
-    if (n >= 4) {
-        *a = n >= 8 ? rapidhash_load8_(p) : rapidhash_load4_(p);
-        *b = n >= 8 ? rapidhash_load8_(p + n - 8) : rapidhash_load4_(p + n - 4);
-    } else if (n > 0) {
-        *a = (uint64_t)p[0] << shift | (joined ? (uint64_t)p[n / 2] << 32 : 0) | p[n - 1];
-        *b = joined ? 0 : p[n / 2];
-    }
+    const bool protect = form->protect;
+    const uint64_t low_mask = (form->is_v1 ? s[0] : UINT64_C(0xaaaaaaaaaaaaaaaa)) ^ (form->tail_length ? 0 : n);
+    uint64_t low, high;
+    rapidhash_multiply_(a, b, &low, &high);
+    return rapidhash_mix_(protect, (protect ? low ^ a : low) ^ low_mask, (protect ? high ^ b : high) ^ mask);
 }
 
-/* V1 has 3 lanes, V2 above its limit 7, then rows of three. Returns the hash of their tail, at the end of n bytes. */
-RAPIDHASH_FORCE_INLINE uint64_t rapidhash_tail_v1_v2_(
-    uint64_t before, const uint8_t *p, size_t t, uint64_t seed, const uint64_t *s, uint64_t x)
-{
-    RAPIDHASH_ASSERT(t <= 48);
-    if (t > 16) seed = rapidhash_fold_(false, p, s[2], seed ^ before);
-    if (t > 32) seed = rapidhash_fold_(false, p + 16, s[2], seed);
-    p += t;
-    return rapidhash_close_(false, rapidhash_load8_(p - 16) ^ s[1], rapidhash_load8_(p - 8) ^ seed, x, s[1]);
-}
-
-RAPIDHASH_NOINLINE uint64_t rapidhash_rows_v1_(const uint8_t *p, size_t n, uint64_t seed, const uint64_t *s)
-{
-    uint64_t lane[3] = {seed, seed, seed};
-    size_t t = n;
-    p = rapidhash_rows_(3, 0, false, lane, p, &t, s);
-    return rapidhash_tail_v1_v2_(s[1], p, t, rapidhash_join_(3, lane), s, s[0] ^ n);
-}
-
-RAPIDHASH_NOINLINE uint64_t rapidhash_long_v1_(const uint8_t *p, size_t n, uint64_t seed, const uint64_t *s)
-{ return n > 48 ? rapidhash_rows_v1_(p, n, seed, s) : rapidhash_tail_v1_v2_(s[1], p, n, seed, s, s[0] ^ n); }
-
-RAPIDHASH_FORCE_INLINE uint64_t rapidhash_v1_(const uint8_t *p, size_t n, uint64_t seed, const uint64_t *s)
+/* Returns the hash of a message up to 16 bytes. */
+RAPIDHASH_FORCE_INLINE uint64_t rapidhash_close_short_(
+    const struct rapidhash_form_ *form, const uint8_t *p, size_t n, uint64_t seed, const uint64_t *s)
 {
     uint64_t a = 0, b = 0;
-    seed ^= n;
-    if (n > 16) return rapidhash_long_v1_(p, n, seed, s);
-    if (n >= 4) {
+    RAPIDHASH_ASSERT(n <= 16);
+    if (n >= 4 && form->is_v1) {
         a = rapidhash_load4_(p) << 32 | rapidhash_load4_(p + n - 4);
         b = n >= 8 ? rapidhash_load4_(p + 4) << 32 | rapidhash_load4_(p + n - 8) : a;
-    } else {
-        rapidhash_words_(56, true, p, n, &a, &b);
+    } else if (n >= 4) {
+        a = n >= 8 ? rapidhash_load8_(p) : rapidhash_load4_(p);
+        b = n >= 8 ? rapidhash_load8_(p + n - 8) : rapidhash_load4_(p + n - 4);
+    } else if (n > 0) {
+        a = (uint64_t)p[0] << form->shift | (form->joined ? (uint64_t)p[n / 2] << 32 : 0) | p[n - 1];
+        b = form->joined ? 0 : p[n / 2];
     }
-    return rapidhash_close_(false, a ^ s[1], b ^ seed, s[0] ^ n, s[1]);
+    if (n >= 4 && form->tail_length) seed ^= n;
+    return rapidhash_close_(form, a ^ s[1], b ^ seed, n, form->tail_length ? s[1] ^ n : s[1], s);
 }
 
-RAPIDHASH_NOINLINE uint64_t rapidhash_rows_v2_(const uint8_t *p, size_t n, uint64_t seed, const uint64_t *s)
+/* Returns the hash from the tail: the last t of n bytes, before which a longer message has rows. */
+RAPIDHASH_FORCE_INLINE uint64_t rapidhash_close_tail_(
+    const struct rapidhash_form_ *form, bool has_rows, const uint8_t *p, size_t t, size_t n, uint64_t seed,
+    const uint64_t *s)
+{
+    const unsigned char *const indices = has_rows ? form->with_rows : form->without_rows;
+    const size_t most = has_rows ? 16 * (form->threes ? 3 : form->lanes) + form->least - 1 : form->limit;
+    uint64_t secret;
+    RAPIDHASH_ASSERT(t >= form->least && t <= most);
+    if (form->is_v1 && t > 16) seed ^= s[1];
+#define RAPIDHASH_C_PAIR(i) \
+    if (most > 16 * (i + 1) && t > 16 * (i + 1)) \
+        seed = rapidhash_fold_(form->protect, p + 16 * i, s[indices[i]], seed)
+    RAPIDHASH_C_PAIR(0); RAPIDHASH_C_PAIR(1); RAPIDHASH_C_PAIR(2);
+    RAPIDHASH_C_PAIR(3); RAPIDHASH_C_PAIR(4); RAPIDHASH_C_PAIR(5);
+#undef RAPIDHASH_C_PAIR
+    p += t;
+    secret = form->tail_length ? s[1] ^ t : s[1];
+    return rapidhash_close_(form, rapidhash_load8_(p - 16) ^ secret, rapidhash_load8_(p - 8) ^ seed, n, secret, s);
+}
+
+/* Returns the hash of a message with rows. */
+RAPIDHASH_FORCE_INLINE uint64_t rapidhash_with_rows_(
+    const struct rapidhash_form_ *form, const uint8_t *p, size_t n, uint64_t seed, const uint64_t *s)
 {
     uint64_t lane[7] = {seed, seed, seed, seed, seed, seed, seed}, others = 0;
     size_t t = n;
-    if (n >= 112) {
-        p = rapidhash_rows_(7, 0, false, lane, p, &t, s);
+    if (!form->threes) {
+        p = rapidhash_fold_all_rows_(form->lanes, form->least, form->protect, lane, p, &t, s);
+        return rapidhash_close_tail_(form, true, p, t, n, rapidhash_join_(form->lanes, lane), s);
+    }
+    if (n >= 16 * form->lanes) {
+        p = rapidhash_fold_all_rows_(form->lanes, form->least, form->protect, lane, p, &t, s);
         others = lane[3] ^ lane[4] ^ lane[5] ^ lane[6];
     }
-    p = rapidhash_rows_(3, 0, false, lane, p, &t, s);
-    return rapidhash_tail_v1_v2_(0, p, t, rapidhash_join_(3, lane) ^ others, s, RAPIDHASH_C_BITS ^ n);
-}
-
-RAPIDHASH_FORCE_INLINE uint64_t rapidhash_v2_(int minor, const uint8_t *p, size_t n, uint64_t seed, const uint64_t *s)
-{
-    uint64_t a = 0, b = 0;
-    seed ^= n;
-    if (n > 16) {
-        if (n > (minor == 0 ? 56 : 64)) return rapidhash_rows_v2_(p, n, seed, s);
-        seed = rapidhash_fold_(false, p, s[0], seed);
-        if (n > 32) seed = rapidhash_fold_(false, p + 16, s[1], seed);
-        if (n > 48) seed = rapidhash_fold_(false, p + 32, s[minor == 2 ? 1 : 0], seed);
-        a = rapidhash_load8_(p + n - 16);
-        b = rapidhash_load8_(p + n - 8);
-    } else {
-        rapidhash_words_(56, minor < 2, p, n, &a, &b);
-    }
-    return rapidhash_close_(false, a ^ s[1], b ^ seed, RAPIDHASH_C_BITS ^ n, s[1]);
-}
-
-/* V3, micro, and nano have 7, 5, and 3 lanes. Returns the hash of their tail, which ends 16 bytes or more. */
-RAPIDHASH_FORCE_INLINE uint64_t rapidhash_tail_v3_(
-    int lanes, bool protect, const uint8_t *p, size_t t, uint64_t seed, const uint64_t *s)
-{
-    RAPIDHASH_ASSERT(t > 0 && t <= 16 * (size_t)lanes);
-    if (t > 16) seed = rapidhash_fold_(protect, p, s[2], seed);
-    if (t > 32) seed = rapidhash_fold_(protect, p + 16, s[2], seed);
-    if (lanes > 3 && t > 48) seed = rapidhash_fold_(protect, p + 32, s[1], seed);
-    if (lanes > 3 && t > 64) seed = rapidhash_fold_(protect, p + 48, s[1], seed);
-    if (lanes > 5 && t > 80) seed = rapidhash_fold_(protect, p + 64, s[2], seed);
-    if (lanes > 5 && t > 96) seed = rapidhash_fold_(protect, p + 80, s[1], seed);
-    p += t;
-    return rapidhash_close_(protect, rapidhash_load8_(p - 16) ^ t ^ s[1], rapidhash_load8_(p - 8) ^ seed,
-                            RAPIDHASH_C_BITS, s[1] ^ t);
-}
-
-#define RAPIDHASH_C_LONG(form, lanes, protect) \
-    RAPIDHASH_NOINLINE uint64_t rapidhash_rows_##form##_(const uint8_t *p, size_t n, uint64_t seed, const uint64_t *s) \
-    { \
-        uint64_t lane[7] = {seed, seed, seed, seed, seed, seed, seed}; \
-        p = rapidhash_rows_(lanes, 1, protect, lane, p, &n, s); \
-        return rapidhash_tail_v3_(lanes, protect, p, n, rapidhash_join_(lanes, lane), s); \
-    } \
-    RAPIDHASH_NOINLINE uint64_t rapidhash_long_##form##_(const uint8_t *p, size_t n, uint64_t seed, const uint64_t *s) \
-    { \
-        return n > 16 * lanes ? rapidhash_rows_##form##_(p, n, seed, s) \
-                              : rapidhash_tail_v3_(lanes, protect, p, n, seed, s); \
-    }
-RAPIDHASH_C_LONG(v3, 7, false)
-RAPIDHASH_C_LONG(micro, 5, false)
-RAPIDHASH_C_LONG(nano, 3, false)
-RAPIDHASH_C_LONG(protected, 7, true)
-
-RAPIDHASH_FORCE_INLINE uint64_t rapidhash_v3_(
-    int lanes, bool protect, const uint8_t *p, size_t n, uint64_t seed, const uint64_t *s)
-{
-    uint64_t a = 0, b = 0;
-    if (n > 16)
-        return protect        ? rapidhash_long_protected_(p, n, seed, s)
-               : lanes == 7 ? rapidhash_long_v3_(p, n, seed, s)
-               : lanes == 5 ? rapidhash_long_micro_(p, n, seed, s)
-                            : rapidhash_long_nano_(p, n, seed, s);
-    rapidhash_words_(45, false, p, n, &a, &b);
-    if (n >= 4) seed ^= n;
-    return rapidhash_close_(protect, a ^ s[1], b ^ seed, RAPIDHASH_C_BITS, s[1] ^ n);
+    p = rapidhash_fold_all_rows_(3, form->least, form->protect, lane, p, &t, s);
+    return rapidhash_close_tail_(form, true, p, t, n, rapidhash_join_(3, lane) ^ others, s);
 }
 
 /* Returns the premix of a word with the default secret `i`. */
 RAPIDHASH_FORCE_INLINE uint64_t rapidhash_premix_(uint64_t x, int i)
 {
-    x ^= rapidhash_mix_(false, x ^ rapidhash_default_.secrets[2], rapidhash_default_.secrets[i]);
+    x ^= rapidhash_mix_(false, x ^ rapidhash_default_secrets_[2], rapidhash_default_secrets_[i]);
     x |= (x & UINT64_C(0xffff) << 48) == 0 ? UINT64_C(1) << 63 : 0;
     x |= (x & UINT64_C(0xffff) << 24) == 0 ? UINT64_C(1) << 31 : 0;
     x |= (x & 0xffff) == 0 ? 1 : 0;
     return x;
 }
-
-/* Returns the seed of a seed word. V1 mixes it with secret 0, and the other versions with secret 2. */
-RAPIDHASH_FORCE_INLINE uint64_t rapidhash_seed_(uint64_t word, int i)
-{ return word ^ rapidhash_mix_(false, word ^ rapidhash_default_.secrets[i], rapidhash_default_.secrets[1]); }
 
 /* Sets `count` secrets, the first made from the seed and each other from the one before. Returns the seed. */
 RAPIDHASH_FORCE_INLINE uint64_t rapidhash_chain_(uint64_t number, int count, uint64_t *secrets)
@@ -475,7 +435,59 @@ RAPIDHASH_FORCE_INLINE uint64_t rapidhash_chain_(uint64_t number, int count, uin
     return seed;
 }
 
-/* For a piece of a constant length, gcc warns of copies that its length excludes. */
+/* Returns the seed of a seed word. V1 mixes it with secret 0, and the other versions with secret 2. */
+RAPIDHASH_FORCE_INLINE uint64_t rapidhash_v1_seed_(uint64_t word)
+{ return word ^ rapidhash_mix_(false, word ^ rapidhash_default_secrets_[0], rapidhash_default_secrets_[1]); }
+RAPIDHASH_FORCE_INLINE uint64_t rapidhash_seed_(uint64_t word)
+{ return word ^ rapidhash_mix_(false, word ^ rapidhash_default_secrets_[2], rapidhash_default_secrets_[1]); }
+
+/* Defines the code of a version and its three hashes. */
+#define RAPIDHASH_C_DEFINE(version, own) \
+    RAPIDHASH_NOINLINE uint64_t rapidhash_##version##_with_rows_( \
+        const uint8_t *p, size_t n, uint64_t seed, const uint64_t *s) \
+    { return rapidhash_with_rows_(&rapidhash_##version##_form_, p, n, seed, s); } \
+    RAPIDHASH_NOINLINE uint64_t rapidhash_##version##_long_( \
+        const uint8_t *p, size_t n, uint64_t seed, const uint64_t *s) \
+    { \
+        return n > rapidhash_##version##_form_.limit \
+                   ? rapidhash_##version##_with_rows_(p, n, seed, s) \
+                   : rapidhash_close_tail_(&rapidhash_##version##_form_, false, p, n, n, seed, s); \
+    } \
+    RAPIDHASH_FORCE_INLINE uint64_t rapidhash_##version##_( \
+        const void *bytes, size_t n, uint64_t seed, const uint64_t *s) \
+    { \
+        const uint8_t *const p = (const uint8_t *)bytes; \
+        if (!rapidhash_##version##_form_.tail_length) seed ^= n; \
+        return n > 16 ? rapidhash_##version##_long_(p, n, seed, s) \
+                      : rapidhash_close_short_(&rapidhash_##version##_form_, p, n, seed, s); \
+    } \
+    RAPIDHASH_API uint64_t rapidhash_##version(const void *bytes, size_t len) \
+    { return rapidhash_##version##_(bytes, len, own##_default_seed_, rapidhash_default_secrets_); } \
+    RAPIDHASH_API uint64_t rapidhash_##version##_with_seed(const void *bytes, size_t len, uint64_t seed) \
+    { return rapidhash_##version##_(bytes, len, own##_seed_(seed), rapidhash_default_secrets_); } \
+    RAPIDHASH_API uint64_t rapidhash_##version##_seeded( \
+        const void *bytes, size_t len, const struct own##_secrets *secrets) \
+    { return rapidhash_##version##_(bytes, len, secrets->seed, secrets->secrets); }
+RAPIDHASH_C_VERSIONS(RAPIDHASH_C_DEFINE)
+
+RAPIDHASH_API uint32_t rapidhash_c_version(void) { return RAPIDHASH_C_VERSION_NUMBER; }
+RAPIDHASH_API void rapidhash_v1_make_secrets(uint64_t number, struct rapidhash_v1_secrets *secrets)
+{ secrets->seed = rapidhash_chain_(number, 3, secrets->secrets); }
+RAPIDHASH_API void rapidhash_make_secrets(uint64_t number, struct rapidhash_secrets *secrets)
+{ secrets->seed = rapidhash_chain_(number, 7, secrets->secrets); }
+
+RAPIDHASH_API void rapidhash_v1_seed_secrets(uint64_t seed, struct rapidhash_v1_secrets *secrets)
+{
+    secrets->seed = rapidhash_v1_seed_(seed);
+    memcpy(secrets->secrets, rapidhash_default_secrets_, sizeof secrets->secrets);
+}
+RAPIDHASH_API void rapidhash_seed_secrets(uint64_t seed, struct rapidhash_secrets *secrets)
+{
+    secrets->seed = rapidhash_seed_(seed);
+    memcpy(secrets->secrets, rapidhash_default_secrets_, sizeof secrets->secrets);
+}
+
+/* gcc warns of unreachable copies if the length of a piece is constant. */
 #if defined(__GNUC__) && !defined(__clang__) && __GNUC__ >= 11
 #pragma GCC diagnostic push
 #pragma GCC diagnostic ignored "-Warray-bounds"
@@ -501,9 +513,9 @@ RAPIDHASH_FORCE_INLINE void rapidhash_copy_(uint8_t *to, const uint8_t *from, si
 /* Appends a piece that does not fit: fills the buffer and folds it, then folds in place each row of the piece that a
  * further byte follows. The buffer then has the last 16 folded bytes and the rest. */
 RAPIDHASH_FORCE_INLINE void rapidhash_write_slow_(
-    int lanes, struct rapidhash_stream *stream, const uint8_t *p, size_t n)
+    const struct rapidhash_form_ *form, struct rapidhash_stream *stream, const uint8_t *p, size_t n)
 {
-    const size_t row = 16 * (size_t)lanes, room = row - stream->len;
+    const size_t lanes = form->lanes, row = 16 * lanes, room = row - stream->len;
     const uint64_t *const s = stream->secrets->secrets;
     uint8_t *const buffer = stream->buffer, carried[16];
     const uint8_t *rest = p + room;
@@ -511,9 +523,9 @@ RAPIDHASH_FORCE_INLINE void rapidhash_write_slow_(
     RAPIDHASH_ASSERT(stream->len <= row && n > room);
     memcpy(lane, stream->lane, sizeof lane);
     rapidhash_copy_(buffer + 16 + stream->len, p, room);
-    rapidhash_row_(lanes, 1, false, lane, buffer + 16, s);
+    rapidhash_fold_rows_(lanes, 1, false, lane, buffer + 16, s);
     n -= room;
-    rest = rapidhash_rows_(lanes, 1, false, lane, rest, &n, s);
+    rest = rapidhash_fold_all_rows_(lanes, form->least, false, lane, rest, &n, s);
     memcpy(carried, rest == p + room ? buffer + row : rest - 16, 16);
     memcpy(buffer, carried, 16);
     rapidhash_copy_(buffer + 16, rest, n);
@@ -522,63 +534,21 @@ RAPIDHASH_FORCE_INLINE void rapidhash_write_slow_(
     stream->len = n;
 }
 
-#define RAPIDHASH_C_WRITE_SLOW(lanes) \
-    RAPIDHASH_NOINLINE void rapidhash_write_slow_##lanes##_( \
+/* Defines the parts of a version's streams. A message without a folded row is in the buffer as a whole. */
+#define RAPIDHASH_C_STREAM(version, count) \
+    RAPIDHASH_NOINLINE void rapidhash_##version##_write_slow_( \
         struct rapidhash_stream *stream, const uint8_t *p, size_t n) \
-    { rapidhash_write_slow_(lanes, stream, p, n); }
-RAPIDHASH_C_WRITE_SLOW(7)
-RAPIDHASH_C_WRITE_SLOW(5)
-RAPIDHASH_C_WRITE_SLOW(3)
-
-/* Returns the hash of a stream. A message without a folded row is in the buffer as a whole. */
-RAPIDHASH_FORCE_INLINE uint64_t rapidhash_finish_(int lanes, const struct rapidhash_stream *stream)
-{
-    const uint8_t *const p = stream->buffer + 16;
-    const uint64_t *const s = stream->secrets->secrets;
-    RAPIDHASH_ASSERT(stream->len <= 16 * (size_t)lanes);
-    return stream->has_rows ? rapidhash_tail_v3_(lanes, false, p, stream->len, rapidhash_join_(lanes, stream->lane), s)
-                       : rapidhash_v3_(lanes, false, p, stream->len, stream->secrets->seed, s);
-}
-
-/* Returns the hash of a form of RAPIDHASH_C_VERSIONS. For V3, micro, and nano, it is the number of lanes. */
-RAPIDHASH_FORCE_INLINE uint64_t rapidhash_form_(int form, const void *bytes, size_t n, uint64_t seed, const uint64_t *s)
-{
-    const uint8_t *const p = (const uint8_t *)bytes;
-    return form == 1    ? rapidhash_v1_(p, n, seed, s)
-           : form == 70 ? rapidhash_v3_(7, true, p, n, seed, s)
-           : form >= 20 ? rapidhash_v2_(form - 20, p, n, seed, s)
-                        : rapidhash_v3_(form, false, p, n, seed, s);
-}
-
-/* Defines the three hashes of a version. V1 has its own default seed, and mixes a seed word with another secret. */
-#define RAPIDHASH_C_HASHES(version, own, form) \
-    RAPIDHASH_API uint64_t rapidhash_##version(const void *bytes, size_t len) \
-    { return rapidhash_form_( \
-        form, bytes, len, form == 1 ? RAPIDHASH_C_V1_SEED : rapidhash_default_.seed, rapidhash_default_.secrets); } \
-    RAPIDHASH_API uint64_t rapidhash_##version##_with_seed(const void *bytes, size_t len, uint64_t seed) \
-    { return rapidhash_form_( \
-        form, bytes, len, rapidhash_seed_(seed, form == 1 ? 0 : 2), rapidhash_default_.secrets); } \
-    RAPIDHASH_API uint64_t rapidhash_##version##_seeded( \
-        const void *bytes, size_t len, const struct own##_secrets *secrets) \
-    { return rapidhash_form_(form, bytes, len, secrets->seed, secrets->secrets); }
-RAPIDHASH_C_VERSIONS(RAPIDHASH_C_HASHES)
-
-RAPIDHASH_API uint32_t rapidhash_c_version(void) { return RAPIDHASH_C_VERSION_NUMBER; }
-RAPIDHASH_API void rapidhash_v1_make_secrets(uint64_t number, struct rapidhash_v1_secrets *secrets)
-{ secrets->seed = rapidhash_chain_(number, 3, secrets->secrets); }
-RAPIDHASH_API void rapidhash_make_secrets(uint64_t number, struct rapidhash_secrets *secrets)
-{ secrets->seed = rapidhash_chain_(number, 7, secrets->secrets); }
-
-RAPIDHASH_API void rapidhash_v1_seed_secrets(uint64_t seed, struct rapidhash_v1_secrets *secrets)
-{
-    secrets->seed = rapidhash_seed_(seed, 0);
-    memcpy(secrets->secrets, rapidhash_default_.secrets, sizeof secrets->secrets);
-}
-RAPIDHASH_API void rapidhash_seed_secrets(uint64_t seed, struct rapidhash_secrets *secrets)
-{
-    *secrets = rapidhash_default_;
-    secrets->seed = rapidhash_seed_(seed, 2);
-}
+    { rapidhash_write_slow_(&rapidhash_##version##_form_, stream, p, n); } \
+    RAPIDHASH_FORCE_INLINE uint64_t rapidhash_##version##_finish_(const struct rapidhash_stream *stream) \
+    { \
+        const uint8_t *const p = stream->buffer + 16; \
+        const uint64_t *const s = stream->secrets->secrets; \
+        RAPIDHASH_ASSERT(stream->len <= 16 * count); \
+        return stream->has_rows ? rapidhash_close_tail_(&rapidhash_##version##_form_, true, p, stream->len, 0, \
+                                                        rapidhash_join_(count, stream->lane), s) \
+                                : rapidhash_##version##_(p, stream->len, stream->secrets->seed, s); \
+    }
+RAPIDHASH_C_STREAMS(RAPIDHASH_C_STREAM)
 
 RAPIDHASH_API void rapidhash_stream_write(struct rapidhash_stream *stream, const void *bytes, size_t len)
 {
@@ -588,18 +558,18 @@ RAPIDHASH_API void rapidhash_stream_write(struct rapidhash_stream *stream, const
         rapidhash_copy_(stream->buffer + 16 + stream->len, p, len);
         stream->len += len;
     } else if (stream->lanes == 7)
-        rapidhash_write_slow_7_(stream, p, len);
+        rapidhash_v3_write_slow_(stream, p, len);
     else if (stream->lanes == 5)
-        rapidhash_write_slow_5_(stream, p, len);
+        rapidhash_v3_micro_write_slow_(stream, p, len);
     else
-        rapidhash_write_slow_3_(stream, p, len);
+        rapidhash_v3_nano_write_slow_(stream, p, len);
 }
 
 RAPIDHASH_API uint64_t rapidhash_stream_finish(const struct rapidhash_stream *stream)
 {
-    return stream->lanes == 7   ? rapidhash_finish_(7, stream)
-           : stream->lanes == 5 ? rapidhash_finish_(5, stream)
-                                : rapidhash_finish_(3, stream);
+    return stream->lanes == 7   ? rapidhash_v3_finish_(stream)
+           : stream->lanes == 5 ? rapidhash_v3_micro_finish_(stream)
+                                : rapidhash_v3_nano_finish_(stream);
 }
 
 RAPIDHASH_API void rapidhash_stream_reset(struct rapidhash_stream *stream)

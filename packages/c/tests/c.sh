@@ -124,7 +124,7 @@ random_messages() {
 instructions() {
   local length
   printf '%s\n' '#include <stdlib.h>' '#include "rapidhash_c.h"' 'struct rapidhash_secrets secrets;' \
-    'uint64_t rust_hash(uint32_t, const void *, size_t, const struct rapidhash_secrets *);' \
+    'uint64_t rust_hash(const char *, const void *, size_t, const struct rapidhash_secrets *);' \
     "__attribute__((noinline)) uint64_t counted(const void *bytes, size_t length) { return $1; }" \
     "int main(int count, char **words) { rapidhash_seed_secrets($2, &secrets);" \
     'return counted(calloc(4096, 1), atoi(words[count - 1])) == 7; }' >"$room/counted.c" &&
@@ -137,25 +137,25 @@ instructions() {
 
 # Compares the instructions of the archive with stored counts. In Rust, the compact code of an odd seed has others.
 counts_instructions() {
-  local name form counts call
-  build_rust && while read -r name form counts; do
-    call="rust_hash($form, bytes, length, &secrets)"
+  local name counts call
+  build_rust && while read -r name counts; do
+    call="rust_hash(\"$name\", bytes, length, &secrets)"
     diff <(instructions "rapidhash_$name(bytes, length)" 0) - <<<"$counts" &&
-      [ "$(instructions "$call" 0)" != "$([ "$form" = 5 ] || [ "$form" = 3 ] || instructions "$call" 1)" ] || return 1
+      [ "$(instructions "$call" 0)" != "$([[ $name = v3_[mn]* ]] || instructions "$call" 1)" ] || return 1
   done <<'COUNTS'
-v2_2 22 31 110 2090
-v3 7 35 121 2074
-v3_micro 5 35 112 1960
-v3_nano 3 35 102 2011
-v3_protected 70 40 141 3008
+v2_2 31 110 2090
+v3 35 121 2074
+v3_micro 35 112 1960
+v3_nano 35 102 2011
+v3_protected 40 141 3008
 COUNTS
 }
 
 # Checks by the products that a loop of the header folds two rows per iteration and then one, by GCC only with three
 # lanes. With single rows the same values would take longer: COMPILER COUNTS
 folds_two_rows() {
-  "$1" -O2 "-I$include" -c "$top/packages/c/rapidhash_c.c" -o "$room/rows.o" && for form in v3 micro nano; do
-    objdump --disassemble="rapidhash_rows_${form}_" "$room/rows.o" | grep -c '\smul '
+  "$1" -O2 "-I$include" -c "$top/packages/c/rapidhash_c.c" -o "$room/rows.o" && for name in v3 v3_micro v3_nano; do
+    objdump --disassemble="rapidhash_${name}_with_rows_" "$room/rows.o" | grep -c '\smul '
   done | xargs | grep -x "$2"
 }
 

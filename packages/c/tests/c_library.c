@@ -29,7 +29,7 @@ static void compare(const char *name, const char *what, uint64_t value, uint64_t
 }
 
 /* Defines a hash with secrets as words: the seed and then 3 others in V1, and 7 in each other version. */
-#define SEEDED(version, own, number) \
+#define SEEDED(version, own) \
     static uint64_t seeded_##version(const void *message, size_t len, const uint64_t *words) \
     { \
         struct own##_secrets secrets; \
@@ -37,8 +37,9 @@ static void compare(const char *name, const char *what, uint64_t value, uint64_t
         return rapidhash_##version##_seeded(message, len, &secrets); \
     }
 RAPIDHASH_C_VERSIONS(SEEDED)
-#define FORM(version, own, number) \
-    {#version, number == 1, rapidhash_##version, rapidhash_##version##_with_seed, seeded_##version},
+#define FORM(version, own) \
+    {#version, sizeof(struct own##_secrets) == sizeof(struct rapidhash_v1_secrets), \
+     rapidhash_##version, rapidhash_##version##_with_seed, seeded_##version},
 
 static const struct form {
     const char *name; /* as in the file */

@@ -21,12 +21,12 @@ typedef uint64_t with_seed(const void *, size_t, uint64_t);
 typedef uint64_t seeded(const void *, size_t, const struct rapidhash_secrets *);
 typedef void start(struct rapidhash_stream *, const struct rapidhash_secrets *);
 
-uint64_t rust_hash(uint32_t form, const void *bytes, size_t len, const struct rapidhash_secrets *secrets);
+uint64_t rust_hash(const char *version, const void *bytes, size_t len, const struct rapidhash_secrets *secrets);
 void rust_secrets(
     bool made, uint64_t number, struct rapidhash_v1_secrets *of_v1, struct rapidhash_secrets *others);
 
 /* Defines a hash with secrets that are the first words of others: those of V1 are fewer. */
-#define SEEDED(version, own, number) \
+#define SEEDED(version, own) \
     static uint64_t seeded_##version(const void *bytes, size_t len, const struct rapidhash_secrets *words) \
     { \
         struct own##_secrets secrets; \
@@ -34,26 +34,29 @@ void rust_secrets(
         return rapidhash_##version##_seeded(bytes, len, &secrets); \
     }
 RAPIDHASH_C_VERSIONS(SEEDED)
-#define FORM(version, own, number) {number, rapidhash_##version, rapidhash_##version##_with_seed, seeded_##version},
+#define FORM(version, own) \
+    {#version, sizeof(struct own##_secrets) == sizeof(struct rapidhash_v1_secrets), \
+     rapidhash_##version, rapidhash_##version##_with_seed, seeded_##version},
 
 static const struct {
-    uint32_t form;
+    const char *version;
+    bool is_v1;
     plain *plain;
     with_seed *with_seed;
     seeded *seeded;
 } forms[] = {RAPIDHASH_C_VERSIONS(FORM)};
 
-#define STREAM(version, lanes) {lanes, rapidhash_##version##_start, rapidhash_##version##_seeded},
+#define STREAM(version, lanes) {#version, rapidhash_##version##_start, rapidhash_##version##_seeded},
 static const struct {
-    uint32_t lanes;
+    const char *version;
     start *start;
     seeded *seeded;
 } streams[] = {RAPIDHASH_C_STREAMS(STREAM)};
 
-static void check(bool holds, const char *what, uint32_t form, size_t len)
+static void check(bool holds, const char *what, const char *version, size_t len)
 {
     if (!holds) {
-        fprintf(stderr, "%s of form %u differs at %zu bytes\n", what, form, len);
+        fprintf(stderr, "%s of %s differs at %zu bytes\n", what, version, len);
         abort();
     }
 }
@@ -94,8 +97,8 @@ static void set_secrets(bool made, uint64_t number, struct rapidhash_secrets sec
     (made ? rapidhash_v1_make_secrets : rapidhash_v1_seed_secrets)(number, &of_v1);
     (made ? rapidhash_make_secrets : rapidhash_seed_secrets)(number, &secrets[1]);
     rust_secrets(made, number, &theirs_of_v1, &theirs);
-    check(!memcmp(&of_v1, &theirs_of_v1, sizeof of_v1), "a secret", 1, 0);
-    check(!memcmp(&secrets[1], &theirs, sizeof theirs), "a secret", 7, 0);
+    check(!memcmp(&of_v1, &theirs_of_v1, sizeof of_v1), "a secret", "v1", 0);
+    check(!memcmp(&secrets[1], &theirs, sizeof theirs), "a secret", "v3", 0);
     memcpy(&secrets[0], &of_v1, sizeof of_v1);
 }
 
@@ -112,15 +115,15 @@ int LLVMFuzzerTestOneInput(const uint8_t *data, size_t size)
     const uint8_t *bytes = place(data + HEAD, len);
     set_secrets(made, number, secrets);
     for (size_t i = 0; i < sizeof forms / sizeof *forms; i++) {
-        uint32_t form = forms[i].form;
-        const struct rapidhash_secrets *own = &secrets[form != 1];
-        uint64_t hash = rust_hash(form, bytes, len, own), word = form == 1 ? word_of_v1 : 0;
-        check(forms[i].seeded(bytes, len, own) == hash, "a hash", form, len);
-        check(made || forms[i].with_seed(bytes, len, number) == hash, "a seed word", form, len);
-        check(made || number != word || forms[i].plain(bytes, len) == hash, "a plain hash", form, len);
+        const char *version = forms[i].version;
+        const struct rapidhash_secrets *own = &secrets[!forms[i].is_v1];
+        uint64_t hash = rust_hash(version, bytes, len, own), word = forms[i].is_v1 ? word_of_v1 : 0;
+        check(forms[i].seeded(bytes, len, own) == hash, "a hash", version, len);
+        check(made || forms[i].with_seed(bytes, len, number) == hash, "a seed word", version, len);
+        check(made || number != word || forms[i].plain(bytes, len) == hash, "a plain hash", version, len);
     }
     uint64_t of_pieces = in_pieces(streams[drawn].start, data, bytes, len, &secrets[1]);
-    check(of_pieces == streams[drawn].seeded(bytes, len, &secrets[1]), "a stream", streams[drawn].lanes, len);
+    check(of_pieces == streams[drawn].seeded(bytes, len, &secrets[1]), "a stream", streams[drawn].version, len);
     return 0;
 }
 
