@@ -67,15 +67,36 @@ def limits():
 
 
 def names():
+    """Checks that each name on a page is that of a file, or in the code: not only in tests, edits or the compat crate."""
     words = set()
     for name in shell("git ls-files")[1].splitlines():
         if not name.endswith((".md", ".tsv")):
-            words.update(re.findall(r"\w+", (TOP / name).read_text(errors="replace")))
             words.update(re.findall(r"\w+", name))
+            if not re.search(r"(^|/)(tests|must-fail|compat|crates/(test|bench)_\w+)/", name):
+                words.update(re.findall(r"\w+", (TOP / name).read_text(errors="replace")))
     for _, place, line in prose(TOP / "docs" / f"{name}.md" for name in
                                 ("PROVED", "ARCHITECTURE", "C", "CPP", "DECISIONS", "PERFORMANCE")):
         for name in NAME.findall(line):
             yield from (f"{place}: no {part} of {name} in the code" for part in name.split("::") if part not in words)
+
+
+def layers():
+    """Checks that the layers in docs/ARCHITECTURE.md are crates or modules."""
+    table = (TOP / "docs/ARCHITECTURE.md").read_text().partition("## Layer contracts")[2]
+    found = {path.stem for path in TOP.glob("crates/*/src/**/*.rt")} | {path.name for path in TOP.glob("crates/*")}
+    named = re.findall(r"`(\w+)`", "".join(re.findall(r"^\|([^|]*)", table, re.M)))
+    yield from (f"docs/ARCHITECTURE.md: no module {name}" for name in named if name not in found)
+    if len(named) < 8:
+        yield f"docs/ARCHITECTURE.md names {len(named)} modules"
+
+
+def edits():
+    """Checks that the function in the first line of each must-fail edit is in the sources of its crate."""
+    for edit in TOP.glob("crates/*/must-fail/*.edit"):
+        function = re.match(r"# refused: (?:[^ ]*::)?(\w+), ", edit.read_text())
+        sources = "".join(file.read_text() for file in (edit.parent.parent / "src").rglob("*.rt"))
+        if not function or not re.search(rf"\b{function[1]}\b", sources):
+            yield f"{edit.relative_to(TOP)}: no such function"
 
 
 def vectors():
@@ -189,7 +210,7 @@ def benches():
         yield f"the benches print {found}"
 
 
-for check in (links, paths, variables, limits, names, vectors, statements, sizes, clauses, benches, pictures):
+for check in (links, paths, variables, limits, names, layers, edits, vectors, statements, sizes, clauses, benches, pictures):
     tell(check.__name__, *check())
 for made, maker in (("calls", "scripts/api"), ("version", "scripts/version"), ("figures", "bench/figures")):
     tell(made, *made_by(maker))

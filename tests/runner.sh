@@ -141,6 +141,9 @@ paths CONTRIBUTING.md s|`tests/style.sh`|`tests/stile.sh`|
 variables docs/PERFORMANCE.md s/RAPIDHASH_CRATE/&S/
 limits docs/LAWS.md 3s|.*|& & &|
 names docs/PROVED.md s|`test_\(replay\)`|`best_\1`|g
+names docs/C.md s|`rapidhash_v3_micro_inline`|`in_drop_in`|
+layers docs/ARCHITECTURE.md s|`in_memory`|`memory`|
+edits crates/rapidhash_portable/must-fail/micro_has_seven_lanes.edit s|rapidhash_v3_micro_inline|rapidhash_v3_m_inline|
 vectors crates/test_replay/data/README.md s|`v3.tsv`|`v5.tsv`|
 statements docs/PROVED.md s|= value form|= value from|
 statements docs/PROVED.md s|`FlagsFailures result|`FlagsFailures answer|

@@ -57,11 +57,13 @@ lints_python() {
   { scripts_in python && git ls-files '*.py'; } | sort -u | xargs pyflakes3
 }
 
-# Checks that the doc comment of each public function begins with a verb, such as "Returns".
+# Checks that the doc comment of each public function begins with one of these verbs.
+verbs='Absorbs|Adds|Builds|Clears|Compares|Counts|Does|Fills|Finds|Forgets|Hashes|Inserts|Makes|Parses|Prints|Reads|Removes'
+verbs+='|Replays|Reports|Returns|Steps|Writes'
 begins_with_verbs() {
-  git ls-files -z 'crates/*/src/*.rt' | xargs -0 awk '
+  git ls-files -z 'crates/*/src/*.rt' | xargs -0 awk -v verbs="^($verbs)\$" '
     /^ *\/\/\// { if (!word) word = $2; next }
-    / *pub .*fn / && word && word !~ /^[A-Z][a-z]+s$/ { print FILENAME ":" FNR ": " word; found = 1 }
+    / *pub .*fn / && word && word !~ verbs { print FILENAME ":" FNR ": " word; found = 1 }
     !/^ *#\[/ { word = "" }
     END { exit found }'
 }

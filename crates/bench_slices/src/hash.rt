@@ -12,7 +12,7 @@ pub struct Secrets {
 }
 
 impl Secrets {
-    /// Secrets of two words of the generator.
+    /// Returns secrets of two words of the generator.
     pub fn new(rng: &mut RapidRng) -> Secrets {
         let three = v1::RapidSecrets::seed(rng.next());
         let seven = v3::RapidSecrets::seed(rng.next());

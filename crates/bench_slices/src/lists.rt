@@ -8,7 +8,7 @@ use std::alloc::{AllocError, Global};
 /// 64.
 const BYTES: usize = 1 << 17;
 
-/// Bytes that the compiler does not know.
+/// Returns bytes that the compiler does not know.
 pub fn random_bytes(alloc: Global, rng: &mut RapidRng) -> Result<Vec<u8>, AllocError> {
     let mut bytes = Vec::new(alloc);
     for _ in 0..BYTES {

@@ -77,7 +77,7 @@ fn defined(alloc: Global, form: &str, call: &str, number: u64) -> Result<Vec<u64
     Ok(words)
 }
 
-/// Numbers in one field.
+/// Parses the numbers in one field.
 pub fn numbers(alloc: Global, field: &str) -> Result<Vec<u64>> {
     let mut all = Vec::new(alloc);
     for text in field.split_whitespace() {
