@@ -93,15 +93,8 @@ def each_slice(data, offsets, version="v3", seed=None, secrets=None, out=None):
     return out
 
 
-class V3(_extension.Stream):
-    """Hashes a message in pieces, with the methods of hashlib's objects. Threads can share a hasher.
-
-    Raises TypeError if both `seed` and `secrets` are passed."""
-
-    name = "rapidhash_v3"
+class _Hasher(_extension.Stream):
     digest_size = 8
-    block_size = 112
-    _lanes = 7
     _seed = None
 
     def __init__(self, data=b"", seed=None, secrets=None):
@@ -138,16 +131,26 @@ class V3(_extension.Stream):
     __copy__ = copy
 
 
-class V3Micro(V3):
-    """V3 micro, with five lanes: equals V3 up to 80 bytes."""
+class V3(_Hasher):
+    """Hashes a message in pieces, with the methods of hashlib's objects. Threads can share a hasher.
+
+    Raises TypeError if both `seed` and `secrets` are passed."""
+
+    name = "rapidhash_v3"
+    block_size = 112
+    _lanes = 7
+
+
+class V3Micro(_Hasher):
+    """Does the same for V3 micro, with five lanes, which equals V3 up to 80 bytes."""
 
     name = "rapidhash_v3_micro"
     block_size = 80
     _lanes = 5
 
 
-class V3Nano(V3):
-    """V3 nano, with three lanes: equals V3 up to 48 bytes."""
+class V3Nano(_Hasher):
+    """Does the same for V3 nano, with three lanes, which equals V3 up to 48 bytes."""
 
     name = "rapidhash_v3_nano"
     block_size = 48
