@@ -52,15 +52,24 @@ keeps_unwind_tables() {
     readelf -lW "$room/probe.so" | grep GNU_EH_FRAME
 }
 
+# Compiles packages/c/tests/properties.c and runs some of its tests, perhaps under the program in `under`: TESTS
+# COMPILER ARGUMENT..
+has_the_properties() {
+  local test
+  "${@:2}" -Wall -Wextra -Werror "-I$include" "$tests/properties.c" -o "$room/properties" && for test in $1; do
+    ${under-} "$room/properties" "$test" || return 1
+  done
+}
+
 # Compiles such a program with the archive, whose code it must contain: COMPILER ARGUMENT..
 calls_from_c() {
   linked=$archive has_the_values "$@" -DRAPIDHASH_LINK -O2 -Wall -Wextra -Werror &&
     nm --defined-only "$room/c_library" | grep ' T rapidhash_v3$'
 }
 
-# Tests the whole C++ header with the vectors, in a program without exceptions: COMPILER STANDARD
+# Tests the whole C++ header with the vectors, in a program without exceptions: COMPILER STANDARD ARGUMENT..
 calls_from_cpp() {
-  "$1" "-std=$2" -O2 -Wall -Wextra -Wpedantic -Werror -fno-exceptions "-I$include" "$tests/cpp_header.cpp" \
+  "$1" "-std=$2" "${@:3}" -O2 -Wall -Wextra -Wpedantic -Werror -fno-exceptions "-I$include" "$tests/cpp_header.cpp" \
     "$tests/cpp_types.cpp" -o "$room/cpp_header" && "$room/cpp_header" "$room/rapidhash_vectors.tsv"
 }
 
@@ -204,6 +213,7 @@ test_library() {
 
 prepare_by write_vectors "$room"
 echo '#include <rapidhash_c.h>' >"$room/second.c"
+multilib='/usr/lib/gcc/x86_64-linux-gnu/*/32'
 fuzzer='/usr/lib/llvm-*/lib/clang/*/lib/linux/libclang_rt.fuzzer-x86_64.a'
 
 # Messages above 4 GiB take some seconds. The standard does not change their hashes, so the first one hashes them all.
@@ -223,11 +233,32 @@ try header_with_assertions has_the_values cc -O3 -include assert.h -DRAPIDHASH_A
 try_with header_with_sanitizers "clang $fuzzer" has_the_values clang -O1 -fsanitize=address,undefined \
   -fno-sanitize-recover=all
 try_with header_tcc tcc has_the_values tcc
-try_with header_32_bits 'gcc /usr/lib/gcc/x86_64-linux-gnu/*/32/libgcc.a' has_the_values gcc -m32 -O2
+try_with header_32_bits "gcc $multilib/libgcc.a" has_the_values gcc -m32 -O2
 for standard in c++11 c++17 c++20; do
   try_with "cpp_header_$standard" g++ calls_from_cpp g++ "$standard"
   try_with "cpp_header_${standard}_clang" clang++ calls_from_cpp clang++ "$standard"
 done
+try_with cpp_header_32_bits "g++ $multilib/libstdc++.a" calls_from_cpp g++ c++11 -m32 \
+  -idirafter /usr/include/x86_64-linux-gnu
+
+# Each path of the loads and the product, on machines of 64 and 32 bits and of both byte orders. A test stands in for the
+# functions of MSVC.
+both='product streams'
+try properties has_the_properties "$both" cc -O2
+try_with properties_clang clang has_the_properties "$both" clang -O2
+try_with properties_tcc tcc has_the_properties "$both" tcc
+try properties_without_int128 has_the_properties "$both" cc -O2 -DRAPIDHASH_NO_INT128
+try properties_without_a_byte_order has_the_properties "$both" cc -O2 -U__BYTE_ORDER__
+try_with properties_32_bits "gcc $multilib/libgcc.a" has_the_properties "$both" gcc -m32 -O2
+for machine in _M_X64 _M_ARM64; do
+  try_with "properties_msvc$machine" gcc has_the_properties "$both" gcc -O2 -U__SIZEOF_INT128__ -D_MSC_VER=1930 \
+    "-D$machine" "-I$tests/msvc"
+done
+under=qemu-s390x try_with properties_s390x "s390x-linux-gnu-gcc-12 /usr/s390x-linux-gnu/include/stdio.h qemu-s390x" \
+  has_the_properties "$both" s390x-linux-gnu-gcc-12 -static -O2
+under='valgrind -q --error-exitcode=9' try_with content 'valgrind /usr/include/valgrind/memcheck.h' \
+  has_the_properties content cc -O2 -DTEST_CONTENT
+try_with threads gcc has_the_properties threads gcc -O1 -fsanitize=thread -DTEST_THREADS -lpthread
 try_with rows_per_iteration gcc folds_two_rows gcc '15 11 13'
 try_with rows_per_iteration_clang clang folds_two_rows clang '29 21 13'
 try_with manual_and_header mandoc manual_has_the_header
