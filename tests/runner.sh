@@ -41,7 +41,8 @@ gate_ends() {
     printf 'tests/two.sh %s\npackages/one/tests/one.py 1\n' "${two-2}" >.ci/cases &&
     printf '%s\n' '# a' '*kit rt' 'sh sh' 'golang-go /no/go' >.ci/packages &&
     for file in .ci/setup kit/rt bin/make packages/one/tests/one.py; do
-      printf '#!/bin/sh\necho 3 passed, 0 failed\necho ok - a\necho 1..1\n' >"$file" && chmod +x "$file"
+      printf '#!/bin/sh\n%s\necho 3 passed, 0 failed\necho ok - a\necho 1..1\n' \
+        "$([ "$file" != kit/rt ] || echo '[ "$*" = ci ] || exit 1')" >"$file" && chmod +x "$file"
     done && printf '#!/bin/sh\n%s\n' "$2" >tests/two.sh && chmod +x tests/two.sh &&
     { [ -z "${3-}" ] || echo 'exit 1' >>"$3"; } && PATH="$copy/kit:$copy/bin:$PATH" .ci/run ${mode-} >"$room/said" 2>&1
   [ "$?:$(grep -xE '[0-9]+ passed, [0-9]+ failed(, [0-9]+ skipped)?' "$room/said" | tail -n 1)" = \
@@ -51,11 +52,18 @@ gate_ends() {
 # Does the same, and the gate must also print this line: LINE RESULT SCRIPT [FILE]
 gate_says() { gate_ends "${@:2}"; ends=$? && cat "$room/said" && [ "$ends" -eq 0 ] && grep -qxF -e "$1" "$room/said"; }
 
-# Changes a file in a copy of the repository: tests/pages.py must refuse this case: CASE FILE SED-COMMAND
-pages_refuse() (
-  rm -rf "$room/copy" && git clone -q -s "$top" "$room/copy" && cd "$room/copy" && sed -i "$3" "$2" &&
-    ! tests/pages.py >"$room/said" && grep -x "not ok - $1" "$room/said"
-)
+# Changes files in a copy of the repository. A script must then exit with status 1, and refuse the case of each change,
+# whose line has this case, the file, and the command for sed: SCRIPT ARGUMENT..
+refuses() {
+  local case file edit
+  cat >"$room/changes" && cd "$room" && rm -rf copy && git clone -q -s "$top" copy && cd copy &&
+    while read -r case file edit; do sed -i "$edit" "$file" || return 1; done <../changes
+  "$@" >"$room/answers" 2>&1
+  echo "its status is $?" >>"$room/answers"
+  while read -r case _; do
+    try "${*##*/} refuses $case" grep -Pzq "(?s)(^|\n)not ok - $case\n.*\nits status is 1\n\$" "$room/answers"
+  done <"$room/changes"
+}
 
 start='. "$(dirname "$0")/cases.sh"; cd "$room"; echo >a'
 try a_failing_case ends 1 $'ok - a\nnot ok - b\nnot ok - c\n1..3' \
@@ -135,18 +143,16 @@ try setup setup_ends 'setup: installing one two' 0 "$installs"
 try setup_with_a_held_lock setup_ends 'setup: installing one two' 0 "$held; $installs"
 try setup_that_fails setup_ends 'setup: could not install one two' 1 'echo E: no network; exit 100'
 try setup_that_installs_a_part setup_ends 'setup: could not install two' 1 "${installs/ \$3/}"
-while read -r case file edit; do try "pages_refuse $case" pages_refuse "$case" "$file" "$edit"; done <<'EDITS'
+refuses tests/pages.py <<'EDITS'
 links README.md s|(docs/PROVED.md|(docs/PROVEN.md|
 paths CONTRIBUTING.md s|`tests/style.sh`|`tests/stile.sh`|
 variables docs/PERFORMANCE.md s/RAPIDHASH_CRATE/&S/
 limits docs/LAWS.md 3s|.*|& & &|
 names docs/PROVED.md s|`test_\(replay\)`|`best_\1`|g
-names docs/C.md s|`rapidhash_v3_micro_inline`|`in_drop_in`|
 layers docs/ARCHITECTURE.md s|`in_memory`|`memory`|
 edits crates/rapidhash_portable/must-fail/micro_has_seven_lanes.edit s|rapidhash_v3_micro_inline|rapidhash_v3_m_inline|
 vectors crates/test_replay/data/README.md s|`v3.tsv`|`v5.tsv`|
 statements docs/PROVED.md s|= value form|= value from|
-statements docs/PROVED.md s|`FlagsFailures result|`FlagsFailures answer|
 sizes docs/EXAMPLES.md s/390,451,572/390,451,573/
 clauses docs/api/v3.md 0,/^Proved:.*≡/s|≡|≤|
 pictures docs/images/lanes.svg s|prefers-color-scheme: dark|prefers-color-scheme: light|
@@ -154,6 +160,22 @@ calls docs/api/v3.md $a one more
 version packages/c/rapidhash_c.3 s|Yervound 1.0|Yervound 1.1|
 figures README.md s|<!-- means -->|<!-- means -->9 |
 EDITS
+refuses tests/pages.py <<'EDITS'
+names docs/C.md s|`rapidhash_v3_micro_inline`|`in_drop_in`|
+statements docs/PROVED.md s|`FlagsFailures result|`FlagsFailures answer|
+EDITS
+lints=$(command -v shellcheck && command -v pyflakes3)
+PATH=/usr/bin:/bin refuses tests/style.sh <<EDITS
+columns crates/rapidhash_portable/src/form.rt \$a //$(printf ' %.0s' {1..98})a
+even_lines packages/c/tests/fuzz.c s/^    /\t/
+executable_scripts .ci/skips 1i #!/bin/sh
+verbs crates/rapidhash_portable/src/util.rt 0,/^\/\/\/ Returns/s//\/\/\/ Lanes/
+${lints:+shell_scripts scripts/install \$a cd \$nowhere/}
+${lints:+python_scripts scripts/eraser.py \$a import os}
+EDITS
+for change in 'packages/c/include/rapidhash_c.h /_micro_form_ /s/ 45,/ 44,/' 'tests/formulas/main.rs s/4096/4095/'; do
+  ! has rustc || refuses tests/formulas/formulas.py c_gcc <<<"c_gcc $change"
+done
 
 echo "1..$cases"
 exit "$failed"

@@ -1,7 +1,8 @@
 #!/usr/bin/env python3
 """Compares each implementation of the hashes with the definition as formulas: see tests/formulas/main.rs. The
 definition is the program of crates/test_definitions, which is proved equal to it, without its contracts and over random
-loads and a random product. Fails if their number is not that of the lengths in docs/PROVED.md."""
+loads and a random product. Fails if their number is not that of the lengths in docs/PROVED.md. The arguments select
+subjects, of which all are compared without any."""
 
 import re
 import shutil
@@ -67,6 +68,8 @@ for build in (build_definition, build_crate):
         tell(build.__name__, output[-2000:])
         finish()
 for name, kind, program, build, run in SUBJECTS:
+    if sys.argv[1:] and name not in sys.argv[1:]:
+        continue
     if reason := lacks(*program.split()):
         skip(name, reason)
         continue
