@@ -1,20 +1,15 @@
 #compdef rapidsum
-# Completion of rapidsum for zsh, with the versions in its help. A word that begins with a hyphen names no
-# file but after --.
-local versions=$(_call_program versions rapidsum --help 2>/dev/null | sed -n 's/.*values: \(.*\)]/\1/p')
-_arguments -s -S \
-  '(-a --algorithm)'{-a+,--algorithm=}"[hash with this version]:version:(${versions//,})" \
-  '(-b --binary -t --text)'{-b,--binary}'[print an asterisk before each name]' \
-  '(-c --check)'{-c,--check}'[read checksums from the files and check them]' \
-  '--ignore-missing[do not report missing files]' \
-  '--quiet[do not print OK for files that match]' \
-  '--seed=[make the seed from this number]:number: ' \
-  '--status[do not print results or warnings]' \
-  '--strict[fail if a line is improperly formatted]' \
-  '--tag[print the version in each line]' \
-  '(-b --binary -t --text)'{-t,--text}'[print a space before each name]' \
-  '(-w --warn)'{-w,--warn}'[warn about each improperly formatted line]' \
-  '(-z --zero)'{-z,--zero}'[end each line with NUL]' \
-  '(- : *)'{-h,--help}'[print the help]' \
-  '(- : *)'{-V,--version}'[print the version]' \
-  '*:file:{ [[ $PREFIX == -* && ${words[(Ie)--]} -eq 0 ]] || _files }'
+# Completion of rapidsum for zsh, with the options, their texts and the versions in its help. A word that begins
+# with a hyphen names no file but after --.
+local line match names
+local -a options
+for line in ${(f)"$(_call_program options rapidsum --help 2>/dev/null)"}; do
+  [[ $line =~ '^ +(-(.), )?--([a-z-]+)(=([A-Z]+))? +([^[]*[^ []).*$' ]] || continue
+  names=(${match[2]:+-$match[2]} --$match[3])
+  case $match[3] in
+    help | version) options+=('(- : *)'$^names"[$match[6]]") ;;
+    algorithm) options+=("($names)"{-a+,--algorithm=}"[$match[6]]:version:(${${${line##*values: }%]}//,})") ;;
+    *) options+=("($names)"$^names"${match[4]:+=}[$match[6]]${match[4]:+:$match[5]: }") ;;
+  esac
+done
+_arguments -s -S $options '*:file:{ [[ $PREFIX == -* && ${words[(Ie)--]} -eq 0 ]] || _files }'

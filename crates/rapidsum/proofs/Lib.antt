@@ -1,3 +1,4 @@
+mod Calls
 mod Checks
 mod Lines
 mod Lists

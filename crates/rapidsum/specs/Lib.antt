@@ -1,5 +1,10 @@
 pub mod Algorithm
 pub mod Check
+pub mod Choice
 pub mod Entry
 pub mod Line
 pub mod List
+pub mod Options
+pub mod Parse
+pub mod Seed
+pub mod Style

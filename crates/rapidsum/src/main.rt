@@ -4,6 +4,7 @@
 mod algorithm;
 mod arguments;
 mod check;
+mod choice;
 mod console;
 mod disk;
 mod entry;
@@ -11,15 +12,19 @@ mod line;
 mod list;
 mod names;
 mod options;
+mod parse;
 mod parts;
 mod problem;
 mod runs;
+mod seed;
+mod stop;
 mod store;
 mod sum;
 mod tag;
+mod usage;
 
-use arguments::{strings_of, texts_of};
-use options::command;
+use arguments::arguments_of;
+use parse::parse;
 use problem::Problem;
 use std::process::ExitCode;
 
@@ -29,16 +34,11 @@ const BROKEN_PIPE: u8 = 141;
 // Carries out the request in the arguments. Returns whether all files could be read and all checks
 // passed.
 fn run(rt: &HostRuntime) -> Result<bool, Problem> {
-    let texts = texts_of(rt, rt.alloc())?;
-    let args = strings_of(rt.alloc(), texts.as_slice())?;
-    let matches = match command(rt.alloc())?.try_get_matches_from(args.as_slice()) {
-        Ok(matches) => matches,
-        Err(error) => {
-            error.print(rt).map_err(Problem::Write)?;
-            return Ok(error.exit_code() == 0);
-        }
-    };
-    runs::run_files(rt, &matches)
+    let words = arguments_of(rt, rt.alloc())?;
+    match parse(rt.alloc(), words.as_slice())? {
+        Ok(call) => runs::run_files(rt, &call),
+        Err(stop) => usage::report(rt, &stop),
+    }
 }
 
 fn main(rt: HostRuntime) -> ExitCode {

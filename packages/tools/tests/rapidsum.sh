@@ -29,7 +29,8 @@ run_case() {
   sed -i -E 's/^(\\?)([0-9a-f]{64}|[0-9a-f]{16})( |$)/\1HASH\3/
     s/^(\\?)(SHA256|RAPIDHASH-V3) (.* =) ([0-9a-f]{64}|[0-9a-f]{16})$/\1TAG \3 HASH/' "$room/out.$1"
   sed -i -E 's/^[^ ]*(sha256sum|rapidsum): /sum: /; s/ \(os error [0-9]+\)$//
-    s/ SHA256 / /; s/(write error): .*/\1/; s/^(sum: )'"'(.*)': "'/\1\2: /' "$room/err.$1"
+    s/ SHA256 / /; s/(write error): .*/\1/; s/^(sum: )'"'(.*)': "'/\1\2: /
+    s/^(Try .)(sha256sum|rapidsum)/\1sum/' "$room/err.$1"
 }
 
 # Runs a case with both programs and compares the results: CASE
@@ -95,6 +96,15 @@ case_check_of_an_unreadable_file() { list && chmod 0 first && "${as_user[@]}" "$
 
 for case in $(compgen -A function case_); do
   try "${case#case_}" beside "$case"
+done
+
+# Mistakes that sha256sum knows too.
+# shellcheck disable=SC2086
+with_words() { "$sum" $words first; }
+for words in --bogus --bogus=5 --- -x -bx -b- --tag=5 --version=3 '--tag --text' '--tag -ct' '-z --tag -c' \
+  '--zero -c' '--binary -c' '-t --check' '-tbc' --quiet --status --ignore-missing --strict --warn '--strict --quiet' \
+  '-c --help=1' $'--bog\xff' '--bogus --help'; do
+  try "mistake ${words//[^ -~]/_}" beside with_words
 done
 
 cd "$room" || exit 1
@@ -163,8 +173,8 @@ says check_without_the_seed 'did NOT match' "$program" -c list
 printf 'RAPIDHASH-V9 (first) = a1266b469390773a\n' >list
 says unknown_version_in_a_list 'no properly formatted' "$program" -c list
 
-# Names that are not UTF-8, and one with a character that encodes such a byte. Cargo's build hashes all files. The kit's
-# reports the former and hashes the last, and such a name in a list counts as a file that cannot be read.
+# Names that are not UTF-8, and one that is. Cargo's build hashes all files. The kit's reports the former and hashes the
+# last, and such a name in a list counts as a file that cannot be read.
 names=($'x\xff' $'\xe9t\xe9' $'\xf4\x8f\xbf\xbf')
 for name in "${names[@]}"; do cp first "$name"; done
 printf 'a1266b469390773a  %s\n' "${names[@]}" >wanted
@@ -200,18 +210,63 @@ if [ -n "${BUILT-}" ] && [ -x "$kit" ]; then try pairs_of_words as_by_the_kit; f
 
 # As SIGPIPE does in sha256sum.
 runs closed_pipe 141 '' '' to_a_closed_pipe "$program" first first
-for words in '--tag -c' '--tag --text' '--zero -c' '--binary -c' '--text -c' '-a v9' '--seed=-1' '--seed 1 --seed 2'; do
-  says "refuses ${words// /_}" "for more information, try '--help'" "$program" $words first
-done
 says help_to_a_full_disk 'No space left' to_a_full_disk "$program" --help
 says list_that_is_a_folder '.: Is a directory' "$program" -c .
 says list_of_which_a_read_fails 'list: Input/output error' failing read:error=EIO:when=2 list "$program" -c list
 runs rest_of_a_short_write 0 $'b469390773a  first\n' '' failing write:retval=5:when=1 out "$program" first
-says option_without_check --check "$program" --quiet first
-says unknown_option unknown "$program" --unknown
-says version_in_capitals "invalid value 'V1' for" "$program" -a=V1 first
-says seed_with_an_equals_sign "invalid value '1=2' for" "$program" --seed=1=2 first
-says three_options_in_conflict '^  --check$' "$program" --tag -ct first
+
+# Checks that the words are refused with this message: MESSAGE WORD..
+refuses() {
+  local message=$1
+  shift
+  "$program" "$@" >out 2>"$room/log"
+  [ $? -eq 1 ] && [ ! -s out ] &&
+    printf "rapidsum: %b\nTry 'rapidsum --help' for more information.\n" "$message" | cmp - "$room/log"
+  tell "refuses ${*//[^ -~]/_}" $?
+}
+
+valid='\nValid arguments are: v1, v2.0, v2.1, v2.2, v3, v3-micro, v3-nano'
+refuses "option '--seed' requires an argument" first --seed
+refuses "option '--algorithm' requires an argument" --algorithm
+refuses "option requires an argument -- 'a'" -ba
+refuses "invalid argument 'v9' for '--algorithm'$valid" -a v9
+refuses "invalid argument 'V1' for '--algorithm'$valid" --algorithm=V1 first
+refuses "invalid argument '=v1' for '--algorithm'$valid" -a=v1 first
+refuses "invalid argument '--' for '--algorithm'$valid" -a -- first
+refuses "invalid argument '' for '--algorithm'$valid" --algorithm= first
+for seed in -1 1=2 0x10 '' + 1_0 18446744073709551616; do
+  refuses "invalid seed: '$seed'" --seed="$seed" first
+  refuses "invalid seed: '$seed'" --seed "$seed" first
+done
+for words in '-b -b' '-btb -t -t' '--tag --tag' '-zz' '-cc' '--seed=1 --seed 1' '-av1 -a v1'; do
+  case $words in *b) name=binary ;; *t) name=text ;; *tag) name=tag ;; -z*) name=zero ;; -c*) name=check ;;
+    *seed*) name=seed ;; *) name=algorithm ;; esac
+  # shellcheck disable=SC2086
+  refuses "the --$name option may be given only once" $words first
+done
+refuses "unrecognized option '--ver'" --ver
+refuses "unrecognized option '\\\\--a\\\\nb'" $'--a\nb'
+refuses "unrecognized option '--x\\0377'" $'--x\xff'
+refuses "invalid option -- '\\0377'" $'-z\xff'
+refuses "invalid option -- 'é'" -bé
+
+# Options that are written in other ways.
+for words in '-bz --algorithm v1 --seed 7' '-zba v1 --seed=7' '-bzav1 --seed +7' '--binary --zero --seed=0007 -av1'; do
+  # shellcheck disable=SC2086
+  answers "written as $words" '695efbda9896d6d1 *first\0' '' "$program" $words first
+done
+answers options_after_files 'a1266b469390773a *first\n' '' "$program" first -b
+answers input_among_files 'a1266b469390773a  first\nd961942577685053  -\n' 'else' "$program" first - --
+cp first ./-b && cp first ./--
+answers files_behind_two_hyphens 'a1266b469390773a  -b\na1266b469390773a  --\n' '' "$program" -- -b --
+for words in -h --help '-bh --bogus' '--tag -c --help -x'; do
+  # shellcheck disable=SC2086
+  try "help by $words" bash -c '"$@" | cmp - <("$0" --help)' "$program" "$program" $words
+done
+for words in -V --version '-Vh' '-b --version -x'; do
+  # shellcheck disable=SC2086
+  answers "version by $words" 'rapidsum 1.0\n' '' "$program" $words
+done
 
 # A list larger than the available memory, and the same file as input, which is read in pieces.
 head -c 67108864 /dev/zero | tr '\0' 'x' >large

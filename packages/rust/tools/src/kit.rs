@@ -1,8 +1,7 @@
 //! The parts of the kit's library that Rust's `std` lacks: the system as a value, and allocations that report a failure.
-//! `hex`, `itoa`, and `clap` have the functions of these crates that the programs call.
+//! `hex` and `itoa` have the functions of these crates that the programs call.
 
 pub mod alloc;
-pub mod clap;
 pub mod env;
 pub mod hex;
 

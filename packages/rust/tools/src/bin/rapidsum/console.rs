@@ -21,8 +21,8 @@ pub struct Console<'a> {
     pub options: Options,
 }
 
-// A name as in a line, and a text after it.
-fn with_name(alloc: Global, start: &str, name: &[u8], end: &str) -> Result<Vec<u8>, Problem> {
+/// Returns a name as in a line, and the texts around it.
+pub fn with_name(alloc: Global, start: &str, name: &[u8], end: &str) -> Result<Vec<u8>, Problem> {
     let mut text = Vec::new(alloc);
     text.extend_from_slice(start.as_bytes())?;
     if needs_escape(name) {

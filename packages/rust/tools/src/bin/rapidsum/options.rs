@@ -1,15 +1,28 @@
 // Made by scripts/rust_crate from crates/rapidsum/src/options.rt: change that file.
 
-//! The arguments of the command line.
+//! The options of a call, and which of them exclude each other.
 
 use crate::algorithm::{Algorithm, Version};
+use crate::choice::{Choice, version_named};
 use crate::line::{Layout, Style};
-use rapidhash_tool::kit::clap::{Arg, ArgAction, ArgMatches, Command, ValueParser};
-use rapidhash_tool::kit::alloc::{AllocError, Global};
+use crate::seed::seed_of;
+use crate::stop::Reason;
 
-/// The options of a check.
+/// The options that the arguments choose.
 #[derive(Clone, Copy)]
 pub struct Options {
+    /// The version of `--algorithm`.
+    pub version: Option<Version>,
+    /// The number of `--seed`.
+    pub seed: Option<u64>,
+    /// The layout of `--binary` or `--text`, whichever is last.
+    pub layout: Option<Layout>,
+    /// Prints the version in each line.
+    pub tag: bool,
+    /// Ends each line with a zero byte.
+    pub zero: bool,
+    /// Checks the files in lists.
+    pub check: bool,
     /// Prints no line for a file that has its hash.
     pub quiet: bool,
     /// Prints nothing but errors.
@@ -23,134 +36,185 @@ pub struct Options {
 }
 
 impl Options {
-    /// Returns the options in the arguments.
-    pub fn of(matches: &ArgMatches<'_>) -> Options {
+    /// Returns the options of a call without arguments.
+    pub fn none() -> Options {
         Options {
-            quiet: matches.get_flag("quiet"),
-            status: matches.get_flag("status"),
-            ignore_missing: matches.get_flag("ignore-missing"),
-            strict: matches.get_flag("strict"),
-            warn: matches.get_flag("warn"),
+            version: None,
+            seed: None,
+            layout: None,
+            tag: false,
+            zero: false,
+            check: false,
+            quiet: false,
+            status: false,
+            ignore_missing: false,
+            strict: false,
+            warn: false,
+        }
+    }
+
+    /// Returns the version and the seed.
+    pub fn algorithm(self) -> Algorithm {
+        Algorithm {
+            version: self.version.unwrap_or(Version::V3),
+            seed: self.seed,
+        }
+    }
+
+    /// Returns the layout and the end of a line.
+    pub fn style(self) -> Style {
+        let layout = match self.layout {
+            _ if self.tag => Layout::Tagged,
+            None => Layout::Text,
+            Some(layout) => layout,
+        };
+        Style {
+            layout,
+            zero: self.zero,
+        }
+    }
+
+    /// Returns the options with one more that takes no value.
+    pub fn with_flag(self, choice: Choice) -> Result<Options, Reason> {
+        match choice {
+            Choice::Help => Err(Reason::Help),
+            Choice::Version => Err(Reason::Version),
+            Choice::Algorithm | Choice::Seed => Err(Reason::Repeated),
+            Choice::Check => once(
+                self.check,
+                Options {
+                    check: true,
+                    ..self
+                },
+            ),
+            Choice::Quiet => once(
+                self.quiet,
+                Options {
+                    quiet: true,
+                    ..self
+                },
+            ),
+            Choice::Status => once(
+                self.status,
+                Options {
+                    status: true,
+                    ..self
+                },
+            ),
+            Choice::IgnoreMissing => {
+                let options = Options {
+                    ignore_missing: true,
+                    ..self
+                };
+                once(self.ignore_missing, options)
+            }
+            Choice::Strict => once(
+                self.strict,
+                Options {
+                    strict: true,
+                    ..self
+                },
+            ),
+            Choice::Warn => once(self.warn, Options { warn: true, ..self }),
+            Choice::Tag => once(self.tag, Options { tag: true, ..self }),
+            Choice::Zero => once(self.zero, Options { zero: true, ..self }),
+            Choice::Binary => once(self.is_binary(), self.with_layout(Layout::Binary)),
+            Choice::Text => once(self.is_text(), self.with_layout(Layout::Text)),
+        }
+    }
+
+    /// Returns the options with the version or the seed that a value names.
+    pub fn with_value(self, choice: Choice, value: &[u8]) -> Result<Options, Reason> {
+        if choice.is_algorithm() {
+            self.with_version(version_named(value))
+        } else {
+            self.with_seed(seed_of(value))
+        }
+    }
+
+    fn with_version(self, version: Option<Version>) -> Result<Options, Reason> {
+        match version {
+            None => Err(Reason::InvalidVersion),
+            Some(_) if self.version.is_some() => Err(Reason::Repeated),
+            Some(_) => Ok(Options { version, ..self }),
+        }
+    }
+
+    fn with_seed(self, seed: Option<u64>) -> Result<Options, Reason> {
+        match seed {
+            None => Err(Reason::InvalidSeed),
+            Some(_) if self.seed.is_some() => Err(Reason::Repeated),
+            Some(_) => Ok(Options { seed, ..self }),
+        }
+    }
+
+    fn with_layout(self, layout: Layout) -> Options {
+        Options {
+            layout: Some(layout),
+            ..self
+        }
+    }
+
+    fn is_binary(self) -> bool {
+        matches!(self.layout, Some(Layout::Binary))
+    }
+
+    fn is_text(self) -> bool {
+        matches!(self.layout, Some(Layout::Text))
+    }
+
+    // Returns the first option that requires `--check`, in the order of sha256sum.
+    fn of_check(self) -> Option<Choice> {
+        if self.ignore_missing {
+            Some(Choice::IgnoreMissing)
+        } else if self.status {
+            Some(Choice::Status)
+        } else if self.warn {
+            Some(Choice::Warn)
+        } else if self.quiet {
+            Some(Choice::Quiet)
+        } else if self.strict {
+            Some(Choice::Strict)
+        } else {
+            None
+        }
+    }
+
+    // Returns the first option that excludes `--check`, in the order of sha256sum.
+    fn of_sums(self) -> Option<(Reason, Choice)> {
+        if self.zero {
+            Some((Reason::ZeroWithCheck, Choice::Zero))
+        } else if self.tag {
+            Some((Reason::TagWithCheck, Choice::Tag))
+        } else if self.layout.is_some() {
+            Some((Reason::LayoutWithCheck, Choice::Binary))
+        } else {
+            None
+        }
+    }
+
+    /// Returns why the options exclude each other, and an option at fault. An option of a check is
+    /// ignored without `--check` beside an option that excludes `--check`.
+    pub fn conflict(self) -> Option<(Reason, Choice)> {
+        if self.tag && self.is_text() {
+            return Some((Reason::TagWithText, Choice::Tag));
+        }
+        let excluded = self.of_sums();
+        if self.check || excluded.is_some() {
+            return if self.check { excluded } else { None };
+        }
+        match self.of_check() {
+            Some(choice) => Some((Reason::OnlyWithCheck, choice)),
+            None => None,
         }
     }
 }
 
-// The versions in the arguments.
-static NAMES: [&str; 7] = ["v1", "v2.0", "v2.1", "v2.2", "v3", "v3-micro", "v3-nano"];
-
-fn version_named(name: &str) -> Version {
-    match name {
-        "v1" => Version::V1,
-        "v2.0" => Version::V2Minor0,
-        "v2.1" => Version::V2Minor1,
-        "v2.2" => Version::V2Minor2,
-        "v3-micro" => Version::V3Micro,
-        "v3-nano" => Version::V3Nano,
-        _ => Version::V3,
-    }
-}
-
-/// Returns the version and the seed that the arguments choose.
-pub fn algorithm_of(matches: &ArgMatches<'_>) -> Algorithm {
-    Algorithm {
-        version: version_named(matches.get_str("algorithm").unwrap_or("v3")),
-        seed: matches.get_one("seed"),
-    }
-}
-
-/// Returns the layout of a line that the arguments choose.
-pub fn style_of(matches: &ArgMatches<'_>) -> Style {
-    let layout = if matches.get_flag("tag") {
-        Layout::Tagged
-    } else if matches.get_flag("binary") {
-        Layout::Binary
+// Returns the options unless one of them was there already.
+fn once(is_there: bool, options: Options) -> Result<Options, Reason> {
+    if is_there {
+        Err(Reason::Repeated)
     } else {
-        Layout::Text
-    };
-    let zero = matches.get_flag("zero");
-    Style { layout, zero }
-}
-
-fn flag<'a>(alloc: Global, name: &'a str, help: &'a str) -> Arg<'a> {
-    Arg::new(alloc, name)
-        .long(name)
-        .action(ArgAction::SetTrue)
-        .help(help)
-}
-
-// The flags of a check, each with its line of the help.
-const CHECK_FLAGS: [(&str, &str); 5] = [
-    ("quiet", "Don't print OK for each file that matches"),
-    ("status", "Don't print anything but errors"),
-    (
-        "ignore-missing",
-        "Don't fail or report a status for missing files",
-    ),
-    ("strict", "Fail if a line is improperly formatted"),
-    ("warn", "Warn about each improperly formatted line"),
-];
-
-// Returns a flag of a check.
-fn check_flag<'a>(alloc: Global, name: &'a str, help: &'a str) -> Result<Arg<'a>, AllocError> {
-    let it = flag(alloc, name, help).requires_arg("check")?;
-    Ok(if name == "warn" { it.short('w') } else { it })
-}
-
-// Adds the options for the layout of a line.
-fn with_styles<'a>(alloc: Global, command: Command<'a>) -> Result<Command<'a>, AllocError> {
-    let binary = flag(alloc, "binary", "Print an asterisk before each name")
-        .short('b')
-        .overrides_with("text")?
-        .conflicts_with("check")?;
-    let text = flag(alloc, "text", "Print a space before each name (default)")
-        .short('t')
-        .conflicts_with("check")?
-        .conflicts_with("tag")?;
-    let tag = flag(
-        alloc,
-        "tag",
-        "Print the version in each line, as in BSD checksums",
-    )
-    .conflicts_with("check")?;
-    let zero = flag(
-        alloc,
-        "zero",
-        "End each line with NUL, and don't escape names",
-    )
-    .short('z')
-    .conflicts_with("check")?;
-    command.arg(binary)?.arg(text)?.arg(tag)?.arg(zero)
-}
-
-/// Returns the command line.
-pub fn command<'a>(alloc: Global) -> Result<Command<'a>, AllocError> {
-    let algorithm = Arg::new(alloc, "algorithm")
-        .short('a')
-        .long("algorithm")
-        .value_name("VERSION")
-        .value_parser(NAMES.as_slice())
-        .default_value("v3")
-        .help("Hash with this version");
-    let seed = Arg::new(alloc, "seed")
-        .long("seed")
-        .value_name("NUMBER")
-        .value_parser(ValueParser::Number)
-        .help("Hash with the seed made from this number");
-    let check = flag(
-        alloc,
-        "check",
-        "Read checksums from the FILEs and check them",
-    );
-    let mut command = Command::new(alloc, "rapidsum")
-        .version("1.0")
-        .about("Print or check rapidhash checksums")
-        .arg(algorithm)?
-        .arg(seed)?
-        .arg(check.short('c'))?;
-    for (name, help) in CHECK_FLAGS {
-        command = command.arg(check_flag(alloc, name, help)?)?;
+        Ok(options)
     }
-    command = with_styles(alloc, command)?;
-    let files = Arg::new(alloc, "FILE").num_args(0..);
-    command.arg(files.help("Files to read (- for standard input)"))
 }

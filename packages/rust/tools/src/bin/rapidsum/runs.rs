@@ -4,52 +4,47 @@
 
 use rapidhash_tool::kit::HostRuntime;
 use rapidhash_tool::kit::Vec;
-use crate::algorithm::Algorithm;
-use crate::arguments::bytes_of;
 use crate::check::{Verdict, check_entries};
 use crate::console::Console;
 use crate::disk::Disk;
-use crate::line::Style;
 use crate::list::read_list;
-use crate::options::{Options, algorithm_of, style_of};
+use crate::parse::Call;
 use crate::problem::Problem;
 use crate::store::Store;
 use crate::sum::write_sum;
-use rapidhash_tool::kit::clap::ArgMatches;
 use rapidhash_tool::kit::alloc::Global;
 use std::io;
 
-/// Prints or checks the files that the arguments name, or standard input if they name none. Returns
-/// whether all files could be read and all checks passed.
-pub fn run_files(rt: &HostRuntime, matches: &ArgMatches<'_>) -> Result<bool, Problem> {
-    let options = Options::of(matches);
-    let (algorithm, style) = (algorithm_of(matches), style_of(matches));
-    let checks = matches.get_flag("check");
+/// Prints or checks the files of a call, or standard input if it names none. Returns whether all
+/// files could be read and all checks passed.
+pub fn run_files(rt: &HostRuntime, call: &Call<'_, Global>) -> Result<bool, Problem> {
+    let options = call.options;
     let mut console = Console { rt, options };
+    let disk = Disk::new(rt);
+    if call.files.is_empty() {
+        return run_file(&mut console, &disk, b"-");
+    }
     let mut passed = true;
-    let names = matches.get_strs("FILE").unwrap_or(&["-"]);
-    for name in names {
-        let name = bytes_of(rt.alloc(), name)?;
-        let done = if checks {
-            check_list(&mut console, name.as_slice(), algorithm)
-        } else {
-            print_sum(&console, name.as_slice(), algorithm, style)
-        };
-        passed = done? && passed;
+    for name in &call.files {
+        passed = run_file(&mut console, &disk, name)? && passed;
     }
     Ok(passed)
 }
 
+// Prints or checks a file.
+fn run_file(console: &mut Console<'_>, disk: &Disk<'_>, name: &[u8]) -> Result<bool, Problem> {
+    if console.options.check {
+        check_list(console, disk, name)
+    } else {
+        print_sum(console, disk, name)
+    }
+}
+
 // Prints the line of a file, or reports why it cannot be read.
-fn print_sum(
-    console: &Console<'_>,
-    name: &[u8],
-    algorithm: Algorithm,
-    style: Style,
-) -> Result<bool, Problem> {
-    let rt = console.rt;
-    let (disk, mut out) = (Disk::new(rt), rt.stdout());
-    match write_sum(rt.alloc(), &disk, name, algorithm, style, &mut out) {
+fn print_sum(console: &Console<'_>, disk: &Disk<'_>, name: &[u8]) -> Result<bool, Problem> {
+    let (rt, options) = (console.rt, console.options);
+    let (algorithm, style, mut out) = (options.algorithm(), options.style(), rt.stdout());
+    match write_sum(rt.alloc(), disk, name, algorithm, style, &mut out) {
         Ok(()) => Ok(true),
         Err(Problem::Read(error)) => {
             console.complain_of(name, error)?;
@@ -67,10 +62,9 @@ fn read_whole(alloc: Global, disk: &Disk<'_>, name: &[u8]) -> io::Result<Vec<u8>
 }
 
 // Checks the files of the list with this name.
-fn check_list(console: &mut Console<'_>, name: &[u8], given: Algorithm) -> Result<bool, Problem> {
-    let rt = console.rt;
-    let disk = Disk::new(rt);
-    let text = match read_whole(rt.alloc(), &disk, name) {
+fn check_list(console: &mut Console<'_>, disk: &Disk<'_>, name: &[u8]) -> Result<bool, Problem> {
+    let (rt, given) = (console.rt, console.options.algorithm());
+    let text = match read_whole(rt.alloc(), disk, name) {
         Ok(text) => text,
         Err(error) => {
             console.complain_of(name, error)?;
@@ -85,7 +79,7 @@ fn check_list(console: &mut Console<'_>, name: &[u8], given: Algorithm) -> Resul
     }
     let ignore_missing = console.options.ignore_missing;
     let entries = list.entries.as_slice();
-    let checked = check_entries(rt.alloc(), entries, &disk, given, ignore_missing, console)?;
+    let checked = check_entries(rt.alloc(), entries, disk, given, ignore_missing, console)?;
     let same = checked.count(Verdict::Same);
     console.warn_of_verdicts(name, &list, &checked)?;
     let well_formed = list.malformed.is_empty() || !console.options.strict;

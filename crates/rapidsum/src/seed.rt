@@ -1,0 +1,35 @@
+//! Seeds as decimal numbers.
+
+ghost use Rattle.std.specs.Prelude.{◌≡◌};
+ghost use Rattle.rapidsum.specs.Seed.{number_from, seed_of};
+
+// Returns the number that decimal digits represent, if it has at most 64 bits.
+#[tactic(auto, unfolding(crate::specs::Seed::number_from))]
+fn number_of(digits: &[u8]) -> Option<u64>
+    ensures { result ≡ number_from 0 digits.now }
+{
+    let mut number = 0u64;
+    for byte in digits {
+        if !byte.is_ascii_digit() {
+            return None;
+        }
+        let digit = u64::from(*byte - b'0');
+        number = number.checked_mul(10)?.checked_add(digit)?;
+    }
+    Some(number)
+}
+
+/// Returns the number that a text represents: decimal digits, after a plus sign or not.
+pub fn seed_of(text: &[u8]) -> Option<u64>
+    ensures { result ≡ seed_of text.now }
+{
+    let digits = match text {
+        [b'+', digits @ ..] => digits,
+        _ => text,
+    };
+    if digits.is_empty() {
+        None
+    } else {
+        number_of(digits)
+    }
+}

@@ -1,0 +1,171 @@
+// Made by scripts/rust_crate from crates/rapidsum/src/choice.rt: change that file.
+
+//! The options and versions by their names.
+
+use crate::algorithm::Version;
+
+/// An option of the command line.
+#[derive(Clone, Copy, PartialEq, Eq)]
+pub enum Choice {
+    Algorithm,
+    Seed,
+    Check,
+    Quiet,
+    Status,
+    IgnoreMissing,
+    Strict,
+    Warn,
+    Binary,
+    Text,
+    Tag,
+    Zero,
+    Help,
+    Version,
+}
+
+/// The spelling of an option.
+#[derive(Clone, Copy)]
+pub struct Spelling {
+    /// The letter after a hyphen, or nothing.
+    pub letter: &'static str,
+    /// The name after two hyphens.
+    pub name: &'static str,
+    /// The name of the value in the help, or nothing if the option takes no value.
+    pub value: &'static str,
+}
+
+fn spelled(letter: &'static str, name: &'static str, value: &'static str) -> Spelling {
+    Spelling {
+        letter,
+        name,
+        value,
+    }
+}
+
+impl Choice {
+    /// Returns all options, in the order of the help.
+    pub fn all() -> [Choice; 14] {
+        [
+            Choice::Algorithm,
+            Choice::Seed,
+            Choice::Check,
+            Choice::Quiet,
+            Choice::Status,
+            Choice::IgnoreMissing,
+            Choice::Strict,
+            Choice::Warn,
+            Choice::Binary,
+            Choice::Text,
+            Choice::Tag,
+            Choice::Zero,
+            Choice::Help,
+            Choice::Version,
+        ]
+    }
+
+    /// Returns the spelling.
+    pub fn spelling(self) -> Spelling {
+        match self {
+            Choice::Algorithm => spelled("a", "algorithm", "VERSION"),
+            Choice::Seed => spelled("", "seed", "NUMBER"),
+            Choice::Check => spelled("c", "check", ""),
+            Choice::Quiet => spelled("", "quiet", ""),
+            Choice::Status => spelled("", "status", ""),
+            Choice::IgnoreMissing => spelled("", "ignore-missing", ""),
+            Choice::Strict => spelled("", "strict", ""),
+            Choice::Warn => spelled("w", "warn", ""),
+            Choice::Binary => spelled("b", "binary", ""),
+            Choice::Text => spelled("t", "text", ""),
+            Choice::Tag => spelled("", "tag", ""),
+            Choice::Zero => spelled("z", "zero", ""),
+            Choice::Help => spelled("h", "help", ""),
+            Choice::Version => spelled("V", "version", ""),
+        }
+    }
+
+    /// Returns the text in the help.
+    pub fn help(self) -> &'static str {
+        match self {
+            Choice::Algorithm => "Hash with this version [default: v3]",
+            Choice::Seed => "Hash with the seed made from this number",
+            Choice::Check => "Read checksums from the FILEs and check them",
+            Choice::Quiet => "Don't print OK for each file that matches",
+            Choice::Status => "Don't print anything but errors",
+            Choice::IgnoreMissing => "Don't fail or report a status for missing files",
+            Choice::Strict => "Fail if a line is improperly formatted",
+            Choice::Warn => "Warn about each improperly formatted line",
+            Choice::Binary => "Print an asterisk before each name",
+            Choice::Text => "Print a space before each name (default)",
+            Choice::Tag => "Print the version in each line, as in BSD checksums",
+            Choice::Zero => "End each line with NUL, and don't escape names",
+            Choice::Help => "Print help",
+            Choice::Version => "Print version",
+        }
+    }
+
+    /// Returns whether this is `--algorithm`.
+    pub fn is_algorithm(self) -> bool {
+        matches!(self, Choice::Algorithm)
+    }
+
+    /// Returns whether an option takes a value.
+    pub fn takes_value(self) -> bool {
+        matches!(self, Choice::Algorithm | Choice::Seed)
+    }
+
+    /// Returns the option with a name.
+    pub fn named(name: &[u8]) -> Option<Choice> {
+        for choice in Choice::all() {
+            if choice.spelling().name.as_bytes() == name {
+                return Some(choice);
+            }
+        }
+        None
+    }
+
+    /// Returns the option with a letter.
+    pub fn lettered(letter: u8) -> Option<Choice> {
+        for choice in Choice::all() {
+            if choice.spelling().letter.as_bytes() == [letter].as_slice() {
+                return Some(choice);
+            }
+        }
+        None
+    }
+}
+
+/// Returns all versions.
+pub fn versions() -> [Version; 7] {
+    [
+        Version::V1,
+        Version::V2Minor0,
+        Version::V2Minor1,
+        Version::V2Minor2,
+        Version::V3,
+        Version::V3Micro,
+        Version::V3Nano,
+    ]
+}
+
+/// Returns the name of a version.
+pub fn version_name(version: Version) -> &'static str {
+    match version {
+        Version::V1 => "v1",
+        Version::V2Minor0 => "v2.0",
+        Version::V2Minor1 => "v2.1",
+        Version::V2Minor2 => "v2.2",
+        Version::V3 => "v3",
+        Version::V3Micro => "v3-micro",
+        Version::V3Nano => "v3-nano",
+    }
+}
+
+/// Returns the version with a name.
+pub fn version_named(name: &[u8]) -> Option<Version> {
+    for version in versions() {
+        if version_name(version).as_bytes() == name {
+            return Some(version);
+        }
+    }
+    None
+}
