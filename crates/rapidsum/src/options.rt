@@ -231,10 +231,8 @@ impl Options {
         if self.check || excluded.is_some() {
             return if self.check { excluded } else { None };
         }
-        match self.of_check() {
-            Some(choice) => Some((Reason::OnlyWithCheck, choice)),
-            None => None,
-        }
+        let choice = self.of_check()?;
+        Some((Reason::OnlyWithCheck, choice))
     }
 }
 

@@ -1,6 +1,7 @@
 // Made by scripts/rust_crate from crates/rapidsum/src/choice.rt: change that file.
 
 //! The options and versions by their names.
+#![allow(clippy::manual_find)]
 
 use crate::algorithm::Version;
 
