@@ -3,7 +3,7 @@ use denote.Ref.{Bor}
 use Rattle.std.proofs.Common.{◌≡◌, ℕ, ◌+◌, ◌<◌, ◌≤◌, true, false, List, [], ◌∷◌, ◌++◌, length, get_or, drop, map, Vec, vec_items, Ok, Err, refl, ap, sym, ◌∙◌}
 use Rattle.std.proofs.lemmas.List.{drop_more, drop_all, map-append}
 use Rattle.rapidsum.specs.declared.options.Options.{Options}
-use Rattle.rapidsum.specs.declared.parse.State.{State}
+use Rattle.rapidsum.specs.declared.state.State.{State}
 use Rattle.rapidsum.specs.declared.stop.Reason.{Reason}
 use Rattle.rapidsum.specs.Parse.{Or, after_by, call_from, finish_by, is_file}
 

@@ -5,9 +5,9 @@ use Rattle.rapidsum.specs.Options.{conflict, none, with_flag, with_value}
 use Rattle.rapidsum.specs.declared.choice.Choice.{Choice}
 use Rattle.rapidsum.specs.declared.options.Options.{Options}
 use Rattle.rapidsum.specs.declared.parse.Call.{Call}
-use Rattle.rapidsum.specs.declared.parse.Next.{Next}
-use Rattle.rapidsum.specs.declared.parse.Next.TheVariants.{Any, File, LetterValue, NameValue}
-use Rattle.rapidsum.specs.declared.parse.State.{State}
+use Rattle.rapidsum.specs.declared.state.Next.{Next}
+use Rattle.rapidsum.specs.declared.state.Next.TheVariants.{Any, File, LetterValue, NameValue}
+use Rattle.rapidsum.specs.declared.state.State.{State}
 use Rattle.rapidsum.specs.declared.stop.Reason.{Reason}
 use Rattle.rapidsum.specs.declared.stop.Reason.TheVariants.{NoValueOfLetter, NoValueOfName, Repeated, UnexpectedValue, UnknownLetter, UnknownName}
 use Rattle.rapidsum.specs.declared.stop.Stop.{Stop}

@@ -19,6 +19,7 @@ mod parts;
 mod problem;
 mod runs;
 mod seed;
+mod state;
 mod stop;
 mod store;
 mod sum;

@@ -1,6 +1,6 @@
 use Rattle.std.proofs.Common.{◌≡◌, length}
 use Rattle.rapidsum.specs.Parse.{after_letters}
-use Rattle.rapidsum.proofs.parse.State.after_letters.Given as goal
+use Rattle.rapidsum.proofs.state.State.after_letters.Given as goal
 
 -- the letters that are left lead from this state where all of them lead from the first
 abbrev pub invariant-loop-rest : goal.invariant-loop-rest
