@@ -21,14 +21,16 @@ ends() {
   [ "$status" = "$1" ] && [ "$(grep -v '^# ' "$room/said")" = "$2" ] && { [ "$1" -eq 0 ] || grep -q '^# ' "$room/said"; }
 }
 
-# Runs tests/release/must_fail.py over an edit of which the checker says this, and compares its first line: LINE SAID
+# Runs tests/release/must_fail.py over an edit of which the checker says this, and perhaps over its twin, and compares its
+# first line: LINE SAID [SAID-OF-THE-TWIN]
 edit_ends() {
   rm -rf "$room/edits" && mkdir -p "$room"/edits/{crates/one/{must-fail,src},tests/release,bin} && cd "$room/edits" &&
     touch crates.txt HANDLES && cp "$top/tests/cases.py" tests && cp "$top/tests/release/must_fail.py" tests/release &&
     echo '{ 1 }' >crates/one/src/lib.rt &&
     printf '%s\n' 'refused: f, goal' 'file: src/lib.rt' 'old: { 1 }' 'new: { 2 }' >crates/one/must-fail/a.edit &&
-    printf '#!/bin/sh\ngrep -q "{ 2 }" src/lib.rt && echo "fn one::f: $SAID"\n' >bin/rt && chmod +x bin/rt &&
-    SAID=$2 PATH=$PWD/bin:$PATH python3 tests/release/must_fail.py >../said
+    { [ -z "${3-}" ] || sed 's/refused: f, goal/proved: f/; s/{ 2 }/{ 3 }/' crates/one/must-fail/a.edit >crates/one/must-fail/a.twin; } &&
+    printf '#!/bin/sh\ngrep -q "{ 2 }" src/lib.rt && echo "fn one::f: $SAID"\ngrep -q "{ 3 }" src/lib.rt && echo "fn one::f: $TWIN"\n' \
+      >bin/rt && chmod +x bin/rt && SAID=$2 TWIN=${3-} PATH=$PWD/bin:$PATH python3 tests/release/must_fail.py >../said
   [ "$?:$(head -n 1 "$room/said")" = "$(($(grep -c ^not <<<"$1"))):$1 - one/a" ]
 }
 
@@ -98,6 +100,8 @@ assert [run("", "", {it: new}) for it, new in changed] == [0, 1, 1, 1]'
 for said in 'ok:not proved: `goal`' 'not ok:not proved: `other`' 'not ok:proved: `goal`'; do
   try "edit_of_which_the_checker_says ${said#*:}" edit_ends "${said%%:*}" "${said#*:}"
 done
+try an_edit_with_a_twin edit_ends ok 'not proved: `goal`' proved
+try an_edit_whose_twin_is_refused edit_ends 'not ok' 'not proved: `goal`' 'not proved: `goal`'
 two_cases='printf "ok - a\nok - b\n1..2\n"'
 try a_gate gate_ends '6 passed, 0 failed' "$two_cases"
 try a_gate_with_a_failure gate_ends '5 passed, 1 failed' 'printf "ok - a\nnot ok - b\n1..2\n"'

@@ -3,7 +3,9 @@
 goal that the edit names. The arguments are crates; without any, it tries all. `rt ci` tries each edit too, but only
 looks whether it is refused. With the variable VERBOSE, also prints the checker's messages.
 
-The first line of an edit is `# refused: FUNCTION, GOAL`, a comment for `rt`."""
+The first line of an edit is `# refused: FUNCTION, GOAL`, a comment for `rt`. An edit may have a twin, NAME.twin with the
+first line `# proved: FUNCTION`: another text of the same place, which means what the source means. The checker must
+prove it. So the edit is refused for its meaning, and not because a stored answer fits a single text."""
 
 import os
 import re
@@ -62,13 +64,24 @@ def said_of(function, output):
     return ""
 
 
-def finding(edit):
-    """Returns how the function's verdict differs from the expected refusal, or an empty string."""
-    folder, function, goal = applied(edit)
+def verdict_of(edit):
+    """Applies an edit, and returns its function, its goal if it has one, and what the checker says of the function."""
+    folder, function, *goal = applied(edit)
     said = said_of(function, shell(f"rt check --jobs 1 --only '{function}'", folder)[1])
     shutil.rmtree(folder.parent.parent)
     if "VERBOSE" in os.environ:
-        print(f"{folder.name}/{edit.stem}: {said}", file=sys.stderr)
+        print(f"{folder.name}/{edit.name}: {said}", file=sys.stderr)
+    return function, "".join(goal), said
+
+
+def finding(edit):
+    """Returns how the function's verdict differs from the expected refusal, or an empty string."""
+    twin = edit.with_suffix(".twin")
+    if twin.exists():
+        function, _, said = verdict_of(twin)
+        if not said.startswith("proved"):
+            return f"the twin is not proved at {function}: {said or 'the check says nothing of it'}"
+    function, goal, said = verdict_of(edit)
     if not said.startswith(("no proof", "not proved")):
         return f"{function} is not refused: {said or 'the check says nothing of it'}"
     return "" if f"`{goal}`" in said else f"{function} is refused, but not at {goal}: {said}"

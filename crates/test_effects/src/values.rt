@@ -1,6 +1,9 @@
 //! Known values that no data file has: reads, products, secrets, hashes with default secrets.
 
-use crate::counts::{after_one_piece, after_single_bytes, after_two_pieces};
+use crate::counts::{
+    counts_of_five, counts_of_seven, counts_of_seven_by_bytes, counts_of_seven_by_two,
+    counts_of_three,
+};
 use rapidhash_portable::seeding::{GlobalSecrets, SeedSource};
 use rapidhash_portable::util::{rapid_mix, rapid_mum, read_u32, read_u32_combined, read_u64};
 use rapidhash_portable::{v1, v2, v3};
@@ -107,14 +110,14 @@ fn hashes_with_default_secrets(rt: HostRuntime) {
 fn counted_hashers_hash(rt: HostRuntime) {
     let secrets = v3::DEFAULT_RAPID_SECRETS;
     let bytes = [7; 241];
-    let seven = after_one_piece::<7>(&secrets, &bytes).finish();
+    let seven = counts_of_seven(&secrets, &bytes).finish();
     assert!(rt; seven == v3::rapidhash_v3(&bytes));
-    let by_bytes = after_single_bytes::<7>(&secrets, &bytes).finish();
+    let by_bytes = counts_of_seven_by_bytes(&secrets, &bytes).finish();
     assert!(rt; by_bytes == seven);
-    let by_two = after_two_pieces::<7>(&secrets, &bytes[..112], &bytes[112..]).finish();
+    let by_two = counts_of_seven_by_two(&secrets, &bytes[..112], &bytes[112..]).finish();
     assert!(rt; by_two == seven);
-    let five = after_single_bytes::<5>(&secrets, &bytes).finish();
+    let five = counts_of_five(&secrets, &bytes).finish();
     assert!(rt; five == v3::rapidhash_v3_micro_inline::<true, false>(&bytes, &secrets));
-    let three = after_one_piece::<3>(&secrets, &bytes).finish();
+    let three = counts_of_three(&secrets, &bytes).finish();
     assert!(rt; three == v3::rapidhash_v3_nano_inline::<true, false>(&bytes, &secrets));
 }

@@ -39,8 +39,8 @@ fn test_hashmap_with_capacity(rt: HostRuntime) -> Result<(), Fail> {
     let secrets = GlobalSecrets::new(1);
     let mut source = SeedSource::new(&secrets, 2);
     let state = fast::RandomState::new(&secrets, &mut source);
-    let mut map: RapidHashMap<&str, &str, _> = HashMapExt::with_capacity(rt.alloc(), 9, state)?;
-    assert!(rt; map.is_empty() && map.capacity() >= 9);
+    let mut map: RapidHashMap<&str, &str, _> = HashMapExt::with_capacity(rt.alloc(), 10, state)?;
+    assert!(rt; map.is_empty() && map.capacity() >= 10);
     let _ = map.insert("key", "value")?;
     assert!(rt; map.get("key") == Some(&"value"));
     assert!(rt; map.get("na").is_none());
@@ -52,8 +52,8 @@ fn test_hashset_with_capacity(rt: HostRuntime) -> Result<(), Fail> {
     let secrets = GlobalSecrets::new(1);
     let mut source = SeedSource::new(&secrets, 2);
     let state = fast::RandomState::new(&secrets, &mut source);
-    let mut set: RapidHashSet<&str, _> = HashSetExt::with_capacity(rt.alloc(), 9, state)?;
-    assert!(rt; set.is_empty() && set.capacity() >= 9);
+    let mut set: RapidHashSet<&str, _> = HashSetExt::with_capacity(rt.alloc(), 10, state)?;
+    assert!(rt; set.is_empty() && set.capacity() >= 10);
     let _ = set.insert("value")?;
     assert!(rt; set.contains("value"));
     assert!(rt; !set.contains("na"));
