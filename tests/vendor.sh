@@ -46,8 +46,10 @@ vendored() {
 says_that_it_has_changes() {
   touch "$library/crates/rapidhash/src/new.rt" && "$vendor" "$room/a folder" && vendored ', with changes' &&
     rm "$library/crates/rapidhash/src/new.rt" || return 1
-  echo '// changed' >>"$library/crates/rapidhash/src/lib.rt"
-  "$vendor" "$room/a folder" && vendored ', with changes' && is_copy "$room/a folder"
+  for crate in rapidhash_portable rapidhash; do
+    echo '// changed' >>"$library/crates/$crate/src/lib.rt" && "$vendor" "$room/a folder" && vendored ', with changes' &&
+      is_copy "$room/a folder" && git -C "$library" checkout -q crates || return 1
+  done
 }
 
 replaces_a_copy() {

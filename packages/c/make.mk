@@ -1,7 +1,7 @@
 # The C library: the kit's archive and a shared library linked from it, or both from the header, by cc.
 ifeq ($(kit),)
 CFLAGS ?= -O2
-build/header/rapidhash_c.o: packages/c/rapidhash_c.c packages/c/include/rapidhash_c.h
+build/header/rapidhash_c.o: packages/c/rapidhash_c.c packages/c/include/rapidhash_c.h packages/c/make.mk
 	@$(unproved)
 	@mkdir -p build/header
 	@$(CC) -std=c99 -fPIC $(CPPFLAGS) $(CFLAGS) -Ipackages/c/include -c $< -o $@

@@ -6,7 +6,8 @@ wasm: $(module)
 npm: $(package)
 
 # The linker is called by itself, because clang would run wasm-opt if it is installed.
-$(module): packages/javascript/rapidhash.c packages/javascript/string.h packages/c/include/rapidhash_c.h
+$(module): packages/javascript/rapidhash.c packages/javascript/string.h packages/c/include/rapidhash_c.h \
+    packages/javascript/make.mk
 	@for program in clang wasm-ld; do command -v $$program >/dev/null || \
 	  { echo "make: $$program, of clang and lld, is not on PATH" >&2; exit 2; }; done
 	@mkdir -p build

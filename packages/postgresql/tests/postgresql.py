@@ -19,7 +19,7 @@ PAGE = "packages/postgresql/README.md"
 # The directory of its databases, which also contains its socket.
 DATA = ROOM / "data"
 NOBODY = "setpriv --reuid=65534 --regid=65534 --clear-groups " if os.geteuid() == 0 else ""
-FUNCTIONS = """SELECT prokind, proisstrict, count(*), bool_and(provolatile = 'i' AND proparallel = 's')
+FUNCTIONS = """SELECT prokind, proisstrict, count(*), count(*) FILTER (WHERE proargnames && '{seed,number}'), bool_and(provolatile = 'i' AND proparallel = 's')
     FROM pg_proc WHERE proname LIKE 'rapidhash%' GROUP BY 1, 2 ORDER BY 1, 2"""
 STORED = """CREATE TABLE stored (word text); ALTER TABLE stored ALTER word SET STORAGE {0};
     INSERT INTO stored SELECT repeat('hello', {1}); SELECT rapidhash_v3(word) = rapidhash_v3(repeat('hello', {1})),
@@ -102,7 +102,7 @@ def aggregates():
 
 def rest():
     # The calls and rapidhash_hex, the aggregates, and the functions that these are made of.
-    compare("functions", ask(FUNCTIONS), ["a|f|18|t", "f|f|19|t", "f|t|73|t"])
+    compare("functions", ask(FUNCTIONS), ["a|f|18|9|t", "f|f|19|9|t", "f|t|73|48|t"])
     for query, wanted in lines_with_results(PAGE):
         compare(query, ask(query), [wanted])
     [query] = re.findall(r"^SELECT .*_agg.*;$", blocks(PAGE, "sql")[0], re.M)

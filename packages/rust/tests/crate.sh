@@ -87,6 +87,21 @@ drops_in() {
     (cd "$project" && tests_pass cargo test --test drop_in)
 }
 
+# Builds packages/rust/compat as a dependency with features and without the default ones: FEATURE..
+builds_compat() {
+  local project=$room/compat
+  mkdir -p "$project/src" && echo 'pub use rapidhash::v3::rapidhash_v3;' >"$project/src/lib.rs" &&
+    printf '%s\n' '[package]' 'name = "first"' 'version = "0.0.0"' 'edition = "2021"' '[dependencies.rapidhash]' \
+      "path = \"$top/packages/rust/compat\"" 'default-features = false' "features = [$(printf '"%s", ' "$@")]" \
+      >"$project/Cargo.toml" && (cd "$project" && RUSTFLAGS='-D warnings' cargo check)
+}
+
+# Checks that compat has each feature of the crate rapidhash 4.5.1, of which `rand` is `rng` with the random words of std.
+has_its_features() {
+  sed -n '/^\[features\]/,$ s/ = .*//p' compat/Cargo.toml | sort | diff - <(printf '%s\n' default getrandom_03 \
+    getrandom_04 nightly rand rng rng_06 std unsafe)
+}
+
 needs cargo rustc
 cd "$top/packages/rust" || exit 1
 try_with current rustfmt "$top/scripts/rust_crate" --check
@@ -109,6 +124,10 @@ if [ "$(command -v rustc)" = /usr/bin/rustc ]; then
 else
   try_with drop_in "$(printf '/usr/share/cargo/registry/%s ' rand_core-0.6\* hashbrown-0.12\* indexmap-1\*)" drops_in
 fi
+try features_of_compat has_its_features
+for features in nightly std 'std unsafe getrandom_03 getrandom_04'; do
+  try "compat_with_$features" builds_compat $features
+done
 try features_of_the_compiler finds_its_features
 try no_dependency bash -c '[ "$(cargo tree | wc -l)" -eq 1 ]'
 try no_unsafe grep -x '#!\[forbid(unsafe_code)\]' src/lib.rs

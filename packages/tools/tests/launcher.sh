@@ -2,7 +2,9 @@
 # Runs bin/rapidhash in a small copy of the repository. A script instead of rt builds a program that prints the sources
 # and its arguments, so no case needs a proof.
 . "$(dirname "$0")/../../../tests/cases.sh"
-cd "$room" || exit 1
+# A checkout may be below a directory with a space.
+place="$room/a b"
+mkdir "$place" && cd "$place" || exit 1
 
 # The substitute for rt. For the program, it waits for the lock as rt does, reads the text of the sources, runs the file
 # `during`, and builds. For a library, it does nothing.
@@ -25,7 +27,7 @@ chmod +x kit/rt
 new_repository() {
   chmod -R u+w . && rm -rf repo starts && echo "$1" >during
   mkdir -p repo/crates/rapidhash_{portable,cli}/src repo/crates/rapidhash_tool
-  (cd "$top" && cp --parents bin/rapidhash Makefile crates.txt packages/*/make.mk "$room/repo")
+  (cd "$top" && cp --parents bin/rapidhash Makefile crates.txt packages/*/make.mk "$place/repo")
   echo first >repo/crates/rapidhash_portable/src/lib.rt
   find repo -exec touch -d 2020-01-01 {} +
 }
@@ -33,7 +35,7 @@ new_repository() {
 # Runs the launcher and compares its exit status, its output, the number of builds so far, and a pattern for its
 # messages: NAME STATUS OUT BUILDS ERR ARGUMENT..
 tool=repo/bin/rapidhash
-programs=$room/kit:$PATH
+programs=$place/kit:$PATH
 calls() {
   local status
   echo input | PATH=$programs "$tool" "${@:6}" >out 2>"$room/log"
@@ -72,7 +74,7 @@ new_repository 'echo "so far: 0 of 7 functions checked; the verdict comes last";
 calls progress_of_a_build 7 $'first\ninput' 1 "$told"$'\nmake: rapidhash_cli: 3 of 7 functions checked'
 
 new_repository 'sleep 1'
-export PATH=$room/kit:$PATH
+export PATH=$place/kit:$PATH
 echo input | "$tool" >first_out 2>/dev/null &
 sleep 0.5
 echo input | "$tool" other >other_out 2>/dev/null
@@ -110,9 +112,27 @@ each_edit_counts() {
   done
 }
 try edits_of_libraries each_edit_counts
+
+# Checks that make builds each product of a package again after an edit of any of its files.
+each_file_counts() {
+  local product files file
+  make -pq -C "$top" >rules 2>/dev/null
+  while read -r product files; do
+    (cd "$top" && git ls-files $files | grep -vE '^packages/[a-z]+/(tests|page)/') >listed && [ -s listed ] && while read -r file; do
+      grep -qE "^$product: (.* )?$file( |\$)" rules || { echo "$product: $file" && return 1; }
+    done <listed || return 1
+  done <<'PRODUCTS'
+build/wheels/made packages/python
+build/rapidhash.wasm packages/javascript/*.c packages/javascript/*.h packages/javascript/make.mk
+build/npm/rapidhash.cjs packages/javascript/*.mjs packages/javascript/*.d.ts packages/javascript/*.json packages/javascript/*.md
+build/yervound-rapidhash-1.0.0.jar packages/java/src/main packages/java/pom.xml packages/java/make.mk
+build/rapidhash.so packages/sqlite/*.c packages/sqlite/make.mk
+PRODUCTS
+}
+try files_of_packages each_file_counts
 new_repository ''
 mkdir few && ln -s "$(command -v make)" "$(command -v sh)" /usr/bin/{dirname,readlink,find,mkdir,touch,cat,chmod} few
-PATH=$room/few repo/bin/rapidhash >out 2>"$room/log"
+PATH=$place/few repo/bin/rapidhash >out 2>"$room/log"
 [ $? -eq 2 ] && [ ! -s out ] && [ ! -e starts ] &&
   grep -qx 'make: neither rt, of the Rattle kit, nor cargo is on PATH' "$room/log"
 tell no_rt_and_no_cargo $?
@@ -128,14 +148,14 @@ chmod +x "$CARGO_TARGET_DIR/release/rapidhash"
 CARGO
 chmod +x few/cargo
 of_cargo='make: rt is not on PATH: building with cc and cargo, which is not the proved build'
-programs=$room/few
+programs=$place/few
 calls first_call_by_cargo 0 'cargo one a' 1 "$of_cargo" a
 calls second_call_by_cargo 0 'cargo one' 1 ''
 echo two >repo/packages/rust/src/lib.rs
 calls edited_source_by_cargo 0 'cargo two' 2 "$of_cargo"
 echo >repo/packages/rust/tools/src/lib.rs
 calls edited_tool_by_cargo 0 'cargo two' 3 "$of_cargo"
-programs=$room/kit:$PATH
+programs=$place/kit:$PATH
 calls the_kit_instead_of_cargo 7 $'first\ninput' 4 "$told"
 
 finish

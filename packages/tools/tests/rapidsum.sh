@@ -298,5 +298,12 @@ script -qec "$program sparse" log </dev/null >/dev/null 2>&1
 grep -q '128 MiB.*256 MiB' log && grep -qP '\r\x1b\[Kc266dafd0143ba3a  sparse' log
 tell progress_on_a_terminal_is_erased $?
 answers no_progress_elsewhere 'c266dafd0143ba3a  sparse\n' '' "$program" sparse
+# Standard output may be a terminal without standard error.
+script -qec "$program sparse 2>errors" log </dev/null >/dev/null 2>&1
+[ ! -s errors ] && grep -q '^c266dafd0143ba3a  sparse' log
+tell no_progress_into_a_file $?
+script -qec "$program sparse >sums" log </dev/null >/dev/null 2>&1
+[ "$(cat sums)" = 'c266dafd0143ba3a  sparse' ] && grep -q '128 MiB.*256 MiB' log
+tell progress_beside_a_file $?
 
 finish

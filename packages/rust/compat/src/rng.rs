@@ -54,6 +54,7 @@ impl Default for RapidRng {
 }
 
 /// Implements the traits of a version of `rand_core`, with the methods that only this version has.
+#[cfg(any(feature = "rng", feature = "rng_06"))]
 macro_rules! generates {
     ($rand_core:ident $($more:item)*) => {
         impl $rand_core::RngCore for RapidRng {
