@@ -33,7 +33,7 @@ pub extern "C" fn rapidhash_v1_seeded(bytes: &[u8], secrets: &RapidSecretsV1) ->
 pub extern "C" fn rapidhash_v1_with_seed(bytes: &[u8], seed: u64) -> u64
     ensures { result ≡ portable_hash v1 standard (cpp_seeded seed 0) default_secrets_v1 bytes.now }
 {
-    let seed = RapidSecretsV1::seed_cpp(seed).seed;
+    let seed = RapidSecretsV1::seed_of_word(seed);
     v1::hash::<MIXED, UNROLLED, PLAIN, false>(bytes, seed, &RapidSecretsV1::default_ref().secrets)
 }
 
@@ -68,7 +68,7 @@ pub extern "C" fn rapidhash_v2_0_seeded(bytes: &[u8], secrets: &RapidSecrets) ->
 pub extern "C" fn rapidhash_v2_0_with_seed(bytes: &[u8], seed: u64) -> u64
     ensures { result ≡ portable_hash (v2 0) standard (cpp_seeded seed 2) default_secrets bytes.now }
 {
-    let seed = RapidSecrets::seed_cpp(seed).seed;
+    let seed = RapidSecrets::seed_of_word(seed);
     v2_of::<0>(bytes, seed, &RapidSecrets::default_ref().secrets)
 }
 
@@ -94,7 +94,7 @@ pub extern "C" fn rapidhash_v2_1_seeded(bytes: &[u8], secrets: &RapidSecrets) ->
 pub extern "C" fn rapidhash_v2_1_with_seed(bytes: &[u8], seed: u64) -> u64
     ensures { result ≡ portable_hash (v2 1) standard (cpp_seeded seed 2) default_secrets bytes.now }
 {
-    let seed = RapidSecrets::seed_cpp(seed).seed;
+    let seed = RapidSecrets::seed_of_word(seed);
     v2_of::<1>(bytes, seed, &RapidSecrets::default_ref().secrets)
 }
 
@@ -120,7 +120,7 @@ pub extern "C" fn rapidhash_v2_2_seeded(bytes: &[u8], secrets: &RapidSecrets) ->
 pub extern "C" fn rapidhash_v2_2_with_seed(bytes: &[u8], seed: u64) -> u64
     ensures { result ≡ portable_hash (v2 2) standard (cpp_seeded seed 2) default_secrets bytes.now }
 {
-    let seed = RapidSecrets::seed_cpp(seed).seed;
+    let seed = RapidSecrets::seed_of_word(seed);
     v2_of::<2>(bytes, seed, &RapidSecrets::default_ref().secrets)
 }
 
@@ -156,7 +156,7 @@ pub extern "C" fn rapidhash_v3_seeded(bytes: &[u8], secrets: &RapidSecrets) -> u
 pub extern "C" fn rapidhash_v3_with_seed(bytes: &[u8], seed: u64) -> u64
     ensures { result ≡ portable_hash v3 standard (cpp_seeded seed 2) default_secrets bytes.now }
 {
-    let seed = RapidSecrets::seed_cpp(seed).seed;
+    let seed = RapidSecrets::seed_of_word(seed);
     v3_of::<7>(bytes, seed, &RapidSecrets::default_ref().secrets)
 }
 
@@ -182,7 +182,7 @@ pub extern "C" fn rapidhash_v3_micro_seeded(bytes: &[u8], secrets: &RapidSecrets
 pub extern "C" fn rapidhash_v3_micro_with_seed(bytes: &[u8], seed: u64) -> u64
     ensures { result ≡ portable_hash micro standard (cpp_seeded seed 2) default_secrets bytes.now }
 {
-    let seed = RapidSecrets::seed_cpp(seed).seed;
+    let seed = RapidSecrets::seed_of_word(seed);
     v3_of::<5>(bytes, seed, &RapidSecrets::default_ref().secrets)
 }
 
@@ -208,7 +208,7 @@ pub extern "C" fn rapidhash_v3_nano_seeded(bytes: &[u8], secrets: &RapidSecrets)
 pub extern "C" fn rapidhash_v3_nano_with_seed(bytes: &[u8], seed: u64) -> u64
     ensures { result ≡ portable_hash nano standard (cpp_seeded seed 2) default_secrets bytes.now }
 {
-    let seed = RapidSecrets::seed_cpp(seed).seed;
+    let seed = RapidSecrets::seed_of_word(seed);
     v3_of::<3>(bytes, seed, &RapidSecrets::default_ref().secrets)
 }
 

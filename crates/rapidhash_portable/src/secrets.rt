@@ -80,6 +80,14 @@ impl RapidSecrets {
         }
     }
 
+    /// Returns the seed of [`RapidSecrets::seed_cpp`], without the secrets.
+    #[inline(always)]
+    pub const fn seed_of_word(word: u64) -> u64
+        ensures { result ≡ cpp_seeded word 2 }
+    {
+        cpp_seed_of(word, 2)
+    }
+
     /// Returns the default secrets with a seed derived from a number. According to the Rust crate
     /// rapidhash, the C++ library derives it in the same way.
     /// Anyone who knows the default secrets can find messages with the same hash for every seed: if
@@ -89,7 +97,7 @@ impl RapidSecrets {
         ensures secrets { result.secrets ≡ default_secrets }
     {
         RapidSecrets {
-            seed: cpp_seed_of(seed, 2),
+            seed: Self::seed_of_word(seed),
             secrets: DEFAULT_SECRETS,
         }
     }

@@ -40,6 +40,9 @@ fn made(alloc: Global, form: &str, call: &str, number: u64) -> Result<Vec<u64>> 
         }
         ("v1", "seed_cpp") => {
             let made = v1::RapidSecrets::seed_cpp(number);
+            if v1::RapidSecrets::seed_of_word(number) != made.seed {
+                bail!("two seeds");
+            }
             return Ok(listed(alloc, made.seed, &made.secrets)?);
         }
         ("v1", "seed then reseed") => {
@@ -50,7 +53,13 @@ fn made(alloc: Global, form: &str, call: &str, number: u64) -> Result<Vec<u64>> 
         ("v2", "seed_cpp") => v2::RapidSecrets::seed_cpp(number),
         ("v2", "seed then reseed") => v2::RapidSecrets::seed(number).reseed(),
         ("v3", "seed") => v3::RapidSecrets::seed(number),
-        ("v3", "seed_cpp") => v3::RapidSecrets::seed_cpp(number),
+        ("v3", "seed_cpp") => {
+            let made = v3::RapidSecrets::seed_cpp(number);
+            if v3::RapidSecrets::seed_of_word(number) != made.seed {
+                bail!("two seeds");
+            }
+            made
+        }
         ("v3", "seed then reseed") => v3::RapidSecrets::seed(number).reseed(),
         _ => bail!("no call {call} of {form}"),
     };

@@ -68,7 +68,7 @@ impl<
         ensures represents { Represents result (cpp_seeded seed 2) [] }
     {
         RapidHasher::from_parts(
-            RapidSecrets::seed_cpp(seed).seed,
+            RapidSecrets::seed_of_word(seed),
             &DEFAULT_RAPID_SECRETS.secrets,
         )
     }

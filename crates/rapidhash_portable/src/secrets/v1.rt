@@ -71,6 +71,14 @@ impl RapidSecrets {
         }
     }
 
+    /// Returns the seed of [`RapidSecrets::seed_cpp`], without the secrets.
+    #[inline(always)]
+    pub const fn seed_of_word(word: u64) -> u64
+        ensures { result ≡ cpp_seeded word 0 }
+    {
+        cpp_seed_of(word, 0)
+    }
+
     /// Returns the default secrets with a seed derived from a number. According to the Rust crate
     /// rapidhash, the C++ library derives it in the same way.
     /// Anyone who knows the default secrets can find messages with the same hash for every seed: if
@@ -80,7 +88,7 @@ impl RapidSecrets {
         ensures secrets { result.secrets ≡ default_secrets_v1 }
     {
         RapidSecrets {
-            seed: cpp_seed_of(seed, 0),
+            seed: Self::seed_of_word(seed),
             secrets: [DEFAULT_SECRETS[0], DEFAULT_SECRETS[1], DEFAULT_SECRETS[2]],
         }
     }

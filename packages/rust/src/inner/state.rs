@@ -131,7 +131,7 @@ impl<'s, const AVALANCHE: bool, const SPONGE: bool, const COMPACT: bool, const P
     /// [`RapidSecrets::seed_cpp`](crate::v3::RapidSecrets::seed_cpp).
     #[must_use]
     pub fn new(seed: u64) -> Self {
-        Self::custom(RapidSecrets::seed_cpp(seed).seed, secrets())
+        Self::custom(RapidSecrets::seed_of_word(seed), secrets())
     }
 
     /// Returns a state with a random seed and the random secrets of this process.

@@ -54,7 +54,7 @@ impl<
         ensures seed { seed_of_state result ≡ cpp_seeded seed 2 }
         ensures secrets { secrets_of_state result ≡ secrets_of_global secrets.now }
     {
-        State::custom(RapidSecrets::seed_cpp(seed).seed, secrets.get())
+        State::custom(RapidSecrets::seed_of_word(seed), secrets.get())
     }
 
     /// Returns a state with the next seed of `source` and the secrets of `secrets`.

@@ -57,7 +57,7 @@ impl<'s, const AVALANCHE: bool, const SPONGE: bool, const COMPACT: bool, const P
     #[must_use]
     pub const fn new(seed: u64) -> Self {
         RapidHasher::from_parts(
-            RapidSecrets::seed_cpp(seed).seed,
+            RapidSecrets::seed_of_word(seed),
             &DEFAULT_RAPID_SECRETS.secrets,
         )
     }

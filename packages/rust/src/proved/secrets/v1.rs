@@ -61,6 +61,12 @@ impl RapidSecrets {
         }
     }
 
+    /// Returns the seed of [`RapidSecrets::seed_cpp`], without the secrets.
+    #[inline(always)]
+    pub(crate) const fn seed_of_word(word: u64) -> u64 {
+        cpp_seed_of(word, 0)
+    }
+
     /// Returns the default secrets with a seed derived from a number. According to the Rust crate
     /// rapidhash, the C++ library derives it in the same way.
     /// Anyone who knows the default secrets can find messages with the same hash for every seed: if
@@ -68,7 +74,7 @@ impl RapidSecrets {
     #[must_use]
     pub const fn seed_cpp(seed: u64) -> Self {
         RapidSecrets {
-            seed: cpp_seed_of(seed, 0),
+            seed: Self::seed_of_word(seed),
             secrets: [DEFAULT_SECRETS[0], DEFAULT_SECRETS[1], DEFAULT_SECRETS[2]],
         }
     }
