@@ -11,4 +11,5 @@ pub mod ReadingLemmas
 pub mod SecretsLemmas
 pub mod StreamLemmas
 pub mod TailLemmas
+pub mod VersionLemmas
 pub mod WordsLemmas

@@ -13,4 +13,5 @@ pub mod SeedSource
 pub mod Source
 pub mod Stream
 pub mod Tail
+pub mod Version
 pub mod Words

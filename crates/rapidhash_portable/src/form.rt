@@ -1,4 +1,8 @@
-//! The forms of the portable hash, as the definition uses them.
+//! The forms of the portable hash, as the definition uses them, and the versions that users name.
+
+ghost use Rattle.std.specs.Prelude.{◌≡◌, ◌↔◌, Some};
+ghost use Rattle.rapidhash_portable.specs.Form.{IsForm};
+ghost use Rattle.rapidhash_portable.specs.Version.{form_of, name_of, versions};
 
 /// A portable hash.
 #[derive(Debug, Clone, Copy, PartialEq, Eq)]
@@ -29,4 +33,82 @@ pub struct Options {
     pub avalanche: bool,
     /// Whether each half of a product is mixed with its factor.
     pub protected: bool,
+}
+
+/// A portable hash that users name.
+#[derive(Debug, Clone, Copy, PartialEq, Eq)]
+pub enum Version {
+    /// V1, without the V1 bug.
+    V1,
+    /// V2.0.
+    V2Minor0,
+    /// V2.1.
+    V2Minor1,
+    /// V2.2.
+    V2Minor2,
+    /// V3.
+    V3,
+    /// V3 micro.
+    V3Micro,
+    /// V3 nano.
+    V3Nano,
+}
+
+impl Version {
+    /// Returns each version once.
+    pub const fn all() -> [Self; 7]
+        ensures { result ≡ versions }
+    {
+        [
+            Version::V1,
+            Version::V2Minor0,
+            Version::V2Minor1,
+            Version::V2Minor2,
+            Version::V3,
+            Version::V3Micro,
+            Version::V3Nano,
+        ]
+    }
+
+    /// Returns the form of the version in the definition.
+    pub const fn form(self) -> Form
+        ensures value { result ≡ form_of self }
+        ensures is_form { IsForm result }
+    {
+        match self {
+            Version::V1 => Form::V1(false),
+            Version::V2Minor0 => Form::V2(0),
+            Version::V2Minor1 => Form::V2(1),
+            Version::V2Minor2 => Form::V2(2),
+            Version::V3 => Form::V3(7),
+            Version::V3Micro => Form::V3(5),
+            Version::V3Nano => Form::V3(3),
+        }
+    }
+
+    /// Returns the name of the version, such as `v2.0` or `v3-micro`.
+    pub const fn name(self) -> &'static str
+        ensures { result.now ≡ name_of self }
+    {
+        match self {
+            Version::V1 => "v1",
+            Version::V2Minor0 => "v2.0",
+            Version::V2Minor1 => "v2.1",
+            Version::V2Minor2 => "v2.2",
+            Version::V3 => "v3",
+            Version::V3Micro => "v3-micro",
+            Version::V3Nano => "v3-nano",
+        }
+    }
+
+    /// Returns the version with a name, if there is one.
+    pub fn of_name(name: &str) -> Option<Self>
+        ensures { (version : Version) → (result ≡ Some version) ↔ (name_of version ≡ name.now) }
+    {
+        let versions = Version::all();
+        versions
+            .iter()
+            .find(|version| version.name() == name)
+            .copied()
+    }
 }

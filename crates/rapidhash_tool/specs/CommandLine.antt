@@ -1,6 +1,9 @@
 -- The plan that the arguments of a call request.
-use Rattle.std.specs.Prelude.{ℕ, ◌+◌, ◌<◌, Bool, true, false, not, ◌||◌, bytes_eq, codes, cond, nat_eq, List, [], ◌∷◌, drop, position, filter, Option, None, Some, option_map}
+use Rattle.std.specs.Prelude.{ℕ, ◌+◌, ◌<◌, Bool, true, false, not, ◌||◌, bytes_eq, codes, cond, nat_eq, List, [], ◌∷◌, ◌++◌, drop, position, filter, Option, None, Some, option_map}
 use Rattle.std.specs.List.{list_any}
+use Rattle.rapidhash_portable.specs.declared.form.Version.{Version}
+use Rattle.rapidhash_portable.specs.declared.form.Version.TheVariants as portable
+use Rattle.rapidhash_portable.specs.Version.{name_of, versions}
 use Rattle.rapidhash_tool.specs.declared.version.Minor.TheVariants.{M0, M1, M2}
 use Rattle.rapidhash_tool.specs.declared.version.Plan.{Plan}
 use Rattle.rapidhash_tool.specs.declared.version.Plan.TheVariants.{Help, Refused, Run}
@@ -17,34 +20,34 @@ is_option [] = false
 is_option (c ∷ cs) = nat_eq c 45
 
 -- the argument that names a version
-abbrev pub option_of : RapidhashVersion → List ℕ
-option_of (V1 protected) = codes "--v1"
-option_of (V2 protected M0) = codes "--v2.0"
-option_of (V2 protected M1) = codes "--v2.1"
-option_of (V2 protected M2) = codes "--v2.2"
-option_of (V3 protected) = codes "--v3"
-option_of (V3Micro protected) = codes "--v3-micro"
-option_of (V3Nano protected) = codes "--v3-nano"
+abbrev pub option_of : Version → List ℕ
+option_of version = codes "--" ++ name_of version
 
--- all versions
-abbrev pub versions : Bool → List RapidhashVersion
-versions protected = V1 protected ∷ V2 protected M0 ∷ V2 protected M1 ∷ V2 protected M2 ∷ V3 protected ∷ V3Micro protected ∷ V3Nano protected ∷ []
+-- a version with the choice of protection
+abbrev pub selection : Bool → Version → RapidhashVersion
+selection protected portable.V1 = V1 protected
+selection protected portable.V2Minor0 = V2 protected M0
+selection protected portable.V2Minor1 = V2 protected M1
+selection protected portable.V2Minor2 = V2 protected M2
+selection protected portable.V3 = V3 protected
+selection protected portable.V3Micro = V3Micro protected
+selection protected portable.V3Nano = V3Nano protected
 
 -- the versions whose argument is among the arguments
-abbrev pub named : List (List ℕ) → List RapidhashVersion → List RapidhashVersion
+abbrev pub named : List (List ℕ) → List Version → List Version
 named args = filter (λ version. occurs (option_of version) args)
 
 -- the only version of a list, `other` for an empty list, and none for several
-abbrev pub the_only : RapidhashVersion → List RapidhashVersion → Option RapidhashVersion
+abbrev pub the_only : Version → List Version → Option Version
 the_only other [] = Some other
 the_only other (version ∷ []) = Some version
 the_only other (version ∷ second ∷ others) = None
 
 -- the version that the arguments after the program's name select, or none if they name two
-abbrev pub version_of : List (List ℕ) → Option RapidhashVersion
+unfoldable pub version_of : List (List ℕ) → Option RapidhashVersion
 version_of args =
     let protected = occurs (codes "--protected") args in
-    the_only (V3 protected) (named args (versions protected))
+    option_map (selection protected) (the_only portable.V3 (named args versions))
 
 -- whether there are no arguments, or one of them, including the program's name, requests help
 abbrev pub wants_help : List (List ℕ) → Bool

@@ -1,9 +1,10 @@
 //! The plan that the arguments select.
 
-ghost use Rattle.std.specs.Prelude.{◌≡◌, length, map, not, position, string_bytes};
-ghost use Rattle.rapidhash_tool.specs.CommandLine.{NamesFileBelow, is_option, occurs, plan_of};
+ghost use Rattle.std.specs.Prelude.{◌≡◌, bytes_eq, length, map, not, position, string_bytes};
+ghost use Rattle.rapidhash_tool.specs.CommandLine.{NamesFileBelow, is_option, occurs, option_of, plan_of};
 
 use crate::version::{Plan, RapidhashVersion};
+use rapidhash_portable::form::Version;
 
 /// Returns the plan that the arguments select. The first of them is the program's name.
 ///
@@ -32,6 +33,19 @@ pub(crate) fn has(args: &[String], arg: &str) -> bool
     ensures { result ≡ occurs arg.now (map string_bytes args.now) }
 {
     args.iter().any(|other| other.as_str() == arg)
+}
+
+fn is_name(arg: &str, version: Version) -> bool
+    ensures { result ≡ bytes_eq arg.now (option_of version) }
+{
+    matches!(arg.as_bytes(), [b'-', b'-', name @ ..] if name == version.name().as_bytes())
+}
+
+// Returns whether a version's name, after two hyphens, is among the arguments.
+pub(crate) fn has_name(args: &[String], version: Version) -> bool
+    ensures { result ≡ occurs (option_of version) (map string_bytes args.now) }
+{
+    args.iter().any(|arg| is_name(arg.as_str(), version))
 }
 
 fn begins_with_hyphen(arg: &str) -> bool

@@ -1,10 +1,11 @@
 //! The versions of the tool, and the plans that its arguments can select.
 
 ghost use Rattle.std.specs.Prelude.{◌≡◌, ◌↔◌, map, string_bytes, IsTrue};
-ghost use Rattle.rapidhash_tool.specs.CommandLine.{version_of, versions, option_of};
+ghost use Rattle.rapidhash_tool.specs.CommandLine.{selection, version_of};
 ghost use Rattle.rapidhash_tool.specs.Hashes.{NeedsLength};
 
-use crate::command_line::has;
+use crate::command_line::{has, has_name};
+use rapidhash_portable::form::Version;
 
 /// A minor version of V2.
 #[derive(Debug, Clone, Copy, PartialEq, Eq)]
@@ -70,20 +71,22 @@ impl RapidhashVersion {
     /// Returns the version that the arguments after the program's name select: V3 if they name
     /// none, and `None` if they name two. A version named twice counts once, `--protected` may be
     /// at any position, and all other arguments are ignored, also `--help`.
+    #[tactic(auto, unfolding(crate::specs::CommandLine::version_of))]
     pub fn new(args: &[String]) -> Option<Self>
         ensures { result ≡ version_of (map string_bytes args.now) }
     {
         let protected = has(args, "--protected");
         let mut chosen = None;
-        for version in RapidhashVersion::all(protected) {
-            if has(args, version.option()) {
+        for version in Version::all() {
+            if has_name(args, version) {
                 if chosen.is_some() {
                     return None;
                 }
                 chosen = Some(version);
             }
         }
-        Some(chosen.unwrap_or(RapidhashVersion::V3 { protected }))
+        let version = chosen.unwrap_or(Version::V3);
+        Some(RapidhashVersion::of(version, protected))
     }
 
     /// Returns whether the version needs the number of bytes before it hashes the first: V1 and V2
@@ -97,51 +100,27 @@ impl RapidhashVersion {
         )
     }
 
-    // All versions.
-    fn all(protected: bool) -> [Self; 7]
-        ensures { result ≡ versions protected }
+    // The selection of a version.
+    fn of(version: Version, protected: bool) -> Self
+        ensures { result ≡ selection protected version }
     {
-        [
-            RapidhashVersion::V1 { protected },
-            RapidhashVersion::V2 {
+        match version {
+            Version::V1 => RapidhashVersion::V1 { protected },
+            Version::V2Minor0 => RapidhashVersion::V2 {
                 protected,
                 version: Minor::M0,
             },
-            RapidhashVersion::V2 {
+            Version::V2Minor1 => RapidhashVersion::V2 {
                 protected,
                 version: Minor::M1,
             },
-            RapidhashVersion::V2 {
+            Version::V2Minor2 => RapidhashVersion::V2 {
                 protected,
                 version: Minor::M2,
             },
-            RapidhashVersion::V3 { protected },
-            RapidhashVersion::V3Micro { protected },
-            RapidhashVersion::V3Nano { protected },
-        ]
-    }
-
-    // The argument that names the version.
-    fn option(&self) -> &'static str
-        ensures { result.now ≡ option_of self.now }
-    {
-        match self {
-            RapidhashVersion::V1 { .. } => "--v1",
-            RapidhashVersion::V2 {
-                version: Minor::M0,
-                ..
-            } => "--v2.0",
-            RapidhashVersion::V2 {
-                version: Minor::M1,
-                ..
-            } => "--v2.1",
-            RapidhashVersion::V2 {
-                version: Minor::M2,
-                ..
-            } => "--v2.2",
-            RapidhashVersion::V3 { .. } => "--v3",
-            RapidhashVersion::V3Micro { .. } => "--v3-micro",
-            RapidhashVersion::V3Nano { .. } => "--v3-nano",
+            Version::V3 => RapidhashVersion::V3 { protected },
+            Version::V3Micro => RapidhashVersion::V3Micro { protected },
+            Version::V3Nano => RapidhashVersion::V3Nano { protected },
         }
     }
 }

@@ -3,6 +3,7 @@
 //! The plan that the arguments select.
 
 use crate::version::{Plan, RapidhashVersion};
+use rapidhash_tool::form::Version;
 
 /// Returns the plan that the arguments select. The first of them is the program's name.
 ///
@@ -26,6 +27,15 @@ pub fn plan(args: &[String]) -> Plan {
 // Returns whether a text is among the arguments.
 pub(crate) fn has(args: &[String], arg: &str) -> bool {
     args.iter().any(|other| other.as_str() == arg)
+}
+
+fn is_name(arg: &str, version: Version) -> bool {
+    matches!(arg.as_bytes(), [b'-', b'-', name @ ..] if name == version.name().as_bytes())
+}
+
+// Returns whether a version's name, after two hyphens, is among the arguments.
+pub(crate) fn has_name(args: &[String], version: Version) -> bool {
+    args.iter().any(|arg| is_name(arg.as_str(), version))
 }
 
 fn begins_with_hyphen(arg: &str) -> bool {

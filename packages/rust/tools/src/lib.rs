@@ -12,6 +12,7 @@ extern crate self as rapidhash_tool;
 
 mod command_line;
 mod faults;
+pub mod form;
 mod hashes;
 pub mod kit;
 mod lines;

@@ -2,7 +2,8 @@
 
 //! The versions of the tool, and the plans that its arguments can select.
 
-use crate::command_line::has;
+use crate::command_line::{has, has_name};
+use rapidhash_tool::form::Version;
 
 /// A minor version of V2.
 #[derive(Debug, Clone, Copy, PartialEq, Eq)]
@@ -71,15 +72,16 @@ impl RapidhashVersion {
     pub fn new(args: &[String]) -> Option<Self> {
         let protected = has(args, "--protected");
         let mut chosen = None;
-        for version in RapidhashVersion::all(protected) {
-            if has(args, version.option()) {
+        for version in Version::all() {
+            if has_name(args, version) {
                 if chosen.is_some() {
                     return None;
                 }
                 chosen = Some(version);
             }
         }
-        Some(chosen.unwrap_or(RapidhashVersion::V3 { protected }))
+        let version = chosen.unwrap_or(Version::V3);
+        Some(RapidhashVersion::of(version, protected))
     }
 
     /// Returns whether the version needs the number of bytes before it hashes the first: V1 and V2
@@ -91,44 +93,25 @@ impl RapidhashVersion {
         )
     }
 
-    // All versions.
-    fn all(protected: bool) -> [Self; 7] {
-        [
-            RapidhashVersion::V1 { protected },
-            RapidhashVersion::V2 {
+    // The selection of a version.
+    fn of(version: Version, protected: bool) -> Self {
+        match version {
+            Version::V1 => RapidhashVersion::V1 { protected },
+            Version::V2Minor0 => RapidhashVersion::V2 {
                 protected,
                 version: Minor::M0,
             },
-            RapidhashVersion::V2 {
+            Version::V2Minor1 => RapidhashVersion::V2 {
                 protected,
                 version: Minor::M1,
             },
-            RapidhashVersion::V2 {
+            Version::V2Minor2 => RapidhashVersion::V2 {
                 protected,
                 version: Minor::M2,
             },
-            RapidhashVersion::V3 { protected },
-            RapidhashVersion::V3Micro { protected },
-            RapidhashVersion::V3Nano { protected },
-        ]
-    }
-
-    // The argument that names the version.
-    fn option(&self) -> &'static str {
-        match self {
-            RapidhashVersion::V1 { .. } => "--v1",
-            RapidhashVersion::V2 {
-                version: Minor::M0, ..
-            } => "--v2.0",
-            RapidhashVersion::V2 {
-                version: Minor::M1, ..
-            } => "--v2.1",
-            RapidhashVersion::V2 {
-                version: Minor::M2, ..
-            } => "--v2.2",
-            RapidhashVersion::V3 { .. } => "--v3",
-            RapidhashVersion::V3Micro { .. } => "--v3-micro",
-            RapidhashVersion::V3Nano { .. } => "--v3-nano",
+            Version::V3 => RapidhashVersion::V3 { protected },
+            Version::V3Micro => RapidhashVersion::V3Micro { protected },
+            Version::V3Nano => RapidhashVersion::V3Nano { protected },
         }
     }
 }
