@@ -19,7 +19,7 @@ dist:
 	install -m 644 LICENSE-MIT LICENSE-APACHE NOTICE docs/C.md docs/CPP.md docs/ALGORITHM.md build/$(name)
 	install -D -m 644 docs/images/lanes.svg build/$(name)/images/lanes.svg
 	install -m 644 packages/archive/README.md build/$(name)/README.md
-	$(if $(unpacked),printf '\nLeft out, because the tools to build them were missing: %s\n' '$(unpacked)' | \
+	$(if $(unpacked),printf '\nLeft out because the tools to build them were missing: %s\n' '$(unpacked)' | \
 	  tee -a build/$(name)/README.md >&2)
 	install -m 644 packages/c/tests/c_library.c build/$(name)/check_vectors.c
 	python3 scripts/vectors.py crates/test_replay/data >build/$(name)/rapidhash_vectors.tsv

@@ -13,8 +13,8 @@ use Rattle.rapidsum.specs.Entry.{Fits, IsEntry, Names}
 use Rattle.rapidsum.specs.Line.{body_of, carried, digits_of, escape_by, escaped, letter_of, line_of, needs_escape, seed_text, tag_of, value_of, version_text}
 use Rattle.rapidsum.specs.List.{AllFit, AreEntries, Printed, list_of}
 use Rattle.rapidsum.specs.declared.algorithm.Algorithm.{Algorithm}
-use Rattle.rapidsum.specs.declared.algorithm.Version.{Version}
-use Rattle.rapidsum.specs.declared.algorithm.Version.TheVariants.{V1, V2Minor0, V2Minor1, V2Minor2, V3, V3Micro, V3Nano}
+use Rattle.rapidhash_portable.specs.declared.form.Version.{Version}
+use Rattle.rapidhash_portable.specs.declared.form.Version.TheVariants.{V1, V2Minor0, V2Minor1, V2Minor2, V3, V3Micro, V3Nano}
 use Rattle.rapidsum.specs.declared.entry.Entry.{Entry as OneEntry}
 use Rattle.rapidsum.specs.declared.entry.Line.{Line}
 use Rattle.rapidsum.specs.declared.entry.Line.TheVariants.{Entry}

@@ -5,8 +5,8 @@ use Rattle.std.proofs.lemmas.List.{append_assoc}
 use Rattle.rapidsum.specs.Entry.{HasRead, ReadsVersions}
 use Rattle.rapidsum.specs.Line.{digits_of, seed_text, tag_of, version_text}
 use Rattle.rapidsum.specs.declared.algorithm.Algorithm.{Algorithm}
-use Rattle.rapidsum.specs.declared.algorithm.Version.{Version}
-use Rattle.rapidsum.specs.declared.algorithm.Version.TheVariants.{V1, V2Minor0, V2Minor1, V2Minor2, V3, V3Micro, V3Nano}
+use Rattle.rapidhash_portable.specs.declared.form.Version.{Version}
+use Rattle.rapidhash_portable.specs.declared.form.Version.TheVariants.{V1, V2Minor0, V2Minor1, V2Minor2, V3, V3Micro, V3Nano}
 
 -- each version is read from its own text
 by_version : (version : Version) (rest text : List ℕ) (result : Option (Version × Bor (List ℕ))) → ReadsVersions text result

@@ -5,19 +5,8 @@ use Rattle.rapidhash_portable.specs.declared.form.Form.TheVariants as form
 use Rattle.rapidhash_portable.specs.Form.{standard}
 use Rattle.rapidhash_portable.specs.Hash.{portable_hash}
 use Rattle.rapidhash_portable.specs.Secrets.{cpp_seeded, default_secrets, default_secrets_v1, default_seed, default_seed_v1}
+use Rattle.rapidhash_portable.specs.Version.{form_of}
 use Rattle.rapidsum.specs.declared.algorithm.Algorithm.{Algorithm}
-use Rattle.rapidsum.specs.declared.algorithm.Version.{Version}
-use Rattle.rapidsum.specs.declared.algorithm.Version.TheVariants.{V1, V2Minor0, V2Minor1, V2Minor2, V3, V3Micro, V3Nano}
-
--- the form of a version
-abbrev pub form_of : Version → Form
-form_of V1 = form.V1 false
-form_of V2Minor0 = form.V2 0
-form_of V2Minor1 = form.V2 1
-form_of V2Minor2 = form.V2 2
-form_of V3 = form.V3 7
-form_of V3Micro = form.V3 5
-form_of V3Nano = form.V3 3
 
 -- V1's seed: the default, or the seed derived from a word
 abbrev pub seed_by_v1 : Option ℕ → ℕ

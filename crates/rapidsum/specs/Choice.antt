@@ -1,7 +1,7 @@
 -- The options and the versions by their names.
 use Rattle.std.specs.Prelude.{ℕ, Bool, true, false, bytes_eq, codes, List, [], ◌∷◌, Option, find}
-use Rattle.rapidsum.specs.declared.algorithm.Version.{Version as TheVersion}
-use Rattle.rapidsum.specs.declared.algorithm.Version.TheVariants.{V1, V2Minor0, V2Minor1, V2Minor2, V3, V3Micro, V3Nano}
+use Rattle.rapidhash_portable.specs.declared.form.Version.{Version as TheVersion}
+use Rattle.rapidhash_portable.specs.Version.{name_of as version_name, versions}
 use Rattle.rapidsum.specs.declared.choice.Choice.{Choice}
 use Rattle.rapidsum.specs.declared.choice.Choice.TheVariants.{Algorithm, Seed, Check, Quiet, Status, IgnoreMissing, Strict, Warn, Binary, Text, Tag, Zero, Help, Version}
 
@@ -69,20 +69,6 @@ abbrev pub takes_value : Choice → Bool
 takes_value Algorithm = true
 takes_value Seed = true
 takes_value other = false
-
--- the name of each version
-abbrev pub version_name : TheVersion → List ℕ
-version_name V1 = codes "v1"
-version_name V2Minor0 = codes "v2.0"
-version_name V2Minor1 = codes "v2.1"
-version_name V2Minor2 = codes "v2.2"
-version_name V3 = codes "v3"
-version_name V3Micro = codes "v3-micro"
-version_name V3Nano = codes "v3-nano"
-
--- all versions
-abbrev pub versions : List TheVersion
-versions = V1 ∷ V2Minor0 ∷ V2Minor1 ∷ V2Minor2 ∷ V3 ∷ V3Micro ∷ V3Nano ∷ []
 
 -- whether a version has a name
 abbrev pub is_version : List ℕ → TheVersion → Bool

@@ -3,8 +3,8 @@ use denote.Ref.{Bor}
 use Rattle.std.specs.Prelude.{ℕ, ◌≡◌, ◌<◌, ◌^◌, ◌++◌, codes, slice_index, List, Option, IfSome, IsSomeAnd}
 use Rattle.rapidsum.specs.Line.{carried}
 use Rattle.rapidsum.specs.declared.algorithm.Algorithm.{Algorithm}
-use Rattle.rapidsum.specs.declared.algorithm.Version.{Version}
-use Rattle.rapidsum.specs.declared.algorithm.Version.TheVariants.{V1, V2Minor0, V2Minor1, V2Minor2, V3, V3Micro, V3Nano}
+use Rattle.rapidhash_portable.specs.declared.form.Version.{Version}
+use Rattle.rapidhash_portable.specs.declared.form.Version.TheVariants.{V1, V2Minor0, V2Minor1, V2Minor2, V3, V3Micro, V3Nano}
 use Rattle.rapidsum.specs.declared.line.Layout.{Layout}
 use Rattle.rapidsum.specs.declared.parts.Parts.{Parts}
 use Rattle.rapidsum.specs.declared.entry.Entry.{Entry as OneEntry}

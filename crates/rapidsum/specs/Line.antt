@@ -4,8 +4,8 @@ use Rattle.std.specs.Int.{to_be_bytes, w64}
 use Rattle.std.specs.List.{list_any}
 use Rattle.hex.specs.Hex.{encode_lower}
 use Rattle.rapidsum.specs.declared.algorithm.Algorithm.{Algorithm}
-use Rattle.rapidsum.specs.declared.algorithm.Version.{Version}
-use Rattle.rapidsum.specs.declared.algorithm.Version.TheVariants.{V1, V2Minor0, V2Minor1, V2Minor2, V3, V3Micro, V3Nano}
+use Rattle.rapidhash_portable.specs.declared.form.Version.{Version}
+use Rattle.rapidhash_portable.specs.declared.form.Version.TheVariants.{V1, V2Minor0, V2Minor1, V2Minor2, V3, V3Micro, V3Nano}
 use Rattle.rapidsum.specs.declared.line.Layout.{Layout}
 use Rattle.rapidsum.specs.declared.line.Layout.TheVariants.{Binary, Tagged, Text}
 

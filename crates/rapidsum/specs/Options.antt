@@ -3,8 +3,8 @@ use Rattle.std.specs.Prelude.{ℕ, Bool, true, false, ◌&&◌, cond, is_some, L
 use Rattle.rapidsum.specs.Choice.{is_algorithm, version_named}
 use Rattle.rapidsum.specs.Seed.{seed_of}
 use Rattle.rapidsum.specs.declared.algorithm.Algorithm.{Algorithm as TheAlgorithm}
-use Rattle.rapidsum.specs.declared.algorithm.Version.{Version as TheVersion}
-use Rattle.rapidsum.specs.declared.algorithm.Version.TheVariants.{V3}
+use Rattle.rapidhash_portable.specs.declared.form.Version.{Version as TheVersion}
+use Rattle.rapidhash_portable.specs.declared.form.Version.TheVariants.{V3}
 use Rattle.rapidsum.specs.declared.choice.Choice.{Choice}
 use Rattle.rapidsum.specs.declared.choice.Choice.TheVariants.{Algorithm, Seed, Check, Quiet, Status, IgnoreMissing, Strict, Warn, Binary, Text, Tag, Zero, Help, Version}
 use Rattle.rapidsum.specs.declared.line.Layout.{Layout}

@@ -6,6 +6,7 @@ ghost use Rattle.rapidhash_portable.specs.Lanes.{IsLaneCount};
 ghost use Rattle.rapidhash_portable.specs.Secrets.{default_secrets, default_secrets_v1};
 ghost use Rattle.rapidsum.specs.Algorithm.{hash_by, hash_of, seed_by, seed_by_v1};
 
+use rapidhash_portable::form::Version;
 use rapidhash_portable::kernel::{MIXED, PLAIN, UNROLLED};
 use rapidhash_portable::v1::{rapidhash_v1_file_seeded, rapidhash_v1_seeded};
 use rapidhash_portable::v2::{rapidhash_v2_file_inline, rapidhash_v2_inline};
@@ -21,18 +22,6 @@ const PIECE: usize = 65536;
 /// V1 and V2 read longer files of a known length in pieces. A file of the system may have fewer
 /// bytes than its length, but has no such length.
 const WHOLE: u64 = 65536;
-
-/// A version of the hash.
-#[derive(Clone, Copy)]
-pub enum Version {
-    V1,
-    V2Minor0,
-    V2Minor1,
-    V2Minor2,
-    V3,
-    V3Micro,
-    V3Nano,
-}
 
 /// A version, and the word from which its seed is derived instead of the default word.
 #[derive(Clone, Copy)]

@@ -1,9 +1,9 @@
 //! The options and versions by their names.
 
 ghost use Rattle.std.specs.Prelude.{◌≡◌};
-ghost use Rattle.rapidsum.specs.Choice.{all, is_algorithm, letter_of, lettered, name_of, named, takes_value, version_name, version_named, versions};
+ghost use Rattle.rapidsum.specs.Choice.{all, is_algorithm, letter_of, lettered, name_of, named, takes_value, version_named};
 
-use crate::algorithm::Version;
+use rapidhash_portable::form::Version;
 
 /// An option of the command line.
 #[derive(Clone, Copy, PartialEq, Eq)]
@@ -153,43 +153,13 @@ impl Choice {
     }
 }
 
-/// Returns all versions.
-pub fn versions() -> [Version; 7]
-    ensures { result ≡ versions }
-{
-    [
-        Version::V1,
-        Version::V2Minor0,
-        Version::V2Minor1,
-        Version::V2Minor2,
-        Version::V3,
-        Version::V3Micro,
-        Version::V3Nano,
-    ]
-}
-
-/// Returns the name of a version.
-pub fn version_name(version: Version) -> &'static str
-    ensures { result.now ≡ version_name version }
-{
-    match version {
-        Version::V1 => "v1",
-        Version::V2Minor0 => "v2.0",
-        Version::V2Minor1 => "v2.1",
-        Version::V2Minor2 => "v2.2",
-        Version::V3 => "v3",
-        Version::V3Micro => "v3-micro",
-        Version::V3Nano => "v3-nano",
-    }
-}
-
 /// Returns the version with a name.
 #[tactic(auto, unfolding(crate::specs::Choice::version_named))]
 pub fn version_named(name: &[u8]) -> Option<Version>
     ensures { result ≡ version_named name.now }
 {
-    for version in versions() {
-        if version_name(version).as_bytes() == name {
+    for version in Version::all() {
+        if version.name().as_bytes() == name {
             return Some(version);
         }
     }

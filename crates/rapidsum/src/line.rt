@@ -12,9 +12,10 @@ ghost use Rattle.rapidsum.specs.Line.{
   version_text,
 };
 
-use crate::algorithm::{Algorithm, Version};
+use crate::algorithm::Algorithm;
 use crate::names::{needs_escape, push_escaped};
 use hex::encode_to_slice;
+use rapidhash_portable::form::Version;
 use std::alloc::{AllocError, Allocator};
 
 /// The layout of a line.

@@ -4,11 +4,12 @@ ghost use Rattle.std.specs.Prelude.{◌≡◌};
 ghost use Rattle.rapidsum.specs.Options.{algorithm_of, conflict, none, of_check, of_sums, once, style_of, with_flag, with_layout, with_seed, with_value, with_version};
 ghost use Rattle.rapidsum.specs.Style.{is_binary, is_text};
 
-use crate::algorithm::{Algorithm, Version};
+use crate::algorithm::Algorithm;
 use crate::choice::{Choice, version_named};
 use crate::line::{Layout, Style};
 use crate::seed::seed_of;
 use crate::stop::Reason;
+use rapidhash_portable::form::Version;
 
 /// The options that the arguments choose.
 #[derive(Clone, Copy)]

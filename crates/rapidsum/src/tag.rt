@@ -5,8 +5,9 @@ ghost use Rattle.rapidsum.specs.declared.algorithm.Algorithm.{Algorithm};
 ghost use Rattle.rapidsum.specs.Entry.{ReadsVersions};
 ghost use Rattle.rapidsum.specs.Line.{digits_of, tag_of};
 
-use crate::algorithm::{Algorithm, Version};
+use crate::algorithm::Algorithm;
 use crate::parts::split_digits;
+use rapidhash_portable::form::Version;
 
 // Returns the text after the start that all tags share.
 fn behind_prefix(line: &[u8]) -> Option<&[u8]>

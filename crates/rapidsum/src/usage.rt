@@ -1,9 +1,10 @@
 //! The texts of the help, the version and the mistakes.
 
-use crate::choice::{Choice, version_name, versions};
+use crate::choice::Choice;
 use crate::console::with_name;
 use crate::problem::Problem;
 use crate::stop::{Reason, Stop};
+use rapidhash_portable::form::Version;
 use std::alloc::Global;
 use std::io::Write;
 
@@ -20,9 +21,9 @@ Options:
 // Adds the names of the versions.
 fn push_versions(text: &mut Vec<u8>) -> Result<(), Problem> {
     let mut separator = "";
-    for version in versions() {
+    for version in Version::all() {
         text.extend_from_slice(separator.as_bytes())?;
-        text.extend_from_slice(version_name(version).as_bytes())?;
+        text.extend_from_slice(version.name().as_bytes())?;
         separator = ", ";
     }
     Ok(())

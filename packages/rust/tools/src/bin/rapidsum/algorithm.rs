@@ -3,6 +3,7 @@
 //! Which hash a file has: the version and the seed.
 
 use rapidhash_tool::kit::Vec;
+use rapidhash_tool::form::Version;
 use rapidhash_tool::kit::kernel::{MIXED, PLAIN, UNROLLED};
 use rapidhash::v1::{rapidhash_v1_file_seeded, rapidhash_v1_seeded};
 use rapidhash::v2::{rapidhash_v2_file_inline, rapidhash_v2_inline};
@@ -18,18 +19,6 @@ const PIECE: usize = 65536;
 /// V1 and V2 read longer files of a known length in pieces. A file of the system may have fewer
 /// bytes than its length, but has no such length.
 const WHOLE: u64 = 65536;
-
-/// A version of the hash.
-#[derive(Clone, Copy)]
-pub enum Version {
-    V1,
-    V2Minor0,
-    V2Minor1,
-    V2Minor2,
-    V3,
-    V3Micro,
-    V3Nano,
-}
 
 /// A version, and the word from which its seed is derived instead of the default word.
 #[derive(Clone, Copy)]

@@ -3,7 +3,7 @@
 //! The options and versions by their names.
 #![allow(clippy::manual_find)]
 
-use crate::algorithm::Version;
+use rapidhash_tool::form::Version;
 
 /// An option of the command line.
 #[derive(Clone, Copy, PartialEq, Eq)]
@@ -135,36 +135,10 @@ impl Choice {
     }
 }
 
-/// Returns all versions.
-pub fn versions() -> [Version; 7] {
-    [
-        Version::V1,
-        Version::V2Minor0,
-        Version::V2Minor1,
-        Version::V2Minor2,
-        Version::V3,
-        Version::V3Micro,
-        Version::V3Nano,
-    ]
-}
-
-/// Returns the name of a version.
-pub fn version_name(version: Version) -> &'static str {
-    match version {
-        Version::V1 => "v1",
-        Version::V2Minor0 => "v2.0",
-        Version::V2Minor1 => "v2.1",
-        Version::V2Minor2 => "v2.2",
-        Version::V3 => "v3",
-        Version::V3Micro => "v3-micro",
-        Version::V3Nano => "v3-nano",
-    }
-}
-
 /// Returns the version with a name.
 pub fn version_named(name: &[u8]) -> Option<Version> {
-    for version in versions() {
-        if version_name(version).as_bytes() == name {
+    for version in Version::all() {
+        if version.name().as_bytes() == name {
             return Some(version);
         }
     }

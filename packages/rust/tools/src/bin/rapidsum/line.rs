@@ -3,9 +3,10 @@
 //! The lines that the program prints.
 
 use rapidhash_tool::kit::Vec;
-use crate::algorithm::{Algorithm, Version};
+use crate::algorithm::Algorithm;
 use crate::names::{needs_escape, push_escaped};
 use rapidhash_tool::kit::hex::encode_to_slice;
+use rapidhash_tool::form::Version;
 use rapidhash_tool::kit::alloc::{AllocError, Allocator};
 
 /// The layout of a line.

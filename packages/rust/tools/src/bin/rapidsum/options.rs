@@ -2,11 +2,12 @@
 
 //! The options of a call, and which of them exclude each other.
 
-use crate::algorithm::{Algorithm, Version};
+use crate::algorithm::Algorithm;
 use crate::choice::{Choice, version_named};
 use crate::line::{Layout, Style};
 use crate::seed::seed_of;
 use crate::stop::Reason;
+use rapidhash_tool::form::Version;
 
 /// The options that the arguments choose.
 #[derive(Clone, Copy)]

@@ -2,8 +2,9 @@
 
 //! The tag of a line: its version and its seed.
 
-use crate::algorithm::{Algorithm, Version};
+use crate::algorithm::Algorithm;
 use crate::parts::split_digits;
+use rapidhash_tool::form::Version;
 
 // Returns the text after the start that all tags share.
 fn behind_prefix(line: &[u8]) -> Option<&[u8]> {

@@ -4,10 +4,11 @@
 
 use rapidhash_tool::kit::HostRuntime;
 use rapidhash_tool::kit::Vec;
-use crate::choice::{Choice, version_name, versions};
+use crate::choice::Choice;
 use crate::console::with_name;
 use crate::problem::Problem;
 use crate::stop::{Reason, Stop};
+use rapidhash_tool::form::Version;
 use rapidhash_tool::kit::alloc::Global;
 use std::io::Write;
 
@@ -24,9 +25,9 @@ Options:
 // Adds the names of the versions.
 fn push_versions(text: &mut Vec<u8>) -> Result<(), Problem> {
     let mut separator = "";
-    for version in versions() {
+    for version in Version::all() {
         text.extend_from_slice(separator.as_bytes())?;
-        text.extend_from_slice(version_name(version).as_bytes())?;
+        text.extend_from_slice(version.name().as_bytes())?;
         separator = ", ";
     }
     Ok(())
