@@ -5,7 +5,7 @@ ghost use Rattle.rapidhash_portable.specs.Form.{IsForm};
 use crate::by_words::value_of_words;
 use crate::hashes;
 use crate::words::absorbed_words;
-use rapidhash_portable::form::{Form, Options};
+use rapidhash_portable::form::{Form, Options, Version};
 use rapidhash_portable::in_memory::core_hash;
 use rapidhash_portable::v1::{self, rapidhash_v1_inline};
 use rapidhash_portable::v2::rapidhash_v2_inline;
@@ -16,48 +16,37 @@ use std::alloc::{AllocError, Global};
 
 /// A portable hash that the library has.
 #[derive(Clone, Copy)]
-pub enum Version {
-    V1,
+pub enum Tested {
+    /// A version that users name.
+    Named(Version),
     /// V1 with the V1 bug.
     V1Bug,
-    V2Minor0,
-    V2Minor1,
-    V2Minor2,
-    V3,
-    Micro,
-    Nano,
 }
 
-impl Version {
+impl Tested {
     /// All of them.
-    pub const ALL: [Version; 8] = [
-        Version::V1,
-        Version::V1Bug,
-        Version::V2Minor0,
-        Version::V2Minor1,
-        Version::V2Minor2,
-        Version::V3,
-        Version::Micro,
-        Version::Nano,
+    pub const ALL: [Tested; 8] = [
+        Tested::Named(Version::V1),
+        Tested::V1Bug,
+        Tested::Named(Version::V2Minor0),
+        Tested::Named(Version::V2Minor1),
+        Tested::Named(Version::V2Minor2),
+        Tested::Named(Version::V3),
+        Tested::Named(Version::V3Micro),
+        Tested::Named(Version::V3Nano),
     ];
 
     /// Returns its common name.
     pub fn name(self) -> &'static str {
         match self {
-            Version::V1 => "v1",
-            Version::V1Bug => "v1 with its bug",
-            Version::V2Minor0 => "v2.0",
-            Version::V2Minor1 => "v2.1",
-            Version::V2Minor2 => "v2.2",
-            Version::V3 => "v3",
-            Version::Micro => "micro",
-            Version::Nano => "nano",
+            Tested::Named(version) => version.name(),
+            Tested::V1Bug => "v1 with its bug",
         }
     }
 
     /// Returns whether the library has compact code for it.
     pub fn has_compact(self) -> bool {
-        !matches!(self, Version::Micro | Version::Nano)
+        !matches!(self, Tested::Named(Version::V3Micro | Version::V3Nano))
     }
 
     /// Returns its form in the definition.
@@ -65,14 +54,8 @@ impl Version {
         ensures { IsForm result }
     {
         match self {
-            Version::V1 => Form::V1(false),
-            Version::V1Bug => Form::V1(true),
-            Version::V2Minor0 => Form::V2(0),
-            Version::V2Minor1 => Form::V2(1),
-            Version::V2Minor2 => Form::V2(2),
-            Version::V3 => Form::V3(7),
-            Version::Micro => Form::V3(5),
-            Version::Nano => Form::V3(3),
+            Tested::Named(version) => version.form(),
+            Tested::V1Bug => Form::V1(true),
         }
     }
 }
@@ -88,52 +71,51 @@ pub struct Secrets {
 
 /// Returns the library's hash of a version.
 fn hash<const AVALANCHE: bool, const COMPACT: bool, const PROTECTED: bool>(
-    version: Version,
+    tested: Tested,
     secrets: &Secrets,
     bytes: &[u8],
 ) -> u64 {
     let three = &secrets.three;
     let seven = &secrets.seven;
+    let version = match tested {
+        Tested::Named(version) => version,
+        Tested::V1Bug => {
+            return rapidhash_v1_inline::<AVALANCHE, COMPACT, PROTECTED, true>(bytes, three);
+        }
+    };
     match version {
         Version::V1 => rapidhash_v1_inline::<AVALANCHE, COMPACT, PROTECTED, false>(bytes, three),
-        Version::V1Bug => rapidhash_v1_inline::<AVALANCHE, COMPACT, PROTECTED, true>(bytes, three),
         Version::V2Minor0 => rapidhash_v2_inline::<0, AVALANCHE, COMPACT, PROTECTED>(bytes, seven),
         Version::V2Minor1 => rapidhash_v2_inline::<1, AVALANCHE, COMPACT, PROTECTED>(bytes, seven),
         Version::V2Minor2 => rapidhash_v2_inline::<2, AVALANCHE, COMPACT, PROTECTED>(bytes, seven),
         Version::V3 => rapidhash_v3_inline::<AVALANCHE, COMPACT, PROTECTED>(bytes, seven),
-        Version::Micro => rapidhash_v3_micro_inline::<AVALANCHE, PROTECTED>(bytes, seven),
-        Version::Nano => rapidhash_v3_nano_inline::<AVALANCHE, PROTECTED>(bytes, seven),
+        Version::V3Micro => rapidhash_v3_micro_inline::<AVALANCHE, PROTECTED>(bytes, seven),
+        Version::V3Nano => rapidhash_v3_nano_inline::<AVALANCHE, PROTECTED>(bytes, seven),
     }
 }
 
 /// Returns the library's hash of a version and options.
 pub fn body<const COMPACT: bool>(
-    version: Version,
+    tested: Tested,
     options: Options,
     secrets: &Secrets,
     bytes: &[u8],
 ) -> u64 {
     match (options.avalanche, options.protected) {
-        (true, true) => hash::<true, COMPACT, true>(version, secrets, bytes),
-        (true, false) => hash::<true, COMPACT, false>(version, secrets, bytes),
-        (false, true) => hash::<false, COMPACT, true>(version, secrets, bytes),
-        (false, false) => hash::<false, COMPACT, false>(version, secrets, bytes),
+        (true, true) => hash::<true, COMPACT, true>(tested, secrets, bytes),
+        (true, false) => hash::<true, COMPACT, false>(tested, secrets, bytes),
+        (false, true) => hash::<false, COMPACT, true>(tested, secrets, bytes),
+        (false, false) => hash::<false, COMPACT, false>(tested, secrets, bytes),
     }
 }
 
 /// Returns the definition's value of a version and options.
-pub fn defined(version: Version, options: Options, secrets: &Secrets, bytes: &[u8]) -> u64 {
-    let form = version.form();
+pub fn defined(tested: Tested, options: Options, secrets: &Secrets, bytes: &[u8]) -> u64 {
+    let form = tested.form();
     let three = &secrets.three;
     let seven = &secrets.seven;
-    match version {
-        Version::V1 | Version::V1Bug => hashes::portable_hash(
-            form,
-            options,
-            three.seed,
-            &three.secrets,
-            bytes,
-        ),
+    match form {
+        Form::V1(_) => hashes::portable_hash(form, options, three.seed, &three.secrets, bytes),
         _ => hashes::portable_hash(form, options, seven.seed, &seven.secrets, bytes),
     }
 }
@@ -142,26 +124,19 @@ pub fn defined(version: Version, options: Options, secrets: &Secrets, bytes: &[u
 /// them.
 pub fn defined_by_words(
     alloc: Global,
-    version: Version,
+    tested: Tested,
     options: Options,
     secrets: &Secrets,
     bytes: &[u8],
 ) -> Result<u64, AllocError> {
-    let form = version.form();
+    let form = tested.form();
     let n = bytes.len();
     let words = absorbed_words(alloc, form, bytes)?;
     let words = words.as_slice();
     let three = &secrets.three;
     let seven = &secrets.seven;
-    Ok(match version {
-        Version::V1 | Version::V1Bug => value_of_words(
-            form,
-            options,
-            three.seed,
-            &three.secrets,
-            n,
-            words,
-        ),
+    Ok(match form {
+        Form::V1(_) => value_of_words(form, options, three.seed, &three.secrets, n, words),
         _ => value_of_words(form, options, seven.seed, &seven.secrets, n, words),
     })
 }

@@ -5,9 +5,9 @@ use crate::items::Item;
 use crate::rules::{message, number, secrets_of};
 use crate::tally::Agreement;
 use anyhow::{Result, bail};
-use rapidhash_portable::form::Options;
+use rapidhash_portable::form::{Options, Version};
 use std::alloc::Global;
-use test_definitions::bodies::{Version, body, defined, defined_by_words};
+use test_definitions::bodies::{Tested, body, defined, defined_by_words};
 
 /// The columns of a file of bulk hashes.
 pub const COLUMNS: &str =
@@ -17,16 +17,15 @@ pub const COLUMNS: &str =
 pub const MEMORY_COLUMNS: &str = "avalanche\tprotected\tmessage\tlength\tsecrets\texpected";
 
 /// Returns the version of a case.
-pub fn version_of(form: &str, bug: &str, minor: &str) -> Option<Version> {
+pub fn version_of(form: &str, bug: &str, minor: &str) -> Option<Tested> {
     match (form, bug, minor) {
-        ("v1", "0", _) => Some(Version::V1),
-        ("v1", "1", _) => Some(Version::V1Bug),
-        ("v2", _, "0") => Some(Version::V2Minor0),
-        ("v2", _, "1") => Some(Version::V2Minor1),
-        ("v2", _, "2") => Some(Version::V2Minor2),
-        ("v3", _, _) => Some(Version::V3),
-        ("micro", _, _) => Some(Version::Micro),
-        ("nano", _, _) => Some(Version::Nano),
+        ("v1", "1", _) => Some(Tested::V1Bug),
+        ("v1", "0", _) | ("v3", _, _) => Version::of_name(form).map(Tested::Named),
+        ("v2", _, "0") => Some(Tested::Named(Version::V2Minor0)),
+        ("v2", _, "1") => Some(Tested::Named(Version::V2Minor1)),
+        ("v2", _, "2") => Some(Tested::Named(Version::V2Minor2)),
+        ("micro", _, _) => Some(Tested::Named(Version::V3Micro)),
+        ("nano", _, _) => Some(Tested::Named(Version::V3Nano)),
         _ => None,
     }
 }

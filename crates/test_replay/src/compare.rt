@@ -7,7 +7,7 @@ use crate::tally::{Agreement, Tally};
 use crate::words::print_words;
 use anyhow::{Result, bail};
 use rapidhash_portable::form::Options;
-use test_definitions::bodies::{Secrets, Version, body, defined, memory_body};
+use test_definitions::bodies::{Secrets, Tested, body, defined, memory_body};
 use test_definitions::core_hash;
 
 /// Every choice of options.
@@ -42,7 +42,7 @@ fn of_bodies(expected: u64, body: u64, compact: Option<u64>) -> Agreement {
 }
 
 /// Compares a version with its definition, on the first `n` bytes for each `n`.
-fn version_agrees(version: Version, secrets: &Secrets, bytes: &[u8]) -> Tally {
+fn version_agrees(version: Tested, secrets: &Secrets, bytes: &[u8]) -> Tally {
     let mut tally = Tally::new();
     for n in 0..bytes.len() {
         let x = &bytes[..n];
@@ -82,7 +82,7 @@ fn core_agrees(secrets: &Secrets, bytes: &[u8]) -> Tally {
 /// Compares every version on the lengths 0 to 512; returns the number of values that differ.
 fn print_versions(rt: &impl Print, secrets: &Secrets, bytes: &[u8]) -> Result<u64> {
     let mut differing = 0u64;
-    for version in Version::ALL {
+    for version in Tested::ALL {
         let name = version.name();
         let tally = version_agrees(version, secrets, bytes);
         println!(rt; "{name} by its definition on lengths 0 to 512: {tally}")?;

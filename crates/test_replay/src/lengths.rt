@@ -2,14 +2,14 @@
 
 use crate::compare::OPTIONS;
 use anyhow::Result;
-use rapidhash_portable::form::Options;
-use test_definitions::bodies::{Secrets, Version, body};
+use rapidhash_portable::form::{Options, Version};
+use test_definitions::bodies::{Secrets, Tested, body};
 
 /// Two versions, and the lengths at which they differ.
 #[derive(Clone, Copy)]
 struct Known {
-    first: Version,
-    second: Version,
+    first: Tested,
+    second: Tested,
     /// The lengths at which they differ, in words.
     words: &'static str,
     /// The same as the first and the last length of each run.
@@ -22,32 +22,32 @@ struct Known {
 /// secret for the third pair of a tail.
 const ALL: [Known; 5] = [
     Known {
-        first: Version::V3,
-        second: Version::Micro,
+        first: Tested::Named(Version::V3),
+        second: Tested::Named(Version::V3Micro),
         words: "from 81 on",
         runs: &[(81, 512)],
     },
     Known {
-        first: Version::V3,
-        second: Version::Nano,
+        first: Tested::Named(Version::V3),
+        second: Tested::Named(Version::V3Nano),
         words: "from 49 on",
         runs: &[(49, 512)],
     },
     Known {
-        first: Version::V1,
-        second: Version::V1Bug,
+        first: Tested::Named(Version::V1),
+        second: Tested::V1Bug,
         words: "at 48",
         runs: &[(48, 48)],
     },
     Known {
-        first: Version::V2Minor0,
-        second: Version::V2Minor1,
+        first: Tested::Named(Version::V2Minor0),
+        second: Tested::Named(Version::V2Minor1),
         words: "at 57 to 64",
         runs: &[(57, 64)],
     },
     Known {
-        first: Version::V2Minor1,
-        second: Version::V2Minor2,
+        first: Tested::Named(Version::V2Minor1),
+        second: Tested::Named(Version::V2Minor2),
         words: "at 1 to 3 and 49 to 64",
         runs: &[(1, 3), (49, 64)],
     },

@@ -5,13 +5,14 @@ ghost use Rattle.rapidhash_portable.specs.Lanes.{IsLaneCount};
 
 use crate::compare::OPTIONS;
 use anyhow::Result;
+use rapidhash_portable::form::Version;
 use rapidhash_portable::v3::RapidStreamHasherLanes;
-use test_definitions::bodies::{Secrets, Version, body};
+use test_definitions::bodies::{Secrets, Tested, body};
 
 /// The number of lengths below the bytes' own at which a stream hasher of `LANES` lanes hashes as
 /// the bulk call does, in pieces of one size, each length after a reset.
 fn pieces_agree<const LANES: usize>(
-    version: Version,
+    version: Tested,
     secrets: &Secrets,
     bytes: &[u8],
     size: usize,
@@ -46,9 +47,9 @@ fn print_sizes(rt: &impl Print, secrets: &Secrets, bytes: &[u8]) -> Result<u64> 
     let mut differing = 0u64;
     for size in SIZES {
         let size = size.max(1);
-        let seven = pieces_agree::<7>(Version::V3, secrets, bytes, size);
-        let five = pieces_agree::<5>(Version::Micro, secrets, bytes, size);
-        let three = pieces_agree::<3>(Version::Nano, secrets, bytes, size);
+        let seven = pieces_agree::<7>(Tested::Named(Version::V3), secrets, bytes, size);
+        let five = pieces_agree::<5>(Tested::Named(Version::V3Micro), secrets, bytes, size);
+        let three = pieces_agree::<3>(Tested::Named(Version::V3Nano), secrets, bytes, size);
         println!(rt;
             "pieces of {size}: v3 {seven}, micro {five}, nano {three} of {lengths} lengths"
         )?;
@@ -74,9 +75,11 @@ fn pairs_agree(secrets: &Secrets, bytes: &[u8]) -> u64 {
         };
         hasher.reset();
         hasher.write(one);
-        let after_one = hasher.finish() == body::<false>(Version::V3, options, secrets, one);
+        let after_one = hasher.finish()
+            == body::<false>(Tested::Named(Version::V3), options, secrets, one);
         hasher.write(rest);
-        let after_both = hasher.finish() == body::<false>(Version::V3, options, secrets, both);
+        let after_both = hasher.finish()
+            == body::<false>(Tested::Named(Version::V3), options, secrets, both);
         agreed = agreed.saturating_add(u64::from(after_one && after_both));
     }
     agreed

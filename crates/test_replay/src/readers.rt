@@ -4,20 +4,20 @@ use crate::bulk::version_of;
 use crate::rules::{message, number, secrets_of};
 use crate::tally::Agreement;
 use anyhow::{Result, bail};
-use rapidhash_portable::form::Options;
+use rapidhash_portable::form::{Options, Version};
 use rapidhash_portable::v1::rapidhash_v1_file_inline;
 use rapidhash_portable::v2::rapidhash_v2_file_inline;
 use rapidhash_portable::v3::rapidhash_v3_file_inline;
 use std::alloc::Global;
 use std::io;
-use test_definitions::bodies::{Secrets, Version, defined};
+use test_definitions::bodies::{Secrets, Tested, defined};
 
 /// The columns of a file of readers' hashes.
 pub const COLUMNS: &str = "form\tminor\tprotected\tmessage\tlength\tsecrets\texpected";
 
 /// The hash of all bytes of a reader.
 fn of_reader<const PROTECTED: bool>(
-    version: Version,
+    version: Tested,
     secrets: &Secrets,
     bytes: &[u8],
 ) -> io::Result<u64> {
@@ -26,22 +26,22 @@ fn of_reader<const PROTECTED: bool>(
     let three = &secrets.three;
     let seven = &secrets.seven;
     match version {
-        Version::V1 | Version::V1Bug => rapidhash_v1_file_inline::<&[u8], PROTECTED>(
+        Tested::Named(Version::V1) | Tested::V1Bug => rapidhash_v1_file_inline::<&[u8], PROTECTED>(
             &mut reader,
             len,
             three,
         ),
-        Version::V2Minor0 => rapidhash_v2_file_inline::<&[u8], 0, PROTECTED>(
+        Tested::Named(Version::V2Minor0) => rapidhash_v2_file_inline::<&[u8], 0, PROTECTED>(
             &mut reader,
             len,
             seven,
         ),
-        Version::V2Minor1 => rapidhash_v2_file_inline::<&[u8], 1, PROTECTED>(
+        Tested::Named(Version::V2Minor1) => rapidhash_v2_file_inline::<&[u8], 1, PROTECTED>(
             &mut reader,
             len,
             seven,
         ),
-        Version::V2Minor2 => rapidhash_v2_file_inline::<&[u8], 2, PROTECTED>(
+        Tested::Named(Version::V2Minor2) => rapidhash_v2_file_inline::<&[u8], 2, PROTECTED>(
             &mut reader,
             len,
             seven,
