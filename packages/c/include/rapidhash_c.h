@@ -184,7 +184,6 @@ static inline uint64_t rapidhash_from_canonical(const unsigned char *bytes)
 
 #ifndef RAPIDHASH_LINK
 /* All names from here on that end with an underscore are private. docs/ALGORITHM.md has the algorithm and its terms.
- *
  * A function with FORCE_INLINE is inlined into a caller whose constant arguments choose its code. Messages above 16
  * bytes leave the caller for a function with NOINLINE; those with rows, which need all registers, for another one. */
 #if defined(__GNUC__)
@@ -441,6 +440,10 @@ RAPIDHASH_FORCE_INLINE uint64_t rapidhash_v1_seed_(uint64_t word)
 RAPIDHASH_FORCE_INLINE uint64_t rapidhash_seed_(uint64_t word)
 { return word ^ rapidhash_mix_(false, word ^ rapidhash_default_secrets_[2], rapidhash_default_secrets_[1]); }
 
+/* Returns the hash of a message with rows by V2, whose minor versions share this code. */
+RAPIDHASH_NOINLINE uint64_t rapidhash_v2_with_rows_(const uint8_t *p, size_t n, uint64_t seed, const uint64_t *s)
+{ return rapidhash_with_rows_(&rapidhash_v2_2_form_, p, n, seed, s); }
+
 /* Defines the code of a version and its three hashes. */
 #define RAPIDHASH_C_DEFINE(version, own) \
     RAPIDHASH_NOINLINE uint64_t rapidhash_##version##_with_rows_( \
@@ -449,9 +452,10 @@ RAPIDHASH_FORCE_INLINE uint64_t rapidhash_seed_(uint64_t word)
     RAPIDHASH_NOINLINE uint64_t rapidhash_##version##_long_( \
         const uint8_t *p, size_t n, uint64_t seed, const uint64_t *s) \
     { \
-        return n > rapidhash_##version##_form_.limit \
-                   ? rapidhash_##version##_with_rows_(p, n, seed, s) \
-                   : rapidhash_close_tail_(&rapidhash_##version##_form_, false, p, n, n, seed, s); \
+        if (n <= rapidhash_##version##_form_.limit) \
+            return rapidhash_close_tail_(&rapidhash_##version##_form_, false, p, n, n, seed, s); \
+        return rapidhash_##version##_form_.threes ? rapidhash_v2_with_rows_(p, n, seed, s) \
+                                                  : rapidhash_##version##_with_rows_(p, n, seed, s); \
     } \
     RAPIDHASH_FORCE_INLINE uint64_t rapidhash_##version##_( \
         const void *bytes, size_t n, uint64_t seed, const uint64_t *s) \
