@@ -2,7 +2,6 @@ package rapidhash
 
 import (
 	"bytes"
-	"io"
 	"sync"
 	"testing"
 )
@@ -55,16 +54,6 @@ func TestUnevenPieces(t *testing.T) {
 	}
 }
 
-func TestCopiesGoOnAlone(t *testing.T) {
-	first := NewV3(nil)
-	io.WriteString(first, "left ")
-	second := *first
-	io.WriteString(first, "left")
-	io.WriteString(&second, "lift")
-	compare(t, "first", first.Sum64(), V3([]byte("left left")))
-	compare(t, "second", second.Sum64(), V3([]byte("left lift")))
-}
-
 // TestEqualStreams checks that streams of the same message are equal, so none keeps a pointer to its own secrets.
 func TestEqualStreams(t *testing.T) {
 	first, second := NewV3(&own), NewV3(&own)
@@ -101,20 +90,38 @@ func TestSeedOf0(t *testing.T) {
 	compare(t, "stream", stream.Sum64(), V3Seeded(data(), &secrets))
 }
 
-// TestConcurrentCalls runs calls that must not share anything, as the race detector also checks.
+// TestConcurrentCalls runs all calls with the same messages and secrets, as the race detector also checks.
 func TestConcurrentCalls(t *testing.T) {
-	var group sync.WaitGroup
-	for name, call := range calls {
-		for worker := 0; worker < 4; worker++ {
-			name, call := name, call
-			group.Add(1)
-			go func() {
-				defer group.Done()
-				for count := 0; count < 1000; count++ {
-					compare(t, name, call.plain(data()[:call.size]), call.known)
+	bytes, text, secrets, secretsV1 := long()[:700], string(long()[:700]), MakeSecrets(7), MakeSecretsV1(7)
+	all := func() (sum uint64) {
+		for n := 1; n <= len(bytes); n *= 2 {
+			sum += V1Seeded(bytes[:n], secretsV1) + V3StringSeeded(text[:n], secrets) + V3StringWithSeed(text[:n], 7)
+			for _, call := range calls {
+				sum += call.plain(bytes[:n]) + call.word(bytes[:n], 7) + call.text(text[:n])
+				if call.seeded != nil {
+					sum += call.seeded(bytes[:n], secrets)
 				}
-			}()
+				if call.start != nil {
+					first, second := call.start(secrets), call.startWord(7)
+					first.Write(bytes[:n])
+					saved, _ := first.MarshalBinary()
+					second.UnmarshalBinary(saved)
+					second.WriteString(text[:n])
+					sum += second.Sum64()
+				}
+			}
 		}
+		return sum + MakeSecrets(7).Secrets[6]
+	}
+	var group sync.WaitGroup
+	for known, worker := all(), 0; worker < 4; worker++ {
+		group.Add(1)
+		go func() {
+			defer group.Done()
+			for count := 0; count < 30; count++ {
+				compare(t, "the sum of a goroutine", all(), known)
+			}
+		}()
 	}
 	group.Wait()
 }

@@ -61,27 +61,32 @@ func TestTakesWhatWritersTake(t *testing.T) {
 	}
 }
 
-// TestSavedStates saves the state of each stream after each length, and another stream continues from it.
-func TestSavedStates(t *testing.T) {
-	message := long()[:600]
-	for _, start := range []func(*Secrets) *Stream{NewV3, NewV3Micro, NewV3Nano} {
-		for size := 0; size < 300; size++ {
-			first, second := start(&own), NewV3(nil)
+// TestStreamsGoOn writes a message of each length up to three rows of V3 to streams that have another of each such
+// length, and that were reset, copied, or saved and restored.
+func TestStreamsGoOn(t *testing.T) {
+	const most = 3*112 + 1
+	message := long()[:2*most]
+	for name, call := range calls {
+		for size := 0; call.start != nil && size <= most; size++ {
+			first, restored := call.start(&own), NewV3(nil)
 			first.Write(message[:size])
-			saved, err := first.MarshalBinary()
-			second.WriteString("other")
-			if err != nil || second.UnmarshalBinary(saved) != nil {
-				t.Fatal(size, err)
+			restored.Write(message)
+			if saved, err := first.MarshalBinary(); err != nil || restored.UnmarshalBinary(saved) != nil {
+				t.Fatal(name, size, err)
 			}
-			compare(t, "saved", second.Sum64(), first.Sum64())
-			first.Write(message[size:])
-			second.Write(message[size:])
-			second.Reset()
-			second.UnmarshalBinary(saved)
-			second.Write(message[size:])
-			compare(t, "gone on", second.Sum64(), first.Sum64())
-			if second.BlockSize() != first.BlockSize() {
-				t.Error("another version")
+			for more := 0; more <= most; more++ {
+				again, copied, last := *first, *first, *restored
+				again.Reset()
+				rest, known := message[size:size+more], call.seeded(message[:size+more], &own)
+				for _, stream := range []*Stream{&again, &copied, &last} {
+					stream.Write(rest)
+				}
+				if found := again.Sum64(); found != call.seeded(rest, &own) {
+					t.Fatal(name, size, more, "reset", found)
+				}
+				if copied.Sum64() != known || last.Sum64() != known {
+					t.Fatal(name, size, more, "copied", copied.Sum64(), "restored", last.Sum64(), "known", known)
+				}
 			}
 		}
 	}
@@ -123,40 +128,6 @@ func TestRefusedStates(t *testing.T) {
 	}
 	if err := stream.UnmarshalBinary(with(12, 48)); err != nil {
 		t.Error(err)
-	}
-}
-
-// TestEveryCut writes 300 bytes in two pieces, with each cut, and compares the hash with that of the slice.
-func TestEveryCut(t *testing.T) {
-	message := long()[1000:1300]
-	for name, call := range calls {
-		if call.start == nil {
-			continue
-		}
-		known := call.seeded(message, &own)
-		for cut := 0; cut <= len(message); cut++ {
-			stream := call.start(&own)
-			stream.Write(message[:cut])
-			stream.Write(message[cut:])
-			compare(t, fmt.Sprint(name, " cut at ", cut), stream.Sum64(), known)
-		}
-	}
-}
-
-// TestReset resets streams that have folded rows, and writes messages that fill no row.
-func TestReset(t *testing.T) {
-	message := long()[:300]
-	for name, call := range calls {
-		if call.start == nil {
-			continue
-		}
-		stream := call.start(&own)
-		for size := 0; size <= 50; size++ {
-			stream.Write(message)
-			stream.Reset()
-			stream.Write(data()[:size])
-			compare(t, fmt.Sprint(name, " of ", size), stream.Sum64(), call.seeded(data()[:size], &own))
-		}
 	}
 }
 
@@ -202,25 +173,34 @@ func TestSavedBytesOfShortStreams(t *testing.T) {
 }
 
 func TestAllocatesNothing(t *testing.T) {
-	bytes, text, made, madeV1 := long()[:5000], string(long()[:5000]), MakeSecrets(1), MakeSecretsV1(1)
-	stream := NewV3(nil)
-	runs := map[string]func(){
-		"v1":      func() { V1(bytes); V1Seeded(bytes, madeV1); V1WithSeed(bytes, 1); V1String(text) },
-		"strings": func() { V3String(text); V3StringSeeded(text, made); V3StringWithSeed(text, 1) },
-		"write":   func() { stream.Write(bytes); stream.WriteString(text) },
-		"sum":     func() { stream.Sum64(); stream.Sum(bytes[:0]); stream.Reset() },
-		"restart": func() { *stream = Stream{}; stream.Write(bytes) },
-	}
-	for name, call := range calls {
-		call := call
-		runs[name] = func() { call.plain(bytes); call.word(bytes, 1); call.text(text) }
-		if call.seeded != nil {
-			runs[name+" seeded"] = func() { call.seeded(bytes, made) }
+	made, madeV1, sum, restarted := MakeSecrets(1), MakeSecretsV1(1), make([]byte, 8), NewV3(nil)
+	for _, size := range []int{0, 3, 16, 100, 5000} {
+		bytes, text := long()[:size], string(long()[:size])
+		runs := map[string]func(){
+			"v1 seeded": func() { V1Seeded(bytes, madeV1) },
+			"strings":   func() { V3StringSeeded(text, made); V3StringWithSeed(text, 1) },
+			"restart":   func() { *restarted = Stream{}; restarted.Write(bytes) },
 		}
-	}
-	for name, run := range runs {
-		if count := testing.AllocsPerRun(100, run); count != 0 {
-			t.Errorf("%s allocates %v times", name, count)
+		for name, call := range calls {
+			call := call
+			runs[name] = func() { call.plain(bytes); call.word(bytes, 1); call.text(text) }
+			if call.seeded != nil {
+				runs[name+" seeded"] = func() { call.seeded(bytes, made) }
+			}
+			if call.start != nil {
+				stream := call.start(made)
+				runs[name+" stream"] = func() {
+					stream.Reset()
+					stream.Write(bytes)
+					stream.WriteString(text)
+					stream.Sum(sum[:0])
+				}
+			}
+		}
+		for name, run := range runs {
+			if count := testing.AllocsPerRun(100, run); count != 0 {
+				t.Errorf("%s allocates %v times for %d bytes", name, count, size)
+			}
 		}
 	}
 }

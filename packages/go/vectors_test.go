@@ -120,6 +120,34 @@ func (call call) checkZeros(t *testing.T, name, digits string, known uint64) {
 	}
 }
 
+// TestLengthsBetween compares sums of hashes at lengths that the vectors leave out. The known ones are those of the C
+// header with gcc, by rapidhash_v3_with_seed(message, n, n) and so on in the same loop.
+func TestLengthsBetween(t *testing.T) {
+	sums := map[string]uint64{
+		"v1":           11757234185863877016,
+		"v2_0":         18115706928600855272,
+		"v2_1":         18115706928600855272,
+		"v2_2":         18115706928600855272,
+		"v3":           623517397202350133,
+		"v3_micro":     17316189793002705663,
+		"v3_nano":      14492001302674092559,
+		"v3_protected": 17860716362093790630,
+	}
+	message := long()
+	for name, call := range calls {
+		sum := uint64(0)
+		for n := 5000; n < 1000000; {
+			sum = 31*sum + call.word(message[:n], uint64(n))
+			if n < 16384 {
+				n += 11
+			} else {
+				n += 300000
+			}
+		}
+		compare(t, name+" of 5,000 bytes and more", sum, sums[name])
+	}
+}
+
 // TestVectors compares all values of the Rust crate that scripts/vectors.py writes. RAPIDHASH_VECTORS names their file.
 func TestVectors(t *testing.T) {
 	name, isNamed := os.LookupEnv("RAPIDHASH_VECTORS")

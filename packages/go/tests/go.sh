@@ -10,6 +10,11 @@ runs_the_page() {
     ! grep -vxFf example_test.go "$room/lines"
 }
 
+# Checks that go.mod requires the version of Go that docs/BINDINGS.md names.
+requires_the_go_of_the_page() {
+  grep -xF "go $(sed -n 's/^The package is plain Go \([0-9.]*\),.*/\1/p' "$top/docs/BINDINGS.md")" go.mod
+}
+
 # Checks by the products that a loop folds two rows per iteration and then one, or four with three lanes. With single
 # rows the same values would take longer.
 folds_many_rows() {
@@ -27,6 +32,7 @@ needs go
 cd "$top/packages/go" || exit 1
 prepare_by write_vectors "$room"
 try licences has_the_licences .
+try version requires_the_go_of_the_page
 try layout bash -c '[ -z "$(gofmt -l .)" ]'
 # The functions, methods, and types of the release.
 try names bash -c '[ "$(go doc -all | grep -cE "^(func|type) ")" -eq 56 ]'
