@@ -72,6 +72,15 @@ has_its_names() {
     cat "$room/names" && [ "$(grep -c '\bpublic ' "$room/names")" -eq 42 ]
 }
 
+# Checks that all classes are for the oldest JDK that docs/BINDINGS.md names: JDK 11 reads major version 55.
+is_for_the_jdk_of_the_page() {
+  local jdk
+  jdk=$(sed -n 's/^The package is plain Java for JDK \([0-9]*\) and later.*/\1/p' "$top/docs/BINDINGS.md") &&
+    mkdir "$room/unpacked" && (cd "$room/unpacked" && jar -xf "$jar") &&
+    find "$room/unpacked" -name '*.class' -exec javap -v {} + | grep 'major version' | sort -u |
+    diff - <(echo "  major version: $((jdk + 44))")
+}
+
 # Checks by the calls in its code that a stream copies whole arrays: byte by byte, short pieces would take twice as long.
 copies_whole_arrays() {
   [ "$(javap -c -p -cp "$jar" "$package.RapidhashStream" |
@@ -87,6 +96,7 @@ try java_licences contains_the_licences
 try java_module runs_as_a_module
 try java_pom pom_is_current
 try java_names has_its_names
+try java_version is_for_the_jdk_of_the_page
 try java_copies copies_whole_arrays
 for test in "$folder"/src/test/java/example/yervound/rapidhash/*Test.java; do
   try "java_$(basename "$test" .java)" passes "$(basename "$test" .java)"

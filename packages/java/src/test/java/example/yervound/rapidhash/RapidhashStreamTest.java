@@ -38,6 +38,25 @@ public class RapidhashStreamTest {
         }
     }
 
+    /** Writes a message of each length up to three rows after another of each such length and a reset. */
+    @Test
+    public void resets() {
+        byte[] message = Messages.bytes(500);
+        for (Rapidhash version : STREAMED) {
+            RapidhashStream stream = version.stream(OWN);
+            for (int length = 0; length <= 3 * 112 + 1; length++) {
+                long known = version.hash(message, 0, length, OWN);
+                for (int before = 0; before <= 3 * 112 + 1; before++) {
+                    stream.update(message, 100, before);
+                    stream.reset();
+                    stream.update(message, 0, length);
+                    assertEquals(version + " of " + length + " after " + before, known, stream.getValue());
+                    stream.reset();
+                }
+            }
+        }
+    }
+
     @Test
     public void singleBytes() {
         byte[] message = Messages.bytes(300);

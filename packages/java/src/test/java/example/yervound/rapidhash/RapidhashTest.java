@@ -12,7 +12,13 @@ import java.lang.management.ManagementFactory;
 import java.nio.ByteBuffer;
 import java.nio.ByteOrder;
 import java.nio.charset.StandardCharsets;
-import java.util.stream.IntStream;
+import java.util.Arrays;
+import java.util.Collections;
+import java.util.List;
+import java.util.concurrent.Callable;
+import java.util.concurrent.ExecutorService;
+import java.util.concurrent.Executors;
+import java.util.concurrent.Future;
 import org.junit.Test;
 
 public class RapidhashTest {
@@ -44,18 +50,38 @@ public class RapidhashTest {
         }
     }
 
+    /** Checks that calls allocate at most 512 bytes at any length, as they do for lanes until the code is compiled. */
     @Test
-    public void buffersAreNotCopied() {
-        ThreadMXBean counter = (ThreadMXBean) ManagementFactory.getThreadMXBean();
-        ByteBuffer direct = ByteBuffer.allocateDirect(1 << 20);
-        RapidhashStream stream = Rapidhash.V3.stream();
-        long before = counter.getThreadAllocatedBytes(Thread.currentThread().getId());
-        stream.update(direct.duplicate());
-        assertEquals(Rapidhash.V3.hash(direct), stream.getValue());
-        for (int at = 0; at < 1 << 16; at++) {
-            stream.update(at);
+    public void nothingIsCopied() {
+        for (Rapidhash version : Rapidhash.values()) {
+            for (int length : new int[] {0, 3, 16, 100, 1 << 20}) {
+                byte[] bytes = new byte[length];
+                allocatesLittle(version, () -> version.hash(bytes));
+                allocatesLittle(version, () -> version.hash(bytes, 0, length, 7L));
+                allocatesLittle(version, () -> version.hash(bytes, OWN));
+                for (ByteBuffer buffer : Messages.buffers(bytes)) {
+                    allocatesLittle(version, () -> version.hash(buffer, OWN));
+                    if (RapidhashStreamTest.STREAMED.contains(version)) {
+                        RapidhashStream stream = version.stream();
+                        allocatesLittle(version, () -> stream.update(buffer.rewind()));
+                        allocatesLittle(version, () -> stream.update(bytes));
+                        allocatesLittle(version, () -> stream.update(7));
+                        allocatesLittle(version, stream::getValue);
+                        allocatesLittle(version, stream::reset);
+                    }
+                }
+            }
         }
-        assertTrue(counter.getThreadAllocatedBytes(Thread.currentThread().getId()) - before < 1 << 18);
+    }
+
+    private static void allocatesLittle(Rapidhash version, Runnable call) {
+        ThreadMXBean counter = (ThreadMXBean) ManagementFactory.getThreadMXBean();
+        long thread = Thread.currentThread().getId();
+        call.run();
+        long before = counter.getThreadAllocatedBytes(thread);
+        call.run();
+        long count = counter.getThreadAllocatedBytes(thread) - before;
+        assertTrue(version + " allocates " + count + " bytes", count <= 512);
     }
 
     @Test
@@ -123,12 +149,39 @@ public class RapidhashTest {
     }
 
     @Test
-    public void threads() {
-        byte[] message = Messages.bytes(200);
-        for (Rapidhash version : Rapidhash.values()) {
-            long known = version.hash(message);
-            assertTrue(IntStream.range(0, 100_000).parallel().allMatch(call -> version.hash(message) == known));
+    public void threads() throws Exception {
+        byte[] message = Messages.bytes(500);
+        List<ByteBuffer> buffers = Messages.buffers(message);
+        Callable<Long> all = () -> sumOfAll(message, buffers);
+        Long known = all.call();
+        ExecutorService four = Executors.newFixedThreadPool(4);
+        try {
+            for (Future<Long> sum : four.invokeAll(Collections.nCopies(1000, all))) {
+                assertEquals(known, sum.get());
+            }
+        } finally {
+            four.shutdown();
         }
+    }
+
+    /** Returns a number that depends on all hashes of a message, also in two pieces, and of buffers. */
+    private static long sumOfAll(byte[] message, List<ByteBuffer> buffers) {
+        long sum = Arrays.hashCode(Secrets.make(7).secrets());
+        for (Rapidhash version : Rapidhash.values()) {
+            for (int n = 0; n <= message.length; n += 50) {
+                sum += version.hash(message, 0, n) + version.hash(message, 0, n, 7L) + version.hash(message, 0, n, OWN);
+                if (RapidhashStreamTest.STREAMED.contains(version)) {
+                    RapidhashStream stream = version.stream(OWN);
+                    stream.update(message, 0, n);
+                    stream.update(buffers.get(n % buffers.size()).duplicate());
+                    sum += stream.getValue();
+                }
+            }
+            for (ByteBuffer buffer : buffers) {
+                sum += version.hash(buffer) + version.hash(buffer, 7L) + version.hash(buffer, OWN);
+            }
+        }
+        return sum;
     }
 
     @Test

@@ -108,21 +108,50 @@ public class VectorsTest {
         return stream.getValue();
     }
 
-    /** Compares the hashes of the longest buffer, a file without blocks. The values are those of the Rust crate. */
+    /**
+     * Compares the hashes of the longest buffer, a file without blocks. The known ones are those of the C header with
+     * gcc, by rapidhash_v3(zeros, INT_MAX) and so on in the order of the versions.
+     */
     @Test
     public void longestBuffer() throws IOException {
+        long[] known = {
+            0x129f5d6af9054732L, 0xf089650b239214f1L, 0xf089650b239214f1L, 0xf089650b239214f1L,
+            0x9fe6f80d0f340458L, 0x506ff0c3da32b34dL, 0x3416f0e231584072L, 0xf49912f7374e55a5L
+        };
         Path file = Files.createTempFile("zeros", null);
         try (FileChannel channel = FileChannel.open(file, StandardOpenOption.READ, StandardOpenOption.WRITE)) {
             channel.write(ByteBuffer.allocate(1), Integer.MAX_VALUE - 1L);
             ByteBuffer zeros = channel.map(FileChannel.MapMode.READ_ONLY, 0, Integer.MAX_VALUE);
-            assertEquals(1341893928005486386L, Rapidhash.V1.hash(zeros));
-            assertEquals(Long.parseUnsignedLong("17332495739427886321"), Rapidhash.V2_2.hash(zeros));
-            assertEquals(Long.parseUnsignedLong("11522169431647323224"), Rapidhash.V3.hash(zeros));
-            RapidhashStream stream = Rapidhash.V3.stream();
-            stream.update(zeros);
-            assertEquals(Long.parseUnsignedLong("11522169431647323224"), stream.getValue());
+            for (Rapidhash version : Rapidhash.values()) {
+                assertEquals(version.name(), known[version.ordinal()], version.hash(zeros));
+            }
+            for (Rapidhash version : RapidhashStreamTest.STREAMED) {
+                RapidhashStream stream = version.stream();
+                stream.update(zeros.rewind());
+                assertEquals(version.name(), known[version.ordinal()], stream.getValue());
+            }
         } finally {
             Files.delete(file);
+        }
+    }
+
+    /**
+     * Compares sums of hashes at lengths that the files leave out. The known ones are those of the C header with gcc,
+     * by rapidhash_v3_with_seed(message, n, n) and so on in the same loop.
+     */
+    @Test
+    public void lengthsBetween() {
+        long[] known = {
+            0xa32a1633157ed198L, 0xfb67eb786e5632e8L, 0xfb67eb786e5632e8L, 0xfb67eb786e5632e8L,
+            0x08a72dc4eb85b035L, 0xf04f76df232bd2ffL, 0xc91dee672263320fL, 0xf7de02e6b49b85a6L
+        };
+        byte[] message = Messages.bytes(1_000_000);
+        for (Rapidhash version : Rapidhash.values()) {
+            long sum = 0;
+            for (int n = 5000; n < 1_000_000; n += n < 16384 ? 11 : 300_000) {
+                sum = 31 * sum + version.hash(message, 0, n, n);
+            }
+            assertEquals(version.name(), known[version.ordinal()], sum);
         }
     }
 
