@@ -90,7 +90,7 @@ packs_a_part() {
   make -s -C "$top" dist PARTIAL=yes has_npm= has_jar= 2>&1 | tee "$room/said" &&
     grep -x 'Left out because the tools to build them were missing: npm jar' "$room/said" &&
     mkdir "$room/part" && tar -C "$room/part" --strip-components 1 -xzf "$top"/build/yervound-*.tar.gz && cd "$room/part" &&
-    diff <(tail -n 1 README.md) "$room/said" && [ -x bin/rapidsum ] && [ -d wheels ] && [ ! -e packages/javascript ] &&
+    diff <(tail -n 1 README.md) <(tail -n 1 "$room/said") && [ -x bin/rapidsum ] && [ -d wheels ] && [ ! -e packages/javascript ] &&
     [ -z "$(ls packages/java/*.jar 2>/dev/null)" ]
 }
 

@@ -1,7 +1,7 @@
 /* Tests properties of the header that no table of values shows. The argument selects one:
  *   product  the loads and the product, of words at which a carry or a half could be wrong
- *   streams  a stream that was reset, copied, or assigned to itself after each length up to three rows, and the finish of
- *            a stream in memory that cannot be written
+ *   streams  a stream that was reset, copied, or assigned to itself after each length up to three rows, and the finish
+ *            of a stream in memory that cannot be written
  *   threads  calls of several threads at a time, under ThreadSanitizer
  *   content  that no branch and no address depends on the contents of messages, seeds or secrets, under memcheck, which
  *            reports each use of undefined bytes. The comparison as formulas, of random contents, relies on it. */
