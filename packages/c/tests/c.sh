@@ -254,8 +254,9 @@ for machine in _M_X64 _M_ARM64; do
   try_with "properties_msvc$machine" gcc has_the_properties "$both" gcc -O2 -U__SIZEOF_INT128__ -D_MSC_VER=1930 \
     "-D$machine" "-I$tests/msvc"
 done
-under=qemu-s390x try_with properties_s390x "s390x-linux-gnu-gcc-12 /usr/s390x-linux-gnu/include/stdio.h qemu-s390x" \
-  has_the_properties "$both" s390x-linux-gnu-gcc-12 -static -O2
+s390x='clang s390x-linux-gnu-ld /usr/lib/gcc-cross/s390x-linux-gnu/*/libgcc.a /usr/s390x-linux-gnu/include/stdio.h'
+under=qemu-s390x try_with properties_s390x "$s390x qemu-s390x" \
+  has_the_properties "$both" clang --target=s390x-linux-gnu -static -O2
 under='valgrind -q --error-exitcode=9' try_with content 'valgrind /usr/include/valgrind/memcheck.h' \
   has_the_properties content cc -O2 -DTEST_CONTENT
 try_with threads gcc has_the_properties threads gcc -O1 -fsanitize=thread -DTEST_THREADS -lpthread
