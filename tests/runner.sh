@@ -58,7 +58,7 @@ gate_says() { gate_ends "${@:2}"; ends=$? && cat "$room/said" && [ "$ends" -eq 0
 # whose line has this case, the file, and the command for sed: SCRIPT ARGUMENT..
 refuses() {
   local case file edit
-  cat >"$room/changes" && cd "$room" && rm -rf copy && git clone -q -s "$top" copy && cd copy &&
+  grep . >"$room/changes" && cd "$room" && rm -rf copy && git clone -q -s "$top" copy && cd copy &&
     while read -r case file edit; do sed -i "$edit" "$file" || return 1; done <../changes
   "$@" >"$room/answers" 2>&1
   echo "its status is $?" >>"$room/answers"
