@@ -34,7 +34,7 @@ SUBJECTS = [
 # The formulas up to 4,096 bytes, up to 16,384, and of streams, for a form with its options. Those up to 16 bytes are
 # compared 64 times each. Then, how often a subject of each kind has these.
 SLICES, LONG, STREAMS = 17 * 64 + 4080, 17 * 64 + 16368, 301 * 302 // 2 + 4097
-COUNTS = {"native": 6 * SLICES + 2 * LONG + 3 * STREAMS, "kernels": 52 * SLICES + 4 * LONG + 12 * STREAMS}
+COUNTS = {"native": 8 * LONG + 3 * STREAMS, "kernels": 46 * SLICES + 10 * LONG + 12 * STREAMS}
 
 
 def build_definition():

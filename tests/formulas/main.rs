@@ -58,7 +58,8 @@ impl Plan {
     }
 
     fn slices(&mut self, form: u64, options: u64) {
-        let most = if form == 4 && options & COMPACT == 0 { 16384 } else { 4096 };
+        let is_long = options & COMPACT == 0 && (form == 4 || options == AVALANCHE);
+        let most = if is_long { 16384 } else { 4096 };
         for length in 0..=most {
             for _ in 0..if length <= 16 { 64 } else { 1 } {
                 self.add(form, options, length, None);
