@@ -160,6 +160,24 @@ v3_protected 40 141 3008
 COUNTS
 }
 
+# Checks that calls of the header execute at most a tenth more instructions than when they were counted, with gcc 12. The
+# stream gets 4,800 bytes, in pieces of a length: byte by byte, a copy of a piece would take longer.
+stays_short() {
+  local body lengths limits
+  while IFS='|' read -r body lengths limits; do
+    printf '%s\n' '#include <stdlib.h>' '#include "rapidhash_c.h"' 'static struct rapidhash_stream stream;' \
+      'static struct rapidhash_secrets secrets;' \
+      '__attribute__((noinline)) uint64_t counted(const uint8_t *bytes, size_t length)' "{ $body }" \
+      'int main(int count, char **words) { rapidhash_seed_secrets(0, &secrets); rapidhash_v3_start(&stream, &secrets);' \
+      'return counted((uint8_t *)calloc(4800, 1), (size_t)atoi(words[count - 1])) == 7; }' >"$room/short.c" &&
+      gcc -O2 "-I$include" "$room/short.c" -o "$room/short" && for length in $lengths; do
+      valgrind --tool=callgrind --callgrind-out-file=/dev/null --toggle-collect=counted "$room/short" "$length" 2>&1
+    done | sed -n 's/.*Collected : //p' | xargs | tee -a "$room/counts" |
+      awk -v limits="$limits" '{ n = split(limits, most, " "); if (NF != n) exit 1
+        for (i = 1; i <= n; i++) if ($i > 1.1 * most[i]) exit 1 }' || { echo "$body" && cat "$room/counts" && return 1; }
+  done
+}
+
 # Checks by the products that a loop of the header folds two rows per iteration and then one, by GCC only with three
 # lanes. With single rows the same values would take longer: COMPILER COUNTS
 folds_two_rows() {
@@ -262,6 +280,16 @@ under='valgrind -q --error-exitcode=9' try_with content 'valgrind /usr/include/v
 try_with threads gcc has_the_properties threads gcc -O1 -fsanitize=thread -DTEST_THREADS -lpthread
 try_with rows_per_iteration gcc folds_two_rows gcc '15 11 13'
 try_with rows_per_iteration_clang clang folds_two_rows clang '29 21 13'
+try_with instructions_of_the_header 'gcc valgrind' stays_short <<'COUNTS'
+return rapidhash_v1(bytes, length);|8 16 100 4096|33 33 92 1875
+return rapidhash_v2_2(bytes, length);|8 16 100 4096|24 24 97 1743
+return rapidhash_v3(bytes, length);|8 16 100 4096|28 28 65 1738
+return rapidhash_v3_micro(bytes, length);|8 16 100 4096|28 28 94 1785
+return rapidhash_v3_nano(bytes, length);|8 16 100 4096|28 28 87 1870
+return rapidhash_v3_protected(bytes, length);|8 16 100 4096|32 32 100 2262
+for (size_t at = 0; at < 4800; at += length) rapidhash_stream_write(&stream, bytes + at, length); return 0;|1 16 100|182455 13555 6570
+return rapidhash_v3_with_seed(bytes, length, length);|8 16 100 4096|30 30 73 1750
+COUNTS
 try_with manual_and_header mandoc manual_has_the_header
 
 # The library that cc builds from the header, which replaces the proved one on other machines.
