@@ -118,15 +118,18 @@ try rows_per_iteration folds_two_rows
 for manifest in Cargo.toml compat/Cargo.toml; do try "metadata_of_$manifest" has_the_metadata "$manifest"; done
 try examples tests_pass cargo test --doc
 try_with pedantic cargo-clippy cargo clippy -- -D warnings -W clippy::pedantic
-# Debian's compiler is too old for a dependency of the tests.
-if [ "$(command -v rustc)" = /usr/bin/rustc ]; then
-  skip drop_in "no rustc but Debian's"
-else
-  try_with drop_in "$(printf '/usr/share/cargo/registry/%s ' rand_core-0.6\* hashbrown-0.12\* indexmap-1\*)" drops_in
-fi
+# Prints a case of packages/rust/compat, or skips it with a compiler that this package does not support: NAME TOOLS COMMAND..
+try_compat() {
+  if [ "$(rustc --version | cut -d . -f 2)" -lt 83 ]; then
+    skip "$1" 'rustc is older than 1.83'
+  else
+    try_with "$@"
+  fi
+}
+try_compat drop_in "$(printf '/usr/share/cargo/registry/%s ' rand_core-0.6\* hashbrown-0.12\* indexmap-1\*)" drops_in
 try features_of_compat has_its_features
 for features in nightly std 'std unsafe getrandom_03 getrandom_04'; do
-  try "compat_with_$features" builds_compat $features
+  try_compat "compat_with_$features" cargo builds_compat $features
 done
 try features_of_the_compiler finds_its_features
 try no_dependency bash -c '[ "$(cargo tree | wc -l)" -eq 1 ]'
