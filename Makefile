@@ -98,8 +98,8 @@ needs_the_kit = [ -n '$(kit)' ] || { echo 'make $(1): rt, the command of the Rat
   'proved programs and library for the archive' >&2; exit 2; }
 
 # Says so once, before the first product.
-unproved = $(if $(said),:,$(eval said := yes)echo 'make: rt is not on PATH: building with $(if \
-  $(tools),cc and cargo,cc the library alone), which is not the proved build' >&2)
+unproved = $(if $(said),:,$(eval said := yes)echo 'make: $(if $(shell command -v rt),,rt is \
+  not on PATH: )building with $(if $(tools),cc and cargo,cc the library alone), which is not the proved build' >&2)
 
 include packages/*/make.mk
 

@@ -194,9 +194,10 @@ fuzz() {
 
 # Checks that make without the kit and without cargo builds and installs the library alone, and says so.
 builds_from_the_header() {
-  local left='make: the programs are left out: install cargo (Rust 1.63 or newer) and run make again'
+  local why left='make: the programs are left out: install cargo (Rust 1.63 or newer) and run make again'
+  has rt || why='rt is not on PATH: '
   copy_sources "$room/bare" && make_by_cc_alone >"$room/said" 2>&1 && diff "$room/said" - <<SAID &&
-make: rt is not on PATH: building with cc the library alone, which is not the proved build
+make: ${why-}building with cc the library alone, which is not the proved build
 $left
 SAID
     make_by_cc_alone install PREFIX="$room/usr" >"$room/said" 2>&1 && diff "$room/said" - <<<"$left" &&
