@@ -28,7 +28,8 @@ edit_ends() {
     touch crates.txt HANDLES && cp "$top/tests/cases.py" tests && cp "$top/tests/release/must_fail.py" tests/release &&
     echo '{ 1 }' >crates/one/src/lib.rt &&
     printf '%s\n' 'refused: f, goal' 'file: src/lib.rt' 'old: { 1 }' 'new: { 2 }' >crates/one/must-fail/a.edit &&
-    { [ -z "${3-}" ] || sed 's/refused: f, goal/proved: f/; s/{ 2 }/{ 3 }/' crates/one/must-fail/a.edit >crates/one/must-fail/a.twin; } &&
+    { [ -z "${3-}" ] || { mkdir -p tests/release/twins/one && sed 's/refused: f, goal/proved: f/; s/{ 2 }/{ 3 }/' \
+      crates/one/must-fail/a.edit >tests/release/twins/one/a.twin; }; } &&
     printf '#!/bin/sh\ngrep -q "{ 2 }" src/lib.rt && echo "fn one::f: $SAID"\ngrep -q "{ 3 }" src/lib.rt && echo "fn one::f: $TWIN"\n' \
       >bin/rt && chmod +x bin/rt && SAID=$2 TWIN=${3-} PATH=$PWD/bin:$PATH python3 tests/release/must_fail.py >../said
   [ "$?:$(head -n 1 "$room/said")" = "$(($(grep -c ^not <<<"$1"))):$1 - one/a" ]

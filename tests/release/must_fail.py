@@ -3,9 +3,9 @@
 goal that the edit names. The arguments are crates; without any, it tries all. `rt ci` tries each edit too, but only
 looks whether it is refused. With the variable VERBOSE, also prints the checker's messages.
 
-The first line of an edit is `# refused: FUNCTION, GOAL`, a comment for `rt`. An edit may have a twin, NAME.twin with the
-first line `# proved: FUNCTION`: another text of the same place, which means what the source means. The checker must
-prove it. So the edit is refused for its meaning, and not because a stored answer fits a single text."""
+The first line of an edit is `# refused: FUNCTION, GOAL`, a comment for `rt`. An edit may have a twin in
+tests/release/twins, with the first line `# proved: FUNCTION`: another text of the same place, which means the same.
+The checker must prove it. So the edit is refused for its meaning, and not because a stored answer fits a single text."""
 
 import os
 import re
@@ -26,10 +26,15 @@ def link(source, target):
         shutil.copy2(source, target)
 
 
+def crate_of(edit):
+    """Returns the crate of an edit in its must-fail/, or of a twin in the directory of its name."""
+    return edit.parent.name if edit.suffix == ".twin" else edit.parent.parent.name
+
+
 def applied(edit):
     """Copies the crates, applies an edit, and returns the directory of its crate, its function, and its goal."""
-    crate = edit.parent.parent.name
-    copy = ROOM / crate / edit.stem
+    crate = crate_of(edit)
+    copy = ROOM / crate / edit.name
     shutil.copytree(TOP / "crates", copy / "crates", ignore=shutil.ignore_patterns("out", "data"))
     for out in TOP.glob("crates/*/out"):
         shutil.copytree(out, copy / out.relative_to(TOP), copy_function=link)
@@ -76,7 +81,7 @@ def verdict_of(edit):
 
 def finding(edit):
     """Returns how the function's verdict differs from the expected refusal, or an empty string."""
-    twin = edit.with_suffix(".twin")
+    twin = TOP / "tests" / "release" / "twins" / crate_of(edit) / f"{edit.stem}.twin"
     if twin.exists():
         function, _, said = verdict_of(twin)
         if not said.startswith("proved"):
