@@ -67,12 +67,12 @@ def limits():
 
 
 def names():
-    """Checks that each name on a page is that of a file, or in the code: not only in tests, edits or the compat crate."""
+    """Checks that each name on a page is that of a file, or in the code: not only in tests, benches, edits or compat."""
     words = set()
     for name in shell("git ls-files")[1].splitlines():
         if not name.endswith((".md", ".tsv")):
             words.update(re.findall(r"\w+", name))
-            if not re.search(r"(^|/)(tests|must-fail|compat|crates/(test|bench)_\w+)/", name):
+            if not re.search(r"(^|/)(tests|must-fail|compat|bench|crates/(test|bench)_\w+)/", name):
                 words.update(re.findall(r"\w+", (TOP / name).read_text(errors="replace")))
     for _, place, line in prose(TOP / "docs" / f"{name}.md" for name in
                                 ("PROVED", "ARCHITECTURE", "C", "CPP", "DECISIONS", "PERFORMANCE")):

@@ -166,7 +166,7 @@ version packages/c/rapidhash_c.3 s|Yervound 1.0|Yervound 1.1|
 figures README.md s|<!-- means -->|<!-- means -->9 |
 EDITS
 refuses tests/pages.py <<'EDITS'
-names docs/C.md s|`rapidhash_v3_micro_inline`|`in_drop_in`|
+names docs/C.md s|`rapidhash_v3_micro_inline`|`print_heading`|
 statements docs/PROVED.md s|`FlagsFailures result|`FlagsFailures answer|
 EDITS
 lints=$(command -v shellcheck && command -v pyflakes3)
