@@ -65,7 +65,7 @@ func TestTakesWhatWritersTake(t *testing.T) {
 // length, and that were reset, copied, or saved and restored.
 func TestStreamsGoOn(t *testing.T) {
 	const most = 3*112 + 1
-	message := long()[:2*most]
+	message, sizes := long()[:2*most], map[string]int{"v3": 112, "v3_micro": 80, "v3_nano": 48}
 	for name, call := range calls {
 		for size := 0; call.start != nil && size <= most; size++ {
 			first, restored := call.start(&own), NewV3(nil)
@@ -73,6 +73,9 @@ func TestStreamsGoOn(t *testing.T) {
 			restored.Write(message)
 			if saved, err := first.MarshalBinary(); err != nil || restored.UnmarshalBinary(saved) != nil {
 				t.Fatal(name, size, err)
+			}
+			if block := sizes[name]; first.BlockSize() != block || restored.BlockSize() != block {
+				t.Fatal(name, first.BlockSize(), restored.BlockSize())
 			}
 			for more := 0; more <= most; more++ {
 				again, copied, last := *first, *first, *restored
