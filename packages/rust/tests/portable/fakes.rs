@@ -1,6 +1,7 @@
-// Made by scripts/rust_crate from crates/test_effects/src/fakes/readers.rt: change that file.
+// Made by scripts/rust_crate from crates/test_portable/src/fakes.rt: change that file.
 
-//! A reader that counts its reads, and fails.
+//! A reader that counts its reads and fails on purpose. Its contract states the bytes that it has
+//! left, so contracts over readers apply to it.
 
 use std::io::{Error, ErrorKind, Read, Result};
 

@@ -1,4 +1,4 @@
-// Made by scripts/rust_crate from crates/test_effects/src/readers.rt: change that file.
+// Made by scripts/rust_crate from crates/test_portable/src/readers.rt: change that file.
 
 //! The hashes over a reader: known values, ends and errors, and that a reader's hash is that of its
 //! bytes.

@@ -1,4 +1,4 @@
-// Made by scripts/rust_crate from crates/test_effects/src/secrets.rt: change that file.
+// Made by scripts/rust_crate from crates/test_portable/src/secrets.rt: change that file.
 
 //! Secrets and seeds of random words.
 

@@ -1,4 +1,4 @@
-// Made by scripts/rust_crate from crates/test_effects/src/stream.rt: change that file.
+// Made by scripts/rust_crate from crates/test_portable/src/stream.rt: change that file.
 
 //! The stream hashers: known values, messages cut in two, and sizes in memory.
 

@@ -1,4 +1,4 @@
-// Made by scripts/rust_crate from crates/test_effects/src/values.rt: change that file.
+// Made by scripts/rust_crate from crates/test_portable/src/values.rt: change that file.
 
 //! Known values that no data file has: reads, products, secrets, hashes with default secrets.
 

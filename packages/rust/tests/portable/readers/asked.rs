@@ -1,4 +1,4 @@
-// Made by scripts/rust_crate from crates/test_effects/src/readers/asked.rt: change that file.
+// Made by scripts/rust_crate from crates/test_portable/src/readers/asked.rt: change that file.
 
 //! The results of calls over a reader, and the bytes left unread.
 

@@ -1,4 +1,4 @@
-// Made by scripts/rust_crate from crates/test_effects/src/readers/ends.rt: change that file.
+// Made by scripts/rust_crate from crates/test_portable/src/readers/ends.rt: change that file.
 
 //! Bytes after the length, and readers that end before it.
 

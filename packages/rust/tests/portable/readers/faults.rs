@@ -1,4 +1,4 @@
-// Made by scripts/rust_crate from crates/test_effects/src/readers/faults.rt: change that file.
+// Made by scripts/rust_crate from crates/test_portable/src/readers/faults.rt: change that file.
 
 //! A read that fails, each in turn, and the call after it.
 

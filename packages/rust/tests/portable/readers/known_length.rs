@@ -1,4 +1,4 @@
-// Made by scripts/rust_crate from crates/test_effects/src/readers/known_length.rt: change that file.
+// Made by scripts/rust_crate from crates/test_portable/src/readers/known_length.rt: change that file.
 
 //! The hashes of a number of bytes of a reader, V1 and V2: the bytes that each requests, and the
 //! result if a read fails.

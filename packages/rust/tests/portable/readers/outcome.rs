@@ -1,4 +1,4 @@
-// Made by scripts/rust_crate from crates/test_effects/src/readers/outcome.rt: change that file.
+// Made by scripts/rust_crate from crates/test_portable/src/readers/outcome.rt: change that file.
 
 //! The result of a hash over a fake reader, and its requests.
 

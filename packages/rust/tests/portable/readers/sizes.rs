@@ -1,4 +1,4 @@
-// Made by scripts/rust_crate from crates/test_effects/src/readers/sizes.rt: change that file.
+// Made by scripts/rust_crate from crates/test_portable/src/readers/sizes.rt: change that file.
 
 //! V3's readers with buffers of several sizes.
 

@@ -1,4 +1,4 @@
-// Made by scripts/rust_crate from crates/test_effects/src/readers/to_the_end.rt: change that file.
+// Made by scripts/rust_crate from crates/test_portable/src/readers/to_the_end.rt: change that file.
 
 //! The hashes of all that a reader has, V3, micro and nano: the bytes that each requests, and the
 //! result if a read fails.

@@ -1,4 +1,4 @@
-// Made by scripts/rust_crate from crates/test_effects/src/readers/known_length/form.rt: change that file.
+// Made by scripts/rust_crate from crates/test_portable/src/readers/known_length/form.rt: change that file.
 
 //! The calls that hash a number of bytes of a reader.
 

@@ -1,4 +1,4 @@
-// Made by scripts/rust_crate from crates/test_effects/src/readers/to_the_end/form.rt: change that file.
+// Made by scripts/rust_crate from crates/test_portable/src/readers/to_the_end/form.rt: change that file.
 
 //! The calls that hash all that a reader has.
 

@@ -1,8 +1,8 @@
 //! The Rust crate's own tests of its command line, by their names: the arguments, and the output
 //! for a text. The numbers are those of the Rust crate.
 
-use crate::tool::ends::{of_file, of_stdin, whole, writer};
-use crate::tool::plans::gathered;
+use crate::ends::{of_file, of_stdin, whole, writer};
+use crate::plans::gathered;
 use rapidhash_tool::{Plan, plan};
 use std::process::Abort;
 use std::test::Fail;

@@ -1,4 +1,5 @@
-//! Writers that fail.
+//! Writers that fail on purpose. Each counts its calls, and its contract states the bytes that it
+//! accepted.
 
 ghost use Rattle.std.specs.Prelude.{[], Some};
 

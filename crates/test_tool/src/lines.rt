@@ -1,9 +1,9 @@
 //! The printed lines.
 
-use crate::fakes::FullWriter;
-use crate::tool::ends::{
+use crate::ends::{
     SOMETHING, SOMETHING_LINE, V1, V3, V3_LINE, counted, of_file, of_stdin, versions, whole, writer,
 };
+use crate::writers::FullWriter;
 use rapidhash_tool::{CliFault, help, run_file, run_help, run_stdin};
 use std::process::Abort;
 use std::test::Fail;

@@ -1,5 +1,5 @@
 use Rattle.std.proofs.Common.{[]}
-use Rattle.test_effects.proofs.counts.after_one_piece.Goals as goal
+use Rattle.test_portable.proofs.counts.after_one_piece.Goals as goal
 
 pub returns : goal.returns
 returns g c =

@@ -1,4 +1,4 @@
-//! Tests of the portable hashes (of slices, pieces and readers) and of the command line.
+//! Tests of the portable hashes of slices, pieces and readers.
 //!
 //! The counts of chunk steps are contracts ([`counts`]); the rest is in no contract, with numbers
 //! worked out by hand or those of the Rust crate.
@@ -12,7 +12,5 @@ mod readers;
 mod secrets;
 #[cfg(test)]
 mod stream;
-#[cfg(test)]
-mod tool;
 #[cfg(test)]
 mod values;

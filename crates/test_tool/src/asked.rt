@@ -1,7 +1,7 @@
 //! The requests of a run to its reader and its writer: no read past the hashed bytes or past the
 //! end, and no flush.
 
-use crate::tool::ends::{SOMETHING, counted, versions, whole, writer};
+use crate::ends::{SOMETHING, counted, versions, whole, writer};
 use rapidhash_tool::{run_file, run_help, run_stdin};
 
 // V1 and V2 read a file's first `len` bytes, and make no read after the one that completes them.

@@ -2,8 +2,7 @@
 
 ghost use Rattle.std.specs.Prelude.{◌<◌};
 
-use crate::fakes::CountingReader;
-use crate::tool::ends::{
+use crate::ends::{
     Ended, SOMETHING, SOMETHING_LINE, V2_LINE, V3, V3_LINE, failing, of_file, of_stdin, versions,
     whole, writer,
 };
@@ -11,6 +10,7 @@ use linked_list_allocator::LocalHeap;
 use rapidhash_tool::{CliFault, RapidhashVersion, run_help, run_stdin};
 use std::io::ErrorKind;
 use std::process::Abort;
+use test_portable::fakes::CountingReader;
 
 // Forty bytes: a vector that accepts them one by one grows four times.
 const FORTY: &[u8] = b"a line of forty bytes, not one byte more";

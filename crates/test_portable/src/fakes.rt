@@ -1,4 +1,5 @@
-//! A reader that counts its reads, and fails.
+//! A reader that counts its reads and fails on purpose. Its contract states the bytes that it has
+//! left, so contracts over readers apply to it.
 
 ghost use Rattle.std.specs.Prelude.{Some};
 
@@ -24,7 +25,7 @@ pub struct CountingReader<'a> {
 }
 
 impl<'a> CountingReader<'a> {
-    ghost use Rattle.test_effects.specs.Readers.{Starts};
+    ghost use Rattle.test_portable.specs.Readers.{Starts};
 
     /// Returns a reader without reads so far, which never fails.
     pub fn new(left: &'a [u8], most: usize) -> Self

@@ -2,7 +2,7 @@ use Rattle.std.proofs.Common.{◌≡◌, ◌+◌, ◌-◌, ◌++◌, false, take
 use Rattle.std.proofs.lemmas.List.{take_all}
 use Rattle.std.proofs.Math.Seq.{take-add}
 use Rattle.rapidhash_portable.specs.Stream.{StreamRepresents}
-use Rattle.test_effects.proofs.counts.after_single_bytes.Goals as goal
+use Rattle.test_portable.proofs.counts.after_single_bytes.Goals as goal
 
 pub loop-at-init : goal.loop-at-init
 loop-at-init g c = c.new-hasher.ensures.empty

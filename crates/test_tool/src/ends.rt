@@ -1,9 +1,10 @@
 //! A run of the tool between a reader and a writer that may fail.
 
-use crate::fakes::{CountingReader, OneByteWriter};
+use crate::writers::OneByteWriter;
 use rapidhash_tool::{CliFault, Minor, RapidhashVersion, run_file, run_stdin};
 use std::alloc::Allocator;
 use std::io::ErrorKind;
+use test_portable::fakes::CountingReader;
 
 /// V1 as `--v1` selects it.
 pub const V1: RapidhashVersion = RapidhashVersion::V1 { protected: false };

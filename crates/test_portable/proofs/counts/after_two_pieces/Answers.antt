@@ -1,7 +1,7 @@
 use Rattle.std.proofs.Common.{[], ◌∙◌, ap}
 use Rattle.std.proofs.lemmas.List.{length-append}
 use Rattle.rapidhash_portable.specs.Stream.{chunk_count}
-use Rattle.test_effects.proofs.counts.after_two_pieces.Goals as goal
+use Rattle.test_portable.proofs.counts.after_two_pieces.Goals as goal
 
 pub returns : goal.returns
 returns g c =
