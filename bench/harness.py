@@ -30,7 +30,6 @@ path = "{source}"
 
 [features]
 further = []
-seeded = []
 yervound = []
 
 [dependencies]

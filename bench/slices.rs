@@ -1,5 +1,5 @@
-//! Does the work of the programs of `bench/slices` with a crate: `FORM LENGTH PLACE NUMBER PASSES REPEATS`. With the
-//! feature `seeded`, the secrets are the program's own. With `further`, all functions are 16 bytes further on.
+//! Does the work of `bench_slices` with a crate: `MODE FORM LENGTH PLACE NUMBER PASSES REPEATS`. With the feature
+//! `further`, all functions are 16 bytes further on.
 
 #[macro_use]
 mod common;
@@ -11,9 +11,6 @@ use rapidhash::{v1, v2, v3};
 #[cfg(feature = "further")]
 std::arch::global_asm!(include_str!("padding.s"), ".text");
 
-/// Whether the secrets are the default ones, which the compiler knows.
-const DEFAULT: bool = cfg!(not(feature = "seeded"));
-
 /// Secrets for all forms, unknown to the compiler.
 struct Secrets {
     three: v1::RapidSecrets,
@@ -23,12 +20,12 @@ struct Secrets {
 
 impl Secrets {
     #[inline(always)]
-    fn two(&self) -> &v2::RapidSecrets {
+    fn two<const DEFAULT: bool>(&self) -> &v2::RapidSecrets {
         if DEFAULT { &v2::DEFAULT_RAPID_SECRETS } else { &self.two }
     }
 
     #[inline(always)]
-    fn seven(&self) -> &v3::RapidSecrets {
+    fn seven<const DEFAULT: bool>(&self) -> &v3::RapidSecrets {
         if DEFAULT { &v3::DEFAULT_RAPID_SECRETS } else { &self.seven }
     }
 }
@@ -46,7 +43,7 @@ impl Row<'_> {
     }
 
     /// Hashes the texts in a form, which is inlined into the loop, if the crate lets the compiler inline it.
-    fn work(&self, form: &str, own: &Secrets, sum: u64) -> u64 {
+    fn work<const DEFAULT: bool>(&self, form: &str, own: &Secrets, sum: u64) -> u64 {
         macro_rules! forms {
             ($($form:literal $(if $default:ident)? => |$text:ident| $hash:expr,)*) => { match form {
                 $($form $(if $default)? => self.at_place(#[inline(always)] |$text| $hash, sum),)*
@@ -56,14 +53,14 @@ impl Row<'_> {
         forms! {
             "v1" if DEFAULT => |text| v1::rapidhash_v1(text),
             "v1" => |text| v1::rapidhash_v1_seeded(text, &own.three),
-            "v2.0" => |text| v2::rapidhash_v2_inline::<0, true, false, false>(text, own.two()),
-            "v2.1" => |text| v2::rapidhash_v2_inline::<1, true, false, false>(text, own.two()),
+            "v2.0" => |text| v2::rapidhash_v2_inline::<0, true, false, false>(text, own.two::<DEFAULT>()),
+            "v2.1" => |text| v2::rapidhash_v2_inline::<1, true, false, false>(text, own.two::<DEFAULT>()),
             "v2.2" if DEFAULT => |text| v2::rapidhash_v2_2(text),
-            "v2.2" => |text| v2::rapidhash_v2_2_seeded(text, own.two()),
+            "v2.2" => |text| v2::rapidhash_v2_2_seeded(text, own.two::<DEFAULT>()),
             "v3" if DEFAULT => |text| v3::rapidhash_v3(text),
-            "v3" => |text| v3::rapidhash_v3_seeded(text, own.seven()),
-            "micro" => |text| v3::rapidhash_v3_micro_inline::<true, false>(text, own.seven()),
-            "nano" => |text| v3::rapidhash_v3_nano_inline::<true, false>(text, own.seven()),
+            "v3" => |text| v3::rapidhash_v3_seeded(text, own.seven::<DEFAULT>()),
+            "micro" => |text| v3::rapidhash_v3_micro_inline::<true, false>(text, own.seven::<DEFAULT>()),
+            "nano" => |text| v3::rapidhash_v3_nano_inline::<true, false>(text, own.seven::<DEFAULT>()),
         }
     }
 }
@@ -79,13 +76,18 @@ fn texts<'x>(bytes: &'x [u8], lengths: &str, rng: &mut RapidRng) -> Vec<&'x [u8]
 
 fn main() {
     let words: Vec<String> = std::env::args().skip(1).collect();
-    let [place, mut sum, passes, repeats] = [2, 3, 4, 5].map(|at| words[at].parse::<u64>().unwrap());
+    let [place, mut sum, passes, repeats] = [3, 4, 5, 6].map(|at| words[at].parse::<u64>().unwrap());
     let mut rng = RapidRng::new(sum);
     let three = v1::RapidSecrets::seed(rng.next());
     let word = rng.next();
     let own = Secrets { three, two: v2::RapidSecrets::seed(word), seven: v3::RapidSecrets::seed(word) };
     let bytes = random_bytes(&mut rng, 1 << 17);
-    let row = Row { list: texts(&bytes, &words[1], &mut rng), passes, place };
-    let least = least(repeats, || sum = row.work(&words[0], &own, sum));
+    let row = Row { list: texts(&bytes, &words[2], &mut rng), passes, place };
+    let work = match &words[0][..] {
+        "default" => Row::work::<true>,
+        "seeded" => Row::work::<false>,
+        mode => panic!("no mode {mode}"),
+    };
+    let least = least(repeats, || sum = work(&row, &words[1], &own, sum));
     println!("{sum} {least}");
 }
