@@ -4,11 +4,16 @@
 
 #[cfg(feature = "std")]
 mod bulk;
-#[cfg(feature = "std")]
-mod fakes;
 mod forms;
+mod proved {
+    #[cfg(feature = "std")]
+    pub mod fakes;
+    #[cfg(feature = "std")]
+    pub mod readers;
+    mod secrets;
+    mod stream;
+    mod values;
+}
+
 #[cfg(feature = "std")]
-mod readers;
-mod secrets;
-mod stream;
-mod values;
+use proved::{fakes, readers};

@@ -14,6 +14,7 @@ mod command_line;
 mod faults;
 pub mod form;
 mod hashes;
+#[path = "../kit/mod.rs"]
 pub mod kit;
 mod lines;
 mod usage;
