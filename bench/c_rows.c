@@ -46,10 +46,10 @@ static uint64_t in_pieces(const uint8_t *text, size_t length)
 
 #define FORMS(X) \
     X(v1, "v1", rapidhash_v1(text, length)) \
-    X(v1_seeded, "v1 seeded", rapidhash_v1_seeded(text, length, &three)) \
+    X(v1_with_secrets, "v1 seeded", rapidhash_v1_with_secrets(text, length, &three)) \
     X(v2_2, "v2.2", rapidhash_v2_2(text, length)) \
     X(v3, "v3", rapidhash_v3(text, length)) \
-    X(v3_seeded, "v3 seeded", rapidhash_v3_seeded(text, length, &seven)) \
+    X(v3_with_secrets, "v3 seeded", rapidhash_v3_with_secrets(text, length, &seven)) \
     X(v3_word, "v3 seed word", rapidhash_v3_with_seed(text, length, word)) \
     X(micro, "micro", rapidhash_v3_micro(text, length)) \
     X(nano, "nano", rapidhash_v3_nano(text, length)) \

@@ -49,7 +49,7 @@ def vector_queries(literal, integer):
     compare("vectors_without_a_call", len(lines) - len(known), 528 + 8)
     count = 0
     for version, rule, digits, number in known:
-        name = f"rapidhash_{version}" + "_seeded" * rule.startswith("make:")
+        name = f"rapidhash_{version}" + "_with_secrets" * rule.startswith("make:")
         seed = "".join(f", {signed(int(word))}" for word in rule.split(":")[1:])
         message, wanted = bytes.fromhex(digits.strip("-")), signed(int(number))
         calls = [f"{name}({literal(message)}{seed}) AS hash"]

@@ -27,8 +27,8 @@ func ExampleV3WithSeed() {
 
 // The lines are those of README.md.
 func Example_readme() {
-	fmt.Println(rapidhash.V3WithSeed([]byte("hello"), 1) == rapidhash.V3Seeded([]byte("hello"), rapidhash.SeedSecrets(1)))
-	fmt.Println(rapidhash.V3Seeded([]byte("hello"), rapidhash.MakeSecrets(42)) == rapidhash.V3([]byte("hello")))
+	fmt.Println(rapidhash.V3WithSeed([]byte("hello"), 1) == rapidhash.V3WithSecrets([]byte("hello"), rapidhash.SeedSecrets(1)))
+	fmt.Println(rapidhash.V3WithSecrets([]byte("hello"), rapidhash.MakeSecrets(42)) == rapidhash.V3([]byte("hello")))
 	stream := rapidhash.NewV3WithSeed(0)
 	fmt.Fprint(stream, "hello")
 	fmt.Println(stream.Sum64(), stream.UnmarshalBinary([]byte("other")))

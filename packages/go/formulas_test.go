@@ -42,7 +42,7 @@ func (r *record) hash(name string, message []byte) (uint64, error) {
 	call := calls[name]
 	switch {
 	case r.Streamed == 0 && name == "v1":
-		return V1Seeded(message, &SecretsV1{r.Secrets.Seed, *(*[3]uint64)(r.Secrets.Secrets[:])}), nil
+		return V1WithSecrets(message, &SecretsV1{r.Secrets.Seed, *(*[3]uint64)(r.Secrets.Secrets[:])}), nil
 	case r.Streamed == 0 && call.seeded != nil:
 		return call.seeded(message, &r.Secrets), nil
 	case r.Streamed == 0 || call.start == nil:

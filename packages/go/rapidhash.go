@@ -30,8 +30,8 @@ func V1(data []byte) uint64 { return v1(data, defaultSeedV1, &defaultsV1) }
 // V1WithSeed returns the V1 hash of data with the default secrets and a seed word.
 func V1WithSeed(data []byte, seed uint64) uint64 { return v1(data, seedOfV1(seed), &defaultsV1) }
 
-// V1Seeded returns the V1 hash of data with a seed and secrets. It panics if they are nil.
-func V1Seeded(data []byte, s *SecretsV1) uint64 { return v1(data, s.Seed, &s.Secrets) }
+// V1WithSecrets returns the V1 hash of data with a seed and secrets. It panics if they are nil.
+func V1WithSecrets(data []byte, s *SecretsV1) uint64 { return v1(data, s.Seed, &s.Secrets) }
 
 // V1String returns the hash that V1 returns for the bytes of text, without a copy.
 func V1String(text string) uint64 { return v1(bytesOf(text), defaultSeedV1, &defaultsV1) }
@@ -42,8 +42,8 @@ func V2_0(data []byte) uint64 { return v2(data, 0, defaultSeed, &defaults) }
 // V2_0WithSeed returns the V2.0 hash of data with the default secrets and a seed word.
 func V2_0WithSeed(data []byte, seed uint64) uint64 { return v2(data, 0, seedOf(seed), &defaults) }
 
-// V2_0Seeded returns the V2.0 hash of data with a seed and secrets. It panics if they are nil.
-func V2_0Seeded(data []byte, s *Secrets) uint64 { return v2(data, 0, s.Seed, &s.Secrets) }
+// V2_0WithSecrets returns the V2.0 hash of data with a seed and secrets. It panics if they are nil.
+func V2_0WithSecrets(data []byte, s *Secrets) uint64 { return v2(data, 0, s.Seed, &s.Secrets) }
 
 // V2_0String returns the hash that V2_0 returns for the bytes of text, without a copy.
 func V2_0String(text string) uint64 { return v2(bytesOf(text), 0, defaultSeed, &defaults) }
@@ -54,8 +54,8 @@ func V2_1(data []byte) uint64 { return v2(data, 1, defaultSeed, &defaults) }
 // V2_1WithSeed returns the V2.1 hash of data with the default secrets and a seed word.
 func V2_1WithSeed(data []byte, seed uint64) uint64 { return v2(data, 1, seedOf(seed), &defaults) }
 
-// V2_1Seeded returns the V2.1 hash of data with a seed and secrets. It panics if they are nil.
-func V2_1Seeded(data []byte, s *Secrets) uint64 { return v2(data, 1, s.Seed, &s.Secrets) }
+// V2_1WithSecrets returns the V2.1 hash of data with a seed and secrets. It panics if they are nil.
+func V2_1WithSecrets(data []byte, s *Secrets) uint64 { return v2(data, 1, s.Seed, &s.Secrets) }
 
 // V2_1String returns the hash that V2_1 returns for the bytes of text, without a copy.
 func V2_1String(text string) uint64 { return v2(bytesOf(text), 1, defaultSeed, &defaults) }
@@ -66,8 +66,8 @@ func V2_2(data []byte) uint64 { return v2(data, 2, defaultSeed, &defaults) }
 // V2_2WithSeed returns the V2.2 hash of data with the default secrets and a seed word.
 func V2_2WithSeed(data []byte, seed uint64) uint64 { return v2(data, 2, seedOf(seed), &defaults) }
 
-// V2_2Seeded returns the V2.2 hash of data with a seed and secrets. It panics if they are nil.
-func V2_2Seeded(data []byte, s *Secrets) uint64 { return v2(data, 2, s.Seed, &s.Secrets) }
+// V2_2WithSecrets returns the V2.2 hash of data with a seed and secrets. It panics if they are nil.
+func V2_2WithSecrets(data []byte, s *Secrets) uint64 { return v2(data, 2, s.Seed, &s.Secrets) }
 
 // V2_2String returns the hash that V2_2 returns for the bytes of text, without a copy.
 func V2_2String(text string) uint64 { return v2(bytesOf(text), 2, defaultSeed, &defaults) }
@@ -78,8 +78,8 @@ func V3(data []byte) uint64 { return v3(data, 7, defaultSeed, &defaults) }
 // V3WithSeed returns the V3 hash of data with the default secrets and a seed word.
 func V3WithSeed(data []byte, seed uint64) uint64 { return v3(data, 7, seedOf(seed), &defaults) }
 
-// V3Seeded returns the V3 hash of data with a seed and secrets. It panics if they are nil.
-func V3Seeded(data []byte, s *Secrets) uint64 { return v3(data, 7, s.Seed, &s.Secrets) }
+// V3WithSecrets returns the V3 hash of data with a seed and secrets. It panics if they are nil.
+func V3WithSecrets(data []byte, s *Secrets) uint64 { return v3(data, 7, s.Seed, &s.Secrets) }
 
 // V3String returns the hash that V3 returns for the bytes of text, without a copy.
 func V3String(text string) uint64 { return v3(bytesOf(text), 7, defaultSeed, &defaults) }
@@ -89,8 +89,10 @@ func V3StringWithSeed(text string, seed uint64) uint64 {
 	return v3(bytesOf(text), 7, seedOf(seed), &defaults)
 }
 
-// V3StringSeeded returns the hash that V3Seeded returns for the bytes of text.
-func V3StringSeeded(text string, s *Secrets) uint64 { return v3(bytesOf(text), 7, s.Seed, &s.Secrets) }
+// V3StringWithSecrets returns the hash that V3WithSecrets returns for the bytes of text.
+func V3StringWithSecrets(text string, s *Secrets) uint64 {
+	return v3(bytesOf(text), 7, s.Seed, &s.Secrets)
+}
 
 // V3Micro returns the V3 micro hash of data with the default seed and secrets.
 func V3Micro(data []byte) uint64 { return v3(data, 5, defaultSeed, &defaults) }
@@ -98,8 +100,8 @@ func V3Micro(data []byte) uint64 { return v3(data, 5, defaultSeed, &defaults) }
 // V3MicroWithSeed returns the V3 micro hash of data with the default secrets and a seed word.
 func V3MicroWithSeed(data []byte, seed uint64) uint64 { return v3(data, 5, seedOf(seed), &defaults) }
 
-// V3MicroSeeded returns the V3 micro hash of data with a seed and secrets. It panics if they are nil.
-func V3MicroSeeded(data []byte, s *Secrets) uint64 { return v3(data, 5, s.Seed, &s.Secrets) }
+// V3MicroWithSecrets returns the V3 micro hash of data with a seed and secrets. It panics if they are nil.
+func V3MicroWithSecrets(data []byte, s *Secrets) uint64 { return v3(data, 5, s.Seed, &s.Secrets) }
 
 // V3MicroString returns the hash that V3Micro returns for the bytes of text, without a copy.
 func V3MicroString(text string) uint64 { return v3(bytesOf(text), 5, defaultSeed, &defaults) }
@@ -110,8 +112,8 @@ func V3Nano(data []byte) uint64 { return v3(data, 3, defaultSeed, &defaults) }
 // V3NanoWithSeed returns the V3 nano hash of data with the default secrets and a seed word.
 func V3NanoWithSeed(data []byte, seed uint64) uint64 { return v3(data, 3, seedOf(seed), &defaults) }
 
-// V3NanoSeeded returns the V3 nano hash of data with a seed and secrets. It panics if they are nil.
-func V3NanoSeeded(data []byte, s *Secrets) uint64 { return v3(data, 3, s.Seed, &s.Secrets) }
+// V3NanoWithSecrets returns the V3 nano hash of data with a seed and secrets. It panics if they are nil.
+func V3NanoWithSecrets(data []byte, s *Secrets) uint64 { return v3(data, 3, s.Seed, &s.Secrets) }
 
 // V3NanoString returns the hash that V3Nano returns for the bytes of text, without a copy.
 func V3NanoString(text string) uint64 { return v3(bytesOf(text), 3, defaultSeed, &defaults) }
@@ -124,8 +126,10 @@ func V3ProtectedWithSeed(data []byte, seed uint64) uint64 {
 	return protected(data, seedOf(seed), &defaults)
 }
 
-// V3ProtectedSeeded returns the protected V3 hash of data with a seed and secrets. It panics if they are nil.
-func V3ProtectedSeeded(data []byte, s *Secrets) uint64 { return protected(data, s.Seed, &s.Secrets) }
+// V3ProtectedWithSecrets returns the protected V3 hash of data with a seed and secrets. It panics if they are nil.
+func V3ProtectedWithSecrets(data []byte, s *Secrets) uint64 {
+	return protected(data, s.Seed, &s.Secrets)
+}
 
 // V3ProtectedString returns the hash that V3Protected returns for the bytes of text, without a copy.
 func V3ProtectedString(text string) uint64 { return protected(bytesOf(text), defaultSeed, &defaults) }

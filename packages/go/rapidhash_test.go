@@ -87,7 +87,7 @@ func TestSeedOf0(t *testing.T) {
 	secrets := Secrets{0, own.Secrets}
 	stream := NewV3(&secrets)
 	stream.Write(data())
-	compare(t, "stream", stream.Sum64(), V3Seeded(data(), &secrets))
+	compare(t, "stream", stream.Sum64(), V3WithSecrets(data(), &secrets))
 }
 
 // TestConcurrentCalls runs all calls with the same messages and secrets, as the race detector also checks.
@@ -95,7 +95,7 @@ func TestConcurrentCalls(t *testing.T) {
 	bytes, text, secrets, secretsV1 := long()[:700], string(long()[:700]), MakeSecrets(7), MakeSecretsV1(7)
 	all := func() (sum uint64) {
 		for n := 1; n <= len(bytes); n *= 2 {
-			sum += V1Seeded(bytes[:n], secretsV1) + V3StringSeeded(text[:n], secrets) + V3StringWithSeed(text[:n], 7)
+			sum += V1WithSecrets(bytes[:n], secretsV1) + V3StringWithSecrets(text[:n], secrets) + V3StringWithSeed(text[:n], 7)
 			for _, call := range calls {
 				sum += call.plain(bytes[:n]) + call.word(bytes[:n], 7) + call.text(text[:n])
 				if call.seeded != nil {
@@ -127,8 +127,8 @@ func TestConcurrentCalls(t *testing.T) {
 }
 
 func TestNilSecretsPanic(t *testing.T) {
-	cases := map[string]func(){"v1": func() { V1Seeded(data(), nil) }, "v1 of nothing": func() { V1Seeded(nil, nil) },
-		"v3 string": func() { V3StringSeeded("hello", nil) }}
+	cases := map[string]func(){"v1": func() { V1WithSecrets(data(), nil) }, "v1 of nothing": func() { V1WithSecrets(nil, nil) },
+		"v3 string": func() { V3StringWithSecrets("hello", nil) }}
 	for name, call := range calls {
 		hash := call.seeded
 		if hash != nil {

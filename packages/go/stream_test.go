@@ -127,7 +127,7 @@ func TestRefusedStates(t *testing.T) {
 		if err := stream.UnmarshalBinary(row.changed); err == nil || err.Error() != "rapidhash: "+row.reason {
 			t.Errorf("%v is not: %s", err, row.reason)
 		}
-		compare(t, row.reason, stream.Sum64(), V3NanoSeeded(data(), &own))
+		compare(t, row.reason, stream.Sum64(), V3NanoWithSecrets(data(), &own))
 	}
 	if err := stream.UnmarshalBinary(with(12, 48)); err != nil {
 		t.Error(err)
@@ -180,8 +180,8 @@ func TestAllocatesNothing(t *testing.T) {
 	for _, size := range []int{0, 3, 16, 100, 5000} {
 		bytes, text := long()[:size], string(long()[:size])
 		runs := map[string]func(){
-			"v1 seeded": func() { V1Seeded(bytes, madeV1) },
-			"strings":   func() { V3StringSeeded(text, made); V3StringWithSeed(text, 1) },
+			"v1 seeded": func() { V1WithSecrets(bytes, madeV1) },
+			"strings":   func() { V3StringWithSecrets(text, made); V3StringWithSeed(text, 1) },
 			"restart":   func() { *restarted = Stream{}; restarted.Write(bytes) },
 		}
 		for name, call := range calls {

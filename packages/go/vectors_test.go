@@ -26,15 +26,15 @@ type call struct {
 
 var calls = map[string]call{
 	"v1":   {V1, V1WithSeed, V1String, nil, nil, nil, 60, 13504714392771582078},
-	"v2_0": {V2_0, V2_0WithSeed, V2_0String, V2_0Seeded, nil, nil, 60, 13186137053657766175},
-	"v2_1": {V2_1, V2_1WithSeed, V2_1String, V2_1Seeded, nil, nil, 60, 13012060828128651499},
-	"v2_2": {V2_2, V2_2WithSeed, V2_2String, V2_2Seeded, nil, nil, 60, 6181707366222537282},
-	"v3":   {V3, V3WithSeed, V3String, V3Seeded, NewV3, NewV3WithSeed, 120, 7088138960297660729},
-	"v3_micro": {V3Micro, V3MicroWithSeed, V3MicroString, V3MicroSeeded, NewV3Micro, NewV3MicroWithSeed,
+	"v2_0": {V2_0, V2_0WithSeed, V2_0String, V2_0WithSecrets, nil, nil, 60, 13186137053657766175},
+	"v2_1": {V2_1, V2_1WithSeed, V2_1String, V2_1WithSecrets, nil, nil, 60, 13012060828128651499},
+	"v2_2": {V2_2, V2_2WithSeed, V2_2String, V2_2WithSecrets, nil, nil, 60, 6181707366222537282},
+	"v3":   {V3, V3WithSeed, V3String, V3WithSecrets, NewV3, NewV3WithSeed, 120, 7088138960297660729},
+	"v3_micro": {V3Micro, V3MicroWithSeed, V3MicroString, V3MicroWithSecrets, NewV3Micro, NewV3MicroWithSeed,
 		120, 3055975138125564292},
-	"v3_nano": {V3Nano, V3NanoWithSeed, V3NanoString, V3NanoSeeded, NewV3Nano, NewV3NanoWithSeed,
+	"v3_nano": {V3Nano, V3NanoWithSeed, V3NanoString, V3NanoWithSecrets, NewV3Nano, NewV3NanoWithSeed,
 		120, 3778853990780631382},
-	"v3_protected": {V3Protected, V3ProtectedWithSeed, V3ProtectedString, V3ProtectedSeeded, nil, nil,
+	"v3_protected": {V3Protected, V3ProtectedWithSeed, V3ProtectedString, V3ProtectedWithSecrets, nil, nil,
 		120, 4753706306364957255},
 }
 
@@ -68,7 +68,7 @@ func (call call) check(t *testing.T, name, rule string, message []byte, known ui
 		secrets, secretsV1 = *MakeSecrets(words[0]), *MakeSecretsV1(words[0])
 	}
 	if call.seeded == nil {
-		compare(t, name+" with "+rule, V1Seeded(message, &secretsV1), known)
+		compare(t, name+" with "+rule, V1WithSecrets(message, &secretsV1), known)
 	} else {
 		compare(t, name+" with "+rule, call.seeded(message, &secrets), known)
 	}
@@ -76,7 +76,7 @@ func (call call) check(t *testing.T, name, rule string, message []byte, known ui
 		compare(t, name+" in pieces with "+rule, inPieces(t, call.start(&secrets), message), known)
 	}
 	if name == "v3" {
-		compare(t, "string with "+rule, V3StringSeeded(string(message), &secrets), known)
+		compare(t, "string with "+rule, V3StringWithSecrets(string(message), &secrets), known)
 	}
 }
 

@@ -29,7 +29,7 @@ EXPORT(high) uint32_t high(void)
 
 #define HASHES(version, own) \
     EXPORT(version) uint64_t version(const void *bytes, size_t len, const struct own##_secrets *secrets) \
-    { return rapidhash_##version##_seeded(bytes, len, secrets); } \
+    { return rapidhash_##version##_with_secrets(bytes, len, secrets); } \
     EXPORT(version##_low) uint32_t version##_low(const void *bytes, size_t len, const struct own##_secrets *secrets) \
     { return halve(version(bytes, len, secrets)); }
 RAPIDHASH_C_VERSIONS(HASHES)

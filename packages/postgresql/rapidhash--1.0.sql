@@ -24,8 +24,8 @@ BEGIN
                            version, type, format('sql_%s_%s', version, kind));
             EXECUTE format('CREATE FUNCTION rapidhash_%s(%s, seed bigint)' || returning_hash,
                            version, type, format('sql_%s_with_seed_%s', version, kind));
-            EXECUTE format('CREATE FUNCTION rapidhash_%s_seeded(%s, number bigint)' || returning_hash,
-                           version, type, format('sql_%s_seeded_%s', version, kind));
+            EXECUTE format('CREATE FUNCTION rapidhash_%s_with_secrets(%s, number bigint)' || returning_hash,
+                           version, type, format('sql_%s_with_secrets_%s', version, kind));
             CONTINUE WHEN version NOT IN ('v3', 'v3_micro', 'v3_nano');
             FOREACH seed IN ARRAY ARRAY['', ', seed bigint'] LOOP
                 EXECUTE format('CREATE FUNCTION rapidhash_%s_agg_row(internal, %s%s) RETURNS internal ' || attributes,

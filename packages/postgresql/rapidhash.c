@@ -59,15 +59,15 @@ static Datum hash_integer(FunctionCallInfo fcinfo, hash_by_word *hash)
         (void)none; \
         return rapidhash_##version(bytes, len); \
     } \
-    static uint64_t seeded_##version(const void *bytes, size_t len, uint64_t number) \
+    static uint64_t with_secrets_##version(const void *bytes, size_t len, uint64_t number) \
     { \
         struct own##_secrets secrets; \
         own##_make_secrets(number, &secrets); \
-        return rapidhash_##version##_seeded(bytes, len, &secrets); \
+        return rapidhash_##version##_with_secrets(bytes, len, &secrets); \
     } \
     CALLS(sql_##version, default_##version) \
     CALLS(sql_##version##_with_seed, rapidhash_##version##_with_seed) \
-    CALLS(sql_##version##_seeded, seeded_##version)
+    CALLS(sql_##version##_with_secrets, with_secrets_##version)
 
 RAPIDHASH_C_VERSIONS(VERSION)
 

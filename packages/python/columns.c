@@ -17,7 +17,7 @@ struct column {
 
 static void read_secrets(const struct form *form, const struct start *start, struct column *column)
 {
-    column->hash = form->seeded;
+    column->hash = form->with_secrets;
     column->secrets = start->secrets == NULL ? &column->own : start->secrets;
     if (start->secrets == NULL && form->is_v1)
         rapidhash_v1_seed_secrets(start->has_seed ? start->seed : V1_WORD, &column->own.v1);

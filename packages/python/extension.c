@@ -33,7 +33,7 @@ static int sort(
 static uint64_t hash_of(const struct form *form, const struct start *start, const struct message *message)
 {
     if (start->secrets != NULL)
-        return form->seeded(message->bytes, message->len, start->secrets);
+        return form->with_secrets(message->bytes, message->len, start->secrets);
     if (start->has_seed)
         return form->with_seed(message->bytes, message->len, start->seed);
     return form->plain(message->bytes, message->len);
@@ -72,10 +72,10 @@ static PyObject *digits_of(uint64_t hash)
 
 /* Defines a version and its two calls. */
 #define FORM(version, own) \
-    static uint64_t seeded_##version(const void *bytes, size_t len, const void *secrets) \
-    { return rapidhash_##version##_seeded(bytes, len, secrets); } \
+    static uint64_t with_secrets_##version(const void *bytes, size_t len, const void *secrets) \
+    { return rapidhash_##version##_with_secrets(bytes, len, secrets); } \
     static const struct form form_##version = { \
-        #version, rapidhash_##version, rapidhash_##version##_with_seed, seeded_##version, \
+        #version, rapidhash_##version, rapidhash_##version##_with_seed, with_secrets_##version, \
         sizeof(struct own##_secrets) == sizeof(struct rapidhash_v1_secrets)}; \
     static PyObject *call_##version(PyObject *module, PyObject *const *args, Py_ssize_t count, PyObject *names) \
     { \

@@ -19,7 +19,7 @@ struct form {
     const char *name;
     uint64_t (*plain)(const void *bytes, size_t len);
     uint64_t (*with_seed)(const void *bytes, size_t len, uint64_t seed);
-    uint64_t (*seeded)(const void *bytes, size_t len, const void *secrets);
+    uint64_t (*with_secrets)(const void *bytes, size_t len, const void *secrets);
     int is_v1;
 };
 

@@ -178,11 +178,11 @@ static void lose(sqlite3_context *context, int count, sqlite3_value **values)
         (void)none; \
         return rapidhash_##version(bytes, len); \
     } \
-    static uint64_t seeded_##version(const void *bytes, size_t len, uint64_t number) \
+    static uint64_t with_secrets_##version(const void *bytes, size_t len, uint64_t number) \
     { \
         struct own##_secrets secrets; \
         own##_make_secrets(number, &secrets); \
-        return rapidhash_##version##_seeded(bytes, len, &secrets); \
+        return rapidhash_##version##_with_secrets(bytes, len, &secrets); \
     }
 
 RAPIDHASH_C_VERSIONS(HASHES)
@@ -190,7 +190,7 @@ RAPIDHASH_C_VERSIONS(HASHES)
 #define FUNCTIONS(version, own) \
     {"rapidhash_" #version, NULL, default_##version}, \
     {"rapidhash_" #version, "seed", rapidhash_##version##_with_seed}, \
-    {"rapidhash_" #version "_seeded", "number", seeded_##version},
+    {"rapidhash_" #version "_with_secrets", "number", with_secrets_##version},
 #define AGGREGATE(version, lanes) {"rapidhash_" #version "_agg", rapidhash_##version##_start},
 
 static const struct function functions[] = {RAPIDHASH_C_VERSIONS(FUNCTIONS)};

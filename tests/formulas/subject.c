@@ -39,13 +39,13 @@ static uint64_t hash(const struct record *asked, const uint8_t *bytes)
     uint64_t before = asked->form;
 
     if (asked->options & 2)
-        return rapidhash_v3_protected_seeded(bytes, asked->length, &asked->own);
+        return rapidhash_v3_protected_with_secrets(bytes, asked->length, &asked->own);
     /* V1 has the first of the secrets. */
 #define HASH(version, kind) \
     if (before-- == 0) { \
         struct kind##_secrets secrets; \
         memcpy(&secrets, &asked->own, sizeof secrets); \
-        return rapidhash_##version##_seeded(bytes, asked->length, &secrets); \
+        return rapidhash_##version##_with_secrets(bytes, asked->length, &secrets); \
     }
     RAPIDHASH_C_VERSIONS(HASH)
     return 0;

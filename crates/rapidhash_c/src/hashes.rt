@@ -22,7 +22,7 @@ pub extern "C" fn rapidhash_v1(bytes: &[u8]) -> u64
 
 /// Returns the V1 hash of `bytes` with the caller's seed and secrets.
 #[unsafe(no_mangle)]
-pub extern "C" fn rapidhash_v1_seeded(bytes: &[u8], secrets: &RapidSecretsV1) -> u64
+pub extern "C" fn rapidhash_v1_with_secrets(bytes: &[u8], secrets: &RapidSecretsV1) -> u64
     ensures { result ≡ seeded_hash_v1 false standard secrets.now bytes.now }
 {
     v1::hash::<MIXED, UNROLLED, PLAIN, false>(bytes, secrets.seed, &secrets.secrets)
@@ -57,7 +57,7 @@ pub extern "C" fn rapidhash_v2_0(bytes: &[u8]) -> u64
 
 /// Returns the V2.0 hash of `bytes` with the caller's seed and secrets.
 #[unsafe(no_mangle)]
-pub extern "C" fn rapidhash_v2_0_seeded(bytes: &[u8], secrets: &RapidSecrets) -> u64
+pub extern "C" fn rapidhash_v2_0_with_secrets(bytes: &[u8], secrets: &RapidSecrets) -> u64
     ensures { result ≡ seeded_hash (v2 0) standard secrets.now bytes.now }
 {
     v2_of::<0>(bytes, secrets.seed, &secrets.secrets)
@@ -83,7 +83,7 @@ pub extern "C" fn rapidhash_v2_1(bytes: &[u8]) -> u64
 
 /// Returns the V2.1 hash of `bytes` with the caller's seed and secrets.
 #[unsafe(no_mangle)]
-pub extern "C" fn rapidhash_v2_1_seeded(bytes: &[u8], secrets: &RapidSecrets) -> u64
+pub extern "C" fn rapidhash_v2_1_with_secrets(bytes: &[u8], secrets: &RapidSecrets) -> u64
     ensures { result ≡ seeded_hash (v2 1) standard secrets.now bytes.now }
 {
     v2_of::<1>(bytes, secrets.seed, &secrets.secrets)
@@ -109,7 +109,7 @@ pub extern "C" fn rapidhash_v2_2(bytes: &[u8]) -> u64
 
 /// Returns the V2.2 hash of `bytes` with the caller's seed and secrets.
 #[unsafe(no_mangle)]
-pub extern "C" fn rapidhash_v2_2_seeded(bytes: &[u8], secrets: &RapidSecrets) -> u64
+pub extern "C" fn rapidhash_v2_2_with_secrets(bytes: &[u8], secrets: &RapidSecrets) -> u64
     ensures { result ≡ seeded_hash (v2 2) standard secrets.now bytes.now }
 {
     v2_of::<2>(bytes, secrets.seed, &secrets.secrets)
@@ -145,7 +145,7 @@ pub extern "C" fn rapidhash_v3(bytes: &[u8]) -> u64
 
 /// Returns the V3 hash of `bytes` with the caller's seed and secrets.
 #[unsafe(no_mangle)]
-pub extern "C" fn rapidhash_v3_seeded(bytes: &[u8], secrets: &RapidSecrets) -> u64
+pub extern "C" fn rapidhash_v3_with_secrets(bytes: &[u8], secrets: &RapidSecrets) -> u64
     ensures { result ≡ seeded_hash v3 standard secrets.now bytes.now }
 {
     v3_of::<7>(bytes, secrets.seed, &secrets.secrets)
@@ -171,7 +171,7 @@ pub extern "C" fn rapidhash_v3_micro(bytes: &[u8]) -> u64
 
 /// Returns the V3 micro hash of `bytes` with the caller's seed and secrets.
 #[unsafe(no_mangle)]
-pub extern "C" fn rapidhash_v3_micro_seeded(bytes: &[u8], secrets: &RapidSecrets) -> u64
+pub extern "C" fn rapidhash_v3_micro_with_secrets(bytes: &[u8], secrets: &RapidSecrets) -> u64
     ensures { result ≡ seeded_hash micro standard secrets.now bytes.now }
 {
     v3_of::<5>(bytes, secrets.seed, &secrets.secrets)
@@ -197,7 +197,7 @@ pub extern "C" fn rapidhash_v3_nano(bytes: &[u8]) -> u64
 
 /// Returns the V3 nano hash of `bytes` with the caller's seed and secrets.
 #[unsafe(no_mangle)]
-pub extern "C" fn rapidhash_v3_nano_seeded(bytes: &[u8], secrets: &RapidSecrets) -> u64
+pub extern "C" fn rapidhash_v3_nano_with_secrets(bytes: &[u8], secrets: &RapidSecrets) -> u64
     ensures { result ≡ seeded_hash nano standard secrets.now bytes.now }
 {
     v3_of::<3>(bytes, secrets.seed, &secrets.secrets)
@@ -222,7 +222,7 @@ pub extern "C" fn rapidhash_v3_protected(bytes: &[u8]) -> u64
 
 /// Returns the V3 hash of `bytes` with PROTECTED and the caller's seed and secrets.
 #[unsafe(no_mangle)]
-pub extern "C" fn rapidhash_v3_protected_seeded(bytes: &[u8], secrets: &RapidSecrets) -> u64
+pub extern "C" fn rapidhash_v3_protected_with_secrets(bytes: &[u8], secrets: &RapidSecrets) -> u64
     ensures { result ≡ seeded_hash v3 guarded secrets.now bytes.now }
 {
     rapidhash_v3_inline::<MIXED, UNROLLED, GUARDED>(bytes, secrets)

@@ -97,7 +97,7 @@ inline std::uint64_t hash(bytes message, seed start) noexcept
 
 inline std::uint64_t hash(bytes message, const secrets &own) noexcept
 {
-    return ::rapidhash_v3_seeded(message.data(), message.size(), &own);
+    return ::rapidhash_v3_with_secrets(message.data(), message.size(), &own);
 }
 
 /* Hashes the keys of an unordered container. Since C++20, a container with std::equal_to<> finds a std::string by a

@@ -115,20 +115,21 @@ RAPIDHASH_API uint64_t rapidhash_v3_micro_with_seed(const void *bytes, size_t le
 RAPIDHASH_API uint64_t rapidhash_v3_nano_with_seed(const void *bytes, size_t len, uint64_t seed);
 
 /* Returns the hash with the caller's seed and secrets. */
-RAPIDHASH_API uint64_t rapidhash_v1_seeded(const void *bytes, size_t len, const struct rapidhash_v1_secrets *secrets);
-RAPIDHASH_API uint64_t rapidhash_v2_0_seeded(const void *bytes, size_t len, const struct rapidhash_secrets *secrets);
-RAPIDHASH_API uint64_t rapidhash_v2_1_seeded(const void *bytes, size_t len, const struct rapidhash_secrets *secrets);
-RAPIDHASH_API uint64_t rapidhash_v2_2_seeded(const void *bytes, size_t len, const struct rapidhash_secrets *secrets);
-RAPIDHASH_API uint64_t rapidhash_v3_seeded(const void *bytes, size_t len, const struct rapidhash_secrets *secrets);
-RAPIDHASH_API uint64_t rapidhash_v3_micro_seeded(
-    const void *bytes, size_t len, const struct rapidhash_secrets *secrets);
-RAPIDHASH_API uint64_t rapidhash_v3_nano_seeded(const void *bytes, size_t len, const struct rapidhash_secrets *secrets);
+RAPIDHASH_API uint64_t rapidhash_v1_with_secrets(const void *bytes, size_t len, const struct rapidhash_v1_secrets *own);
+RAPIDHASH_API uint64_t rapidhash_v2_0_with_secrets(const void *bytes, size_t len, const struct rapidhash_secrets *own);
+RAPIDHASH_API uint64_t rapidhash_v2_1_with_secrets(const void *bytes, size_t len, const struct rapidhash_secrets *own);
+RAPIDHASH_API uint64_t rapidhash_v2_2_with_secrets(const void *bytes, size_t len, const struct rapidhash_secrets *own);
+RAPIDHASH_API uint64_t rapidhash_v3_with_secrets(const void *bytes, size_t len, const struct rapidhash_secrets *own);
+RAPIDHASH_API uint64_t rapidhash_v3_micro_with_secrets(
+    const void *bytes, size_t len, const struct rapidhash_secrets *own);
+RAPIDHASH_API uint64_t rapidhash_v3_nano_with_secrets(
+    const void *bytes, size_t len, const struct rapidhash_secrets *own);
 
 /* Returns the protected V3 hash, which XORs the factors into each product. It differs from V3. */
 RAPIDHASH_API uint64_t rapidhash_v3_protected(const void *bytes, size_t len);
 RAPIDHASH_API uint64_t rapidhash_v3_protected_with_seed(const void *bytes, size_t len, uint64_t seed);
-RAPIDHASH_API uint64_t rapidhash_v3_protected_seeded(
-    const void *bytes, size_t len, const struct rapidhash_secrets *secrets);
+RAPIDHASH_API uint64_t rapidhash_v3_protected_with_secrets(
+    const void *bytes, size_t len, const struct rapidhash_secrets *own);
 
 /* A streaming hasher for V3, micro, or nano: hashes a message in pieces. Call a _start function before any other, and
  * treat the fields as private. It can live on the stack or in an array and be copied with =. It refers to its secrets,
@@ -145,7 +146,7 @@ struct rapidhash_stream {
 /* Appends the next `len` bytes to the message. */
 RAPIDHASH_API void rapidhash_stream_write(struct rapidhash_stream *stream, const void *bytes, size_t len);
 
-/* Returns the hash of the message so far: that of rapidhash_v3_seeded, or of micro or nano, for the whole message.
+/* Returns the hash of the message so far, as rapidhash_v3_with_secrets, or that of micro or nano, hashes it as a whole.
  * Does not modify the stream: more bytes may follow. */
 RAPIDHASH_API uint64_t rapidhash_stream_finish(const struct rapidhash_stream *stream);
 
@@ -162,7 +163,7 @@ static inline void rapidhash_stream_start(
     rapidhash_stream_reset(stream);
 }
 
-/* Starts an empty stream, whose hash will be that of rapidhash_v3_seeded, or of micro or nano. */
+/* Starts an empty stream, whose hash will be that of rapidhash_v3_with_secrets, or of micro or nano. */
 static inline void rapidhash_v3_start(struct rapidhash_stream *stream, const struct rapidhash_secrets *secrets)
 { rapidhash_stream_start(stream, 7, secrets); }
 static inline void rapidhash_v3_micro_start(struct rapidhash_stream *stream, const struct rapidhash_secrets *secrets)
@@ -469,7 +470,7 @@ RAPIDHASH_NOINLINE uint64_t rapidhash_v2_with_rows_(const uint8_t *p, size_t n, 
     { return rapidhash_##version##_(bytes, len, own##_default_seed_, rapidhash_default_secrets_); } \
     RAPIDHASH_API uint64_t rapidhash_##version##_with_seed(const void *bytes, size_t len, uint64_t seed) \
     { return rapidhash_##version##_(bytes, len, own##_seed_(seed), rapidhash_default_secrets_); } \
-    RAPIDHASH_API uint64_t rapidhash_##version##_seeded( \
+    RAPIDHASH_API uint64_t rapidhash_##version##_with_secrets( \
         const void *bytes, size_t len, const struct own##_secrets *secrets) \
     { return rapidhash_##version##_(bytes, len, secrets->seed, secrets->secrets); }
 RAPIDHASH_C_VERSIONS(RAPIDHASH_C_DEFINE)
@@ -479,7 +480,6 @@ RAPIDHASH_API void rapidhash_v1_make_secrets(uint64_t number, struct rapidhash_v
 { secrets->seed = rapidhash_chain_(number, 3, secrets->secrets); }
 RAPIDHASH_API void rapidhash_make_secrets(uint64_t number, struct rapidhash_secrets *secrets)
 { secrets->seed = rapidhash_chain_(number, 7, secrets->secrets); }
-
 RAPIDHASH_API void rapidhash_v1_seed_secrets(uint64_t seed, struct rapidhash_v1_secrets *secrets)
 {
     secrets->seed = rapidhash_v1_seed_(seed);

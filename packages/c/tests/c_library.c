@@ -30,16 +30,16 @@ static void compare(const char *name, const char *what, uint64_t value, uint64_t
 
 /* Defines a hash with secrets as words: the seed and then 3 others in V1, and 7 in each other version. */
 #define SEEDED(version, own) \
-    static uint64_t seeded_##version(const void *message, size_t len, const uint64_t *words) \
+    static uint64_t with_secrets_##version(const void *message, size_t len, const uint64_t *words) \
     { \
         struct own##_secrets secrets; \
         memcpy(&secrets, words, sizeof secrets); \
-        return rapidhash_##version##_seeded(message, len, &secrets); \
+        return rapidhash_##version##_with_secrets(message, len, &secrets); \
     }
 RAPIDHASH_C_VERSIONS(SEEDED)
 #define FORM(version, own) \
     {#version, sizeof(struct own##_secrets) == sizeof(struct rapidhash_v1_secrets), \
-     rapidhash_##version, rapidhash_##version##_with_seed, seeded_##version},
+     rapidhash_##version, rapidhash_##version##_with_seed, with_secrets_##version},
 
 static const struct form {
     const char *name; /* as in the file */
@@ -104,7 +104,7 @@ struct stream_form {
 };
 
 #define STREAM(version, lanes) \
-    {#version, rapidhash_##version##_start, rapidhash_##version, rapidhash_##version##_seeded},
+    {#version, rapidhash_##version##_start, rapidhash_##version, rapidhash_##version##_with_secrets},
 static const struct stream_form stream_forms[] = {RAPIDHASH_C_STREAMS(STREAM)};
 enum { STREAMS = sizeof stream_forms / sizeof stream_forms[0] };
 

@@ -27,16 +27,16 @@ void rust_secrets(
 
 /* Defines a hash with secrets that are the first words of others: those of V1 are fewer. */
 #define SEEDED(version, own) \
-    static uint64_t seeded_##version(const void *bytes, size_t len, const struct rapidhash_secrets *words) \
+    static uint64_t with_secrets_##version(const void *bytes, size_t len, const struct rapidhash_secrets *words) \
     { \
         struct own##_secrets secrets; \
         memcpy(&secrets, words, sizeof secrets); \
-        return rapidhash_##version##_seeded(bytes, len, &secrets); \
+        return rapidhash_##version##_with_secrets(bytes, len, &secrets); \
     }
 RAPIDHASH_C_VERSIONS(SEEDED)
 #define FORM(version, own) \
     {#version, sizeof(struct own##_secrets) == sizeof(struct rapidhash_v1_secrets), \
-     rapidhash_##version, rapidhash_##version##_with_seed, seeded_##version},
+     rapidhash_##version, rapidhash_##version##_with_seed, with_secrets_##version},
 
 static const struct {
     const char *version;
@@ -46,7 +46,7 @@ static const struct {
     seeded *seeded;
 } forms[] = {RAPIDHASH_C_VERSIONS(FORM)};
 
-#define STREAM(version, lanes) {#version, rapidhash_##version##_start, rapidhash_##version##_seeded},
+#define STREAM(version, lanes) {#version, rapidhash_##version##_start, rapidhash_##version##_with_secrets},
 static const struct {
     const char *version;
     start *start;

@@ -78,7 +78,7 @@ struct form {
     uint64_t (*hash)(const void *, size_t, const struct rapidhash_secrets *);
     size_t row;
 };
-#define STREAM(version, lanes) {rapidhash_##version##_start, rapidhash_##version##_seeded, 16 * lanes},
+#define STREAM(version, lanes) {rapidhash_##version##_start, rapidhash_##version##_with_secrets, 16 * lanes},
 static const struct form forms[] = {RAPIDHASH_C_STREAMS(STREAM)};
 
 /* Writes a message of each length up to three rows to a stream that had another of each such length. */
@@ -138,7 +138,7 @@ static uint64_t all_hashes(size_t n, uint64_t word, size_t step)
 
 #define ADD(version, kind) \
     all = all * 3 + rapidhash_##version(message, n) + 5 * rapidhash_##version##_with_seed(message, n, word) \
-          + 7 * rapidhash_##version##_seeded(message, n, (const struct kind##_secrets *) \
+          + 7 * rapidhash_##version##_with_secrets(message, n, (const struct kind##_secrets *) \
                                              secrets[sizeof(struct kind##_secrets) == sizeof own_v1]);
     RAPIDHASH_C_VERSIONS(ADD)
     for (i = 0; n < 500 && i < sizeof forms / sizeof forms[0]; i++)

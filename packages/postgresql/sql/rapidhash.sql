@@ -8,9 +8,9 @@ SELECT rapidhash_v3(E'h\u00e9llo \u20ac\U0001F600') AS text;
 SELECT rapidhash_v3(1.5);
 SELECT rapidhash_v3(1.5::real);
 -- A call with secrets requires their number.
-SELECT rapidhash_v3_seeded('a');
+SELECT rapidhash_v3_with_secrets('a');
 -- NULL as any argument.
-SELECT rapidhash_v3(NULL::text), rapidhash_v3('a', NULL), rapidhash_v3(NULL::text, 1), rapidhash_v3_seeded(1, NULL),
+SELECT rapidhash_v3(NULL::text), rapidhash_v3('a', NULL), rapidhash_v3(NULL::text, 1), rapidhash_v3_with_secrets(1, NULL),
   rapidhash_hex(NULL);
 -- Digits, with leading zeros and with the highest bit.
 SELECT rapidhash_hex(hash) FROM (VALUES (3327445792987248966), (0), (4294967296), (-1), (-4611686018427387904)) AS t(hash);

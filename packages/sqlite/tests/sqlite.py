@@ -18,7 +18,7 @@ ERRORS = {
     "rapidhash_v3(1.5)": f"rapidhash_v3: {REAL}",
     "rapidhash_v2_0(NULL, 'a')": "rapidhash_v2_0: the seed must be an INTEGER",
     "rapidhash_v3_nano(1, x'00')": "rapidhash_v3_nano: the seed must be an INTEGER",
-    "rapidhash_v3_seeded(1, 2.0)": "rapidhash_v3_seeded: the number must be an INTEGER",
+    "rapidhash_v3_with_secrets(1, 2.0)": "rapidhash_v3_with_secrets: the number must be an INTEGER",
     "rapidhash_hex('1')": "rapidhash_hex: the hash must be an INTEGER",
     "rapidhash_v3_agg(1.5)": f"rapidhash_v3_agg: {REAL}",
     "rapidhash_v3_micro_agg(NULL, '1')": "rapidhash_v3_micro_agg: the seed must be an INTEGER",
@@ -26,7 +26,7 @@ ERRORS = {
     "rapidhash_v3_agg(1) OVER (ROWS 1 PRECEDING) FROM many":
         "rapidhash_v3_agg: the window must begin with UNBOUNDED PRECEDING",
     "rapidhash_v3()": "wrong number of arguments to function rapidhash_v3()",
-    "rapidhash_v3_seeded(1)": "wrong number of arguments to function rapidhash_v3_seeded()",
+    "rapidhash_v3_with_secrets(1)": "wrong number of arguments to function rapidhash_v3_with_secrets()",
     "rapidhash_v3_agg(1, 2, 3)": "wrong number of arguments to function rapidhash_v3_agg()",
 }
 MEMORY = """cc -std=c99 -g -Wall -Wextra -Werror -fsanitize=address,undefined -fno-sanitize-recover=all -Ipackages/c/include \
@@ -67,7 +67,7 @@ def types(database, name):
         rapidhash_v3(''), rapidhash_v3(x''), rapidhash_v3(zeroblob(3)) = rapidhash_v3(x'000000'),
         rapidhash_v3(?) = rapidhash_v3(x'610062'), rapidhash_v3(42), rapidhash_v3(-42),
         rapidhash_v3(CAST(42 AS TEXT)) = rapidhash_v3(x'3432'), rapidhash_v3(NULL), rapidhash_v3(NULL, 1),
-        rapidhash_v3('a', NULL), rapidhash_v1_seeded(1, NULL), rapidhash_hex(NULL)""", "a\0b")
+        rapidhash_v3('a', NULL), rapidhash_v1_with_secrets(1, NULL), rapidhash_hex(NULL)""", "a\0b")
     compare(name, found, [(HELLO, TEXT_HASH, TEXT_HASH, NOTHING, NOTHING, 1, 1, 5044168950324010207,
                            2463112363380910024, 1, None, None, None, None, None)])
     found = [ask(database, "SELECT rapidhash_hex(?)", number) for number in DIGITS]
