@@ -1,6 +1,7 @@
 pub mod AgreementLemmas
 pub mod GeneratorLemmas
 pub mod HasherLemmas
+pub mod KeyLemmas
 pub mod LawsLemmas
 pub mod ReplayLemmas
 pub mod SpongeLemmas

@@ -16,6 +16,7 @@ pub use Rattle.rapidhash_portable.specs.Tail
 pub use Rattle.rapidhash_portable.specs.Words
 pub mod Generator
 pub mod Hasher
+pub mod Key
 pub mod Keys
 pub mod Laws
 pub mod RapidHasher

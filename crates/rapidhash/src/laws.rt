@@ -6,6 +6,7 @@
 //! - [`lane_after_its_secret`]: what `PROTECTED` keeps.
 //! - [`same_blocks`]: integers of equal widths are packed one to one.
 //! - [`join_u8`], [`turn_bytes`] and their like: writes that may be joined or swapped.
+//! - [`same_keys`]: keys of several fields are encoded one to one.
 //! - [`replay`]: a stream hasher returns the hash of what was written since the last reset.
 
 ghost use Rattle.std.specs.Prelude.{◌≡◌, IfOk};
@@ -15,12 +16,14 @@ ghost use Rattle.rapidhash.specs.Replay.{finishes};
 
 mod blocks;
 mod forms;
+mod keys;
 mod lane;
 mod words;
 mod writes;
 
 pub use blocks::{Num, same_blocks};
 pub use forms::{micro_is_v3, nano_is_v3, v1_is_v1_with_its_bug, v2_0_is_v2_1, v2_1_is_v2_2};
+pub use keys::same_keys;
 pub use lane::lane_after_its_secret;
 use rapidhash_portable::v3::{RapidSecrets, RapidStreamHasherLanes};
 use std::alloc::{AllocError, Allocator};

@@ -4,6 +4,7 @@
 //! - [`reader`]: the reader with an error flag that the hashes of a reader need.
 //! - [`RapidHashMap`] and [`RapidHashSet`]: maps and sets over the fast hasher.
 //! - [`ByteKey`]: a key of bytes, which they hash in one write.
+//! - [`key`]: one hash for a key of several fields, the same in every language.
 //! - [`fast`], [`quality`]: the hasher and the states of maps, without and with an avalanche.
 //! - [`inner`]: the hasher of maps, with every option.
 //! - [`rng`]: a small generator.
@@ -20,6 +21,7 @@
 mod collections;
 pub mod fast;
 pub mod inner;
+pub mod key;
 mod keys;
 pub mod laws;
 pub mod quality;

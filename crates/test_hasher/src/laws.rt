@@ -2,6 +2,7 @@
 
 mod blocks;
 mod forms;
+mod keys;
 mod lane;
 mod replay;
 mod words;

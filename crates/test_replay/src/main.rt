@@ -10,6 +10,7 @@ mod compare;
 mod draws;
 mod hashers;
 mod items;
+mod keys;
 mod lengths;
 mod pieces;
 mod readers;
@@ -77,6 +78,7 @@ fn replay_line(alloc: Global, columns: &str, line: &str) -> Result<Agreement> {
         bulk::COLUMNS => bulk::replay(alloc, line),
         bulk::MEMORY_COLUMNS => bulk::replay_memory(alloc, line),
         hashers::COLUMNS => hashers::replay(alloc, line),
+        keys::COLUMNS => keys::replay(alloc, line),
         readers::COLUMNS => readers::replay(alloc, line),
         streams::COLUMNS => streams::replay(alloc, line),
         streams::LANES_COLUMNS => streams::replay_with_lanes(alloc, line),
