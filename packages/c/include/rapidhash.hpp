@@ -20,6 +20,9 @@
 #include <string>
 #include <type_traits>
 #include <utility>
+#if __cplusplus >= 201703L
+#include <optional>
+#endif
 
 namespace rapidhash {
 
@@ -152,6 +155,53 @@ private:
     secrets secrets_;
     ::rapidhash_stream state_;
 };
+
+/* Appends a field of a key to a V3 stream of C: nothing (nullptr, or an empty std::optional), an integer, or bytes. */
+inline void add_field(::rapidhash_stream *state, std::nullptr_t) noexcept { ::rapidhash_key_nothing(state); }
+inline void add_field(::rapidhash_stream *state, bytes field) noexcept
+{
+    ::rapidhash_key_bytes(state, field.data(), field.size());
+}
+
+template <class Integer, class = typename std::enable_if<std::is_integral<Integer>::value>::type>
+void add_field(::rapidhash_stream *state, Integer field) noexcept
+{
+    static_assert(sizeof(field) <= 8, "an integer of a key has at most 64 bits");
+    ::rapidhash_key_integer(state, static_cast<std::int64_t>(field));
+}
+
+#if __cplusplus >= 201703L
+template <class Field>
+void add_field(::rapidhash_stream *state, const std::optional<Field> &field) noexcept
+{
+    field ? add_field(state, *field) : add_field(state, nullptr);
+}
+#endif
+
+/* Returns the hash of a key of several fields, the same in every language: each field is nullptr for nothing (as SQL's
+ * NULL), an integer, bytes, or from C++17 on a std::optional of these. An integer of more than 63 bits is its two's
+ * complement. Different keys are different messages. */
+template <class... Fields>
+std::uint64_t key(const secrets &own, const Fields &...fields) noexcept
+{
+    ::rapidhash_stream state;
+    ::rapidhash_v3_start(&state, &own);
+    const int in_order[] = {0, (add_field(&state, fields), 0)...};
+    static_cast<void>(in_order);
+    return ::rapidhash_stream_finish(&state);
+}
+
+template <class... Fields>
+std::uint64_t key(seed start, const Fields &...fields) noexcept
+{
+    return key(seed_secrets(start), fields...);
+}
+
+template <class... Fields>
+std::uint64_t key(const Fields &...fields) noexcept
+{
+    return key(seed(0), fields...);
+}
 
 /* Convert a hash to 8 bytes, most significant first, and back: the same on every machine, so they can be stored. */
 inline std::array<unsigned char, 8> to_canonical(std::uint64_t hash) noexcept

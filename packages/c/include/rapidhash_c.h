@@ -171,6 +171,24 @@ static inline void rapidhash_v3_micro_start(struct rapidhash_stream *stream, con
 static inline void rapidhash_v3_nano_start(struct rapidhash_stream *stream, const struct rapidhash_secrets *secrets)
 { rapidhash_stream_start(stream, 3, secrets); }
 
+/* Append a field of a key to the message of a V3 stream: nothing (as SQL's NULL), an integer, or bytes (a text is its
+ * UTF-8). The hash after the last field is that of the key in every language. docs/ALGORITHM.md has the encoding, in
+ * which different keys are different messages. The preconditions are those of rapidhash_stream_write. */
+static inline void rapidhash_key_nothing(struct rapidhash_stream *stream) { rapidhash_stream_write(stream, "", 1); }
+static inline void rapidhash_key_number_(struct rapidhash_stream *stream, unsigned char tag, uint64_t number)
+{
+    unsigned char field[9] = {tag};
+    for (int at = 1; at < 9; at++, number >>= 8) field[at] = (unsigned char)(number & 255);
+    rapidhash_stream_write(stream, field, sizeof field);
+}
+static inline void rapidhash_key_integer(struct rapidhash_stream *stream, int64_t value)
+{ rapidhash_key_number_(stream, 1, (uint64_t)value); }
+static inline void rapidhash_key_bytes(struct rapidhash_stream *stream, const void *bytes, size_t len)
+{
+    rapidhash_key_number_(stream, 2, len);
+    rapidhash_stream_write(stream, bytes, len);
+}
+
 /* Writes a hash as 8 bytes, most significant first, the same on every machine. `bytes` must have room for 8 bytes. */
 static inline void rapidhash_to_canonical(uint64_t hash, unsigned char *bytes)
 { for (int at = 7; at >= 0; at--, hash >>= 8) bytes[at] = (unsigned char)(hash & 255); }

@@ -61,6 +61,12 @@ has_the_properties() {
   done
 }
 
+# Compares the hashes of keys: COMPILER ARGUMENT..
+has_the_keys() {
+  "$@" -Wall -Wextra -Werror "-I$include" "$tests/keys.c" -o "$room/keys" &&
+    ${under-} "$room/keys" <"$top/crates/test_replay/data/keys.tsv"
+}
+
 # Compiles such a program with the archive, whose code it must contain: COMPILER ARGUMENT..
 calls_from_c() {
   linked=$archive has_the_values "$@" -DRAPIDHASH_LINK -O2 -Wall -Wextra -Werror &&
@@ -276,6 +282,9 @@ done
 s390x='clang s390x-linux-gnu-ld /usr/lib/gcc-cross/s390x-linux-gnu/*/libgcc.a /usr/s390x-linux-gnu/include/stdio.h'
 under=qemu-s390x try_with properties_s390x "$s390x qemu-s390x" \
   has_the_properties "$both" clang --target=s390x-linux-gnu -static -O2
+try keys has_the_keys cc -std=c99 -O2
+try_with keys_32_bits "gcc $multilib/libgcc.a" has_the_keys gcc -m32 -O2
+under=qemu-s390x try_with keys_s390x "$s390x qemu-s390x" has_the_keys clang --target=s390x-linux-gnu -static -O2
 under='valgrind -q --error-exitcode=9' try_with content 'valgrind /usr/include/valgrind/memcheck.h' \
   has_the_properties content cc -O2 -DTEST_CONTENT
 try_with threads gcc has_the_properties threads gcc -O1 -fsanitize=thread -DTEST_THREADS -lpthread

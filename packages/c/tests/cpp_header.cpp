@@ -72,6 +72,25 @@ static void check_texts()
 #endif
 }
 
+/* Checks keys of crates/test_replay/data/keys.tsv, by fields of each type. */
+static void check_keys()
+{
+    const std::string user = "user";
+    const std::uint64_t hash_of_user = 14742763072502883419U;
+
+    compare("no field", rapidhash::key(), 232177599295442350U);
+    compare("a key", rapidhash::key(user, 4711, nullptr), hash_of_user);
+    compare("a key of other types", rapidhash::key("user", std::uint64_t(4711), nullptr), hash_of_user);
+    compare("a key with a seed", rapidhash::key(rapidhash::seed(7), user, short(4711), nullptr), 4558979304646042975U);
+    compare("a key with secrets", rapidhash::key(rapidhash::make_secrets(42), user, 4711L, nullptr), 889031379977575174U);
+    compare("a negative integer", rapidhash::key(-1), 8262727485331911684U);
+    compare("an integer of 64 bits", rapidhash::key(std::uint64_t(1) << 63), 5746365357831264740U);
+#if __cplusplus >= 201703L
+    const std::optional<std::string> name = user;
+    compare("optional fields", rapidhash::key(name, std::optional<int>(4711), std::optional<long>()), hash_of_user);
+#endif
+}
+
 static void check_defaults()
 {
     compare("a hasher", rapidhash::hasher()("hello"), static_cast<std::size_t>(hash_of_hello));
@@ -228,6 +247,7 @@ int main(int count, char **words)
     if (count != 2)
         return 2;
     check_texts();
+    check_keys();
     check_defaults();
     check_copies();
     check_tables();
