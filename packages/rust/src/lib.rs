@@ -7,7 +7,6 @@
 //!   Their values never change and are the same on every machine.
 //! - `RapidHashMap` and `RapidHashSet` are std's map and set with the fast hasher.
 //! - [`fast`], [`quality`], and [`inner`] hold the hasher of maps and the states that build it.
-//! - `reader` holds the reader with an error flag that the hashes of a reader use.
 //! - [`rng`] holds a small generator.
 //! - [`util`] holds the reads and the multiplication that the hashes use.
 //!
@@ -47,6 +46,8 @@
 #![allow(clippy::implicit_hasher, clippy::incompatible_msrv)]
 // Compilers before 1.87 know no lint of the next name.
 #![allow(unknown_lints, clippy::elidable_lifetime_names)]
+// Only build.rs sets the names of what an old compiler lacks.
+#![allow(unexpected_cfgs)]
 
 // The proved source names the standard library and the lower of its two crates.
 #[cfg(not(feature = "std"))]
@@ -59,18 +60,36 @@ mod macros;
 #[cfg(feature = "std")]
 mod collections;
 pub mod fast;
+mod held;
 pub mod inner;
 #[cfg(feature = "std")]
 mod io;
 mod proved;
 pub mod quality;
 mod random;
+mod shown;
+mod stream;
 
 #[cfg(feature = "std")]
 pub use collections::{HashMapExt, HashSetExt, RapidHashMap, RapidHashSet};
 #[cfg(feature = "std")]
 use proved::known_length;
 #[cfg(feature = "std")]
+#[doc(hidden)]
 pub use proved::reader;
 use proved::{in_memory, kernel, lanes, secrets, seeding, tail, words};
 pub use proved::{rng, util, v1, v2, v3};
+#[cfg(any(feature = "std", target_has_atomic = "32"))]
+pub use random::{WordsInUse, set_random_words};
+
+#[cfg(all(
+    any(feature = "getrandom_03", feature = "getrandom_04"),
+    any(
+        not(feature = "std"),
+        all(target_family = "wasm", target_os = "unknown")
+    )
+))]
+compile_error!(
+    "rapidhash: the features getrandom_03 and getrandom_04 need the feature `std` and a system with random words: leave \
+     them out, and call `set_random_words` of yervound-rapidhash with the words of your own source"
+);

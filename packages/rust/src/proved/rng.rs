@@ -80,7 +80,7 @@ pub fn rapidrng_time(seed: &mut u64, secs: u64, nanos: u32) -> u64 {
     rapid_mix::<false>(made, made ^ MASK)
 }
 
-/// A generator, which contracts describe by its state.
+/// A generator with a state of 64 bits, one of 2^64 on a single cycle.
 ///
 /// ```
 /// use rapidhash::rng::RapidRng;
@@ -97,7 +97,7 @@ impl RapidRng {
     /// Returns a generator whose state is `seed`. Two seeds are two points of the same cycle.
     #[inline]
     #[must_use]
-    pub fn new(seed: u64) -> RapidRng {
+    pub const fn new(seed: u64) -> RapidRng {
         RapidRng { seed }
     }
 
@@ -113,15 +113,15 @@ impl RapidRng {
         RapidRng::new(rapidrng_time(&mut seed, secs, nanos))
     }
 
-    /// Returns the state as a number, with its range in the contract.
-    fn number(&self) -> u64 {
+    /// Returns the state as a number.
+    const fn number(&self) -> u64 {
         self.seed
     }
 
     /// Returns the state as little-endian bytes.
     #[inline]
     #[must_use]
-    pub fn state(&self) -> [u8; 8] {
+    pub const fn state(&self) -> [u8; 8] {
         self.number().to_le_bytes()
     }
 
@@ -143,7 +143,7 @@ impl RapidRng {
     /// assert_eq!(start.steps_to(&later), 1);
     /// ```
     #[must_use]
-    pub fn steps_to(&self, other: &RapidRng) -> u64 {
+    pub const fn steps_to(&self, other: &RapidRng) -> u64 {
         let distance = other.seed.wrapping_sub(self.seed);
         distance.wrapping_mul(INVERSE)
     }
