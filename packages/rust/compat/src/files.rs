@@ -9,6 +9,7 @@ use std::io::Result;
 /// # Errors
 ///
 /// The system's own error, or `ErrorKind::UnexpectedEof` if the file has fewer bytes than its metadata says.
+#[deprecated(note = "V1 needs the length before the first byte: V3 does not")]
 pub fn rapidhash_v1_file(data: &mut File) -> Result<u64> {
     rapidhash_v1_file_inline::<false>(data, &v1::DEFAULT_RAPID_SECRETS)
 }
@@ -18,6 +19,7 @@ pub fn rapidhash_v1_file(data: &mut File) -> Result<u64> {
 /// # Errors
 ///
 /// Those of [`rapidhash_v1_file`].
+#[deprecated(note = "V1 needs the length before the first byte: V3 does not")]
 pub fn rapidhash_v1_file_seeded(data: &mut File, secrets: &v1::RapidSecrets) -> Result<u64> {
     rapidhash_v1_file_inline::<false>(data, secrets)
 }
@@ -27,6 +29,7 @@ pub fn rapidhash_v1_file_seeded(data: &mut File, secrets: &v1::RapidSecrets) -> 
 /// # Errors
 ///
 /// Those of [`rapidhash_v1_file`].
+#[deprecated(note = "V1 needs the length before the first byte: V3 does not")]
 pub fn rapidhash_v1_file_inline<const PROTECTED: bool>(
     data: &mut File,
     secrets: &v1::RapidSecrets,
@@ -40,6 +43,7 @@ pub fn rapidhash_v1_file_inline<const PROTECTED: bool>(
 /// # Errors
 ///
 /// Those of [`rapidhash_v1_file`].
+#[deprecated(note = "V2 needs the length before the first byte: V3 does not")]
 pub fn rapidhash_v2_2_file(data: &mut File) -> Result<u64> {
     rapidhash_v2_file_inline::<2, false>(data, &v2::DEFAULT_RAPID_SECRETS)
 }
@@ -49,6 +53,7 @@ pub fn rapidhash_v2_2_file(data: &mut File) -> Result<u64> {
 /// # Errors
 ///
 /// Those of [`rapidhash_v1_file`].
+#[deprecated(note = "V2 needs the length before the first byte: V3 does not")]
 pub fn rapidhash_v2_2_file_seeded(data: &mut File, secrets: &v2::RapidSecrets) -> Result<u64> {
     rapidhash_v2_file_inline::<2, false>(data, secrets)
 }
@@ -59,9 +64,8 @@ pub fn rapidhash_v2_2_file_seeded(data: &mut File, secrets: &v2::RapidSecrets) -
 ///
 /// Those of [`rapidhash_v1_file`].
 ///
-/// # Panics
-///
-/// If `MINOR` is above 2.
+/// A call does not compile if `MINOR` is above 2.
+#[deprecated(note = "V2 needs the length before the first byte: V3 does not")]
 pub fn rapidhash_v2_file_inline<const MINOR: u8, const PROTECTED: bool>(
     data: &mut File,
     secrets: &v2::RapidSecrets,
