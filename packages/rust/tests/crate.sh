@@ -16,11 +16,11 @@ tests_pass() {
   grep -q '^test result: ok\. [1-9]' "$room/tests"
 }
 
-# Builds the package, which must contain its licences and no tests.
+# Builds the package, which must contain its licences and no tests. On docs.rs no link of its page leads to a file.
 packages() {
   cargo package --allow-dirty && tar -tf "$CARGO_TARGET_DIR"/package/*.crate >"$room/list" &&
     grep -q '/LICENSE-MIT$' "$room/list" && grep -q '/LICENSE-APACHE$' "$room/list" &&
-    grep -q '/NOTICE$' "$room/list" && ! grep -q '/tests/' "$room/list"
+    grep -q '/NOTICE$' "$room/list" && ! grep -q '/tests/' "$room/list" && ! grep -n '](\.*[a-zA-Z_/]*\.' README.md
 }
 
 # Runs the first program of the README in a new project, with the dependency that a page names: PAGE COMMAND..

@@ -2,7 +2,21 @@
 
 use crate::{v1, v2};
 use std::fs::File;
-use std::io::Result;
+use std::io::{ErrorKind, Read, Result};
+
+/// A file whose interrupted reads are repeated.
+struct Repeated<'f>(&'f mut File);
+
+impl Read for Repeated<'_> {
+    fn read(&mut self, buffer: &mut [u8]) -> Result<usize> {
+        loop {
+            match self.0.read(buffer) {
+                Err(error) if error.kind() == ErrorKind::Interrupted => {}
+                result => return result,
+            }
+        }
+    }
+}
 
 /// Returns the V1 hash of the rest of a file, whose length its metadata provides.
 ///
@@ -35,7 +49,7 @@ pub fn rapidhash_v1_file_inline<const PROTECTED: bool>(
     secrets: &v1::RapidSecrets,
 ) -> Result<u64> {
     let len = data.metadata()?.len();
-    proved::v1::rapidhash_v1_file_inline::<File, PROTECTED>(data, len, secrets)
+    proved::v1::rapidhash_v1_file_inline::<_, PROTECTED>(&mut Repeated(data), len, secrets)
 }
 
 /// Returns the V2.2 hash of a file, whose length its metadata provides.
@@ -71,5 +85,9 @@ pub fn rapidhash_v2_file_inline<const MINOR: u8, const PROTECTED: bool>(
     secrets: &v2::RapidSecrets,
 ) -> Result<u64> {
     let len = data.metadata()?.len();
-    proved::v2::rapidhash_v2_file_inline::<File, MINOR, PROTECTED>(data, len, &secrets.proved())
+    proved::v2::rapidhash_v2_file_inline::<_, MINOR, PROTECTED>(
+        &mut Repeated(data),
+        len,
+        &secrets.proved(),
+    )
 }
