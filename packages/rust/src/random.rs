@@ -13,7 +13,7 @@ use crate::rng::RapidRng;
 use crate::secrets::RapidSecrets;
 
 use std::fmt::{Display, Formatter};
-pub(crate) use system::{global_seed, next_seed, secrets};
+pub(crate) use system::{global, next, secrets};
 #[cfg(feature = "std")]
 use with_std as system;
 #[cfg(not(feature = "std"))]
@@ -71,9 +71,10 @@ impl RapidSecrets {
     /// ```
     #[must_use]
     pub fn random() -> Self {
+        let state = next();
         RapidSecrets {
-            seed: next_seed(),
-            secrets: *secrets(),
+            seed: state.seed,
+            secrets: *state.secrets,
         }
     }
 }
@@ -81,6 +82,6 @@ impl RapidSecrets {
 /// Creates a generator whose state is the next seed of this process.
 impl Default for RapidRng {
     fn default() -> Self {
-        RapidRng::new(next_seed())
+        RapidRng::new(next().seed)
     }
 }

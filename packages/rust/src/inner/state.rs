@@ -3,16 +3,16 @@
 
 use crate::held::Secrets;
 use crate::proved::inner::state::seeded::Seeded;
-use crate::random::{global_seed, next_seed, secrets};
+use crate::random::{global, next, secrets};
 use crate::secrets::RapidSecrets;
 use std::fmt::{Debug, Formatter, Result};
 use std::hash::BuildHasher;
 
 use super::RapidHasher;
 
-/// Defines a state whose `new` draws the seed with a function.
+/// Defines a state whose `new` comes from a function.
 macro_rules! random_state {
-    ($(#[$about:meta])* $name:ident, $(#[$new:meta])* $seed:path) => {
+    ($(#[$about:meta])* $name:ident, $(#[$new:meta])* $seeded:path) => {
         $(#[$about])*
         #[derive(Clone, Copy, PartialEq, Eq)]
         pub struct $name<
@@ -31,12 +31,7 @@ macro_rules! random_state {
             #[must_use]
             #[inline]
             pub fn new() -> Self {
-                Self {
-                    seeded: Seeded {
-                        seed: $seed(),
-                        secrets: secrets(),
-                    },
-                }
+                Self { seeded: $seeded() }
             }
         }
 
@@ -83,7 +78,7 @@ random_state! {
     /// ```
     GlobalState,
     /// Returns a state with the seed and the secrets of this process.
-    global_seed
+    global
 }
 
 random_state! {
@@ -100,7 +95,7 @@ random_state! {
     /// ```
     RandomState,
     /// Returns a state with the next seed.
-    next_seed
+    next
 }
 
 /// Builds hashers with the caller's seed.
@@ -145,12 +140,7 @@ impl<'s, const AVALANCHE: bool, const SPONGE: bool, const COMPACT: bool, const P
     #[must_use]
     #[inline]
     pub fn random() -> Self {
-        Self {
-            seeded: Seeded {
-                seed: next_seed(),
-                secrets: secrets(),
-            },
-        }
+        Self { seeded: next() }
     }
 
     /// Returns the state with the default seed and secrets, the same in every run of every program.

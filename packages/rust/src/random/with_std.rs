@@ -1,9 +1,10 @@
 //! The random words of std. On wasm32-unknown-unknown std has none: there they are the same in each run.
 
 use crate::held::Secrets;
+use crate::proved::inner::state::seeded::Seeded;
 use crate::rng::rapidrng_fast;
 use crate::seeding::{GlobalSecrets, SeedSource};
-use std::cell::RefCell;
+use std::cell::Cell;
 use std::collections::hash_map::RandomState;
 use std::hash::{BuildHasher, Hasher};
 #[cfg(rapidhash_no_once_lock)]
@@ -66,18 +67,27 @@ pub(super) fn set(words: [u64; 2]) -> bool {
     is_first
 }
 
-thread_local! {
-    static SEEDS: RefCell<Option<SeedSource>> = const { RefCell::new(None) };
+/// The seeds of a thread, with the secrets that go with them: a state needs no second look-up.
+struct Seeds {
+    source: SeedSource,
+    secrets: &'static [u64; 7],
 }
 
-/// Returns the source of a new thread. Each thread has its own number, which wraps only after all of them.
+thread_local! {
+    static SEEDS: Cell<Option<Seeds>> = const { Cell::new(None) };
+}
+
+/// Returns the seeds of a new thread. Each thread has its own number, which wraps only after all of them.
 #[cold]
-fn seeds_of_a_thread() -> SeedSource {
+fn seeds_of_a_thread() -> Seeds {
     static THREADS: AtomicUsize = AtomicUsize::new(0);
     let process = process();
     let number = THREADS.fetch_add(1, Ordering::Relaxed) as u64;
     let word = rapidrng_fast(&mut process.word.wrapping_add(number));
-    SeedSource::new(&process.global, word)
+    Seeds {
+        source: SeedSource::new(&process.global, word),
+        secrets: process.global.get(),
+    }
 }
 
 /// Returns the secrets of this process.
@@ -86,19 +96,23 @@ pub(crate) fn secrets() -> Secrets<'static> {
     Secrets::new(process().global.get())
 }
 
-/// Returns the single seed of this process.
+/// Returns the single seed of this process, with its secrets.
 #[inline]
-pub(crate) fn global_seed() -> u64 {
-    process().global.get_global_seed()
+pub(crate) fn global() -> Seeded<'static> {
+    Seeded {
+        seed: process().global.get_global_seed(),
+        secrets: secrets(),
+    }
 }
 
-/// Returns the next seed of this thread.
+/// Returns the next seed of this thread, with the secrets of this process.
 #[inline]
-pub(crate) fn next_seed() -> u64 {
-    SEEDS.with(|seeds| {
-        seeds
-            .borrow_mut()
-            .get_or_insert_with(seeds_of_a_thread)
-            .next()
+pub(crate) fn next() -> Seeded<'static> {
+    SEEDS.with(|cell| {
+        let mut seeds = cell.take().unwrap_or_else(seeds_of_a_thread);
+        let seed = seeds.source.next();
+        let secrets = Secrets::new(seeds.secrets);
+        cell.set(Some(seeds));
+        Seeded { seed, secrets }
     })
 }

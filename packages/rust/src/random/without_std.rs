@@ -1,6 +1,7 @@
 //! The words that the program sets, or else words made from addresses.
 
 use crate::held::Secrets;
+use crate::proved::inner::state::seeded::Seeded;
 use crate::rng::rapidrng_fast;
 use crate::seeding::{GlobalSecrets, SeedSource};
 #[cfg(target_has_atomic = "32")]
@@ -74,9 +75,13 @@ pub(crate) fn secrets() -> Secrets<'static> {
     Secrets::from(*GlobalSecrets::new(words()[0]).get())
 }
 
-/// Returns the single seed of this process.
-pub(crate) fn global_seed() -> u64 {
-    GlobalSecrets::new(words()[0]).get_global_seed()
+/// Returns the single seed of this process, with its secrets.
+pub(crate) fn global() -> Seeded<'static> {
+    let global = GlobalSecrets::new(words()[0]);
+    Seeded {
+        seed: global.get_global_seed(),
+        secrets: Secrets::from(*global.get()),
+    }
 }
 
 /// Returns the number of this call, if the machine counts atomically.
@@ -91,11 +96,16 @@ fn next_number() -> u64 {
     0
 }
 
-/// Returns a seed made from the words of the process, the address of the stack, and the number of this call.
-pub(crate) fn next_seed() -> u64 {
+/// Returns a seed made from the words of the process, the address of the stack, and the number of this call, with the
+/// secrets of the process.
+pub(crate) fn next() -> Seeded<'static> {
     let [first, second] = words();
     let number = next_number();
     let stack = rapidrng_fast(&mut (std::ptr::addr_of!(number) as u64));
     let word = rapidrng_fast(&mut second.wrapping_add(number)) ^ stack;
-    SeedSource::new(&GlobalSecrets::new(first), word).next()
+    let global = GlobalSecrets::new(first);
+    Seeded {
+        seed: SeedSource::new(&global, word).next(),
+        secrets: Secrets::from(*global.get()),
+    }
 }
