@@ -61,8 +61,8 @@ impl GlobalSecrets {
 /// ```
 #[derive(Clone)]
 pub struct SeedSource {
-    counter: u64,
-    random: u64,
+    pub(crate) counter: u64,
+    pub(crate) random: u64,
 }
 
 impl SeedSource {

@@ -67,26 +67,37 @@ pub(super) fn set(words: [u64; 2]) -> bool {
     is_first
 }
 
-/// The seeds of a thread, with the secrets that go with them: a state needs no second look-up.
+/// The source of a thread's seeds, with the secrets that go with them. Its words are in cells of their own: as a whole
+/// it would be copied by moves that wait for the last store.
 struct Seeds {
-    source: SeedSource,
-    secrets: &'static [u64; 7],
+    secrets: Cell<Option<&'static [u64; 7]>>,
+    counter: Cell<u64>,
+    random: Cell<u64>,
 }
 
 thread_local! {
-    static SEEDS: Cell<Option<Seeds>> = const { Cell::new(None) };
+    static SEEDS: Seeds = const {
+        Seeds {
+            secrets: Cell::new(None),
+            counter: Cell::new(0),
+            random: Cell::new(0),
+        }
+    };
 }
 
-/// Returns the seeds of a new thread. Each thread has its own number, which wraps only after all of them.
-#[cold]
-fn seeds_of_a_thread() -> Seeds {
-    static THREADS: AtomicUsize = AtomicUsize::new(0);
-    let process = process();
-    let number = THREADS.fetch_add(1, Ordering::Relaxed) as u64;
-    let word = rapidrng_fast(&mut process.word.wrapping_add(number));
-    Seeds {
-        source: SeedSource::new(&process.global, word),
-        secrets: process.global.get(),
+impl Seeds {
+    /// Starts the seeds of a new thread. Each thread has its own number, which wraps only after all of them.
+    #[cold]
+    fn start(&self) -> &'static [u64; 7] {
+        static THREADS: AtomicUsize = AtomicUsize::new(0);
+        let process = process();
+        let number = THREADS.fetch_add(1, Ordering::Relaxed) as u64;
+        let word = rapidrng_fast(&mut process.word.wrapping_add(number));
+        let source = SeedSource::new(&process.global, word);
+        self.counter.set(source.counter);
+        self.random.set(source.random);
+        self.secrets.set(Some(process.global.get()));
+        process.global.get()
     }
 }
 
@@ -108,11 +119,17 @@ pub(crate) fn global() -> Seeded<'static> {
 /// Returns the next seed of this thread, with the secrets of this process.
 #[inline]
 pub(crate) fn next() -> Seeded<'static> {
-    SEEDS.with(|cell| {
-        let mut seeds = cell.take().unwrap_or_else(seeds_of_a_thread);
-        let seed = seeds.source.next();
-        let secrets = Secrets::new(seeds.secrets);
-        cell.set(Some(seeds));
-        Seeded { seed, secrets }
+    SEEDS.with(|seeds| {
+        let secrets = seeds.secrets.get().unwrap_or_else(|| seeds.start());
+        let mut source = SeedSource {
+            counter: seeds.counter.get(),
+            random: seeds.random.get(),
+        };
+        let seed = source.next();
+        seeds.counter.set(source.counter);
+        Seeded {
+            seed,
+            secrets: Secrets::new(secrets),
+        }
     })
 }
