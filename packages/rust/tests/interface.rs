@@ -9,6 +9,7 @@ use rapidhash::{fast, inner, quality, util, v1, v2, v3};
 use std::io::{Read, Write, copy};
 use std::sync::Mutex;
 use std::thread;
+use std::time::Duration;
 
 /// Compiles only if each short name is the type with these options. No value shows the option COMPACT.
 #[test]
@@ -201,7 +202,7 @@ fn a_set_of_too_many_keys() {
 fn a_generator_from_a_moment() {
     let mut seed = 0xbdd8_9aa9_8270_4029;
     let state = rapidrng_time(&mut seed, 1_700_000_000, 123_456_789);
-    let made = RapidRng::from_moment(1_700_000_000, 123_456_789);
+    let made = RapidRng::from_moment(Duration::new(1_700_000_000, 123_456_789));
     assert_eq!(made, RapidRng::new(state));
 }
 

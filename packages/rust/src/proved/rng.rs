@@ -5,6 +5,7 @@
 
 use rapidhash_portable::util::rapid_mix;
 use rapidhash_portable::v3::DEFAULT_RAPID_SECRETS;
+use std::time::Duration;
 
 /// What a step adds to the state. It is odd, so all 2^64 states lie on one cycle.
 const STEP: u64 = DEFAULT_RAPID_SECRETS.secrets[0];
@@ -103,14 +104,14 @@ impl RapidRng {
 
     /// Returns a generator whose state is what [`rapidrng_time`] returns for a time and a fixed
     /// seed.
-    ///
-    /// # Panics
-    ///
-    /// If the nanoseconds are a second or more.
     #[must_use]
-    pub fn from_moment(secs: u64, nanos: u32) -> RapidRng {
+    pub fn from_moment(time: Duration) -> RapidRng {
         let mut seed = MOMENT_SEED;
-        RapidRng::new(rapidrng_time(&mut seed, secs, nanos))
+        RapidRng::new(rapidrng_time(
+            &mut seed,
+            time.as_secs(),
+            time.subsec_nanos(),
+        ))
     }
 
     /// Returns the state as a number.
