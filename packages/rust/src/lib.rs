@@ -37,7 +37,7 @@
 //! # Security
 //!
 //! No hash here is cryptographic. Whoever can choose the keys of a map can choose keys that have the same hash, so that
-//! each step of the map looks at all of them. This attack is called HashDoS. It needs the secrets: a word of a key that
+//! each step of the map looks at all of them. This attack is called `HashDoS`. It needs the secrets: a word of a key that
 //! equals a secret makes a product 0, and then the seed does not matter. So a seed protects only with secret secrets,
 //! and whoever sees hashes may still find both. How hard that is, nobody has shown.
 //!
