@@ -100,8 +100,18 @@ pub(crate) fn short_words_in_memory(bytes: &[u8]) -> (u64, u64)
     if n >= 8 {
         (read_u64(bytes, 0), read_u64(bytes, n - 8))
     } else {
-        short_words_v3(bytes)
+        short_words_below_8(bytes)
     }
+}
+
+/// Returns the two words of fewer than 8 bytes. It is cold, so that the code for more has no jump.
+#[cold]
+#[inline(always)]
+fn short_words_below_8(bytes: &[u8]) -> (u64, u64)
+    requires { length bytes.now < 8 }
+    ensures { (lanes : ℕ) → result ≡ short_words (V3 lanes) bytes.now }
+{
+    short_words_v3(bytes)
 }
 
 /// Returns the two words of 4 to 16 bytes in V2, V3, micro and nano.

@@ -86,8 +86,17 @@ pub(crate) const fn short_words_in_memory(bytes: &[u8]) -> (u64, u64) {
     if n >= 8 {
         (read_u64(bytes, 0), read_u64(bytes, n - 8))
     } else {
-        short_words_v3(bytes)
+        short_words_below_8(bytes)
     }
+}
+}
+
+const_fn! {
+/// Returns the two words of fewer than 8 bytes. It is cold, so that the code for more has no jump.
+#[cold]
+#[inline(always)]
+const fn short_words_below_8(bytes: &[u8]) -> (u64, u64) {
+    short_words_v3(bytes)
 }
 }
 
