@@ -1,5 +1,5 @@
 //! The states that build hashers for a map. Each keeps only a seed and secrets, in the proved
-//! `seeded`. The source of a random seed and of random secrets is outside the proof.
+//! `seeded`. The source of the seeds and secrets of a process is outside the proof.
 
 use crate::held::Secrets;
 use crate::proved::inner::state::seeded::Seeded;
