@@ -150,6 +150,31 @@ deprecates() {
     >"$room/compat/src/lib.rs" && (cd "$room/compat" && RUSTFLAGS='-D warnings' cargo check)
 }
 
+# Runs states and the generator where std has neither random words nor a clock: there the words are the same in each run
+# until a program sets its own, and a feature that promises others does not compile.
+works_without_a_system() {
+  local project=$room/wasm32 built=$room/debian/wasm32-unknown-unknown/debug/first.wasm
+  mkdir -p "$project/src" "$project/.cargo" && cp "$room/registry.toml" "$project/.cargo/config.toml" &&
+    printf '%s\n' '[package]' 'name = "first"' 'version = "0.0.0"' 'edition = "2021"' '[lib]' 'crate-type = ["cdylib"]' \
+      '[features]' 'more = ["rapidhash/getrandom_04"]' '[dependencies]' \
+      "rapidhash = { path = \"$top/packages/rust/compat\" }" \
+      "proved = { package = \"yervound-rapidhash\", path = \"$top/packages/rust\" }" >"$project/Cargo.toml" &&
+    printf '%s\n' '#![allow(deprecated)]' 'use std::hash::{BuildHasher, Hasher};' \
+      '#[no_mangle] pub extern "C" fn word() -> u64 { rapidhash::rng::RapidRng::default().next() }' \
+      '#[no_mangle] pub extern "C" fn key() -> u64 { let state = rapidhash::fast::RandomState::new();' \
+      'let mut hasher = state.build_hasher(); hasher.write(b"key"); hasher.finish() }' \
+      '#[no_mangle] pub extern "C" fn set() -> u32 { proved::set_random_words([1, 2]).is_ok() as u32 }' \
+      >"$project/src/lib.rs" &&
+    printf '%s\n' 'const bytes = require("fs").readFileSync(process.argv[2]);' \
+      'const start = async () => (await WebAssembly.instantiate(bytes)).instance.exports;' \
+      'Promise.all([start(), start(), start()]).then(([one, two, own]) => console.log(one.word() === two.word(),' \
+      'one.key() === two.key(), one.set(), own.set(), own.key() === one.key(), own.set()));' >"$project/run.js" &&
+    (cd "$project" && export CARGO_TARGET_WASM32_UNKNOWN_UNKNOWN_LINKER=wasm-ld &&
+      debian build --target wasm32-unknown-unknown && [ "$(node run.js "$built")" = 'true true 0 1 false 0' ] &&
+      ! debian build --target wasm32-unknown-unknown --features more 2>"$room/refused" &&
+      grep -q 'getrandom_04 need the feature `std`' "$room/refused")
+}
+
 # Checks that compat has each feature of the crate rapidhash 4.5.1, and `rng_06`.
 has_its_features() {
   sed -n '/^\[features\]/,$ s/ = .*//p' compat/Cargo.toml | sort | diff - <(printf '%s\n' default getrandom_03 \
@@ -202,6 +227,7 @@ debian='/usr/bin/rustc /usr/bin/cargo'
 try_with oldest_compiler "$debian" tests_pass debian test --tests
 try_with oldest_compiler_without_std "$debian" tests_pass debian test --tests --no-default-features
 try_with compat_by_the_oldest_compiler "$debian" over_compat 'std unsafe' debian check
+try_with wasm32 "$debian /usr/lib/rustlib/wasm32-unknown-unknown wasm-ld node" works_without_a_system
 try_with examples_by_the_oldest_compiler "$debian" tests_pass debian test --doc
 try_with readme_by_the_oldest_compiler "$debian" readme_runs README.md debian
 try commands works_as_its_page_says <(sed -n '/^## Rust$/,/^## Python$/p' "$top/docs/BINDINGS.md")
