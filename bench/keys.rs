@@ -65,6 +65,26 @@ fn map<K: Hash + Eq + Clone>(group: &str, mut keys: Vec<K>) {
     row(group, &format!("miss of {count}"), count, || found(&map, &missing));
 }
 
+/// What a program with many small maps does.
+fn small_maps() {
+    let count = 1000;
+    row("small map", "made and dropped", count, || {
+        (0..count).for_each(|_| _ = black_box(Map::<u64>::default()));
+        0
+    });
+    row("small map", "a state and a hash", count, || {
+        (0..count).fold(0, |sum, _| sum ^ RandomState::new().hash_one(1u8))
+    });
+    row("small map", "of 1", count, || {
+        for number in 0..count as u64 {
+            let mut map = Map::default();
+            map.insert(number, number);
+            black_box(map);
+        }
+        0
+    });
+}
+
 /// Counts the words of a text with few frequent and many rare words.
 fn word_count() {
     let mut rng = RapidRng::new(3);
@@ -95,5 +115,6 @@ pub fn all() {
         map("map of texts", (0..2 * count).map(|_| text(&mut rng, 5, 60)).collect());
         map("map of structs", people(&mut rng, 2 * count));
     }
+    small_maps();
     word_count();
 }

@@ -1,9 +1,10 @@
-//! Tells the sources what the compiler provides: `rapidhash_const` from Rust 1.83 on, `rapidhash_once_lock` from 1.70 on.
+//! Tells the sources what an old compiler lacks: `rapidhash_old_const` before Rust 1.83, `rapidhash_no_once_lock` before
+//! 1.70. A build without this script is one for a compiler that lacks nothing.
 
 use std::env;
 use std::process::Command;
 
-const FEATURES: [(&str, u32); 2] = [("rapidhash_const", 83), ("rapidhash_once_lock", 70)];
+const MISSING: [(&str, u32); 2] = [("rapidhash_old_const", 83), ("rapidhash_no_once_lock", 70)];
 
 /// Returns the minor version of the compiler that cargo runs.
 fn minor() -> Option<u32> {
@@ -17,12 +18,12 @@ fn minor() -> Option<u32> {
 
 fn main() {
     println!("cargo:rerun-if-changed=build.rs");
-    let minor = minor().unwrap_or(0);
-    for (name, least) in FEATURES {
+    let minor = minor().unwrap_or(u32::MAX);
+    for (name, least) in MISSING {
         if minor >= 80 {
             println!("cargo:rustc-check-cfg=cfg({name})");
         }
-        if minor >= least {
+        if minor < least {
             println!("cargo:rustc-cfg={name}");
         }
     }

@@ -98,7 +98,7 @@ pub fn rapidrng_time(seed: &mut u64, secs: u64, nanos: u32) -> u64
     rapid_mix::<false>(made, made ^ MASK)
 }
 
-/// A generator, which contracts describe by its state.
+/// A generator with a state of 64 bits, one of 2^64 on a single cycle.
 ///
 /// ```
 /// use rapidhash::rng::RapidRng;
@@ -122,7 +122,7 @@ impl Model for RapidRng {
 impl RapidRng {
     /// Returns a generator whose state is `seed`. Two seeds are two points of the same cycle.
     #[inline]
-    pub fn new(seed: u64) -> RapidRng
+    pub const fn new(seed: u64) -> RapidRng
         ensures { result ≡ seed }
     {
         RapidRng { seed }
@@ -142,8 +142,8 @@ impl RapidRng {
         RapidRng::new(rapidrng_time(&mut seed, secs, nanos))
     }
 
-    /// Returns the state as a number, with its range in the contract.
-    fn number(&self) -> u64
+    /// Returns the state as a number.
+    const fn number(&self) -> u64
         ensures { result ≡ self.now }
     {
         self.seed
@@ -151,7 +151,7 @@ impl RapidRng {
 
     /// Returns the state as little-endian bytes.
     #[inline]
-    pub fn state(&self) -> [u8; 8]
+    pub const fn state(&self) -> [u8; 8]
         ensures { result ≡ to_le_bytes w64 self.now }
     {
         self.number().to_le_bytes()
@@ -177,7 +177,7 @@ impl RapidRng {
     /// later.next();
     /// assert_eq!(start.steps_to(&later), 1);
     /// ```
-    pub fn steps_to(&self, other: &RapidRng) -> u64
+    pub const fn steps_to(&self, other: &RapidRng) -> u64
         ensures below { result < 2 ^ 64 }
         ensures leads { state_after self.now result ≡ other.now }
         ensures only { (steps : ℕ) → state_after self.now steps ≡ other.now →

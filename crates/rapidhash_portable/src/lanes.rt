@@ -1,5 +1,5 @@
 //! The rows of every hash: 16-byte pairs folded into lanes, and the lanes joined. They are generic
-//! in the number of lanes and proved once.
+//! in the number of lanes and written once.
 //!
 //! The callers are thin: a form is its row widths, its tail's table and what goes into its close
 //! (module `tail`). The speed of the hashes depends on the loops here: after a change look at the

@@ -36,7 +36,7 @@ impl<R: Read> Source<R> {
     ghost use Rattle.rapidhash_portable.specs.contracts.reader.Source.{the_row};
 
     /// Returns a source over a reader, with the flag cleared. It reads nothing.
-    pub fn new(reader: R) -> Self
+    pub const fn new(reader: R) -> Self
         ensures cleared { error_flag result ≡ false }
         ensures reader { reader_of result ≡ reader }
     {

@@ -41,7 +41,7 @@ impl GlobalSecrets {
 
     /// Returns the seven secrets.
     #[inline]
-    pub fn get(&self) -> &[u64; 7]
+    pub const fn get(&self) -> &[u64; 7]
         ensures { result.now ≡ secrets_of_global self.now }
     {
         &self.secrets
@@ -49,7 +49,7 @@ impl GlobalSecrets {
 
     /// Returns the seed that was made beside the secrets.
     #[inline]
-    pub fn get_global_seed(&self) -> u64
+    pub const fn get_global_seed(&self) -> u64
         ensures { result ≡ seed_of self.now }
     {
         self.seed
@@ -80,7 +80,7 @@ impl SeedSource {
 
     /// Returns the source of a seed and a second random word.
     #[tactic(auto, unfolding(crate::specs::Secrets::source_start))]
-    pub fn new(secrets: &GlobalSecrets, random: u64) -> Self
+    pub const fn new(secrets: &GlobalSecrets, random: u64) -> Self
         ensures counter { counter_of result ≡ source_start (seed_of secrets.now) random }
         ensures random { random_of result ≡ random }
     {

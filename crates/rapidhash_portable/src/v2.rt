@@ -46,7 +46,7 @@ pub fn rapidhash_v2_2_seeded(bytes: &[u8], secrets: &RapidSecrets) -> u64
 
 /// Returns the hash of `bytes` with every option.
 ///
-/// - `MINOR` is 0, 1 or 2, for V2.0, V2.1 and V2.2.
+/// - `MINOR` is 0, 1 or 2, for V2.0, V2.1 and V2.2. A call with any other does not compile.
 /// - `AVALANCHE` mixes the last product once more. Without it the values are not those of the C++
 ///   library: leave it out only if what uses the hash mixes by itself.
 /// - `COMPACT` folds one row at a time instead of two: less code, the same value.
@@ -60,10 +60,6 @@ pub fn rapidhash_v2_2_seeded(bytes: &[u8], secrets: &RapidSecrets) -> u64
 /// let hash = rapidhash_v2_inline::<0, true, false, false>(&bytes, &DEFAULT_RAPID_SECRETS);
 /// assert_eq!(hash, 13186137053657766175);
 /// ```
-///
-/// # Panics
-///
-/// In Rust, if `MINOR` is above 2. Rattle's checker refuses such a call.
 #[inline(always)]
 pub fn rapidhash_v2_inline<
     const MINOR: u8,

@@ -70,7 +70,7 @@ pub(crate) fn short_words_v2<const MINOR: u8>(bytes: &[u8]) -> (u64, u64)
     }
 }
 
-/// Returns the two words of at most 16 bytes in V3, micro, nano and the in-memory core.
+/// Returns the two words of at most 16 bytes in V3, micro and nano.
 #[inline(always)]
 #[tactic(auto, using(crate::proofs::Cases::tests), unfolding(crate::specs::Words::short_words))]
 pub(crate) fn short_words_v3(bytes: &[u8]) -> (u64, u64)
@@ -88,7 +88,33 @@ pub(crate) fn short_words_v3(bytes: &[u8]) -> (u64, u64)
     }
 }
 
-/// Returns the two words of 4 to 16 bytes in V2, V3, micro, nano and the in-memory core.
+/// Returns the two words of at most 16 bytes in the in-memory core: those of V3. Its first test is
+/// that of 8 bytes, which most keys have.
+#[inline(always)]
+#[tactic(auto, using(crate::proofs::Cases::tests), unfolding(crate::specs::Words::short_words))]
+pub(crate) fn short_words_in_memory(bytes: &[u8]) -> (u64, u64)
+    requires { length bytes.now ≤ 16 }
+    ensures { (lanes : ℕ) → result ≡ short_words (V3 lanes) bytes.now }
+{
+    let n = bytes.len();
+    if n >= 8 {
+        (read_u64(bytes, 0), read_u64(bytes, n - 8))
+    } else {
+        short_words_below_8(bytes)
+    }
+}
+
+/// Returns the two words of fewer than 8 bytes. It is cold, so that the code for more has no jump.
+#[cold]
+#[inline(always)]
+fn short_words_below_8(bytes: &[u8]) -> (u64, u64)
+    requires { length bytes.now < 8 }
+    ensures { (lanes : ℕ) → result ≡ short_words (V3 lanes) bytes.now }
+{
+    short_words_v3(bytes)
+}
+
+/// Returns the two words of 4 to 16 bytes in V2, V3, micro and nano.
 #[inline(always)]
 #[tactic(auto, using(crate::proofs::Cases::tests), unfolding(crate::specs::Words::short_words))]
 fn words_from_4(bytes: &[u8]) -> (u64, u64)

@@ -26,7 +26,7 @@ pub type RapidHashMap<K, V> = HashMap<K, V, RandomState>;
 /// ```
 pub type RapidHashSet<K> = HashSet<K, RandomState>;
 
-/// Creates maps with a new random state. The functions have the same names as in std.
+/// Creates maps with a new state. The functions have the same names as in std.
 ///
 /// ```
 /// use rapidhash::{HashMapExt, RapidHashMap};
@@ -42,7 +42,7 @@ pub trait HashMapExt {
     fn with_capacity(capacity: usize) -> Self;
 }
 
-/// Creates sets with a new random state. The functions have the same names as in std.
+/// Creates sets with a new state. The functions have the same names as in std.
 ///
 /// ```
 /// use rapidhash::{HashSetExt, RapidHashSet};

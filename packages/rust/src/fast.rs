@@ -27,7 +27,8 @@ use crate::inner;
 /// ```
 pub type RapidHasher<'s> = inner::RapidHasher<'s, false, true, false, false>;
 
-/// Builds hashers with a random seed: each state has its own.
+/// Builds hashers with a seed of each state and the secrets of this process. Where both come from,
+/// [Security](crate#security) says.
 ///
 /// ```
 /// use rapidhash::fast::RandomState;
@@ -52,7 +53,7 @@ pub type RandomState = inner::RandomState<false, true, false, false>;
 /// ```
 pub type SeedableState<'s> = inner::SeedableState<'s, false, true, false, false>;
 
-/// Builds hashers with the single random seed of this process.
+/// Builds hashers with the single seed of this process.
 ///
 /// ```
 /// use rapidhash::fast::GlobalState;

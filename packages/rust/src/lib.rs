@@ -3,17 +3,6 @@
 //! The code is that of a proved library, without its contracts. A checker has proved, for every
 //! input, that each hash is the value of a single definition. The README states what that covers.
 //!
-//! - [`v1`], [`v2`], and [`v3`] hold the portable hashes of a slice and of a reader, and `v3` those of pieces too.
-//!   Their values never change and are the same on every machine.
-//! - `RapidHashMap` and `RapidHashSet` are std's map and set with the fast hasher.
-//! - [`fast`], [`quality`], and [`inner`] hold the hasher of maps and the states that build it.
-//! - `reader` holds the reader with an error flag that the hashes of a reader use.
-//! - [`rng`] holds a small generator.
-//! - [`util`] holds the reads and the multiplication that the hashes use.
-//!
-//! Without the default feature `std`, the crate needs only `core`. It then has no readers and no maps,
-//! and its states take their seeds from addresses instead of random words.
-//!
 //! ```
 //! use rapidhash::v3::{rapidhash_v3, RapidStreamHasherV3, DEFAULT_RAPID_SECRETS};
 //!
@@ -24,6 +13,59 @@
 //! stream.write(b"lo");
 //! assert_eq!(stream.finish(), 3327445792987248966);
 //! ```
+//!
+//! # Choosing
+//!
+//! | for | use |
+//! |---|---|
+//! | values that are stored or sent | [`v3::rapidhash_v3`]; [`v3::RapidStreamHasherV3`] in pieces, `v3::rapidhash_v3_file` for a reader |
+//! | the same with less code | [`v3::rapidhash_v3_nano_inline`], or V3 with `COMPACT`: [`v3::rapidhash_v3_inline`] |
+//! | values that older programs stored | [`v1`], [`v2`] |
+//! | maps and sets | `RapidHashMap`, `RapidHashSet`, or those of other crates with [`fast::RandomState`] |
+//! | tables, filters and sketches, which use the bits of a hash as they are | [`quality::RandomState`] |
+//! | keys whose place must be the same in each run | [`quality::SeedableState::custom`] |
+//! | keys of strangers, where an attack would do harm | the states of std, whose hash is keyed |
+//!
+//! The hashes of [`v1`], [`v2`] and [`v3`] have the same value on every machine and in every version. Those of
+//! [`fast`], [`quality`] and [`inner`] are for memory.
+//!
+//! In memory, integers wait until 128 bits of them are there, while bytes are absorbed at once. So a hash does not show
+//! whether an integer came before or after bytes: a hasher returns the same for `write_u8(1)` and `write(b"x")` in
+//! either order. Since a text ends with the byte 255, `(255u8, "x")` and `("x", 255u8)` have the same hash;
+//! `(1u8, "x")` and `("x", 1u8)` differ.
+//!
+//! # Security
+//!
+//! No hash here is cryptographic. Whoever can choose the keys of a map can choose keys that have the same hash, so that
+//! each step of the map looks at all of them. This attack is called `HashDoS`. It needs the secrets: a word of a key that
+//! equals a secret makes a product 0, and then the seed does not matter. So a seed protects only with secret secrets,
+//! and whoever sees hashes may still find both. How hard that is, nobody has shown.
+//!
+//! | state, or secrets | seed | secrets |
+//! |---|---|---|
+//! | `RapidHashMap`, `RandomState`, `SeedableState::random` | of each state | of the process |
+//! | `GlobalState` | of the process | of the process |
+//! | `SeedableState::new`, [`v3::RapidSecrets::random`] | the caller's; of each call | of the process |
+//! | `SeedableState::custom`, [`v3::RapidSecrets::seed`] | the caller's | the caller's |
+//! | `SeedableState::fixed`, `RapidHasher::default`, `DEFAULT_RAPID_SECRETS` | public | public: no protection |
+//! | `RapidHasher::new`, [`v3::RapidSecrets::seed_cpp`] | the caller's | public: no protection |
+//!
+//! The secrets and seeds of a process are made from two words:
+//!
+//! - With the feature `std`, the words are random: those that the system gives std's maps. On wasm32-unknown-unknown it
+//!   gives none, and std's words are the same in each run.
+//! - Without `std`, they come from the address at which the program was loaded. If the system does not choose it at
+//!   random, they are the same in each run.
+//! - In both cases a program can set its own: `set_random_words`.
+//!
+//! # Versions
+//!
+//! The crate needs Rust 1.63, and a newer Rust is a new minor version. From Rust 1.83 on, the hashes of a slice are
+//! `const fn`. No version changes a value of [`v1`], [`v2`] or [`v3`]. A minor version may change those of the hasher in
+//! memory; today they are those of the crate `rapidhash` 4.5.1 on 64-bit machines. A major version changes or removes
+//! names. What is hidden here may change in each version.
+//!
+//! Without the default feature `std`, the crate needs only `core`, and has no readers and no maps.
 #![cfg_attr(not(feature = "std"), no_std)]
 #![cfg_attr(docsrs, feature(doc_cfg))]
 #![forbid(unsafe_code)]
@@ -47,6 +89,8 @@
 #![allow(clippy::implicit_hasher, clippy::incompatible_msrv)]
 // Compilers before 1.87 know no lint of the next name.
 #![allow(unknown_lints, clippy::elidable_lifetime_names)]
+// Only build.rs sets the names of what an old compiler lacks.
+#![allow(unexpected_cfgs)]
 
 // The proved source names the standard library and the lower of its two crates.
 #[cfg(not(feature = "std"))]
@@ -59,18 +103,36 @@ mod macros;
 #[cfg(feature = "std")]
 mod collections;
 pub mod fast;
+mod held;
 pub mod inner;
 #[cfg(feature = "std")]
 mod io;
 mod proved;
 pub mod quality;
 mod random;
+mod shown;
+mod stream;
 
 #[cfg(feature = "std")]
 pub use collections::{HashMapExt, HashSetExt, RapidHashMap, RapidHashSet};
 #[cfg(feature = "std")]
 use proved::known_length;
 #[cfg(feature = "std")]
+#[doc(hidden)]
 pub use proved::reader;
 use proved::{in_memory, kernel, lanes, secrets, seeding, tail, words};
 pub use proved::{rng, util, v1, v2, v3};
+#[cfg(any(feature = "std", target_has_atomic = "32"))]
+pub use random::{WordsInUse, set_random_words};
+
+#[cfg(all(
+    any(feature = "getrandom_03", feature = "getrandom_04"),
+    any(
+        not(feature = "std"),
+        all(target_family = "wasm", target_os = "unknown")
+    )
+))]
+compile_error!(
+    "rapidhash: the features getrandom_03 and getrandom_04 need the feature `std` and a system with random words: leave \
+     them out, and call `set_random_words` of yervound-rapidhash with the words of your own source"
+);

@@ -1,7 +1,27 @@
 //! Definitions for calls in the proved source that Rust expresses differently.
 
-/// Checks a precondition and panics if it does not hold. Rattle proves that each caller meets it.
+/// Checks a precondition. One of a const parameter is checked by the compiler, which refuses the call; any other
+/// panics. Rattle proves that each caller meets it.
 macro_rules! prove {
+    (MINOR <= $most:literal, $what:literal) => {
+        prove!(MINOR: u8, MINOR <= $most, $what)
+    };
+    (SIZE > $least:literal, $what:literal) => {
+        prove!(SIZE: usize, SIZE > $least, $what)
+    };
+    (LANES == $one:literal || LANES == $two:literal || LANES == $three:literal, $what:literal) => {
+        prove!(LANES: usize, LANES == $one || LANES == $two || LANES == $three, $what)
+    };
+    ($parameter:ident: $integer:ty, $holds:expr, $what:literal) => {{
+        // Rust has constants in functions from 1.79 on.
+        struct Check<const $parameter: $integer>;
+
+        impl<const $parameter: $integer> Check<$parameter> {
+            const PASSED: () = assert!($holds, $what);
+        }
+
+        Check::<$parameter>::PASSED
+    }};
     ($holds:expr, $what:literal) => {
         assert!($holds, $what)
     };
@@ -11,25 +31,25 @@ macro_rules! prove {
 /// constants had no mutable references.
 macro_rules! const_fn {
     ($(#[$attribute:meta])* $visibility:vis const fn $($rest:tt)*) => {
-        #[cfg(rapidhash_const)]
+        #[cfg(not(rapidhash_old_const))]
         $(#[$attribute])*
         $visibility const fn $($rest)*
 
-        #[cfg(not(rapidhash_const))]
+        #[cfg(rapidhash_old_const)]
         $(#[$attribute])*
         $visibility fn $($rest)*
     };
 }
 
 /// Returns the `N` bytes from `offset` on, which must lie in `bytes`.
-#[cfg(rapidhash_const)]
+#[cfg(not(rapidhash_old_const))]
 #[inline(always)]
 pub(crate) const fn array<const N: usize>(bytes: &[u8], offset: usize) -> [u8; N] {
     *bytes.split_at(offset).1.first_chunk().unwrap()
 }
 
 /// Returns the `N` bytes from `offset` on, which must lie in `bytes`.
-#[cfg(not(rapidhash_const))]
+#[cfg(rapidhash_old_const)]
 #[inline(always)]
 pub(crate) fn array<const N: usize>(bytes: &[u8], offset: usize) -> [u8; N] {
     bytes[offset..offset + N].try_into().unwrap()

@@ -26,7 +26,8 @@ use crate::inner;
 /// ```
 pub type RapidHasher<'s> = inner::RapidHasher<'s, true, true, false, false>;
 
-/// Builds hashers with a random seed: each state has its own.
+/// Builds hashers with a seed of each state and the secrets of this process. Where both come from,
+/// [Security](crate#security) says.
 ///
 /// ```
 /// use rapidhash::quality::RandomState;
@@ -51,7 +52,7 @@ pub type RandomState = inner::RandomState<true, true, false, false>;
 /// ```
 pub type SeedableState<'s> = inner::SeedableState<'s, true, true, false, false>;
 
-/// Builds hashers with the single random seed of this process.
+/// Builds hashers with the single seed of this process.
 ///
 /// ```
 /// use rapidhash::quality::GlobalState;

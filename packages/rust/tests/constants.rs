@@ -1,6 +1,6 @@
 //! Compares hashes in constants with those at run time, which other tests compare with the vectors of the crate. Before
 //! Rust 1.83, no hash is a constant, and this file is empty.
-#![cfg(rapidhash_const)]
+#![cfg(not(rapidhash_old_const))]
 
 use rapidhash::{v1, v2, v3};
 

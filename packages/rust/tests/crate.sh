@@ -16,11 +16,11 @@ tests_pass() {
   grep -q '^test result: ok\. [1-9]' "$room/tests"
 }
 
-# Builds the package, which must contain its licences and no tests.
+# Builds the package, which must contain its licences and no tests. On docs.rs no link of its page leads to a file.
 packages() {
   cargo package --allow-dirty && tar -tf "$CARGO_TARGET_DIR"/package/*.crate >"$room/list" &&
     grep -q '/LICENSE-MIT$' "$room/list" && grep -q '/LICENSE-APACHE$' "$room/list" &&
-    grep -q '/NOTICE$' "$room/list" && ! grep -q '/tests/' "$room/list"
+    grep -q '/NOTICE$' "$room/list" && ! grep -q '/tests/' "$room/list" && ! grep -n '](\.*[a-zA-Z_/]*\.' README.md
 }
 
 # Runs the first program of the README in a new project, with the dependency that a page names: PAGE COMMAND..
@@ -64,11 +64,44 @@ has_the_metadata() {
     [ "$(sed -n 's/^categories = //p' Cargo.toml)" = '["algorithms", "data-structures", "no-std"]' ]
 }
 
-# Checks that build.rs finds what the compiler provides: constant functions from 1.83 on, and OnceLock from 1.70 on.
+# Checks that build.rs finds what an old compiler lacks: constant functions before 1.83, and OnceLock before 1.70.
 finds_its_features() {
   local minor
   minor=$(rustc --version | cut -d . -f 2)
-  [ "$(cargo rustc --lib -- --print cfg | grep -c '^rapidhash_')" -eq $(((minor >= 83) + (minor >= 70))) ]
+  [ "$(cargo rustc --lib -- --print cfg | grep -c '^rapidhash_')" -eq $(((minor < 83) + (minor < 70))) ]
+}
+
+# Builds the crate and compat as systems do that run no build script, with the newest language: FEATURE..
+builds_without_script() {
+  local features=() feature
+  for feature in "$@"; do features+=(--cfg "feature=\"$feature\""); done
+  rustc --edition 2021 -D warnings --crate-type rlib --crate-name rapidhash "${features[@]}" src/lib.rs \
+    -o "$room/libproved.rlib" &&
+    rustc --edition 2021 -D warnings --crate-type rlib --crate-name compat "${features[@]}" compat/src/lib.rs \
+      --extern proved="$room/libproved.rlib" -o "$room/libcompat.rlib"
+}
+
+# Checks that the compiler refuses calls with invalid constants, and names the reason.
+refuses_constants() {
+  local project=$room/constants call reason
+  mkdir -p "$project/src" && printf '%s\n' '[package]' 'name = "first"' 'version = "0.0.0"' 'edition = "2021"' \
+    '[dependencies]' "yervound-rapidhash = { path = \"$top/packages/rust\" }" >"$project/Cargo.toml"
+  while IFS='|' read -r call reason; do
+    echo "fn main() { use rapidhash::{v2::*, v3::{*, DEFAULT_RAPID_SECRETS}}; let _ = $call; }" >"$project/src/main.rs"
+    if [ -z "$reason" ]; then
+      (cd "$project" && cargo build --quiet) || return
+    elif (cd "$project" && cargo build --quiet) 2>"$room/refused" || ! grep -q "$reason" "$room/refused"; then
+      echo "$call" && cat "$room/refused"
+      return 1
+    fi
+  done <<'CALLS'
+rapidhash_v2_inline::<2, true, false, false>(b"", &DEFAULT_RAPID_SECRETS)|
+rapidhash_v2_inline::<3, true, false, false>(b"", &DEFAULT_RAPID_SECRETS)|MINOR must be 0, 1 or 2
+rapidhash_v2_file_inline::<&[u8], 3, false>(&mut &b""[..], 0, &DEFAULT_RAPID_SECRETS)|MINOR must be 0, 1 or 2
+RapidStreamHasherLanes::<4, true, false>::new(&DEFAULT_RAPID_SECRETS)|LANES must be 7, 5 or 3
+rapidhash_v3_file_lanes::<&[u8], 6, 1, false>(b"", &DEFAULT_RAPID_SECRETS)|LANES must be 7, 5 or 3
+rapidhash_v3_file_sized::<&[u8], 0, false>(b"", &DEFAULT_RAPID_SECRETS)|SIZE must be at least 1
+CALLS
 }
 
 # Runs the tests of packages/rust/compat in a project whose dependency is the crate rapidhash, replaced by that package.
@@ -76,8 +109,7 @@ finds_its_features() {
 drops_in() {
   local project=$room/drop_in
   mkdir -p "$project/.cargo" "$project/src" && touch "$project/src/lib.rs" &&
-    printf '[source.crates-io]\nreplace-with = "debian"\n\n[source.debian]\ndirectory = "/usr/share/cargo/registry"\n' \
-      >"$project/.cargo/config.toml" &&
+    cp "$room/registry.toml" "$project/.cargo/config.toml" &&
     printf '%s\n' '[package]' 'name = "first"' 'version = "0.0.0"' 'edition = "2021"' '[dependencies]' \
       'rapidhash = { version = "4.5.1", features = ["rng_06", "unsafe", "nightly", "getrandom_04"] }' \
       'rand_core = { version = "0.6", default-features = false }' \
@@ -87,16 +119,63 @@ drops_in() {
     (cd "$project" && tests_pass cargo test --test drop_in)
 }
 
-# Builds packages/rust/compat as a dependency with features and without the default ones: FEATURE..
-builds_compat() {
-  local project=$room/compat
-  mkdir -p "$project/src" && echo 'pub use rapidhash::v3::rapidhash_v3;' >"$project/src/lib.rs" &&
-    printf '%s\n' '[package]' 'name = "first"' 'version = "0.0.0"' 'edition = "2021"' '[dependencies.rapidhash]' \
-      "path = \"$top/packages/rust/compat\"" 'default-features = false' "features = [$(printf '"%s", ' "$@")]" \
-      >"$project/Cargo.toml" && (cd "$project" && RUSTFLAGS='-D warnings' cargo check)
+# Runs cargo in a project over packages/rust/compat without default features, whose library uses what the crate
+# deprecates: 'FEATURES' COMMAND..
+over_compat() {
+  local project=$room/compat features
+  features=$(printf '"%s", ' $1)
+  shift
+  mkdir -p "$project/src" && printf '%s\n' 'pub use rapidhash::v3::rapidhash_v3;' >"$project/src/lib.rs" &&
+    printf '%s\n' '[package]' 'name = "first"' 'version = "0.0.0"' 'edition = "2021"' '[[test]]' 'name = "attack"' \
+      "path = \"$top/packages/rust/tests/attack.rs\"" '[dependencies.rapidhash]' \
+      "path = \"$top/packages/rust/compat\"" 'default-features = false' "features = [${features#\"\", }]" \
+      >"$project/Cargo.toml" && mkdir -p "$project/.cargo" && cp "$room/registry.toml" "$project/.cargo/config.toml" &&
+    (cd "$project" && rm -f Cargo.lock && RUSTFLAGS='-D warnings' "$@")
 }
 
-# Checks that compat has each feature of the crate rapidhash 4.5.1, of which `rand` is `rng` with the random words of std.
+# Checks that compat refuses a feature for random words that it does not have: FEATURE
+refuses_feature() {
+  ! over_compat "$1" cargo check 2>"$room/refused" && grep -q 'getrandom_04 need the feature `std`' "$room/refused"
+}
+
+# Checks that a use of what the crate deprecates is one here, by an attribute that fails if nothing is deprecated.
+deprecates() {
+  over_compat 'std' true && printf '%s\n' '#[expect(deprecated)]' \
+    'pub fn word(seed: &mut u64) -> u64 { rapidhash::rng::rapidrng_fast(seed) }' '#[expect(deprecated)]' \
+    'pub fn time(seed: &mut u64) -> u64 { rapidhash::rng::rapidrng_time(seed) }' '#[expect(deprecated)]' \
+    'pub fn rng() -> rapidhash::rng::RapidRng { Default::default() }' '#[expect(deprecated)]' \
+    'pub fn state() { let _ = rapidhash::fast::SeedableState::with_seed(1, &[2; 7]); }' '#[expect(deprecated)]' \
+    'pub fn v1(file: &mut std::fs::File) { let _ = rapidhash::v1::rapidhash_v1_file(file); }' '#[expect(deprecated)]' \
+    'pub fn v2(file: &mut std::fs::File) { let _ = rapidhash::v2::rapidhash_v2_2_file(file); }' \
+    >"$room/compat/src/lib.rs" && (cd "$room/compat" && RUSTFLAGS='-D warnings' cargo check)
+}
+
+# Runs states and the generator where std has neither random words nor a clock: there the words are the same in each run
+# until a program sets its own, and a feature that promises others does not compile.
+works_without_a_system() {
+  local project=$room/wasm32 built=$room/debian/wasm32-unknown-unknown/debug/first.wasm
+  mkdir -p "$project/src" "$project/.cargo" && cp "$room/registry.toml" "$project/.cargo/config.toml" &&
+    printf '%s\n' '[package]' 'name = "first"' 'version = "0.0.0"' 'edition = "2021"' '[lib]' 'crate-type = ["cdylib"]' \
+      '[features]' 'more = ["rapidhash/getrandom_04"]' '[dependencies]' \
+      "rapidhash = { path = \"$top/packages/rust/compat\" }" \
+      "proved = { package = \"yervound-rapidhash\", path = \"$top/packages/rust\" }" >"$project/Cargo.toml" &&
+    printf '%s\n' '#![allow(deprecated)]' 'use std::hash::{BuildHasher, Hasher};' \
+      '#[no_mangle] pub extern "C" fn word() -> u64 { rapidhash::rng::RapidRng::default().next() }' \
+      '#[no_mangle] pub extern "C" fn key() -> u64 { let state = rapidhash::fast::RandomState::new();' \
+      'let mut hasher = state.build_hasher(); hasher.write(b"key"); hasher.finish() }' \
+      '#[no_mangle] pub extern "C" fn set() -> u32 { proved::set_random_words([1, 2]).is_ok() as u32 }' \
+      >"$project/src/lib.rs" &&
+    printf '%s\n' 'const bytes = require("fs").readFileSync(process.argv[2]);' \
+      'const start = async () => (await WebAssembly.instantiate(bytes)).instance.exports;' \
+      'Promise.all([start(), start(), start()]).then(([one, two, own]) => console.log(one.word() === two.word(),' \
+      'one.key() === two.key(), one.set(), own.set(), own.key() === one.key(), own.set()));' >"$project/run.js" &&
+    (cd "$project" && export CARGO_TARGET_WASM32_UNKNOWN_UNKNOWN_LINKER=wasm-ld &&
+      debian build --target wasm32-unknown-unknown && [ "$(node run.js "$built")" = 'true true 0 1 false 0' ] &&
+      ! debian build --target wasm32-unknown-unknown --features more 2>"$room/refused" &&
+      grep -q 'getrandom_04 need the feature `std`' "$room/refused")
+}
+
+# Checks that compat has each feature of the crate rapidhash 4.5.1, and `rng_06`.
 has_its_features() {
   sed -n '/^\[features\]/,$ s/ = .*//p' compat/Cargo.toml | sort | diff - <(printf '%s\n' default getrandom_03 \
     getrandom_04 nightly rand rng rng_06 std unsafe)
@@ -104,6 +183,8 @@ has_its_features() {
 
 needs cargo rustc
 cd "$top/packages/rust" || exit 1
+printf '%s\n' '[source.crates-io]' 'replace-with = "debian"' '[source.debian]' 'directory = "/usr/share/cargo/registry"' \
+  >"$room/registry.toml"
 try_with current rustfmt "$top/scripts/rust_crate" --check
 try licences has_the_licences .
 try_with layout cargo-fmt cargo fmt --check
@@ -118,19 +199,24 @@ try rows_per_iteration folds_two_rows
 for manifest in Cargo.toml compat/Cargo.toml; do try "metadata_of_$manifest" has_the_metadata "$manifest"; done
 try examples tests_pass cargo test --doc
 try_with pedantic cargo-clippy cargo clippy -- -D warnings -W clippy::pedantic
-# Prints a case of packages/rust/compat, or skips it with a compiler that this package does not support: NAME TOOLS COMMAND..
-try_compat() {
-  if [ "$(rustc --version | cut -d . -f 2)" -lt 83 ]; then
-    skip "$1" 'rustc is older than 1.83'
-  else
-    try_with "$@"
-  fi
-}
-try_compat drop_in "$(printf '/usr/share/cargo/registry/%s ' rand_core-0.6\* hashbrown-0.12\* indexmap-1\*)" drops_in
+crates=/usr/share/cargo/registry
+if [ "$(rustc --version | cut -d . -f 2)" -lt 83 ]; then
+  skip drop_in 'rustc is older than 1.83'
+else
+  try_with drop_in "$(printf "$crates/%s " rand_core-0.6\* hashbrown-0.12\* indexmap-1\*)" drops_in
+fi
 try features_of_compat has_its_features
-for features in nightly std 'std unsafe getrandom_03 getrandom_04'; do
-  try_compat "compat_with_$features" cargo builds_compat $features
+for features in '' nightly std rand 'std unsafe getrandom_03 getrandom_04'; do
+  try "compat_with_${features:-nothing}" over_compat "$features" cargo check
 done
+try_with compat_with_rng_06 "$crates/rand_core-0.6*" over_compat rng_06 cargo check
+try getrandom_without_std refuses_feature getrandom_04
+try attack_by_compat tests_pass over_compat std cargo test --test attack
+try attack_by_compat_without_std tests_pass over_compat '' cargo test --test attack
+try deprecations_of_compat deprecates
+try without_build_script builds_without_script std
+try without_build_script_and_std builds_without_script
+try invalid_constants refuses_constants
 try features_of_the_compiler finds_its_features
 try no_dependency bash -c '[ "$(cargo tree | wc -l)" -eq 1 ]'
 try no_unsafe grep -x '#!\[forbid(unsafe_code)\]' src/lib.rs
@@ -140,6 +226,8 @@ try readme_of_the_repository readme_runs "$top/README.md" cargo
 debian='/usr/bin/rustc /usr/bin/cargo'
 try_with oldest_compiler "$debian" tests_pass debian test --tests
 try_with oldest_compiler_without_std "$debian" tests_pass debian test --tests --no-default-features
+try_with compat_by_the_oldest_compiler "$debian" over_compat 'std unsafe' debian check
+try_with wasm32 "$debian /usr/lib/rustlib/wasm32-unknown-unknown wasm-ld node" works_without_a_system
 try_with examples_by_the_oldest_compiler "$debian" tests_pass debian test --doc
 try_with readme_by_the_oldest_compiler "$debian" readme_runs README.md debian
 try commands works_as_its_page_says <(sed -n '/^## Rust$/,/^## Python$/p' "$top/docs/BINDINGS.md")

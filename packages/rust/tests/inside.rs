@@ -1,18 +1,8 @@
-//! Tests the `Debug` string of a stream and the errors of readers, which no contract and no hash shows.
+//! Tests the errors of readers, which no contract and no hash shows.
 #![cfg(feature = "std")]
 
-use rapidhash::v3::{DEFAULT_RAPID_SECRETS, RapidStreamHasherV3};
 use rapidhash::{v1, v2, v3};
 use std::io::{Error, ErrorKind, Read, Result};
-
-/// The `Debug` string of a stream has the last 16 folded bytes and, after them, the new bytes.
-#[test]
-fn debug_shows_the_kept_bytes() {
-    let mut stream = RapidStreamHasherV3::new(&DEFAULT_RAPID_SECRETS);
-    stream.write(&(0..128).collect::<Vec<u8>>());
-    let kept: Vec<String> = (96..128).map(|byte: u8| byte.to_string()).collect();
-    assert!(format!("{stream:?}").contains(&format!("kept: [{},", kept.join(", "))));
-}
 
 /// A reader that always fails and counts its reads.
 struct Broken {

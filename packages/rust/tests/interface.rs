@@ -1,13 +1,15 @@
 //! Tests what Rust users expect besides hashes: writers, maps, copies, and panics with a message.
 #![cfg(feature = "std")]
 
-use rapidhash::reader::Source;
 use rapidhash::rng::{RapidRng, rapidrng_time};
-use rapidhash::v3::{DEFAULT_RAPID_SECRETS, rapidhash_v3};
-use rapidhash::v3::{RapidStream, RapidStreamHasherLanes, RapidStreamHasherV3};
+use rapidhash::v3::{DEFAULT_RAPID_SECRETS, RapidSecrets, rapidhash_v3, rapidhash_v3_seeded};
+use rapidhash::v3::{RapidStream, RapidStreamHasherInlineMicro, RapidStreamHasherV3};
 use rapidhash::{HashMapExt, HashSetExt, RapidHashMap, RapidHashSet};
-use rapidhash::{fast, inner, quality, util, v2, v3};
-use std::io::{Write, copy};
+use rapidhash::{fast, inner, quality, util, v1, v2, v3};
+use std::io::{Read, Write, copy};
+use std::sync::Mutex;
+use std::thread;
+use std::time::Duration;
 
 /// Compiles only if each short name is the type with these options. No value shows the option COMPACT.
 #[test]
@@ -52,12 +54,100 @@ fn a_copy_of_a_stream_goes_on_alone() {
     copy.write(b"p");
     assert_eq!(stream.finish(), rapidhash_v3(b"hello"));
     assert_eq!(copy.finish(), rapidhash_v3(b"help"));
-    assert!(format!("{stream:?}").starts_with("RapidStreamHasherLanes"));
-    assert!(format!("{:?}", Source::new(b"x".as_slice())).starts_with("Source"));
 }
 
-/// A single write is larger than every buffer inside, and its parts differ. It leaves the state of the stream's write:
-/// byte by byte, which takes longer, other bytes would stay in the buffer.
+/// A stream may outlive the secrets that it was made of, in another thread too.
+#[test]
+fn streams_own_their_secrets() {
+    static SHARED: Mutex<RapidStreamHasherV3> = Mutex::new(RapidStreamHasherV3::DEFAULT);
+    struct Upload {
+        hash: RapidStreamHasherV3<'static>,
+    }
+    let number = 0x1234_5678;
+    let mut upload = Upload {
+        hash: RapidStreamHasherV3::new(&RapidSecrets::seed(number)),
+    };
+    upload.hash.write(b"hel");
+    let hash = thread::spawn(move || {
+        upload.hash.write(b"lo");
+        upload.hash.finish()
+    });
+    let secrets = RapidSecrets::seed(number);
+    assert_eq!(
+        hash.join().unwrap(),
+        rapidhash_v3_seeded(b"hello", &secrets)
+    );
+    SHARED.lock().unwrap().write(b"hello");
+    assert_eq!(SHARED.lock().unwrap().finish(), rapidhash_v3(b"hello"));
+    let mut micro = RapidStreamHasherInlineMicro::<true, true>::default();
+    micro.write(b"hello");
+    let protected = v3::rapidhash_v3_micro_inline::<true, true>(b"hello", &DEFAULT_RAPID_SECRETS);
+    assert_eq!(micro.finish(), protected);
+}
+
+#[test]
+fn debug_shows_no_secret_and_no_message() {
+    let secrets = RapidSecrets::seed(1);
+    let mut stream = RapidStreamHasherV3::new(&secrets);
+    stream.write(b"password");
+    let global = inner::GlobalSecrets::new(1);
+    for (shown, name) in [
+        (format!("{stream:?}"), "RapidStreamHasherLanes"),
+        (
+            format!("{:?}", RapidStream::new(7, &secrets)),
+            "RapidStream",
+        ),
+        (format!("{secrets:?}"), "RapidSecrets"),
+        (format!("{:?}", v1::RapidSecrets::seed(1)), "RapidSecrets"),
+        (format!("{global:?}"), "GlobalSecrets"),
+        (
+            format!("{:?}", inner::SeedSource::new(&global, 2)),
+            "SeedSource",
+        ),
+        (format!("{:?}", fast::RapidHasher::new(3)), "RapidHasher"),
+        (
+            format!("{:?}", quality::SeedableState::new(4)),
+            "SeedableState",
+        ),
+    ] {
+        assert_eq!(shown, format!("{name} {{ .. }}"));
+    }
+}
+
+/// Every version reads from a reader whose type is not known.
+#[test]
+fn readers_without_a_type() -> std::io::Result<()> {
+    let mut bytes = b"hellohellohello".as_slice();
+    let reader: &mut dyn Read = &mut bytes;
+    assert_eq!(
+        v1::rapidhash_v1_file(reader, 5)?,
+        v1::rapidhash_v1(b"hello")
+    );
+    assert_eq!(
+        v2::rapidhash_v2_2_file(reader, 5)?,
+        v2::rapidhash_v2_2(b"hello")
+    );
+    assert_eq!(v3::rapidhash_v3_file(reader)?, rapidhash_v3(b"hello"));
+    Ok(())
+}
+
+/// A map in a static, whose keys nobody else chooses.
+#[test]
+fn a_map_in_a_static() {
+    static SIZES: Mutex<Option<RapidHashMap<&str, u64>>> = Mutex::new(None);
+    const STATE: fast::SeedableState<'static> = fast::SeedableState::fixed();
+    const GENERATOR: RapidRng = RapidRng::new(42);
+    SIZES
+        .lock()
+        .unwrap()
+        .get_or_insert_with(RapidHashMap::new)
+        .insert("a", 1);
+    assert_eq!(SIZES.lock().unwrap().as_ref().unwrap()["a"], 1);
+    assert!(STATE == fast::SeedableState::fixed());
+    assert_eq!(GENERATOR, RapidRng::new(42));
+}
+
+/// A single write is larger than every buffer inside, and its parts differ.
 #[test]
 fn a_large_write() {
     let message: Vec<u8> = (0..2_000_003u32)
@@ -66,15 +156,9 @@ fn a_large_write() {
     let mut stream = RapidStreamHasherV3::new(&DEFAULT_RAPID_SECRETS);
     assert_eq!(Write::write(&mut stream, &message).unwrap(), message.len());
     assert_eq!(stream.finish(), rapidhash_v3(&message));
-    let mut own = RapidStreamHasherV3::new(&DEFAULT_RAPID_SECRETS);
-    own.write(&message);
-    assert_eq!(format!("{stream:?}"), format!("{own:?}"));
     let mut lanes = RapidStream::new(7, &DEFAULT_RAPID_SECRETS);
     assert_eq!(Write::write(&mut lanes, &message).unwrap(), message.len());
     assert_eq!(lanes.finish(), rapidhash_v3(&message));
-    let mut own = RapidStream::new(7, &DEFAULT_RAPID_SECRETS);
-    own.write(&message);
-    assert_eq!(format!("{lanes:?}"), format!("{own:?}"));
 }
 
 #[test]
@@ -118,7 +202,7 @@ fn a_set_of_too_many_keys() {
 fn a_generator_from_a_moment() {
     let mut seed = 0xbdd8_9aa9_8270_4029;
     let state = rapidrng_time(&mut seed, 1_700_000_000, 123_456_789);
-    let made = RapidRng::from_moment(1_700_000_000, 123_456_789);
+    let made = RapidRng::from_moment(Duration::new(1_700_000_000, 123_456_789));
     assert_eq!(made, RapidRng::new(state));
 }
 
@@ -128,35 +212,9 @@ fn generators_start_at_random() {
 }
 
 #[test]
-#[should_panic(expected = "MINOR must be 0, 1 or 2")]
-fn a_minor_that_is_none() {
-    let _ = v2::rapidhash_v2_inline::<3, true, false, false>(b"", &v2::DEFAULT_RAPID_SECRETS);
-}
-
-#[test]
-#[should_panic(expected = "MINOR must be 0, 1 or 2")]
-fn a_minor_that_is_none_of_a_long_file() {
-    let mut zeros = [0; 10_000].as_slice();
-    let secrets = &v2::DEFAULT_RAPID_SECRETS;
-    let _ = v2::rapidhash_v2_file_inline::<&[u8], 3, false>(&mut zeros, 10_000, secrets);
-}
-
-#[test]
-#[should_panic(expected = "LANES must be 7, 5 or 3")]
-fn four_lanes() {
-    let _ = RapidStreamHasherLanes::<4, true, false>::new(&DEFAULT_RAPID_SECRETS);
-}
-
-#[test]
 #[should_panic(expected = "the lanes must be 7, 5 or 3")]
 fn four_lanes_as_a_value() {
     let _ = RapidStream::new(4, &DEFAULT_RAPID_SECRETS);
-}
-
-#[test]
-#[should_panic(expected = "SIZE must be at least 1")]
-fn a_buffer_of_no_bytes() {
-    let _ = v3::rapidhash_v3_file_sized::<&[u8], 0, false>(b"hello", &DEFAULT_RAPID_SECRETS);
 }
 
 #[test]

@@ -51,7 +51,7 @@ impl<
 
     /// Returns a state with the given seed and secrets.
     #[inline(always)]
-    pub(crate) fn of(seed: u64, secrets: &'s [u64; 7]) -> Self
+    pub(crate) const fn of(seed: u64, secrets: &'s [u64; 7]) -> Self
         ensures seed { seed_of_state result ≡ seed }
         ensures secrets { secrets_of_state result ≡ secrets.now }
     {

@@ -75,9 +75,30 @@ fn long<const LANES: usize, const AVALANCHE: bool, const COMPACT: bool, const PR
     let n = bytes.len();
     if n <= LONGEST_INLINED && n <= 16 * LANES {
         close_tail::<AVALANCHE, PROTECTED>(bytes, bytes, seed, secrets)
+    } else if n <= 16 * LANES {
+        rowless::<LANES, AVALANCHE, PROTECTED>(bytes, seed, secrets)
     } else {
         with_rows::<LANES, AVALANCHE, COMPACT, PROTECTED>(bytes, seed, secrets)
     }
+}
+
+/// Returns the hash of a message that has no row, out of line and without lanes.
+#[cold]
+#[inline(never)]
+#[tactic(auto, using(crate::proofs::Cases::no_rows))]
+fn rowless<const LANES: usize, const AVALANCHE: bool, const PROTECTED: bool>(
+    bytes: &[u8],
+    seed: u64,
+    secrets: &[u64; 7],
+) -> u64
+    requires long { 16 < length bytes.now }
+    requires few { LANES ≤ 7 }
+    requires odd { LANES % 2 ≡ 1 }
+    requires rowless { length bytes.now ≤ 16 * LANES }
+    ensures { let chosen = options AVALANCHE PROTECTED in
+        result ≡ portable_hash (V3 LANES) chosen seed secrets.now bytes.now }
+{
+    close_tail::<AVALANCHE, PROTECTED>(bytes, bytes, seed, secrets)
 }
 
 /// Returns the hash above 16 bytes, out of line.

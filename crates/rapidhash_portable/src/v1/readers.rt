@@ -67,7 +67,8 @@ pub fn rapidhash_v1_source<R: Read, const PROTECTED: bool>(
 ///
 /// # Errors
 ///
-/// The reader's own error, or `ErrorKind::UnexpectedEof` if it had fewer bytes.
+/// The reader's own error, also for an interrupted read, which is not repeated. It is
+/// `ErrorKind::UnexpectedEof` if the reader had fewer bytes.
 pub fn rapidhash_v1_file<R: Read>(data: &mut R, len: u64) -> io::Result<u64>
     ensures { HashesNext (R.remaining «data».old) (R.remaining «data».new) len result (λ _. true)
         (default_hash (V1 false) standard) }

@@ -18,7 +18,7 @@ use std::io::{ErrorKind, Read};
 
 /// Returns the hash of the next `len` bytes of the reader: that of
 /// [`rapidhash_v2_inline`](super::rapidhash_v2_inline) with `AVALANCHE`. It reads no byte after
-/// them, and nothing at all for a `len` of 0.
+/// them, and nothing at all for a `len` of 0. A call does not compile if `MINOR` is above 2.
 ///
 /// It uses 8 KiB of stack, and above 8192 bytes 64 KiB more.
 ///
@@ -37,10 +37,6 @@ use std::io::{ErrorKind, Read};
 /// If the error flag is set after the call, the error is the reader's own, also for an interrupted
 /// read. Otherwise it is `ErrorKind::UnexpectedEof`: the reader had fewer bytes, and all of them
 /// were read.
-///
-/// # Panics
-///
-/// In Rust, if `MINOR` is above 2. Rattle's checker refuses such a call.
 #[tactic(auto, using(crate::proofs::Cases::of_reader))]
 pub fn rapidhash_v2_source<R: Read, const MINOR: u8, const PROTECTED: bool>(
     source: &mut Source<R>,
@@ -72,7 +68,8 @@ pub fn rapidhash_v2_source<R: Read, const MINOR: u8, const PROTECTED: bool>(
 ///
 /// # Errors
 ///
-/// The reader's own error, or `ErrorKind::UnexpectedEof` if it had fewer bytes.
+/// The reader's own error, also for an interrupted read, which is not repeated. It is
+/// `ErrorKind::UnexpectedEof` if the reader had fewer bytes.
 pub fn rapidhash_v2_2_file<R: Read>(data: &mut R, len: u64) -> io::Result<u64>
     ensures { HashesNext (R.remaining «data».old) (R.remaining «data».new) len result (λ _. true)
         (default_hash (V2 2) standard) }
@@ -97,15 +94,12 @@ pub fn rapidhash_v2_2_file_seeded<R: Read>(
     rapidhash_v2_file_inline::<R, 2, false>(data, len, secrets)
 }
 
-/// Returns the plain or the protected hash of the next `len` bytes of a reader.
+/// Returns the plain or the protected hash of the next `len` bytes of a reader. A call does not
+/// compile if `MINOR` is above 2.
 ///
 /// # Errors
 ///
 /// Those of [`rapidhash_v2_2_file`].
-///
-/// # Panics
-///
-/// In Rust, if `MINOR` is above 2. Rattle's checker refuses such a call.
 pub fn rapidhash_v2_file_inline<R: Read, const MINOR: u8, const PROTECTED: bool>(
     data: &mut R,
     len: u64,

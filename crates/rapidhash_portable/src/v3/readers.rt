@@ -1,5 +1,5 @@
 //! V3, micro and nano of all bytes of a reader. The bytes go through a fixed buffer into the stream
-//! hasher; the proofs here use only its contract. Nothing is allocated, and any length is allowed.
+//! hasher. Nothing is allocated, and any length is allowed.
 //!
 //! One loop makes all the reads, in `read_all`.
 
@@ -52,15 +52,11 @@ pub fn rapidhash_v3_source<R: Read, const PROTECTED: bool>(
 }
 
 /// Returns the hash of [`rapidhash_v3_source`], with a buffer of `SIZE` bytes on the stack: no read
-/// requests more.
+/// requests more. A call does not compile if `SIZE` is 0.
 ///
 /// # Errors
 ///
 /// Those of [`rapidhash_v3_source`].
-///
-/// # Panics
-///
-/// In Rust, if `SIZE` is 0. Rattle's checker refuses such a call.
 pub fn rapidhash_v3_source_sized<R: Read, const SIZE: usize, const PROTECTED: bool>(
     source: &mut Source<R>,
     secrets: &RapidSecrets,
@@ -74,7 +70,8 @@ pub fn rapidhash_v3_source_sized<R: Read, const SIZE: usize, const PROTECTED: bo
     rapidhash_v3_source_lanes::<R, 7, SIZE, PROTECTED>(source, secrets)
 }
 
-/// Returns the hash of [`rapidhash_v3_source_sized`], with 7, 5 or 3 lanes: V3, micro or nano.
+/// Returns the hash of [`rapidhash_v3_source_sized`], with 7, 5 or 3 lanes: V3, micro or nano. A
+/// call does not compile with any other `LANES`, or if `SIZE` is 0.
 ///
 /// ```
 /// use rapidhash::reader::Source;
@@ -90,10 +87,6 @@ pub fn rapidhash_v3_source_sized<R: Read, const SIZE: usize, const PROTECTED: bo
 /// # Errors
 ///
 /// Those of [`rapidhash_v3_source`].
-///
-/// # Panics
-///
-/// In Rust, if `LANES` is not 7, 5 or 3, or `SIZE` is 0. Rattle's checker refuses such a call.
 pub fn rapidhash_v3_source_lanes<
     R: Read,
     const LANES: usize,
@@ -164,7 +157,8 @@ fn read_all<R: Read, const LANES: usize, const SIZE: usize, const PROTECTED: boo
 ///
 /// # Errors
 ///
-/// The reader's own error, or `ErrorKind::Other` after 2^64 - 1 reads that returned bytes.
+/// The reader's own error, also for an interrupted read, which is not repeated. Otherwise
+/// `ErrorKind::Other`, after 2^64 - 1 reads that returned bytes.
 pub fn rapidhash_v3_file<R: Read + Drop>(data: R) -> io::Result<u64>
     ensures { HashesKnown (R.remaining «data») result (default_hash v3 standard) }
 {
@@ -185,7 +179,6 @@ pub fn rapidhash_v3_file_seeded<R: Read + Drop>(data: R, secrets: &RapidSecrets)
 
 /// Returns the plain or the protected hash of all that a reader has.
 ///
-///
 /// # Errors
 ///
 /// Those of [`rapidhash_v3_file`].
@@ -200,15 +193,11 @@ pub fn rapidhash_v3_file_inline<R: Read + Drop, const PROTECTED: bool>(
 }
 
 /// Returns the hash of [`rapidhash_v3_file_inline`], with a buffer of `SIZE` bytes on the stack: no
-/// read requests more.
+/// read requests more. A call does not compile if `SIZE` is 0.
 ///
 /// # Errors
 ///
 /// Those of [`rapidhash_v3_file`].
-///
-/// # Panics
-///
-/// In Rust, if `SIZE` is 0. Rattle's checker refuses such a call.
 pub fn rapidhash_v3_file_sized<R: Read + Drop, const SIZE: usize, const PROTECTED: bool>(
     data: R,
     secrets: &RapidSecrets,
@@ -220,15 +209,12 @@ pub fn rapidhash_v3_file_sized<R: Read + Drop, const SIZE: usize, const PROTECTE
     rapidhash_v3_file_lanes::<R, 7, SIZE, PROTECTED>(data, secrets)
 }
 
-/// Returns the hash of [`rapidhash_v3_file_sized`], with 7, 5 or 3 lanes: V3, micro or nano.
+/// Returns the hash of [`rapidhash_v3_file_sized`], with 7, 5 or 3 lanes: V3, micro or nano. A call
+/// does not compile with any other `LANES`, or if `SIZE` is 0.
 ///
 /// # Errors
 ///
 /// Those of [`rapidhash_v3_file`].
-///
-/// # Panics
-///
-/// In Rust, if `LANES` is not 7, 5 or 3, or `SIZE` is 0. Rattle's checker refuses such a call.
 #[tactic(auto, using(crate::proofs::Cases::of_reader))]
 pub fn rapidhash_v3_file_lanes<
     R: Read + Drop,

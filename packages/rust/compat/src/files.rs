@@ -2,13 +2,28 @@
 
 use crate::{v1, v2};
 use std::fs::File;
-use std::io::Result;
+use std::io::{ErrorKind, Read, Result};
+
+/// A file whose interrupted reads are repeated.
+struct Repeated<'f>(&'f mut File);
+
+impl Read for Repeated<'_> {
+    fn read(&mut self, buffer: &mut [u8]) -> Result<usize> {
+        loop {
+            match self.0.read(buffer) {
+                Err(error) if error.kind() == ErrorKind::Interrupted => {}
+                result => return result,
+            }
+        }
+    }
+}
 
 /// Returns the V1 hash of the rest of a file, whose length its metadata provides.
 ///
 /// # Errors
 ///
 /// The system's own error, or `ErrorKind::UnexpectedEof` if the file has fewer bytes than its metadata says.
+#[deprecated(note = "V1 needs the length before the first byte: V3 does not")]
 pub fn rapidhash_v1_file(data: &mut File) -> Result<u64> {
     rapidhash_v1_file_inline::<false>(data, &v1::DEFAULT_RAPID_SECRETS)
 }
@@ -18,6 +33,7 @@ pub fn rapidhash_v1_file(data: &mut File) -> Result<u64> {
 /// # Errors
 ///
 /// Those of [`rapidhash_v1_file`].
+#[deprecated(note = "V1 needs the length before the first byte: V3 does not")]
 pub fn rapidhash_v1_file_seeded(data: &mut File, secrets: &v1::RapidSecrets) -> Result<u64> {
     rapidhash_v1_file_inline::<false>(data, secrets)
 }
@@ -27,12 +43,13 @@ pub fn rapidhash_v1_file_seeded(data: &mut File, secrets: &v1::RapidSecrets) -> 
 /// # Errors
 ///
 /// Those of [`rapidhash_v1_file`].
+#[deprecated(note = "V1 needs the length before the first byte: V3 does not")]
 pub fn rapidhash_v1_file_inline<const PROTECTED: bool>(
     data: &mut File,
     secrets: &v1::RapidSecrets,
 ) -> Result<u64> {
     let len = data.metadata()?.len();
-    proved::v1::rapidhash_v1_file_inline::<File, PROTECTED>(data, len, secrets)
+    proved::v1::rapidhash_v1_file_inline::<_, PROTECTED>(&mut Repeated(data), len, secrets)
 }
 
 /// Returns the V2.2 hash of a file, whose length its metadata provides.
@@ -40,6 +57,7 @@ pub fn rapidhash_v1_file_inline<const PROTECTED: bool>(
 /// # Errors
 ///
 /// Those of [`rapidhash_v1_file`].
+#[deprecated(note = "V2 needs the length before the first byte: V3 does not")]
 pub fn rapidhash_v2_2_file(data: &mut File) -> Result<u64> {
     rapidhash_v2_file_inline::<2, false>(data, &v2::DEFAULT_RAPID_SECRETS)
 }
@@ -49,6 +67,7 @@ pub fn rapidhash_v2_2_file(data: &mut File) -> Result<u64> {
 /// # Errors
 ///
 /// Those of [`rapidhash_v1_file`].
+#[deprecated(note = "V2 needs the length before the first byte: V3 does not")]
 pub fn rapidhash_v2_2_file_seeded(data: &mut File, secrets: &v2::RapidSecrets) -> Result<u64> {
     rapidhash_v2_file_inline::<2, false>(data, secrets)
 }
@@ -59,13 +78,16 @@ pub fn rapidhash_v2_2_file_seeded(data: &mut File, secrets: &v2::RapidSecrets) -
 ///
 /// Those of [`rapidhash_v1_file`].
 ///
-/// # Panics
-///
-/// If `MINOR` is above 2.
+/// A call does not compile if `MINOR` is above 2.
+#[deprecated(note = "V2 needs the length before the first byte: V3 does not")]
 pub fn rapidhash_v2_file_inline<const MINOR: u8, const PROTECTED: bool>(
     data: &mut File,
     secrets: &v2::RapidSecrets,
 ) -> Result<u64> {
     let len = data.metadata()?.len();
-    proved::v2::rapidhash_v2_file_inline::<File, MINOR, PROTECTED>(data, len, &secrets.proved())
+    proved::v2::rapidhash_v2_file_inline::<_, MINOR, PROTECTED>(
+        &mut Repeated(data),
+        len,
+        &secrets.proved(),
+    )
 }

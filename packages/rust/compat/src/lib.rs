@@ -9,6 +9,10 @@
 #![cfg_attr(not(feature = "std"), no_std)]
 #![forbid(unsafe_code)]
 #![deny(missing_docs)]
+// Only build.rs sets the names of what an old compiler lacks.
+#![allow(unknown_lints, unexpected_cfgs)]
+// What the crate deprecates is here too.
+#![allow(deprecated)]
 
 pub use proved::inner;
 #[cfg(feature = "std")]

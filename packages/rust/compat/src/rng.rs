@@ -1,21 +1,78 @@
 //! The generator, with the system's clock in place of a time that the caller passes.
 
-pub use proved::rng::{rapidrng_fast, rapidrng_fast_not_portable};
+/// The state from which a generator without a clock starts.
+const START: u64 = 0xbdd8_9aa9_8270_4029;
 
-/// Makes a new seed from the old one and the present time, and returns the new seed's word.
-///
-/// # Panics
-///
-/// If the system's clock is before 1970.
-#[cfg(feature = "std")]
-pub fn rapidrng_time(seed: &mut u64) -> u64 {
-    let since = std::time::SystemTime::UNIX_EPOCH.elapsed();
-    let time = since.expect("the system's clock is before 1970");
-    proved::rng::rapidrng_time(seed, time.as_secs(), time.subsec_nanos())
+#[cfg(all(
+    feature = "std",
+    not(any(
+        miri,
+        target_os = "zkvm",
+        all(target_family = "wasm", target_os = "unknown")
+    ))
+))]
+pub use clock::rapidrng_time;
+
+/// Steps the state, and returns the word of the new one.
+#[inline]
+#[deprecated(since = "4.5.0", note = "the crate `rapidrand` has this generator now")]
+pub fn rapidrng_fast(seed: &mut u64) -> u64 {
+    proved::rng::rapidrng_fast(seed)
+}
+
+/// Steps the state in the same way, and returns another word of the new one.
+#[inline]
+#[deprecated(since = "4.5.0", note = "the crate `rapidrand` has this generator now")]
+pub fn rapidrng_fast_not_portable(seed: &mut u64) -> u64 {
+    proved::rng::rapidrng_fast_not_portable(seed)
+}
+
+#[cfg(all(
+    feature = "std",
+    not(any(
+        miri,
+        target_os = "zkvm",
+        all(target_family = "wasm", target_os = "unknown")
+    ))
+))]
+mod clock {
+    /// Makes a new seed from the old one and the present time, and returns the new seed's word. Systems without a clock
+    /// do not have this function.
+    ///
+    /// # Panics
+    ///
+    /// If the system's clock is before 1970.
+    #[deprecated(since = "4.5.0", note = "the crate `rapidrand` has this generator now")]
+    pub fn rapidrng_time(seed: &mut u64) -> u64 {
+        let since = std::time::SystemTime::UNIX_EPOCH.elapsed();
+        let time = since.expect("the system's clock is before 1970");
+        proved::rng::rapidrng_time(seed, time.as_secs(), time.subsec_nanos())
+    }
+
+    /// Returns the state of a new generator.
+    pub(super) fn start() -> u64 {
+        rapidrng_time(&mut { super::START })
+    }
+}
+
+#[cfg(not(all(
+    feature = "std",
+    not(any(
+        miri,
+        target_os = "zkvm",
+        all(target_family = "wasm", target_os = "unknown")
+    ))
+)))]
+mod clock {
+    /// Returns the state of a new generator.
+    pub(super) fn start() -> u64 {
+        super::START
+    }
 }
 
 /// A generator whose state is a single word.
 #[derive(Clone, Copy, Debug, PartialEq, Eq, PartialOrd, Ord, Hash)]
+#[deprecated(since = "4.5.0", note = "the crate `rapidrand` has this generator now")]
 pub struct RapidRng {
     seed: u64,
 }
@@ -44,12 +101,9 @@ impl RapidRng {
 }
 
 impl Default for RapidRng {
-    /// Returns a generator whose state comes from the present time, or without `std` from addresses.
+    /// Returns a generator whose state comes from the present time, or without a clock from a constant.
     fn default() -> Self {
-        #[cfg(feature = "std")]
-        return Self::new(rapidrng_time(&mut 0xbdd8_9aa9_8270_4029));
-        #[cfg(not(feature = "std"))]
-        Self::new(proved::rng::RapidRng::default().next())
+        Self::new(clock::start())
     }
 }
 

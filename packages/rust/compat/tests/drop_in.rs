@@ -1,6 +1,7 @@
 //! Uses each part of the interface that differs between the crate `rapidhash` and the proved crate, and maps of other
 //! crates over its states. packages/rust/tests/crate.sh builds it with this package as a patch of crates.io. The expected values
 //! are those of the crate.
+#![allow(deprecated)]
 
 use rapidhash::fast::{HashMapExt, HashSetExt, RapidHashMap, RapidHashSet};
 use rapidhash::rng::{RapidRng, rapidrng_fast, rapidrng_fast_not_portable, rapidrng_time};

@@ -1,17 +1,18 @@
 //! The states that build hashers for a map. Each keeps only a seed and secrets, in the proved
-//! `seeded`. The source of a random seed and of random secrets is outside the proof.
+//! `seeded`. The source of the seeds and secrets of a process is outside the proof.
 
+use crate::held::Secrets;
 use crate::proved::inner::state::seeded::Seeded;
-use crate::random::{global_seed, next_seed, secrets};
+use crate::random::{global, next, secrets};
 use crate::secrets::RapidSecrets;
 use std::fmt::{Debug, Formatter, Result};
 use std::hash::BuildHasher;
 
 use super::RapidHasher;
 
-/// Defines a state whose `new` draws the seed with a function.
+/// Defines a state whose `new` comes from a function.
 macro_rules! random_state {
-    ($(#[$about:meta])* $name:ident, $(#[$new:meta])* $seed:path) => {
+    ($(#[$about:meta])* $name:ident, $(#[$new:meta])* $seeded:path) => {
         $(#[$about])*
         #[derive(Clone, Copy, PartialEq, Eq)]
         pub struct $name<
@@ -30,12 +31,7 @@ macro_rules! random_state {
             #[must_use]
             #[inline]
             pub fn new() -> Self {
-                Self {
-                    seeded: Seeded {
-                        seed: $seed(),
-                        secrets: secrets(),
-                    },
-                }
+                Self { seeded: $seeded() }
             }
         }
 
@@ -71,7 +67,8 @@ macro_rules! random_state {
 }
 
 random_state! {
-    /// Builds hashers with the single random seed of this process: all its maps hash in the same way.
+    /// Builds hashers with the single seed of this process: all its maps hash in the same way. Where its seed and secrets
+    /// come from, [Security](crate#security) says.
     ///
     /// ```
     /// use rapidhash::inner::GlobalState;
@@ -81,12 +78,12 @@ random_state! {
     /// ```
     GlobalState,
     /// Returns a state with the seed and the secrets of this process.
-    global_seed
+    global
 }
 
 random_state! {
-    /// Builds hashers with a random seed and the random secrets of this process. Each state has its own
-    /// seed; two seeds may be equal.
+    /// Builds hashers with a seed for each state and the secrets of this process; two seeds may be equal. Where both
+    /// come from, [Security](crate#security) says.
     ///
     /// ```
     /// use rapidhash::inner::RandomState;
@@ -97,8 +94,8 @@ random_state! {
     /// map.insert("answer", 42);
     /// ```
     RandomState,
-    /// Returns a state with a new random seed.
-    next_seed
+    /// Returns a state with the next seed.
+    next
 }
 
 /// Builds hashers with the caller's seed.
@@ -127,25 +124,30 @@ pub struct SeedableState<
 impl<'s, const AVALANCHE: bool, const SPONGE: bool, const COMPACT: bool, const PROTECTED: bool>
     SeedableState<'s, AVALANCHE, SPONGE, COMPACT, PROTECTED>
 {
-    /// Returns a state with the random secrets of this process and a seed made from `seed` as in
+    /// Returns a state with the secrets of this process and a seed made from `seed` as in
     /// [`RapidSecrets::seed_cpp`](crate::v3::RapidSecrets::seed_cpp).
     #[must_use]
     pub fn new(seed: u64) -> Self {
-        Self::custom(RapidSecrets::seed_of_word(seed), secrets())
+        Self {
+            seeded: Seeded {
+                seed: RapidSecrets::seed_of_word(seed),
+                secrets: secrets(),
+            },
+        }
     }
 
-    /// Returns a state with a random seed and the random secrets of this process.
+    /// Returns a state with the next seed and the secrets of this process, as [`RandomState`] has them.
     #[must_use]
     #[inline]
     pub fn random() -> Self {
-        Self::custom(next_seed(), secrets())
+        Self { seeded: next() }
     }
 
     /// Returns the state with the default seed and secrets, the same in every run of every program.
     /// Anyone who knows them can find keys that all have the same hash.
     #[must_use]
     #[inline]
-    pub fn fixed() -> Self {
+    pub const fn fixed() -> Self {
         let default = RapidSecrets::default_ref();
         Self::custom(default.seed, &default.secrets)
     }
@@ -155,16 +157,20 @@ impl<'s, const AVALANCHE: bool, const SPONGE: bool, const COMPACT: bool, const P
     /// that agree in the bits that a map looks at first, and a lookup takes a hundred times as long.
     #[must_use]
     #[inline]
-    pub fn custom(seed: u64, secrets: &'s [u64; 7]) -> Self {
+    pub const fn custom(seed: u64, secrets: &'s [u64; 7]) -> Self {
         Self {
-            seeded: Seeded { seed, secrets },
+            seeded: Seeded {
+                seed,
+                secrets: Secrets::new(secrets),
+            },
         }
     }
 
     /// Returns the same as [`SeedableState::custom`].
+    #[deprecated(note = "`custom` is the same")]
     #[must_use]
     #[inline]
-    pub fn with_seed(seed: u64, secrets: &'s [u64; 7]) -> Self {
+    pub const fn with_seed(seed: u64, secrets: &'s [u64; 7]) -> Self {
         Self::custom(seed, secrets)
     }
 }

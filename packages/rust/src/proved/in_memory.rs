@@ -6,7 +6,7 @@
 use crate::lanes::{mixed_lanes, wide_lanes};
 use crate::tail::{close, fold_tail};
 use crate::util::ALTERNATING_BITS;
-use crate::words::{last_16, short_words_v3};
+use crate::words::{last_16, short_words_in_memory};
 
 /// The longest message that is hashed with no row.
 const LONGEST_ROWLESS: usize = 48;
@@ -27,7 +27,7 @@ pub fn core_hash<const AVALANCHE: bool, const COMPACT: bool, const PROTECTED: bo
     if n > 16 {
         return long::<AVALANCHE, COMPACT, PROTECTED>(bytes, seed, secrets);
     }
-    close_sum::<AVALANCHE, PROTECTED>(bytes, short_words_v3(bytes), seed, secrets)
+    close_sum::<AVALANCHE, PROTECTED>(bytes, short_words_in_memory(bytes), seed, secrets)
 }
 
 /// Returns the value above 16 bytes. It is out of line and cold, so that the code for short

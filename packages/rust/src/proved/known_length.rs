@@ -21,7 +21,7 @@ pub(crate) const SHORT: usize = 8192;
 pub(crate) const BUFFER: usize = 65536;
 
 /// Fills `buf`, and makes no read once it is full.
-pub(crate) fn fill<R: Read>(reader: &mut R, buf: &mut [u8]) -> Result<(), Stop> {
+pub(crate) fn fill<R: Read + ?Sized>(reader: &mut R, buf: &mut [u8]) -> Result<(), Stop> {
     let mut at = 0;
     while at < buf.len() {
         match read_once(reader, &mut buf[at..]) {
@@ -35,7 +35,7 @@ pub(crate) fn fill<R: Read>(reader: &mut R, buf: &mut [u8]) -> Result<(), Stop> 
 
 /// Reads `len` bytes and folds them into lanes that start from `seed`, except the last 16 or more,
 /// which it leaves at the head of the buffer. It returns the lanes and the number of bytes left.
-pub(crate) fn fold_front<R: Read, const LANES: usize, const PROTECTED: bool>(
+pub(crate) fn fold_front<R: Read + ?Sized, const LANES: usize, const PROTECTED: bool>(
     reader: &mut R,
     buffer: &mut [u8],
     len: u64,

@@ -22,6 +22,7 @@ use std::io::{ErrorKind, Read};
 /// let answer = rapidhash_v3_source::<&[u8], false>(&mut source, &DEFAULT_RAPID_SECRETS);
 /// assert!(answer.is_ok() && !source.failed());
 /// ```
+#[doc(hidden)]
 #[derive(Clone, Debug)]
 pub struct Source<R: Read> {
     reader: R,
@@ -31,7 +32,7 @@ pub struct Source<R: Read> {
 impl<R: Read> Source<R> {
     /// Returns a source over a reader, with the flag cleared. It reads nothing.
     #[must_use]
-    pub fn new(reader: R) -> Self {
+    pub const fn new(reader: R) -> Self {
         Source {
             reader,
             error_flag: false,
@@ -116,6 +117,9 @@ impl Stop {
 
 /// Reads once from `reader`.
 #[inline(always)]
-pub(crate) fn read_once<R: Read>(reader: &mut R, buf: &mut [u8]) -> Result<usize, FailedRead> {
+pub(crate) fn read_once<R: Read + ?Sized>(
+    reader: &mut R,
+    buf: &mut [u8],
+) -> Result<usize, FailedRead> {
     reader.read(buf).map_err(|error| FailedRead { error })
 }

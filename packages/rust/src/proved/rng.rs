@@ -5,6 +5,7 @@
 
 use rapidhash_portable::util::rapid_mix;
 use rapidhash_portable::v3::DEFAULT_RAPID_SECRETS;
+use std::time::Duration;
 
 /// What a step adds to the state. It is odd, so all 2^64 states lie on one cycle.
 const STEP: u64 = DEFAULT_RAPID_SECRETS.secrets[0];
@@ -80,7 +81,7 @@ pub fn rapidrng_time(seed: &mut u64, secs: u64, nanos: u32) -> u64 {
     rapid_mix::<false>(made, made ^ MASK)
 }
 
-/// A generator, which contracts describe by its state.
+/// A generator with a state of 64 bits, one of 2^64 on a single cycle.
 ///
 /// ```
 /// use rapidhash::rng::RapidRng;
@@ -97,31 +98,31 @@ impl RapidRng {
     /// Returns a generator whose state is `seed`. Two seeds are two points of the same cycle.
     #[inline]
     #[must_use]
-    pub fn new(seed: u64) -> RapidRng {
+    pub const fn new(seed: u64) -> RapidRng {
         RapidRng { seed }
     }
 
     /// Returns a generator whose state is what [`rapidrng_time`] returns for a time and a fixed
     /// seed.
-    ///
-    /// # Panics
-    ///
-    /// If the nanoseconds are a second or more.
     #[must_use]
-    pub fn from_moment(secs: u64, nanos: u32) -> RapidRng {
+    pub fn from_moment(time: Duration) -> RapidRng {
         let mut seed = MOMENT_SEED;
-        RapidRng::new(rapidrng_time(&mut seed, secs, nanos))
+        RapidRng::new(rapidrng_time(
+            &mut seed,
+            time.as_secs(),
+            time.subsec_nanos(),
+        ))
     }
 
-    /// Returns the state as a number, with its range in the contract.
-    fn number(&self) -> u64 {
+    /// Returns the state as a number.
+    const fn number(&self) -> u64 {
         self.seed
     }
 
     /// Returns the state as little-endian bytes.
     #[inline]
     #[must_use]
-    pub fn state(&self) -> [u8; 8] {
+    pub const fn state(&self) -> [u8; 8] {
         self.number().to_le_bytes()
     }
 
@@ -143,7 +144,7 @@ impl RapidRng {
     /// assert_eq!(start.steps_to(&later), 1);
     /// ```
     #[must_use]
-    pub fn steps_to(&self, other: &RapidRng) -> u64 {
+    pub const fn steps_to(&self, other: &RapidRng) -> u64 {
         let distance = other.seed.wrapping_sub(self.seed);
         distance.wrapping_mul(INVERSE)
     }

@@ -9,7 +9,7 @@ use crate::util::rapid_mix;
 /// A seed and the seven secrets of V2 and V3. Make one once and keep it: making it costs eight
 /// multiplies.
 #[repr(C)]
-#[derive(Debug, Clone, Copy, PartialEq, Eq, Hash)]
+#[derive(Clone, Copy, PartialEq, Eq, Hash)]
 pub struct RapidSecrets {
     /// The start value of every lane.
     pub seed: u64,

@@ -16,7 +16,7 @@ use crate::util::rapid_mix;
 /// let secrets = GlobalSecrets::new(random_word);
 /// let seed = secrets.get_global_seed();
 /// ```
-#[derive(Debug, Clone, Copy, PartialEq, Eq)]
+#[derive(Clone, Copy, PartialEq, Eq)]
 pub struct GlobalSecrets {
     seed: u64,
     secrets: [u64; 7],
@@ -36,14 +36,14 @@ impl GlobalSecrets {
     /// Returns the seven secrets.
     #[inline]
     #[must_use]
-    pub fn get(&self) -> &[u64; 7] {
+    pub const fn get(&self) -> &[u64; 7] {
         &self.secrets
     }
 
     /// Returns the seed that was made beside the secrets.
     #[inline]
     #[must_use]
-    pub fn get_global_seed(&self) -> u64 {
+    pub const fn get_global_seed(&self) -> u64 {
         self.seed
     }
 }
@@ -59,16 +59,16 @@ impl GlobalSecrets {
 /// let mut source = SeedSource::new(&secrets, second_random_word);
 /// let seed = source.next();
 /// ```
-#[derive(Clone, Debug)]
+#[derive(Clone)]
 pub struct SeedSource {
-    counter: u64,
-    random: u64,
+    pub(crate) counter: u64,
+    pub(crate) random: u64,
 }
 
 impl SeedSource {
     /// Returns the source of a seed and a second random word.
     #[must_use]
-    pub fn new(secrets: &GlobalSecrets, random: u64) -> Self {
+    pub const fn new(secrets: &GlobalSecrets, random: u64) -> Self {
         let first = random.wrapping_add(1) ^ DEFAULT_SECRETS[3];
         let counter = rapid_mix::<false>(first, secrets.seed ^ DEFAULT_SECRETS[4]);
         SeedSource { counter, random }

@@ -48,7 +48,7 @@ pub const fn rapidhash_v2_2_seeded(bytes: &[u8], secrets: &RapidSecrets) -> u64 
 const_fn! {
 /// Returns the hash of `bytes` with every option.
 ///
-/// - `MINOR` is 0, 1 or 2, for V2.0, V2.1 and V2.2.
+/// - `MINOR` is 0, 1 or 2, for V2.0, V2.1 and V2.2. A call with any other does not compile.
 /// - `AVALANCHE` mixes the last product once more. Without it the values are not those of the C++
 ///   library: leave it out only if what uses the hash mixes by itself.
 /// - `COMPACT` folds one row at a time instead of two: less code, the same value.
@@ -62,10 +62,6 @@ const_fn! {
 /// let hash = rapidhash_v2_inline::<0, true, false, false>(&bytes, &DEFAULT_RAPID_SECRETS);
 /// assert_eq!(hash, 13186137053657766175);
 /// ```
-///
-/// # Panics
-///
-/// If `MINOR` is above 2.
 #[inline(always)]
 #[must_use]
 pub const fn rapidhash_v2_inline<

@@ -91,3 +91,27 @@ fn integers_of_the_trait_are_packed() {
     258u16.hash(&mut whole);
     assert_eq!(parts.finish(), whole.finish());
 }
+
+/// Integers wait while bytes are absorbed, so their order leaves no trace: a text ends with the byte 255.
+#[test]
+fn integers_before_and_after_bytes() {
+    let state = fast::SeedableState::fixed();
+    let (mut before, mut after) = (state.build_hasher(), state.build_hasher());
+    before.write_u8(1);
+    before.write(b"x");
+    after.write(b"x");
+    after.write_u8(1);
+    assert_eq!(before.finish(), after.finish());
+    let of = |key: &dyn Fn(&mut fast::RapidHasher<'static>)| {
+        let mut hasher = state.build_hasher();
+        key(&mut hasher);
+        hasher.finish()
+    };
+    let texts = [
+        of(&|it| (255u8, "x").hash(it)),
+        of(&|it| ("x", 255u8).hash(it)),
+    ];
+    assert_eq!(texts[0], texts[1]);
+    let texts = [of(&|it| (1u8, "x").hash(it)), of(&|it| ("x", 1u8).hash(it))];
+    assert_ne!(texts[0], texts[1]);
+}

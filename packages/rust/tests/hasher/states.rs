@@ -82,6 +82,7 @@ fn aliases_of_random_states() {
 }
 
 #[test]
+#[allow(deprecated)]
 fn states_are_equal_by_seed_and_secrets() {
     let state = fast::SeedableState::custom(1, &[2; 7]);
     assert!(state == fast::SeedableState::with_seed(1, &[2; 7]));
@@ -101,10 +102,7 @@ fn states_without_words() {
     assert!(fast::SeedableState::new(5) == fast::SeedableState::new(5));
     assert!(fast::SeedableState::new(5) != fast::SeedableState::new(6));
     let own = RapidSecrets::random().secrets;
-    assert_eq!(
-        own == RapidSecrets::seed_cpp(0).secrets,
-        cfg!(not(feature = "std"))
-    );
+    assert!(own != RapidSecrets::seed_cpp(0).secrets);
     let seed = RapidSecrets::seed_cpp(5 << 40).seed;
     assert!(fast::SeedableState::new(5 << 40) == fast::SeedableState::custom(seed, &own));
     let random = fast::SeedableState::random();

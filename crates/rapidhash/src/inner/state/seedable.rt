@@ -69,7 +69,7 @@ impl<
     /// Returns a state with the default seed and the default secrets, the same in every run of
     /// every program. Anyone who knows them can find keys that all have the same hash.
     #[inline(always)]
-    pub fn fixed() -> Self
+    pub const fn fixed() -> Self
         ensures seed { seed_of_state result ≡ default_seed }
         ensures secrets { secrets_of_state result ≡ default_secrets }
     {
@@ -79,7 +79,7 @@ impl<
 
     /// Returns a state with the given seed and secrets.
     #[inline(always)]
-    pub fn custom(seed: u64, secrets: &'s [u64; 7]) -> Self
+    pub const fn custom(seed: u64, secrets: &'s [u64; 7]) -> Self
         ensures seed { seed_of_state result ≡ seed }
         ensures secrets { secrets_of_state result ≡ secrets.now }
     {
@@ -88,7 +88,7 @@ impl<
 
     /// Returns the same state as [`SeedableState::custom`].
     #[inline(always)]
-    pub fn with_seed(seed: u64, secrets: &'s [u64; 7]) -> Self
+    pub const fn with_seed(seed: u64, secrets: &'s [u64; 7]) -> Self
         ensures seed { seed_of_state result ≡ seed }
         ensures secrets { secrets_of_state result ≡ secrets.now }
     {

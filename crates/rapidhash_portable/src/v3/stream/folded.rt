@@ -29,7 +29,7 @@ impl Model for Count {
 
 impl Count {
     /// Returns a count of none.
-    fn new() -> Count
+    const fn new() -> Count
         ensures { result.steps ≡ 0 }
     {
         Count {}
@@ -55,7 +55,7 @@ pub(crate) struct Folded {
 impl Folded {
     /// Lanes that all hold the seed.
     #[inline(always)]
-    pub(crate) fn new(seed: u64) -> Self
+    pub(crate) const fn new(seed: u64) -> Self
         ensures lanes { result.lanes ≡ replicate 7 seed }
         ensures none { result.count.steps ≡ 0 }
     {

@@ -2,6 +2,7 @@
 
 //! The hasher.
 
+use crate::held::Secrets;
 use crate::inner::sponge::Sponge;
 use rapidhash_portable::in_memory::core_hash;
 use rapidhash_portable::util::rapid_mix;
@@ -32,7 +33,7 @@ pub struct RapidHasher<
     const PROTECTED: bool = false,
 > {
     seed: u64,
-    secrets: &'s [u64; 7],
+    secrets: Secrets<'s>,
     sponge: Sponge,
 }
 
@@ -58,7 +59,7 @@ impl<'s, const AVALANCHE: bool, const SPONGE: bool, const COMPACT: bool, const P
     pub const fn new(seed: u64) -> Self {
         RapidHasher::from_parts(
             RapidSecrets::seed_of_word(seed),
-            &DEFAULT_RAPID_SECRETS.secrets,
+            Secrets::new(&DEFAULT_RAPID_SECRETS.secrets),
         )
     }
 
@@ -71,7 +72,7 @@ impl<'s, const AVALANCHE: bool, const SPONGE: bool, const COMPACT: bool, const P
 
     /// Returns a hasher with the given seed and secrets.
     #[inline(always)]
-    pub(crate) const fn from_parts(seed: u64, secrets: &'s [u64; 7]) -> Self {
+    pub(crate) const fn from_parts(seed: u64, secrets: Secrets<'s>) -> Self {
         RapidHasher {
             seed,
             secrets,
@@ -113,7 +114,7 @@ impl<'s, const AVALANCHE: bool, const SPONGE: bool, const COMPACT: bool, const P
     /// Absorbs bytes in one step. The integers that wait in the sponge stay there.
     #[inline(always)]
     fn write(&mut self, bytes: &[u8]) {
-        self.seed = core_hash::<AVALANCHE, COMPACT, PROTECTED>(bytes, self.seed, self.secrets);
+        self.seed = core_hash::<AVALANCHE, COMPACT, PROTECTED>(bytes, self.seed, &self.secrets);
     }
 
     /// Returns the hash of what was absorbed so far. It changes nothing: further writes may follow.

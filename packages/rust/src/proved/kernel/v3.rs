@@ -61,9 +61,24 @@ const fn long<const LANES: usize, const AVALANCHE: bool, const COMPACT: bool, co
     let n = bytes.len();
     if n <= LONGEST_INLINED && n <= 16 * LANES {
         close_tail::<AVALANCHE, PROTECTED>(bytes, bytes, seed, secrets)
+    } else if n <= 16 * LANES {
+        rowless::<LANES, AVALANCHE, PROTECTED>(bytes, seed, secrets)
     } else {
         with_rows::<LANES, AVALANCHE, COMPACT, PROTECTED>(bytes, seed, secrets)
     }
+}
+}
+
+const_fn! {
+/// Returns the hash of a message that has no row, out of line and without lanes.
+#[cold]
+#[inline(never)]
+const fn rowless<const LANES: usize, const AVALANCHE: bool, const PROTECTED: bool>(
+    bytes: &[u8],
+    seed: u64,
+    secrets: &[u64; 7],
+) -> u64 {
+    close_tail::<AVALANCHE, PROTECTED>(bytes, bytes, seed, secrets)
 }
 }
 

@@ -32,6 +32,7 @@ use std::io::Read;
 /// If the error flag is set after the call, the error is the reader's own, also for an interrupted
 /// read. Otherwise it is `ErrorKind::UnexpectedEof`: the reader had fewer bytes, and all of them
 /// were read.
+#[doc(hidden)]
 pub fn rapidhash_v1_source<R: Read, const PROTECTED: bool>(
     source: &mut Source<R>,
     len: u64,
@@ -56,8 +57,9 @@ pub fn rapidhash_v1_source<R: Read, const PROTECTED: bool>(
 ///
 /// # Errors
 ///
-/// The reader's own error, or `ErrorKind::UnexpectedEof` if it had fewer bytes.
-pub fn rapidhash_v1_file<R: Read>(data: &mut R, len: u64) -> io::Result<u64> {
+/// The reader's own error, also for an interrupted read, which is not repeated. It is
+/// `ErrorKind::UnexpectedEof` if the reader had fewer bytes.
+pub fn rapidhash_v1_file<R: Read + ?Sized>(data: &mut R, len: u64) -> io::Result<u64> {
     rapidhash_v1_file_inline::<R, false>(data, len, RapidSecrets::default_ref())
 }
 
@@ -66,7 +68,7 @@ pub fn rapidhash_v1_file<R: Read>(data: &mut R, len: u64) -> io::Result<u64> {
 /// # Errors
 ///
 /// Those of [`rapidhash_v1_file`].
-pub fn rapidhash_v1_file_seeded<R: Read>(
+pub fn rapidhash_v1_file_seeded<R: Read + ?Sized>(
     data: &mut R,
     len: u64,
     secrets: &RapidSecrets,
@@ -79,7 +81,7 @@ pub fn rapidhash_v1_file_seeded<R: Read>(
 /// # Errors
 ///
 /// Those of [`rapidhash_v1_file`].
-pub fn rapidhash_v1_file_inline<R: Read, const PROTECTED: bool>(
+pub fn rapidhash_v1_file_inline<R: Read + ?Sized, const PROTECTED: bool>(
     data: &mut R,
     len: u64,
     secrets: &RapidSecrets,
@@ -89,7 +91,7 @@ pub fn rapidhash_v1_file_inline<R: Read, const PROTECTED: bool>(
 }
 
 /// Returns the hash: the body of every public call here.
-fn next_of<R: Read, const PROTECTED: bool>(
+fn next_of<R: Read + ?Sized, const PROTECTED: bool>(
     reader: &mut R,
     len: u64,
     seed: u64,
@@ -109,7 +111,7 @@ fn next_of<R: Read, const PROTECTED: bool>(
 /// Returns the hash of more bytes than the short buffer holds. It is out of line because of its
 /// large buffer.
 #[inline(never)]
-fn long<R: Read, const PROTECTED: bool>(
+fn long<R: Read + ?Sized, const PROTECTED: bool>(
     reader: &mut R,
     len: u64,
     seed: u64,

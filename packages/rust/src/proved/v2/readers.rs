@@ -13,7 +13,7 @@ use std::io::Read;
 
 /// Returns the hash of the next `len` bytes of the reader: that of
 /// [`rapidhash_v2_inline`](super::rapidhash_v2_inline) with `AVALANCHE`. It reads no byte after
-/// them, and nothing at all for a `len` of 0.
+/// them, and nothing at all for a `len` of 0. A call does not compile if `MINOR` is above 2.
 ///
 /// It uses 8 KiB of stack, and above 8192 bytes 64 KiB more.
 ///
@@ -32,10 +32,7 @@ use std::io::Read;
 /// If the error flag is set after the call, the error is the reader's own, also for an interrupted
 /// read. Otherwise it is `ErrorKind::UnexpectedEof`: the reader had fewer bytes, and all of them
 /// were read.
-///
-/// # Panics
-///
-/// If `MINOR` is above 2.
+#[doc(hidden)]
 pub fn rapidhash_v2_source<R: Read, const MINOR: u8, const PROTECTED: bool>(
     source: &mut Source<R>,
     len: u64,
@@ -60,8 +57,9 @@ pub fn rapidhash_v2_source<R: Read, const MINOR: u8, const PROTECTED: bool>(
 ///
 /// # Errors
 ///
-/// The reader's own error, or `ErrorKind::UnexpectedEof` if it had fewer bytes.
-pub fn rapidhash_v2_2_file<R: Read>(data: &mut R, len: u64) -> io::Result<u64> {
+/// The reader's own error, also for an interrupted read, which is not repeated. It is
+/// `ErrorKind::UnexpectedEof` if the reader had fewer bytes.
+pub fn rapidhash_v2_2_file<R: Read + ?Sized>(data: &mut R, len: u64) -> io::Result<u64> {
     rapidhash_v2_file_inline::<R, 2, false>(data, len, RapidSecrets::default_ref())
 }
 
@@ -71,7 +69,7 @@ pub fn rapidhash_v2_2_file<R: Read>(data: &mut R, len: u64) -> io::Result<u64> {
 /// # Errors
 ///
 /// Those of [`rapidhash_v2_2_file`].
-pub fn rapidhash_v2_2_file_seeded<R: Read>(
+pub fn rapidhash_v2_2_file_seeded<R: Read + ?Sized>(
     data: &mut R,
     len: u64,
     secrets: &RapidSecrets,
@@ -79,16 +77,13 @@ pub fn rapidhash_v2_2_file_seeded<R: Read>(
     rapidhash_v2_file_inline::<R, 2, false>(data, len, secrets)
 }
 
-/// Returns the plain or the protected hash of the next `len` bytes of a reader.
+/// Returns the plain or the protected hash of the next `len` bytes of a reader. A call does not
+/// compile if `MINOR` is above 2.
 ///
 /// # Errors
 ///
 /// Those of [`rapidhash_v2_2_file`].
-///
-/// # Panics
-///
-/// If `MINOR` is above 2.
-pub fn rapidhash_v2_file_inline<R: Read, const MINOR: u8, const PROTECTED: bool>(
+pub fn rapidhash_v2_file_inline<R: Read + ?Sized, const MINOR: u8, const PROTECTED: bool>(
     data: &mut R,
     len: u64,
     secrets: &RapidSecrets,
@@ -98,7 +93,7 @@ pub fn rapidhash_v2_file_inline<R: Read, const MINOR: u8, const PROTECTED: bool>
 }
 
 /// Returns the hash: the body of every public call here.
-fn next_of<R: Read, const MINOR: u8, const PROTECTED: bool>(
+fn next_of<R: Read + ?Sized, const MINOR: u8, const PROTECTED: bool>(
     reader: &mut R,
     len: u64,
     seed: u64,
@@ -119,7 +114,7 @@ fn next_of<R: Read, const MINOR: u8, const PROTECTED: bool>(
 /// Returns the hash of more bytes than the short buffer holds. It is out of line because of its
 /// large buffer.
 #[inline(never)]
-fn long<R: Read, const MINOR: u8, const PROTECTED: bool>(
+fn long<R: Read + ?Sized, const MINOR: u8, const PROTECTED: bool>(
     reader: &mut R,
     len: u64,
     seed: u64,

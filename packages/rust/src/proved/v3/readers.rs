@@ -1,7 +1,7 @@
 // Made by scripts/rust_crate from crates/rapidhash_portable/src/v3/readers.rt: change that file.
 
 //! V3, micro and nano of all bytes of a reader. The bytes go through a fixed buffer into the stream
-//! hasher; the proofs here use only its contract. Nothing is allocated, and any length is allowed.
+//! hasher. Nothing is allocated, and any length is allowed.
 //!
 //! One loop makes all the reads, in `read_all`.
 
@@ -32,6 +32,7 @@ const BUFFER: usize = 8192;
 /// If the error flag is set after the call, the error is the reader's own, also for an interrupted
 /// read. Otherwise it is `ErrorKind::Other`: 2^64 - 1 reads returned bytes, and the hash gave up.
 /// After either error the bytes that were read are lost.
+#[doc(hidden)]
 pub fn rapidhash_v3_source<R: Read, const PROTECTED: bool>(
     source: &mut Source<R>,
     secrets: &RapidSecrets,
@@ -40,15 +41,12 @@ pub fn rapidhash_v3_source<R: Read, const PROTECTED: bool>(
 }
 
 /// Returns the hash of [`rapidhash_v3_source`], with a buffer of `SIZE` bytes on the stack: no read
-/// requests more.
+/// requests more. A call does not compile if `SIZE` is 0.
 ///
 /// # Errors
 ///
 /// Those of [`rapidhash_v3_source`].
-///
-/// # Panics
-///
-/// If `SIZE` is 0.
+#[doc(hidden)]
 pub fn rapidhash_v3_source_sized<R: Read, const SIZE: usize, const PROTECTED: bool>(
     source: &mut Source<R>,
     secrets: &RapidSecrets,
@@ -56,7 +54,8 @@ pub fn rapidhash_v3_source_sized<R: Read, const SIZE: usize, const PROTECTED: bo
     rapidhash_v3_source_lanes::<R, 7, SIZE, PROTECTED>(source, secrets)
 }
 
-/// Returns the hash of [`rapidhash_v3_source_sized`], with 7, 5 or 3 lanes: V3, micro or nano.
+/// Returns the hash of [`rapidhash_v3_source_sized`], with 7, 5 or 3 lanes: V3, micro or nano. A
+/// call does not compile with any other `LANES`, or if `SIZE` is 0.
 ///
 /// ```
 /// use rapidhash::reader::Source;
@@ -72,10 +71,7 @@ pub fn rapidhash_v3_source_sized<R: Read, const SIZE: usize, const PROTECTED: bo
 /// # Errors
 ///
 /// Those of [`rapidhash_v3_source`].
-///
-/// # Panics
-///
-/// If `LANES` is not 7, 5 or 3, or `SIZE` is 0.
+#[doc(hidden)]
 pub fn rapidhash_v3_source_lanes<
     R: Read,
     const LANES: usize,
@@ -87,12 +83,7 @@ pub fn rapidhash_v3_source_lanes<
 ) -> io::Result<u64> {
     prove!(SIZE > 0, "SIZE must be at least 1");
     let hasher = RapidStreamHasherLanes::new(secrets);
-    // No array is larger than `isize::MAX`: the `else` is dead, and spares callers a precondition.
-    if SIZE <= isize::MAX as usize {
-        read_all::<R, LANES, SIZE, PROTECTED>(source, hasher)
-    } else {
-        read_all::<R, LANES, BUFFER, PROTECTED>(source, hasher)
-    }
+    read_all::<R, LANES, SIZE, PROTECTED>(source, hasher)
 }
 
 /// Returns the hash with a hasher of no bytes: the loop of every public call here. Short reads
@@ -133,7 +124,8 @@ fn read_all<R: Read, const LANES: usize, const SIZE: usize, const PROTECTED: boo
 ///
 /// # Errors
 ///
-/// The reader's own error, or `ErrorKind::Other` after 2^64 - 1 reads that returned bytes.
+/// The reader's own error, also for an interrupted read, which is not repeated. Otherwise
+/// `ErrorKind::Other`, after 2^64 - 1 reads that returned bytes.
 pub fn rapidhash_v3_file<R: Read>(data: R) -> io::Result<u64> {
     rapidhash_v3_file_lanes::<R, 7, BUFFER, false>(data, RapidSecrets::default_ref())
 }
@@ -149,7 +141,6 @@ pub fn rapidhash_v3_file_seeded<R: Read>(data: R, secrets: &RapidSecrets) -> io:
 
 /// Returns the plain or the protected hash of all that a reader has.
 ///
-///
 /// # Errors
 ///
 /// Those of [`rapidhash_v3_file`].
@@ -161,15 +152,12 @@ pub fn rapidhash_v3_file_inline<R: Read, const PROTECTED: bool>(
 }
 
 /// Returns the hash of [`rapidhash_v3_file_inline`], with a buffer of `SIZE` bytes on the stack: no
-/// read requests more.
+/// read requests more. A call does not compile if `SIZE` is 0.
 ///
 /// # Errors
 ///
 /// Those of [`rapidhash_v3_file`].
-///
-/// # Panics
-///
-/// If `SIZE` is 0.
+#[doc(hidden)]
 pub fn rapidhash_v3_file_sized<R: Read, const SIZE: usize, const PROTECTED: bool>(
     data: R,
     secrets: &RapidSecrets,
@@ -177,15 +165,13 @@ pub fn rapidhash_v3_file_sized<R: Read, const SIZE: usize, const PROTECTED: bool
     rapidhash_v3_file_lanes::<R, 7, SIZE, PROTECTED>(data, secrets)
 }
 
-/// Returns the hash of [`rapidhash_v3_file_sized`], with 7, 5 or 3 lanes: V3, micro or nano.
+/// Returns the hash of [`rapidhash_v3_file_sized`], with 7, 5 or 3 lanes: V3, micro or nano. A call
+/// does not compile with any other `LANES`, or if `SIZE` is 0.
 ///
 /// # Errors
 ///
 /// Those of [`rapidhash_v3_file`].
-///
-/// # Panics
-///
-/// If `LANES` is not 7, 5 or 3, or `SIZE` is 0.
+#[doc(hidden)]
 pub fn rapidhash_v3_file_lanes<
     R: Read,
     const LANES: usize,

@@ -96,12 +96,12 @@ fn cuts_change_nothing() -> Result<(), Fail> {
     Ok(())
 }
 
-/// A stream hasher is a reference, seven lanes whatever their number, 128 bytes, a length and a
-/// flag: its count of chunk steps needs no memory.
+/// A stream hasher is a seed, seven secrets, seven lanes whatever their number, 128 bytes, a length and a
+/// flag.
 #[cfg(target_pointer_width = "64")]
 #[test]
 fn sizes_in_memory() {
-    let size = 8 + 56 + 128 + 8 + 8;
+    let size = 64 + 56 + 128 + 8 + 8;
     assert!(std::mem::size_of::<RapidStreamHasherInlineV3<'static, true, false>>() == size);
     assert!(std::mem::size_of::<RapidStreamHasherInlineMicro<'static, true, false>>() == size);
     assert!(std::mem::size_of::<RapidStreamHasherInlineNano<'static, true, false>>() == size);

@@ -2,13 +2,14 @@
 
 //! The content of every state: a seed and secrets.
 
+use crate::held::Secrets;
 use crate::inner::hasher::RapidHasher;
 
 /// A seed and the secrets that go with it.
 #[derive(Clone, Copy)]
 pub(crate) struct Seeded<'s> {
     pub(crate) seed: u64,
-    pub(crate) secrets: &'s [u64; 7],
+    pub(crate) secrets: Secrets<'s>,
 }
 
 impl<'s> Seeded<'s> {

@@ -1,10 +1,6 @@
 // Made by scripts/rust_crate from crates/rapidhash_portable/src/v3/stream/folded.rt: change that file.
 
-//! The lanes of a stream hasher, and how many chunks they have folded.
-//!
-//! No other code can fold a chunk without counting it, or count one without folding it: both are
-//! private here, and only `step`, `step_twice` and `clear` change them. The count needs no memory
-//! and no time; only contracts see it.
+//! The lanes of a stream hasher.
 //!
 //! The speed of large pieces depends on the loop of `fold_chunks`: after a change look at the
 //! machine code with `objdump`. If the lanes are copied from `self` into local variables, the
@@ -12,40 +8,18 @@
 
 use crate::lanes::{fold_row, fold_two_rows_by_lane, join};
 
-/// How many chunks were folded.
+/// Seven lanes, of which a stream of fewer uses the first.
 #[repr(C)]
-#[derive(Clone, Debug)]
-struct Count {}
-
-impl Count {
-    /// Returns a count of none.
-    fn new() -> Count {
-        Count {}
-    }
-
-    /// Returns one more than before.
-    fn after(_before: &Count) -> Count {
-        Count {}
-    }
-}
-
-/// Seven lanes, of which a stream of fewer uses the first, and how many chunks were folded into
-/// them.
-#[repr(C)]
-#[derive(Clone, Debug)]
+#[derive(Clone)]
 pub(crate) struct Folded {
     lanes: [u64; 7],
-    count: Count,
 }
 
 impl Folded {
     /// Lanes that all hold the seed.
     #[inline(always)]
-    pub(crate) fn new(seed: u64) -> Self {
-        Folded {
-            lanes: [seed; 7],
-            count: Count::new(),
-        }
+    pub(crate) const fn new(seed: u64) -> Self {
+        Folded { lanes: [seed; 7] }
     }
 
     /// Folds the chunk at the head of `bytes`, one pair into each of the first `LANES` lanes.
@@ -56,7 +30,6 @@ impl Folded {
         secrets: &[u64; 7],
     ) {
         fold_row::<7, LANES, PROTECTED>(&mut self.lanes, bytes, secrets);
-        self.count = Count::after(&self.count);
     }
 
     /// Folds the two chunks at the head of `bytes`.
@@ -67,7 +40,6 @@ impl Folded {
         secrets: &[u64; 7],
     ) {
         fold_two_rows_by_lane::<7, LANES, PROTECTED>(&mut self.lanes, bytes, secrets);
-        self.count = Count::after(&Count::after(&self.count));
     }
 
     /// Folds every whole chunk of `bytes` that a further byte follows, and returns the bytes after

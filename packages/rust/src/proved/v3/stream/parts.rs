@@ -1,21 +1,20 @@
 // Made by scripts/rust_crate from crates/rapidhash_portable/src/v3/stream/parts.rt: change that file.
 
-//! The data of a stream hasher and all its code. The invariant of the data is stated one level up,
-//! in `state`, and is a precondition of each function here.
+//! The data of a stream hasher and all its code.
 //!
 //! The array `kept` holds 16 bytes that are already folded, and then the new ones, so that the last
 //! 16 bytes of any longer message are next to each other in it.
 
 use super::folded::Folded;
+use crate::held::Owned;
 use crate::kernel::UNROLLED;
 use crate::kernel::v3::{close_tail, hash};
-use crate::secrets::RapidSecrets;
 
 /// The data of a stream hasher.
 #[repr(C)]
-#[derive(Clone, Debug)]
+#[derive(Clone)]
 pub(crate) struct Parts<'a> {
-    pub(crate) secrets: &'a RapidSecrets,
+    pub(crate) secrets: Owned<'a>,
     pub(crate) folded: Folded,
     /// Whether a chunk was folded.
     pub(crate) any: bool,

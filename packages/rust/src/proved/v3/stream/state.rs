@@ -1,12 +1,11 @@
 // Made by scripts/rust_crate from crates/rapidhash_portable/src/v3/stream/state.rt: change that file.
 
-//! The data of a stream hasher, and their invariant. The checker accepts no ghost field beside code
-//! that lends an array, so each method here is one line, and all code is in `parts`.
+//! The data of a stream hasher, with the number of its lanes.
 
 use super::parts::Parts;
 
 /// The data of a stream hasher, of which at most one chunk is buffered.
-#[derive(Clone, Debug)]
+#[derive(Clone)]
 pub(crate) struct State<'a, const LANES: usize> {
     pub(super) parts: Parts<'a>,
 }
