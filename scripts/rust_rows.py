@@ -7,7 +7,7 @@ REPLACED = [
     ("*", "#[derive(Drop)]", "#[derive(Clone, Debug)]", "Rust lets each value go, and users expect these two"),
     ("seeding secrets secrets/v1", "#[derive(Debug, ", "#[derive(", "as above"),
     ("v3/stream/parts", "use crate::secrets::RapidSecrets;\n", "", "a stream owns its secrets: src/held.rs"),
-    ("v3/stream/parts", "use crate::kernel::UNROLLED;", "use crate::held::Owned;\nuse crate::kernel::UNROLLED;", "as above"),
+    ("v3/stream/parts", "use crate::kernel::NOT_COMPACT;", "use crate::held::Owned;\nuse crate::kernel::NOT_COMPACT;", "as above"),
     ("v3/stream/parts", "secrets: &'a RapidSecrets", "secrets: Owned<'a>", "as above"),
     ("v3/stream v3/stream/c_stream", "secrets: &'a RapidSecrets", "secrets: &RapidSecrets", "as above"),
     ("v3/stream v3/stream/c_stream", "secrets,\n", "secrets: crate::held::Owned::new(secrets),\n", "as above"),

@@ -65,7 +65,7 @@ fn refuse_twins(members: &[Member<'_>]) -> Result<(), BuildError> {
 // Counts the members at the front that have the same bucket.
 fn front(members: &[Member<'_>]) -> usize
     requires { 0 < length members.now }
-    ensures some { 0 < result }
+    ensures at_least_1 { 0 < result }
     ensures inside { result ≤ length members.now }
 {
     let bucket = members[0].bucket;

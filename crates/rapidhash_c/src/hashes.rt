@@ -7,7 +7,7 @@ ghost use Rattle.rapidhash_portable.specs.Hash.{default_hash, portable_hash, see
 ghost use Rattle.rapidhash_portable.specs.Secrets.{cpp_seeded, default_secrets, default_secrets_v1};
 ghost use Rattle.rapidhash_portable.specs.declared.form.Form.TheVariants.{V3};
 
-use rapidhash_portable::kernel::{GUARDED, MIXED, PLAIN, UNROLLED, v1, v2, v3};
+use rapidhash_portable::kernel::{GUARDED, MIXED, NOT_COMPACT, PLAIN, v1, v2, v3};
 use rapidhash_portable::v1::RapidSecrets as RapidSecretsV1;
 use rapidhash_portable::v3::{RapidSecrets, rapidhash_v3_inline};
 
@@ -17,7 +17,7 @@ pub extern "C" fn rapidhash_v1(bytes: &[u8]) -> u64
     ensures { result ≡ default_hash v1 standard bytes.now }
 {
     let defaults = RapidSecretsV1::default_ref();
-    v1::hash::<MIXED, UNROLLED, PLAIN, false>(bytes, defaults.seed, &defaults.secrets)
+    v1::hash::<MIXED, NOT_COMPACT, PLAIN, false>(bytes, defaults.seed, &defaults.secrets)
 }
 
 /// Returns the V1 hash of `bytes` with the caller's seed and secrets.
@@ -25,7 +25,7 @@ pub extern "C" fn rapidhash_v1(bytes: &[u8]) -> u64
 pub extern "C" fn rapidhash_v1_with_secrets(bytes: &[u8], secrets: &RapidSecretsV1) -> u64
     ensures { result ≡ seeded_hash_v1 false standard secrets.now bytes.now }
 {
-    v1::hash::<MIXED, UNROLLED, PLAIN, false>(bytes, secrets.seed, &secrets.secrets)
+    v1::hash::<MIXED, NOT_COMPACT, PLAIN, false>(bytes, secrets.seed, &secrets.secrets)
 }
 
 /// Returns the V1 hash of `bytes` with one seed word.
@@ -34,7 +34,11 @@ pub extern "C" fn rapidhash_v1_with_seed(bytes: &[u8], seed: u64) -> u64
     ensures { result ≡ portable_hash v1 standard (cpp_seeded seed 0) default_secrets_v1 bytes.now }
 {
     let seed = RapidSecretsV1::seed_of_word(seed);
-    v1::hash::<MIXED, UNROLLED, PLAIN, false>(bytes, seed, &RapidSecretsV1::default_ref().secrets)
+    v1::hash::<MIXED, NOT_COMPACT, PLAIN, false>(
+        bytes,
+        seed,
+        &RapidSecretsV1::default_ref().secrets,
+    )
 }
 
 /// Returns the V2.0, V2.1 or V2.2 hash.
@@ -43,7 +47,7 @@ fn v2_of<const MINOR: u8>(bytes: &[u8], seed: u64, secrets: &[u64; 7]) -> u64
     requires { MINOR ≤ 2 }
     ensures { result ≡ portable_hash (v2 MINOR) standard seed secrets.now bytes.now }
 {
-    v2::hash::<MINOR, MIXED, UNROLLED, PLAIN>(bytes, seed, secrets)
+    v2::hash::<MINOR, MIXED, NOT_COMPACT, PLAIN>(bytes, seed, secrets)
 }
 
 /// Returns the V2.0 hash of `bytes` with the default seed and secrets.
@@ -127,11 +131,11 @@ pub extern "C" fn rapidhash_v2_2_with_seed(bytes: &[u8], seed: u64) -> u64
 /// Returns the V3, micro or nano hash.
 #[inline(always)]
 fn v3_of<const LANES: usize>(bytes: &[u8], seed: u64, secrets: &[u64; 7]) -> u64
-    requires few { LANES ≤ 7 }
+    requires at_most_7 { LANES ≤ 7 }
     requires odd { LANES % 2 ≡ 1 }
     ensures { result ≡ portable_hash (V3 LANES) standard seed secrets.now bytes.now }
 {
-    v3::hash::<LANES, MIXED, UNROLLED, PLAIN>(bytes, seed, secrets)
+    v3::hash::<LANES, MIXED, NOT_COMPACT, PLAIN>(bytes, seed, secrets)
 }
 
 /// Returns the V3 hash of `bytes` with the default seed and secrets.
@@ -217,7 +221,7 @@ pub extern "C" fn rapidhash_v3_nano_with_seed(bytes: &[u8], seed: u64) -> u64
 pub extern "C" fn rapidhash_v3_protected(bytes: &[u8]) -> u64
     ensures { result ≡ default_hash v3 guarded bytes.now }
 {
-    rapidhash_v3_inline::<MIXED, UNROLLED, GUARDED>(bytes, RapidSecrets::default_ref())
+    rapidhash_v3_inline::<MIXED, NOT_COMPACT, GUARDED>(bytes, RapidSecrets::default_ref())
 }
 
 /// Returns the V3 hash of `bytes` with PROTECTED and the caller's seed and secrets.
@@ -225,7 +229,7 @@ pub extern "C" fn rapidhash_v3_protected(bytes: &[u8]) -> u64
 pub extern "C" fn rapidhash_v3_protected_with_secrets(bytes: &[u8], secrets: &RapidSecrets) -> u64
     ensures { result ≡ seeded_hash v3 guarded secrets.now bytes.now }
 {
-    rapidhash_v3_inline::<MIXED, UNROLLED, GUARDED>(bytes, secrets)
+    rapidhash_v3_inline::<MIXED, NOT_COMPACT, GUARDED>(bytes, secrets)
 }
 
 /// Returns the V3 hash of `bytes` with PROTECTED and one seed word.
@@ -233,5 +237,5 @@ pub extern "C" fn rapidhash_v3_protected_with_secrets(bytes: &[u8], secrets: &Ra
 pub extern "C" fn rapidhash_v3_protected_with_seed(bytes: &[u8], seed: u64) -> u64
     ensures { result ≡ portable_hash v3 guarded (cpp_seeded seed 2) default_secrets bytes.now }
 {
-    rapidhash_v3_inline::<MIXED, UNROLLED, GUARDED>(bytes, &RapidSecrets::seed_cpp(seed))
+    rapidhash_v3_inline::<MIXED, NOT_COMPACT, GUARDED>(bytes, &RapidSecrets::seed_cpp(seed))
 }

@@ -12,7 +12,7 @@ ghost use Rattle.rapidhash_portable.specs.Lanes.{rows_in};
 ghost use Rattle.rapidhash_portable.specs.Reading.{FellShort, FrontIsFolded};
 ghost use Rattle.rapidhash_portable.specs.Source.{is_failed};
 
-use crate::kernel::UNROLLED;
+use crate::kernel::NOT_COMPACT;
 use crate::lanes::fold_rows;
 use crate::reader::{Stop, read_once};
 use std::io::Read;
@@ -51,9 +51,9 @@ pub(crate) fn fold_front<R: Read, const LANES: usize, const PROTECTED: bool>(
     seed: u64,
     secrets: &[u64],
 ) -> Result<([u64; LANES], usize), Stop>
-    requires long { 16 ≤ len }
-    requires some { 0 < LANES }
-    requires few { LANES ≤ 7 }
+    requires at_least_16 { 16 ≤ len }
+    requires has_lanes { 0 < LANES }
+    requires at_most_7 { LANES ≤ 7 }
     requires secrets { LANES ≤ length secrets.now }
     requires room { 16 < length buffer.old }
     requires whole_rows { let room = length buffer.old - 16 in
@@ -70,7 +70,7 @@ pub(crate) fn fold_front<R: Read, const LANES: usize, const PROTECTED: bool>(
     while left >= room as u64 + 16 {
         let piece = &mut buffer[..room];
         fill(reader, piece)?;
-        fold_rows::<LANES, LANES, 0, UNROLLED, PROTECTED>(&mut lanes, piece, secrets);
+        fold_rows::<LANES, LANES, 0, NOT_COMPACT, PROTECTED>(&mut lanes, piece, secrets);
         left -= room as u64;
     }
     let last = left as usize;

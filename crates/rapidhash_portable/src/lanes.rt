@@ -21,8 +21,8 @@ pub(crate) fn fold_row<const LANES: usize, const WIDTH: usize, const PROTECTED: 
 )
     requires enough { 16 * WIDTH ≤ length row.now }
     requires secrets { WIDTH ≤ length secrets.now }
-    requires narrow { WIDTH ≤ LANES }
-    requires small { WIDTH ≤ 7 }
+    requires within_lanes { WIDTH ≤ LANES }
+    requires at_most_7 { WIDTH ≤ 7 }
     ensures { HaveFolded PROTECTED secrets.now row.now WIDTH lanes.old lanes.new 1 }
 {
     for i in 0..WIDTH {
@@ -43,8 +43,8 @@ fn fold_two_rows<const LANES: usize, const WIDTH: usize, const PROTECTED: bool>(
 )
     requires enough { 32 * WIDTH ≤ length rows.now }
     requires secrets { WIDTH ≤ length secrets.now }
-    requires narrow { WIDTH ≤ LANES }
-    requires small { WIDTH ≤ 7 }
+    requires within_lanes { WIDTH ≤ LANES }
+    requires at_most_7 { WIDTH ≤ 7 }
     ensures { HaveFolded PROTECTED secrets.now rows.now WIDTH lanes.old lanes.new 2 }
 {
     fold_row::<LANES, WIDTH, PROTECTED>(lanes, rows, secrets);
@@ -62,8 +62,8 @@ pub(crate) fn fold_two_rows_by_lane<const LANES: usize, const WIDTH: usize, cons
 )
     requires enough { 32 * WIDTH ≤ length rows.now }
     requires secrets { WIDTH ≤ length secrets.now }
-    requires narrow { WIDTH ≤ LANES }
-    requires small { WIDTH ≤ 7 }
+    requires within_lanes { WIDTH ≤ LANES }
+    requires at_most_7 { WIDTH ≤ 7 }
     ensures { HaveFolded PROTECTED secrets.now rows.now WIDTH lanes.old lanes.new 2 }
 {
     for i in 0..WIDTH {
@@ -91,9 +91,9 @@ pub(crate) fn fold_rows<
     const PROTECTED: bool,
 >(lanes: &mut [u64; LANES], bytes: &'x [u8], secrets: &[u64]) -> &'x [u8]
     requires secrets { WIDTH ≤ length secrets.now }
-    requires narrow { WIDTH ≤ LANES }
-    requires some { 0 < WIDTH }
-    requires small { WIDTH ≤ 7 }
+    requires within_lanes { WIDTH ≤ LANES }
+    requires has_lanes { 0 < WIDTH }
+    requires at_most_7 { WIDTH ≤ 7 }
     requires keeps { LEAST ≤ length bytes.now }
     requires keeps_few { LEAST ≤ 1 }
     ensures on { (x starts : List ℕ) →
@@ -139,8 +139,8 @@ pub(crate) fn wide_lanes<
     const PROTECTED: bool,
 >(bytes: &'x [u8], seed: u64, secrets: &[u64]) -> (u64, &'x [u8])
     requires secrets { LANES ≤ length secrets.now }
-    requires some { 0 < LANES }
-    requires small { LANES ≤ 7 }
+    requires has_lanes { 0 < LANES }
+    requires at_most_7 { LANES ≤ 7 }
     requires keeps { LEAST ≤ length bytes.now }
     requires keeps_few { LEAST ≤ 1 }
     ensures { let shape = wide_shape LANES LEAST (length bytes.now) in
@@ -176,8 +176,8 @@ pub(crate) fn join_wide<
     const PROTECTED: bool,
 >(lanes: &mut [u64; LANES], bytes: &'x [u8], secrets: &[u64]) -> (u64, &'x [u8])
     requires secrets { LANES ≤ length secrets.now }
-    requires some { 0 < LANES }
-    requires small { LANES ≤ 7 }
+    requires has_lanes { 0 < LANES }
+    requires at_most_7 { LANES ≤ 7 }
     requires keeps { LEAST ≤ length bytes.now }
     requires keeps_few { LEAST ≤ 1 }
     ensures { (x : List ℕ) (seed : ℕ) → let starts = replicate LANES seed in

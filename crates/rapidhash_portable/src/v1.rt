@@ -8,7 +8,7 @@ ghost use Rattle.rapidhash_portable.specs.Hash.{default_hash, seeded_hash_v1};
 mod readers;
 
 use crate::kernel::v1::hash;
-use crate::kernel::{MIXED, PLAIN, UNROLLED};
+use crate::kernel::{MIXED, NOT_COMPACT, PLAIN};
 pub use crate::secrets::v1::{DEFAULT_RAPID_SECRETS, RapidSecrets};
 pub use readers::{
     rapidhash_v1_file, rapidhash_v1_file_inline, rapidhash_v1_file_seeded, rapidhash_v1_source,
@@ -26,7 +26,7 @@ pub use readers::{
 pub fn rapidhash_v1(bytes: &[u8]) -> u64
     ensures { result ≡ default_hash (V1 false) standard bytes.now }
 {
-    rapidhash_v1_inline::<MIXED, UNROLLED, PLAIN, false>(bytes, RapidSecrets::default_ref())
+    rapidhash_v1_inline::<MIXED, NOT_COMPACT, PLAIN, false>(bytes, RapidSecrets::default_ref())
 }
 
 /// Returns the hash of `bytes` with the caller's seed and secrets. Collisions that were prepared
@@ -41,7 +41,7 @@ pub fn rapidhash_v1(bytes: &[u8]) -> u64
 pub fn rapidhash_v1_seeded(bytes: &[u8], secrets: &RapidSecrets) -> u64
     ensures { result ≡ seeded_hash_v1 false standard secrets.now bytes.now }
 {
-    rapidhash_v1_inline::<MIXED, UNROLLED, PLAIN, false>(bytes, secrets)
+    rapidhash_v1_inline::<MIXED, NOT_COMPACT, PLAIN, false>(bytes, secrets)
 }
 
 /// Returns the hash of `bytes` with every option.

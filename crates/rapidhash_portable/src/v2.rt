@@ -8,7 +8,7 @@ ghost use Rattle.rapidhash_portable.specs.Hash.{default_hash, seeded_hash};
 mod readers;
 
 use crate::kernel::v2::hash;
-use crate::kernel::{MIXED, PLAIN, UNROLLED};
+use crate::kernel::{MIXED, NOT_COMPACT, PLAIN};
 pub use crate::secrets::{DEFAULT_RAPID_SECRETS, RapidSecrets};
 pub use readers::{
     rapidhash_v2_2_file, rapidhash_v2_2_file_seeded, rapidhash_v2_file_inline, rapidhash_v2_source,
@@ -26,7 +26,7 @@ pub use readers::{
 pub fn rapidhash_v2_2(bytes: &[u8]) -> u64
     ensures { result ≡ default_hash (V2 2) standard bytes.now }
 {
-    rapidhash_v2_inline::<2, MIXED, UNROLLED, PLAIN>(bytes, RapidSecrets::default_ref())
+    rapidhash_v2_inline::<2, MIXED, NOT_COMPACT, PLAIN>(bytes, RapidSecrets::default_ref())
 }
 
 /// Returns the V2.2 hash of `bytes` with the caller's seed and secrets.
@@ -41,7 +41,7 @@ pub fn rapidhash_v2_2(bytes: &[u8]) -> u64
 pub fn rapidhash_v2_2_seeded(bytes: &[u8], secrets: &RapidSecrets) -> u64
     ensures { result ≡ seeded_hash (V2 2) standard secrets.now bytes.now }
 {
-    rapidhash_v2_inline::<2, MIXED, UNROLLED, PLAIN>(bytes, secrets)
+    rapidhash_v2_inline::<2, MIXED, NOT_COMPACT, PLAIN>(bytes, secrets)
 }
 
 /// Returns the hash of `bytes` with every option.

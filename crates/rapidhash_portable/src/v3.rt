@@ -8,7 +8,7 @@ mod readers;
 mod stream;
 
 use crate::kernel::v3::hash;
-use crate::kernel::{MIXED, PLAIN, UNROLLED};
+use crate::kernel::{MIXED, NOT_COMPACT, PLAIN};
 pub use crate::secrets::{DEFAULT_RAPID_SECRETS, RapidSecrets};
 pub use readers::{
     rapidhash_v3_file, rapidhash_v3_file_inline, rapidhash_v3_file_lanes, rapidhash_v3_file_seeded,
@@ -34,7 +34,7 @@ pub fn rapidhash_v3(bytes: &[u8]) -> u64
     ensures { result ≡ default_hash v3 standard bytes.now }
 {
     let secrets = RapidSecrets::default_ref();
-    hash::<7, MIXED, UNROLLED, PLAIN>(bytes, secrets.seed, &secrets.secrets)
+    hash::<7, MIXED, NOT_COMPACT, PLAIN>(bytes, secrets.seed, &secrets.secrets)
 }
 
 /// Returns the hash of `bytes` with the caller's seed and secrets. Collisions that were prepared
@@ -50,7 +50,7 @@ pub fn rapidhash_v3(bytes: &[u8]) -> u64
 pub fn rapidhash_v3_seeded(bytes: &[u8], secrets: &RapidSecrets) -> u64
     ensures { result ≡ seeded_hash v3 standard secrets.now bytes.now }
 {
-    rapidhash_v3_inline::<MIXED, UNROLLED, PLAIN>(bytes, secrets)
+    rapidhash_v3_inline::<MIXED, NOT_COMPACT, PLAIN>(bytes, secrets)
 }
 
 /// Returns the hash of `bytes` with every option.
@@ -93,7 +93,7 @@ pub fn rapidhash_v3_micro_inline<const AVALANCHE: bool, const PROTECTED: bool>(
 ) -> u64
     ensures { result ≡ seeded_hash micro (options AVALANCHE PROTECTED) secrets.now bytes.now }
 {
-    hash::<5, AVALANCHE, UNROLLED, PROTECTED>(bytes, secrets.seed, &secrets.secrets)
+    hash::<5, AVALANCHE, NOT_COMPACT, PROTECTED>(bytes, secrets.seed, &secrets.secrets)
 }
 
 /// Returns the hash of `bytes` with three lanes, with less code than V3 and micro. Up to 48 bytes
@@ -112,5 +112,5 @@ pub fn rapidhash_v3_nano_inline<const AVALANCHE: bool, const PROTECTED: bool>(
 ) -> u64
     ensures { result ≡ seeded_hash nano (options AVALANCHE PROTECTED) secrets.now bytes.now }
 {
-    hash::<3, AVALANCHE, UNROLLED, PROTECTED>(bytes, secrets.seed, &secrets.secrets)
+    hash::<3, AVALANCHE, NOT_COMPACT, PROTECTED>(bytes, secrets.seed, &secrets.secrets)
 }

@@ -118,8 +118,8 @@ fn short_words_below_8(bytes: &[u8]) -> (u64, u64)
 #[inline(always)]
 #[tactic(auto, using(crate::proofs::Cases::tests), unfolding(crate::specs::Words::short_words))]
 fn words_from_4(bytes: &[u8]) -> (u64, u64)
-    requires some { 4 ≤ length bytes.now }
-    requires few { length bytes.now ≤ 16 }
+    requires at_least_4 { 4 ≤ length bytes.now }
+    requires at_most_16 { length bytes.now ≤ 16 }
     ensures v2 { (minor : ℕ) → result ≡ short_words (V2 minor) bytes.now }
     ensures v3 { (lanes : ℕ) → result ≡ short_words (V3 lanes) bytes.now }
 {

@@ -12,7 +12,7 @@ ghost use Rattle.rapidhash_tool.specs.Hashes.{hash_of, read_of, HasLength};
 
 use crate::faults::CliFault;
 use crate::version::{Minor, RapidhashVersion};
-use rapidhash_portable::kernel::{GUARDED, MIXED, PLAIN, UNROLLED};
+use rapidhash_portable::kernel::{GUARDED, MIXED, NOT_COMPACT, PLAIN};
 use rapidhash_portable::v1::{rapidhash_v1_file_inline, rapidhash_v1_inline};
 use rapidhash_portable::v2::{rapidhash_v2_file_inline, rapidhash_v2_inline};
 use rapidhash_portable::v3::rapidhash_v3_file_lanes;
@@ -90,9 +90,9 @@ fn hash_v1(protected: bool, bytes: &[u8]) -> u64
 {
     let secrets = v1::RapidSecrets::default_ref();
     if protected {
-        rapidhash_v1_inline::<MIXED, UNROLLED, GUARDED, false>(bytes, secrets)
+        rapidhash_v1_inline::<MIXED, NOT_COMPACT, GUARDED, false>(bytes, secrets)
     } else {
-        rapidhash_v1_inline::<MIXED, UNROLLED, PLAIN, false>(bytes, secrets)
+        rapidhash_v1_inline::<MIXED, NOT_COMPACT, PLAIN, false>(bytes, secrets)
     }
 }
 
@@ -101,12 +101,12 @@ fn hash_v2(version: Minor, protected: bool, bytes: &[u8]) -> u64
 {
     let secrets = v2::RapidSecrets::default_ref();
     match (version, protected) {
-        (Minor::M0, false) => rapidhash_v2_inline::<0, MIXED, UNROLLED, PLAIN>(bytes, secrets),
-        (Minor::M0, true) => rapidhash_v2_inline::<0, MIXED, UNROLLED, GUARDED>(bytes, secrets),
-        (Minor::M1, false) => rapidhash_v2_inline::<1, MIXED, UNROLLED, PLAIN>(bytes, secrets),
-        (Minor::M1, true) => rapidhash_v2_inline::<1, MIXED, UNROLLED, GUARDED>(bytes, secrets),
-        (Minor::M2, false) => rapidhash_v2_inline::<2, MIXED, UNROLLED, PLAIN>(bytes, secrets),
-        (Minor::M2, true) => rapidhash_v2_inline::<2, MIXED, UNROLLED, GUARDED>(bytes, secrets),
+        (Minor::M0, false) => rapidhash_v2_inline::<0, MIXED, NOT_COMPACT, PLAIN>(bytes, secrets),
+        (Minor::M0, true) => rapidhash_v2_inline::<0, MIXED, NOT_COMPACT, GUARDED>(bytes, secrets),
+        (Minor::M1, false) => rapidhash_v2_inline::<1, MIXED, NOT_COMPACT, PLAIN>(bytes, secrets),
+        (Minor::M1, true) => rapidhash_v2_inline::<1, MIXED, NOT_COMPACT, GUARDED>(bytes, secrets),
+        (Minor::M2, false) => rapidhash_v2_inline::<2, MIXED, NOT_COMPACT, PLAIN>(bytes, secrets),
+        (Minor::M2, true) => rapidhash_v2_inline::<2, MIXED, NOT_COMPACT, GUARDED>(bytes, secrets),
     }
 }
 

@@ -7,7 +7,7 @@ ghost use Rattle.rapidhash_portable.specs.Secrets.{default_secrets, default_secr
 ghost use Rattle.rapidsum.specs.Algorithm.{hash_by, hash_of, seed_by, seed_by_v1};
 
 use rapidhash_portable::form::Version;
-use rapidhash_portable::kernel::{MIXED, PLAIN, UNROLLED};
+use rapidhash_portable::kernel::{MIXED, NOT_COMPACT, PLAIN};
 use rapidhash_portable::v1::{rapidhash_v1_file_seeded, rapidhash_v1_seeded};
 use rapidhash_portable::v2::{rapidhash_v2_file_inline, rapidhash_v2_inline};
 use rapidhash_portable::v3::rapidhash_v3_file_lanes;
@@ -138,7 +138,7 @@ fn hash_v2<const MINOR: u8, A: Allocator + Copy, R: Read + Drop>(
         _ => {
             let bytes = read_whole(alloc, reader)?;
             let bytes = bytes.as_slice();
-            Ok(rapidhash_v2_inline::<MINOR, MIXED, UNROLLED, PLAIN>(bytes, &secrets))
+            Ok(rapidhash_v2_inline::<MINOR, MIXED, NOT_COMPACT, PLAIN>(bytes, &secrets))
         }
     }
 }

@@ -94,7 +94,7 @@ pub(crate) fn tail_seed(form: Form, secrets: &[u64], t: usize, seed: u64) -> u64
 #[tactic(auto, using(crate::proofs::Cases::tests), unfolding(crate::proofs::Cases::tail_places))]
 pub(crate) fn tail_places(form: Form, n: usize) -> &'static [usize]
     ensures places { result.now ≡ tail_places form n }
-    ensures few { length result.now ≤ 6 }
+    ensures at_most_6 { length result.now ≤ 6 }
 {
     match form {
         Form::V1(_) => &[2, 2],

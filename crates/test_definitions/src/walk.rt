@@ -127,7 +127,7 @@ pub(crate) fn after_tail<P: Pairs>(
     secrets: &[u64],
     start: u64,
 ) -> u64
-    requires few { length places.now ≤ 6 }
+    requires at_most_6 { length places.now ≤ 6 }
     requires inside { first + (t - 1) / 16 ≤ P.places pairs.now }
     requires fits { first + 6 ≤ 0xffff_ffff_ffff_ffff }
     ensures { result

@@ -25,7 +25,7 @@ impl Sponge {
     /// Returns a sponge with a single integer.
     #[inline(always)]
     pub(crate) fn of(value: u64, width: u8) -> Sponge
-        requires small { width ≤ 64 }
+        requires at_most_64_bits { width ≤ 64 }
         requires fits { value < 2 ^ width }
         ensures bits { result.bits ≡ value }
         ensures width { result.width ≡ width }

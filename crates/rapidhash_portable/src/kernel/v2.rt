@@ -56,7 +56,7 @@ fn long<const MINOR: u8, const AVALANCHE: bool, const COMPACT: bool, const PROTE
     seed: u64,
     secrets: &[u64; 7],
 ) -> u64
-    requires long { 16 < length bytes.now }
+    requires above_16 { 16 < length bytes.now }
     requires minor { MINOR ≤ 2 }
     ensures { let chosen = options AVALANCHE PROTECTED in
         result ≡ portable_hash (V2 MINOR) chosen seed secrets.now bytes.now }
@@ -76,8 +76,8 @@ fn without_rows<const MINOR: u8, const AVALANCHE: bool, const PROTECTED: bool>(
     seed: u64,
     secrets: &[u64; 7],
 ) -> u64
-    requires long { 16 < length bytes.now }
-    requires few { length bytes.now ≤ longest_rowless (V2 MINOR) }
+    requires above_16 { 16 < length bytes.now }
+    requires rowless { length bytes.now ≤ longest_rowless (V2 MINOR) }
     requires minor { MINOR ≤ 2 }
     ensures { let chosen = options AVALANCHE PROTECTED in
         result ≡ portable_hash (V2 MINOR) chosen seed secrets.now bytes.now }

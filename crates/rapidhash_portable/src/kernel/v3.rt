@@ -25,7 +25,7 @@ pub fn hash<const LANES: usize, const AVALANCHE: bool, const COMPACT: bool, cons
     seed: u64,
     secrets: &[u64; 7],
 ) -> u64
-    requires few { LANES ≤ 7 }
+    requires at_most_7 { LANES ≤ 7 }
     requires odd { LANES % 2 ≡ 1 }
     ensures { let chosen = options AVALANCHE PROTECTED in
         result ≡ portable_hash (V3 LANES) chosen seed secrets.now bytes.now }
@@ -47,7 +47,7 @@ fn close_short<const LANES: usize, const AVALANCHE: bool, const PROTECTED: bool>
     seed: u64,
     secrets: &[u64; 7],
 ) -> u64
-    requires few { length bytes.now ≤ 16 }
+    requires at_most_16 { length bytes.now ≤ 16 }
     requires odd { LANES % 2 ≡ 1 }
     ensures { words ≡ short_words (V3 LANES) bytes.now →
         let chosen = options AVALANCHE PROTECTED in
@@ -66,8 +66,8 @@ fn long<const LANES: usize, const AVALANCHE: bool, const COMPACT: bool, const PR
     seed: u64,
     secrets: &[u64; 7],
 ) -> u64
-    requires long { 16 < length bytes.now }
-    requires few { LANES ≤ 7 }
+    requires above_16 { 16 < length bytes.now }
+    requires at_most_7 { LANES ≤ 7 }
     requires odd { LANES % 2 ≡ 1 }
     ensures { let chosen = options AVALANCHE PROTECTED in
         result ≡ portable_hash (V3 LANES) chosen seed secrets.now bytes.now }
@@ -91,8 +91,8 @@ fn rowless<const LANES: usize, const AVALANCHE: bool, const PROTECTED: bool>(
     seed: u64,
     secrets: &[u64; 7],
 ) -> u64
-    requires long { 16 < length bytes.now }
-    requires few { LANES ≤ 7 }
+    requires above_16 { 16 < length bytes.now }
+    requires at_most_7 { LANES ≤ 7 }
     requires odd { LANES % 2 ≡ 1 }
     requires rowless { length bytes.now ≤ 16 * LANES }
     ensures { let chosen = options AVALANCHE PROTECTED in
@@ -110,9 +110,9 @@ fn with_rows<const LANES: usize, const AVALANCHE: bool, const COMPACT: bool, con
     seed: u64,
     secrets: &[u64; 7],
 ) -> u64
-    requires long { 16 < length bytes.now }
-    requires some { 0 < LANES }
-    requires few { LANES ≤ 7 }
+    requires above_16 { 16 < length bytes.now }
+    requires has_lanes { 0 < LANES }
+    requires at_most_7 { LANES ≤ 7 }
     ensures { let chosen = options AVALANCHE PROTECTED in
         result ≡ portable_hash (V3 LANES) chosen seed secrets.now bytes.now }
 {

@@ -9,7 +9,7 @@ ghost use Rattle.rapidhash_portable.specs.Source.{error_flag, is_failed, reader_
 
 use super::RapidSecrets;
 use crate::kernel::v1::{close_tail, hash};
-use crate::kernel::{MIXED, UNROLLED};
+use crate::kernel::{MIXED, NOT_COMPACT};
 use crate::known_length::{BUFFER, SHORT, fill, fold_front};
 use crate::lanes::join_wide;
 use crate::reader::{Source, Stop};
@@ -125,7 +125,7 @@ fn next_of<R: Read, const PROTECTED: bool>(
     let mut buffer = [0u8; SHORT];
     let bytes = &mut buffer[..len as usize];
     fill(reader, bytes)?;
-    Ok(hash::<MIXED, UNROLLED, PROTECTED, false>(bytes, seed, secrets))
+    Ok(hash::<MIXED, NOT_COMPACT, PROTECTED, false>(bytes, seed, secrets))
 }
 
 /// Returns the hash of more bytes than the short buffer holds. It is out of line because of its
@@ -145,6 +145,6 @@ fn long<R: Read, const PROTECTED: bool>(
     let mut buffer = [0u8; BUFFER];
     let (mut lanes, n) = fold_front::<R, 3, PROTECTED>(reader, &mut buffer, len, start, secrets)?;
     let last = &buffer[..n];
-    let (joined, tail) = join_wide::<3, 0, UNROLLED, PROTECTED>(&mut lanes, last, secrets);
+    let (joined, tail) = join_wide::<3, 0, NOT_COMPACT, PROTECTED>(&mut lanes, last, secrets);
     Ok(close_tail::<MIXED, PROTECTED>(tail, last, len, joined, secrets))
 }

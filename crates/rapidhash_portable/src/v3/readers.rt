@@ -120,7 +120,7 @@ fn read_all<R: Read, const LANES: usize, const SIZE: usize, const PROTECTED: boo
 ) -> io::Result<u64>
     requires empty { StreamRepresents PROTECTED hasher [] }
     requires room { 0 < SIZE }
-    requires few { SIZE < 2 ^ 63 }
+    requires size_fits { SIZE < 2 ^ 63 }
     ensures all { HashesAll
         (R.remaining (reader_of source.old)) (R.remaining (reader_of source.new)) result
         (λ _. error_flag source.new)

@@ -8,7 +8,7 @@
 //! follow, so the last piece holds the message's last 16 bytes, and nothing is carried from piece
 //! to piece.
 
-use crate::kernel::UNROLLED;
+use crate::kernel::NOT_COMPACT;
 use crate::lanes::fold_rows;
 use crate::reader::{Stop, read_once};
 use std::io::Read;
@@ -48,7 +48,7 @@ pub(crate) fn fold_front<R: Read + ?Sized, const LANES: usize, const PROTECTED: 
     while left >= room as u64 + 16 {
         let piece = &mut buffer[..room];
         fill(reader, piece)?;
-        fold_rows::<LANES, LANES, 0, UNROLLED, PROTECTED>(&mut lanes, piece, secrets);
+        fold_rows::<LANES, LANES, 0, NOT_COMPACT, PROTECTED>(&mut lanes, piece, secrets);
         left -= room as u64;
     }
     let last = left as usize;

@@ -6,7 +6,7 @@
 mod readers;
 
 use crate::kernel::v1::hash;
-use crate::kernel::{MIXED, PLAIN, UNROLLED};
+use crate::kernel::{MIXED, NOT_COMPACT, PLAIN};
 pub use crate::secrets::v1::{DEFAULT_RAPID_SECRETS, RapidSecrets};
 #[cfg(feature = "std")]
 pub use readers::{
@@ -25,7 +25,7 @@ const_fn! {
 #[inline(always)]
 #[must_use]
 pub const fn rapidhash_v1(bytes: &[u8]) -> u64 {
-    rapidhash_v1_inline::<MIXED, UNROLLED, PLAIN, false>(bytes, RapidSecrets::default_ref())
+    rapidhash_v1_inline::<MIXED, NOT_COMPACT, PLAIN, false>(bytes, RapidSecrets::default_ref())
 }
 }
 
@@ -41,7 +41,7 @@ const_fn! {
 #[inline(always)]
 #[must_use]
 pub const fn rapidhash_v1_seeded(bytes: &[u8], secrets: &RapidSecrets) -> u64 {
-    rapidhash_v1_inline::<MIXED, UNROLLED, PLAIN, false>(bytes, secrets)
+    rapidhash_v1_inline::<MIXED, NOT_COMPACT, PLAIN, false>(bytes, secrets)
 }
 }
 

@@ -6,7 +6,7 @@
 mod readers;
 
 use crate::kernel::v2::hash;
-use crate::kernel::{MIXED, PLAIN, UNROLLED};
+use crate::kernel::{MIXED, NOT_COMPACT, PLAIN};
 pub use crate::secrets::{DEFAULT_RAPID_SECRETS, RapidSecrets};
 #[cfg(feature = "std")]
 pub use readers::{
@@ -25,7 +25,7 @@ const_fn! {
 #[inline(always)]
 #[must_use]
 pub const fn rapidhash_v2_2(bytes: &[u8]) -> u64 {
-    rapidhash_v2_inline::<2, MIXED, UNROLLED, PLAIN>(bytes, RapidSecrets::default_ref())
+    rapidhash_v2_inline::<2, MIXED, NOT_COMPACT, PLAIN>(bytes, RapidSecrets::default_ref())
 }
 }
 
@@ -41,7 +41,7 @@ const_fn! {
 #[inline(always)]
 #[must_use]
 pub const fn rapidhash_v2_2_seeded(bytes: &[u8], secrets: &RapidSecrets) -> u64 {
-    rapidhash_v2_inline::<2, MIXED, UNROLLED, PLAIN>(bytes, secrets)
+    rapidhash_v2_inline::<2, MIXED, NOT_COMPACT, PLAIN>(bytes, secrets)
 }
 }
 

@@ -7,7 +7,7 @@ mod readers;
 mod stream;
 
 use crate::kernel::v3::hash;
-use crate::kernel::{MIXED, PLAIN, UNROLLED};
+use crate::kernel::{MIXED, NOT_COMPACT, PLAIN};
 pub use crate::secrets::{DEFAULT_RAPID_SECRETS, RapidSecrets};
 #[cfg(feature = "std")]
 pub use readers::{
@@ -34,7 +34,7 @@ const_fn! {
 #[must_use]
 pub const fn rapidhash_v3(bytes: &[u8]) -> u64 {
     let secrets = RapidSecrets::default_ref();
-    hash::<7, MIXED, UNROLLED, PLAIN>(bytes, secrets.seed, &secrets.secrets)
+    hash::<7, MIXED, NOT_COMPACT, PLAIN>(bytes, secrets.seed, &secrets.secrets)
 }
 }
 
@@ -51,7 +51,7 @@ const_fn! {
 #[inline(always)]
 #[must_use]
 pub const fn rapidhash_v3_seeded(bytes: &[u8], secrets: &RapidSecrets) -> u64 {
-    rapidhash_v3_inline::<MIXED, UNROLLED, PLAIN>(bytes, secrets)
+    rapidhash_v3_inline::<MIXED, NOT_COMPACT, PLAIN>(bytes, secrets)
 }
 }
 
@@ -96,7 +96,7 @@ pub const fn rapidhash_v3_micro_inline<const AVALANCHE: bool, const PROTECTED: b
     bytes: &[u8],
     secrets: &RapidSecrets,
 ) -> u64 {
-    hash::<5, AVALANCHE, UNROLLED, PROTECTED>(bytes, secrets.seed, &secrets.secrets)
+    hash::<5, AVALANCHE, NOT_COMPACT, PROTECTED>(bytes, secrets.seed, &secrets.secrets)
 }
 }
 
@@ -116,6 +116,6 @@ pub const fn rapidhash_v3_nano_inline<const AVALANCHE: bool, const PROTECTED: bo
     bytes: &[u8],
     secrets: &RapidSecrets,
 ) -> u64 {
-    hash::<3, AVALANCHE, UNROLLED, PROTECTED>(bytes, secrets.seed, &secrets.secrets)
+    hash::<3, AVALANCHE, NOT_COMPACT, PROTECTED>(bytes, secrets.seed, &secrets.secrets)
 }
 }

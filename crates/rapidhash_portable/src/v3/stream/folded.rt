@@ -73,7 +73,7 @@ impl Folded {
         secrets: &[u64; 7],
     )
         requires enough { 16 * LANES ≤ length bytes.now }
-        requires few { LANES ≤ 7 }
+        requires at_most_7 { LANES ≤ 7 }
         ensures folded { HaveFolded PROTECTED secrets.now bytes.now LANES
             self.old.lanes self.new.lanes 1 }
         ensures one { self.new.count.steps ≡ self.old.count.steps + 1 }
@@ -90,7 +90,7 @@ impl Folded {
         secrets: &[u64; 7],
     )
         requires enough { 32 * LANES ≤ length bytes.now }
-        requires few { LANES ≤ 7 }
+        requires at_most_7 { LANES ≤ 7 }
         ensures folded { HaveFolded PROTECTED secrets.now bytes.now LANES
             self.old.lanes self.new.lanes 2 }
         ensures two { self.new.count.steps ≡ self.old.count.steps + 2 }

@@ -11,7 +11,7 @@ ghost use Rattle.rapidhash_portable.specs.Form.{options};
 ghost use Rattle.rapidhash_portable.specs.Hash.{seeded_hash};
 
 use super::folded::Folded;
-use crate::kernel::UNROLLED;
+use crate::kernel::NOT_COMPACT;
 use crate::kernel::v3::{close_tail, hash};
 use crate::secrets::RapidSecrets;
 
@@ -141,7 +141,7 @@ impl<'a> Parts<'a> {
         let new = &kept[16..16 + self.len];
         if !self.any {
             let (seed, secrets) = (self.secrets.seed, &self.secrets.secrets);
-            return hash::<LANES, AVALANCHE, UNROLLED, PROTECTED>(new, seed, secrets);
+            return hash::<LANES, AVALANCHE, NOT_COMPACT, PROTECTED>(new, seed, secrets);
         }
         let joined = self.folded.joined::<LANES>();
         let ending = &kept[..16 + self.len];

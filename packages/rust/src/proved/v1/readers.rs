@@ -4,7 +4,7 @@
 
 use super::RapidSecrets;
 use crate::kernel::v1::{close_tail, hash};
-use crate::kernel::{MIXED, UNROLLED};
+use crate::kernel::{MIXED, NOT_COMPACT};
 use crate::known_length::{BUFFER, SHORT, fill, fold_front};
 use crate::lanes::join_wide;
 use crate::reader::{Source, Stop};
@@ -103,7 +103,7 @@ fn next_of<R: Read + ?Sized, const PROTECTED: bool>(
     let mut buffer = [0u8; SHORT];
     let bytes = &mut buffer[..len as usize];
     fill(reader, bytes)?;
-    Ok(hash::<MIXED, UNROLLED, PROTECTED, false>(
+    Ok(hash::<MIXED, NOT_COMPACT, PROTECTED, false>(
         bytes, seed, secrets,
     ))
 }
@@ -121,7 +121,7 @@ fn long<R: Read + ?Sized, const PROTECTED: bool>(
     let mut buffer = [0u8; BUFFER];
     let (mut lanes, n) = fold_front::<R, 3, PROTECTED>(reader, &mut buffer, len, start, secrets)?;
     let last = &buffer[..n];
-    let (joined, tail) = join_wide::<3, 0, UNROLLED, PROTECTED>(&mut lanes, last, secrets);
+    let (joined, tail) = join_wide::<3, 0, NOT_COMPACT, PROTECTED>(&mut lanes, last, secrets);
     Ok(close_tail::<MIXED, PROTECTED>(
         tail, last, len, joined, secrets,
     ))

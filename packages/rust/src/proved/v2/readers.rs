@@ -4,7 +4,7 @@
 
 use super::RapidSecrets;
 use crate::kernel::v2::{close_tail, hash};
-use crate::kernel::{MIXED, UNROLLED};
+use crate::kernel::{MIXED, NOT_COMPACT};
 use crate::known_length::{BUFFER, SHORT, fill, fold_front};
 use crate::lanes::join_mixed;
 use crate::reader::{Source, Stop};
@@ -106,7 +106,7 @@ fn next_of<R: Read + ?Sized, const MINOR: u8, const PROTECTED: bool>(
     let mut buffer = [0u8; SHORT];
     let bytes = &mut buffer[..len as usize];
     fill(reader, bytes)?;
-    Ok(hash::<MINOR, MIXED, UNROLLED, PROTECTED>(
+    Ok(hash::<MINOR, MIXED, NOT_COMPACT, PROTECTED>(
         bytes, seed, secrets,
     ))
 }
@@ -124,7 +124,7 @@ fn long<R: Read + ?Sized, const MINOR: u8, const PROTECTED: bool>(
     let mut buffer = [0u8; BUFFER];
     let (mut lanes, n) = fold_front::<R, 7, PROTECTED>(reader, &mut buffer, len, start, secrets)?;
     let last = &buffer[..n];
-    let (joined, tail) = join_mixed::<UNROLLED, PROTECTED>(&mut lanes, last, secrets);
+    let (joined, tail) = join_mixed::<NOT_COMPACT, PROTECTED>(&mut lanes, last, secrets);
     Ok(close_tail::<MIXED, PROTECTED>(
         tail, last, len, joined, secrets,
     ))

@@ -17,7 +17,7 @@ pub mod kernel {
     /// For `AVALANCHE`: the last product is mixed once more.
     pub const MIXED: bool = true;
     /// For `COMPACT`: rows are folded two at a time.
-    pub const UNROLLED: bool = false;
+    pub const NOT_COMPACT: bool = false;
     /// For `PROTECTED`: no product is mixed with its factors.
     pub const PLAIN: bool = false;
     /// For `PROTECTED`: each product is mixed with its factors.

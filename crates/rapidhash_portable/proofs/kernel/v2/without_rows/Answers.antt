@@ -13,8 +13,8 @@ returns g c =
     let x = c.args.bytes.now in
     let form = V2 g.row.MINOR in
     let chosen = options (not (nat_eq g.row.AVALANCHE 0)) (not (nat_eq g.row.PROTECTED 0)) in
-    let shape = shape_of-v2-none g.row.MINOR (length x) c.requires.few in
+    let shape = shape_of-v2-none g.row.MINOR (length x) c.requires.rowless in
     let none = rows-none form 7 (length x) chosen.protected c.args.secrets.now x (bit_xor c.args.seed (length x)) (omega arith) shape in
     let hash = hash-is form chosen c.args.seed _ x x _ none in
-    let places = tail_places-v2-none g.row.MINOR (length x) c.requires.few in
-    grind (arith, hash, last_words-long form x c.requires.long, places, c.close_long.ensures g.row.MINOR (length x))
+    let places = tail_places-v2-none g.row.MINOR (length x) c.requires.rowless in
+    grind (arith, hash, last_words-long form x c.requires.above_16, places, c.close_long.ensures g.row.MINOR (length x))

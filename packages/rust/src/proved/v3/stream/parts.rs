@@ -7,7 +7,7 @@
 
 use super::folded::Folded;
 use crate::held::Owned;
-use crate::kernel::UNROLLED;
+use crate::kernel::NOT_COMPACT;
 use crate::kernel::v3::{close_tail, hash};
 
 /// The data of a stream hasher.
@@ -102,7 +102,7 @@ impl<'a> Parts<'a> {
         let new = &kept[16..16 + self.len];
         if !self.any {
             let (seed, secrets) = (self.secrets.seed, &self.secrets.secrets);
-            return hash::<LANES, AVALANCHE, UNROLLED, PROTECTED>(new, seed, secrets);
+            return hash::<LANES, AVALANCHE, NOT_COMPACT, PROTECTED>(new, seed, secrets);
         }
         let joined = self.folded.joined::<LANES>();
         let ending = &kept[..16 + self.len];

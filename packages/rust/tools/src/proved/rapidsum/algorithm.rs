@@ -4,7 +4,7 @@
 
 use rapidhash_tool::kit::Vec;
 use rapidhash_tool::form::Version;
-use rapidhash_tool::kit::kernel::{MIXED, PLAIN, UNROLLED};
+use rapidhash_tool::kit::kernel::{MIXED, NOT_COMPACT, PLAIN};
 use rapidhash::v1::{rapidhash_v1_file_seeded, rapidhash_v1_seeded};
 use rapidhash::v2::{rapidhash_v2_file_inline, rapidhash_v2_inline};
 use rapidhash::v3::rapidhash_v3_file_lanes;
@@ -118,7 +118,7 @@ fn hash_v2<const MINOR: u8, A: Allocator + Copy, R: Read>(
         _ => {
             let bytes = read_whole(alloc, reader)?;
             let bytes = bytes.as_slice();
-            Ok(rapidhash_v2_inline::<MINOR, MIXED, UNROLLED, PLAIN>(
+            Ok(rapidhash_v2_inline::<MINOR, MIXED, NOT_COMPACT, PLAIN>(
                 bytes, &secrets,
             ))
         }
