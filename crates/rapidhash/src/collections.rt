@@ -29,7 +29,7 @@ pub type RapidHashMap<'s, K, V, A = Global> = HashMap<K, V, RandomState<'s>, A>;
 
 /// The set of std over [`RandomState`].
 ///
-/// Names without duplicates, each where it first occurs:
+/// Removes the duplicates of names, and keeps the first of each:
 ///
 /// ```
 /// let mut seen: RapidHashSet<&str> = HashSetExt::new(alloc, state);

@@ -2,7 +2,7 @@
 //!
 //! - [`same_words_v3`] and its like: nothing of a message is lost before it is mixed, and the hash
 //!   depends on nothing else.
-//! - [`micro_is_v3`] and its like: two forms have one hash of a message of some lengths.
+//! - [`micro_is_v3`] and its like: two forms agree at some lengths, such as micro and V3 up to 80.
 //! - [`lane_after_its_secret`]: what `PROTECTED` keeps.
 //! - [`same_blocks`]: integers of equal widths are packed one to one.
 //! - [`join_u8`], [`turn_bytes`] and their like: writes that may be joined or swapped.

@@ -120,7 +120,7 @@ impl Model for RapidRng {
 }
 
 impl RapidRng {
-    /// Returns a generator whose state is `seed`. Two seeds are two points of the same cycle.
+    /// Returns a generator whose state is `seed`. All generators share one cycle.
     #[inline]
     pub const fn new(seed: u64) -> RapidRng
         ensures { result ≡ seed }

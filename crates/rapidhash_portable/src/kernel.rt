@@ -11,7 +11,7 @@ pub mod v3;
 
 /// For `AVALANCHE`: the last product is mixed once more.
 pub const MIXED: bool = true;
-/// For `COMPACT`: rows are folded two at a time.
+/// For `COMPACT`, switched off: each iteration folds two rows.
 pub const NOT_COMPACT: bool = false;
 /// For `PROTECTED`: no product is mixed with its factors.
 pub const PLAIN: bool = false;

@@ -7,7 +7,7 @@
 //! - [`util`] holds the reads and the multiply that all of it uses.
 //! - [`form`] holds the types that the definition uses.
 //! - [`kernel`] holds the hashes of a slice as the definition has them, with a seed and secrets.
-//! - [`in_memory`] holds the core of the in-memory hasher of the crate `rapidhash`.
+//! - [`in_memory`] holds the hash that `RapidHasher::write` of the crate `rapidhash` absorbs.
 //!
 //! The rows (`lanes`), what follows the rows (`tail`), the words that a message ends in (`words`),
 //! the reads of a known length (`known_length`) and the arithmetic of secrets (`secrets`) are

@@ -1,4 +1,4 @@
-//! Secrets and seeds made from random words. Nothing here is global: the caller passes the words,
+//! Secrets and seeds made from random words. There is no global state: the caller passes the words,
 //! owns the values, and lends them to what hashes with them.
 
 ghost use Rattle.std.specs.Prelude.{◌≡◌, All};

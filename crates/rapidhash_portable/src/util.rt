@@ -1,7 +1,7 @@
 //! Little-endian reads and the folded multiply.
 //!
-//! They are marked `inline`, not `inline(always)`: the compiler inlines them all the same, but
-//! counts them as calls when it looks how large their callers would grow.
+//! They are marked `inline`, not `inline(always)`: the compiler inlines them anyway, and its cost
+//! model then counts a call, not the whole body, when it decides whether to inline a caller.
 
 ghost use Rattle.std.specs.Prelude.{◌≡◌, ◌+◌, ◌≤◌, length};
 ghost use Rattle.rapidhash_portable.specs.Bytes.{word32, word64};

@@ -85,6 +85,7 @@ impl RapidhashVersion {
     }
 }
 
+// Returns V1 of a slice.
 fn hash_v1(protected: bool, bytes: &[u8]) -> u64
     ensures { result ≡ hash_of (RapidhashVersion.V1 protected) bytes.now }
 {
@@ -96,6 +97,7 @@ fn hash_v1(protected: bool, bytes: &[u8]) -> u64
     }
 }
 
+// Returns V2 of a slice.
 fn hash_v2(version: Minor, protected: bool, bytes: &[u8]) -> u64
     ensures { result ≡ hash_of (RapidhashVersion.V2 protected version) bytes.now }
 {
@@ -110,6 +112,7 @@ fn hash_v2(version: Minor, protected: bool, bytes: &[u8]) -> u64
     }
 }
 
+// Returns V1 of a reader's first `len` bytes.
 fn hash_v1_file<R: Read>(protected: bool, reader: &mut R, len: u64) -> io::Result<u64>
     ensures { HashesNext (R.remaining reader.old) (R.remaining reader.new) len result (λ _. true)
         (hash_of (RapidhashVersion.V1 protected)) }
@@ -122,6 +125,7 @@ fn hash_v1_file<R: Read>(protected: bool, reader: &mut R, len: u64) -> io::Resul
     }
 }
 
+// Returns V2 of a reader's first `len` bytes.
 fn hash_v2_file<R: Read>(
     version: Minor,
     protected: bool,

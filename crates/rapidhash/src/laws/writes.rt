@@ -27,7 +27,7 @@ pub fn join_u8<const AVALANCHE: bool, const COMPACT: bool, const PROTECTED: bool
     hasher.write_u8(high);
 }
 
-/// Does the same as [`join_u8`] with two integers of 16 bits and one of 32.
+/// Writes two integers of 16 bits. The law is that of [`join_u8`], for one of 32 bits.
 pub fn join_u16<const AVALANCHE: bool, const COMPACT: bool, const PROTECTED: bool>(
     hasher: &mut RapidHasher<'_, AVALANCHE, true, COMPACT, PROTECTED>,
     low: u16,
@@ -39,7 +39,7 @@ pub fn join_u16<const AVALANCHE: bool, const COMPACT: bool, const PROTECTED: boo
     hasher.write_u16(high);
 }
 
-/// Does the same as [`join_u8`] with two integers of 32 bits and one of 64.
+/// Writes two integers of 32 bits. The law is that of [`join_u8`], for one of 64 bits.
 pub fn join_u32<const AVALANCHE: bool, const COMPACT: bool, const PROTECTED: bool>(
     hasher: &mut RapidHasher<'_, AVALANCHE, true, COMPACT, PROTECTED>,
     low: u32,
@@ -69,7 +69,7 @@ pub fn turn_bytes<const AVALANCHE: bool, const COMPACT: bool, const PROTECTED: b
     write_num(hasher, number);
 }
 
-/// Does the same as [`turn_bytes`] with a number of 128 bits and then an integer.
+/// Writes a number of 128 bits, and then an integer. The law is that of [`turn_bytes`].
 pub fn turn_u128<const AVALANCHE: bool, const COMPACT: bool, const PROTECTED: bool>(
     hasher: &mut RapidHasher<'_, AVALANCHE, true, COMPACT, PROTECTED>,
     wide: u128,

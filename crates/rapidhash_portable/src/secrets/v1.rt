@@ -5,7 +5,7 @@ ghost use Rattle.rapidhash_portable.specs.Secrets.{IsGood, cpp_seeded, default_s
 
 use super::{DEFAULT_SECRETS, chain, cpp_seed_of, reseed_of, seed_of};
 
-/// A seed and the three secrets of V1. Make one once and keep it: making it costs four multiplies
+/// A seed and the three secrets of V1. Derive it once and keep it: deriving costs four multiplies
 /// or more. It is laid out as in C.
 #[repr(C)]
 #[derive(Debug, Clone, Copy, PartialEq, Eq, Hash)]

@@ -80,7 +80,7 @@ pub fn rapidhash_v1_file<R: Read>(data: &mut R, len: u64) -> io::Result<u64>
 ///
 /// # Errors
 ///
-/// Those of [`rapidhash_v1_file`].
+/// Returns the errors of [`rapidhash_v1_file`].
 pub fn rapidhash_v1_file_seeded<R: Read>(
     data: &mut R,
     len: u64,
@@ -96,7 +96,7 @@ pub fn rapidhash_v1_file_seeded<R: Read>(
 ///
 /// # Errors
 ///
-/// Those of [`rapidhash_v1_file`].
+/// Returns the errors of [`rapidhash_v1_file`].
 pub fn rapidhash_v1_file_inline<R: Read, const PROTECTED: bool>(
     data: &mut R,
     len: u64,

@@ -82,7 +82,7 @@ pub fn rapidhash_v2_2_file<R: Read>(data: &mut R, len: u64) -> io::Result<u64>
 ///
 /// # Errors
 ///
-/// Those of [`rapidhash_v2_2_file`].
+/// Returns the errors of [`rapidhash_v2_2_file`].
 pub fn rapidhash_v2_2_file_seeded<R: Read>(
     data: &mut R,
     len: u64,
@@ -99,7 +99,7 @@ pub fn rapidhash_v2_2_file_seeded<R: Read>(
 ///
 /// # Errors
 ///
-/// Those of [`rapidhash_v2_2_file`].
+/// Returns the errors of [`rapidhash_v2_2_file`].
 pub fn rapidhash_v2_file_inline<R: Read, const MINOR: u8, const PROTECTED: bool>(
     data: &mut R,
     len: u64,

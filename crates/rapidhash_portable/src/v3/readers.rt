@@ -56,7 +56,7 @@ pub fn rapidhash_v3_source<R: Read, const PROTECTED: bool>(
 ///
 /// # Errors
 ///
-/// Those of [`rapidhash_v3_source`].
+/// Returns the errors of [`rapidhash_v3_source`].
 pub fn rapidhash_v3_source_sized<R: Read, const SIZE: usize, const PROTECTED: bool>(
     source: &mut Source<R>,
     secrets: &RapidSecrets,
@@ -86,7 +86,7 @@ pub fn rapidhash_v3_source_sized<R: Read, const SIZE: usize, const PROTECTED: bo
 ///
 /// # Errors
 ///
-/// Those of [`rapidhash_v3_source`].
+/// Returns the errors of [`rapidhash_v3_source`].
 pub fn rapidhash_v3_source_lanes<
     R: Read,
     const LANES: usize,
@@ -169,7 +169,7 @@ pub fn rapidhash_v3_file<R: Read + Drop>(data: R) -> io::Result<u64>
 ///
 /// # Errors
 ///
-/// Those of [`rapidhash_v3_file`].
+/// Returns the errors of [`rapidhash_v3_file`].
 pub fn rapidhash_v3_file_seeded<R: Read + Drop>(data: R, secrets: &RapidSecrets) -> io::Result<u64>
     ensures { HashesKnown (R.remaining «data») result
         (seeded_hash v3 standard secrets.now) }
@@ -181,7 +181,7 @@ pub fn rapidhash_v3_file_seeded<R: Read + Drop>(data: R, secrets: &RapidSecrets)
 ///
 /// # Errors
 ///
-/// Those of [`rapidhash_v3_file`].
+/// Returns the errors of [`rapidhash_v3_file`].
 pub fn rapidhash_v3_file_inline<R: Read + Drop, const PROTECTED: bool>(
     data: R,
     secrets: &RapidSecrets,
@@ -197,7 +197,7 @@ pub fn rapidhash_v3_file_inline<R: Read + Drop, const PROTECTED: bool>(
 ///
 /// # Errors
 ///
-/// Those of [`rapidhash_v3_file`].
+/// Returns the errors of [`rapidhash_v3_file`].
 pub fn rapidhash_v3_file_sized<R: Read + Drop, const SIZE: usize, const PROTECTED: bool>(
     data: R,
     secrets: &RapidSecrets,
@@ -214,7 +214,7 @@ pub fn rapidhash_v3_file_sized<R: Read + Drop, const SIZE: usize, const PROTECTE
 ///
 /// # Errors
 ///
-/// Those of [`rapidhash_v3_file`].
+/// Returns the errors of [`rapidhash_v3_file`].
 #[tactic(auto, using(crate::proofs::Cases::of_reader))]
 pub fn rapidhash_v3_file_lanes<
     R: Read + Drop,

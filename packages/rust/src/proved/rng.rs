@@ -95,7 +95,7 @@ pub struct RapidRng {
 }
 
 impl RapidRng {
-    /// Returns a generator whose state is `seed`. Two seeds are two points of the same cycle.
+    /// Returns a generator whose state is `seed`. All generators share one cycle.
     #[inline]
     #[must_use]
     pub const fn new(seed: u64) -> RapidRng {

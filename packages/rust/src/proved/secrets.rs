@@ -6,7 +6,7 @@ pub mod v1;
 
 use crate::util::rapid_mix;
 
-/// A seed and the seven secrets of V2 and V3. Make one once and keep it: making it costs eight
+/// A seed and the seven secrets of V2 and V3. Derive it once and keep it: deriving costs eight
 /// multiplies.
 #[repr(C)]
 #[derive(Clone, Copy, PartialEq, Eq, Hash)]

@@ -1,6 +1,6 @@
 // Made by scripts/rust_crate from crates/rapidhash_portable/src/seeding.rt: change that file.
 
-//! Secrets and seeds made from random words. Nothing here is global: the caller passes the words,
+//! Secrets and seeds made from random words. There is no global state: the caller passes the words,
 //! owns the values, and lends them to what hashes with them.
 
 use crate::secrets::{DEFAULT_SECRETS, global_seed_of, made_secrets};

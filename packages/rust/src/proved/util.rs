@@ -2,8 +2,8 @@
 
 //! Little-endian reads and the folded multiply.
 //!
-//! They are marked `inline`, not `inline(always)`: the compiler inlines them all the same, but
-//! counts them as calls when it looks how large their callers would grow.
+//! They are marked `inline`, not `inline(always)`: the compiler inlines them anyway, and its cost
+//! model then counts a call, not the whole body, when it decides whether to inline a caller.
 
 /// Every other bit, from the highest on: the avalanche of V2, V3 and the in-memory core mixes it
 /// into the last product.

@@ -53,7 +53,7 @@ pub(crate) struct Folded {
 }
 
 impl Folded {
-    /// Lanes that all hold the seed.
+    /// Returns lanes that all hold the seed.
     #[inline(always)]
     pub(crate) const fn new(seed: u64) -> Self
         ensures lanes { result.lanes ≡ replicate 7 seed }

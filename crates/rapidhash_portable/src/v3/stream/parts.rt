@@ -40,7 +40,7 @@ fn sixteen(bytes: &[u8], from: usize) -> [u8; 16]
     out
 }
 
-/// Copies a piece over as many bytes, as its first `COUNT` and its last `COUNT`, which may overlap.
+/// Copies `piece` in two moves, its first and its last `COUNT` bytes, which may overlap.
 #[inline(always)]
 fn copy_ends<const COUNT: usize>(room: &mut [u8], piece: &[u8])
     requires alike { length room.old ≡ length piece.now }

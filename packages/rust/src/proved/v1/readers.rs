@@ -67,7 +67,7 @@ pub fn rapidhash_v1_file<R: Read + ?Sized>(data: &mut R, len: u64) -> io::Result
 ///
 /// # Errors
 ///
-/// Those of [`rapidhash_v1_file`].
+/// Returns the errors of [`rapidhash_v1_file`].
 pub fn rapidhash_v1_file_seeded<R: Read + ?Sized>(
     data: &mut R,
     len: u64,
@@ -80,7 +80,7 @@ pub fn rapidhash_v1_file_seeded<R: Read + ?Sized>(
 ///
 /// # Errors
 ///
-/// Those of [`rapidhash_v1_file`].
+/// Returns the errors of [`rapidhash_v1_file`].
 pub fn rapidhash_v1_file_inline<R: Read + ?Sized, const PROTECTED: bool>(
     data: &mut R,
     len: u64,

@@ -68,7 +68,7 @@ pub fn rapidhash_v2_2_file<R: Read + ?Sized>(data: &mut R, len: u64) -> io::Resu
 ///
 /// # Errors
 ///
-/// Those of [`rapidhash_v2_2_file`].
+/// Returns the errors of [`rapidhash_v2_2_file`].
 pub fn rapidhash_v2_2_file_seeded<R: Read + ?Sized>(
     data: &mut R,
     len: u64,
@@ -82,7 +82,7 @@ pub fn rapidhash_v2_2_file_seeded<R: Read + ?Sized>(
 ///
 /// # Errors
 ///
-/// Those of [`rapidhash_v2_2_file`].
+/// Returns the errors of [`rapidhash_v2_2_file`].
 pub fn rapidhash_v2_file_inline<R: Read + ?Sized, const MINOR: u8, const PROTECTED: bool>(
     data: &mut R,
     len: u64,

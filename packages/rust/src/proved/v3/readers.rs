@@ -45,7 +45,7 @@ pub fn rapidhash_v3_source<R: Read, const PROTECTED: bool>(
 ///
 /// # Errors
 ///
-/// Those of [`rapidhash_v3_source`].
+/// Returns the errors of [`rapidhash_v3_source`].
 #[doc(hidden)]
 pub fn rapidhash_v3_source_sized<R: Read, const SIZE: usize, const PROTECTED: bool>(
     source: &mut Source<R>,
@@ -70,7 +70,7 @@ pub fn rapidhash_v3_source_sized<R: Read, const SIZE: usize, const PROTECTED: bo
 ///
 /// # Errors
 ///
-/// Those of [`rapidhash_v3_source`].
+/// Returns the errors of [`rapidhash_v3_source`].
 #[doc(hidden)]
 pub fn rapidhash_v3_source_lanes<
     R: Read,
@@ -134,7 +134,7 @@ pub fn rapidhash_v3_file<R: Read>(data: R) -> io::Result<u64> {
 ///
 /// # Errors
 ///
-/// Those of [`rapidhash_v3_file`].
+/// Returns the errors of [`rapidhash_v3_file`].
 pub fn rapidhash_v3_file_seeded<R: Read>(data: R, secrets: &RapidSecrets) -> io::Result<u64> {
     rapidhash_v3_file_lanes::<R, 7, BUFFER, false>(data, secrets)
 }
@@ -143,7 +143,7 @@ pub fn rapidhash_v3_file_seeded<R: Read>(data: R, secrets: &RapidSecrets) -> io:
 ///
 /// # Errors
 ///
-/// Those of [`rapidhash_v3_file`].
+/// Returns the errors of [`rapidhash_v3_file`].
 pub fn rapidhash_v3_file_inline<R: Read, const PROTECTED: bool>(
     data: R,
     secrets: &RapidSecrets,
@@ -156,7 +156,7 @@ pub fn rapidhash_v3_file_inline<R: Read, const PROTECTED: bool>(
 ///
 /// # Errors
 ///
-/// Those of [`rapidhash_v3_file`].
+/// Returns the errors of [`rapidhash_v3_file`].
 #[doc(hidden)]
 pub fn rapidhash_v3_file_sized<R: Read, const SIZE: usize, const PROTECTED: bool>(
     data: R,
@@ -170,7 +170,7 @@ pub fn rapidhash_v3_file_sized<R: Read, const SIZE: usize, const PROTECTED: bool
 ///
 /// # Errors
 ///
-/// Those of [`rapidhash_v3_file`].
+/// Returns the errors of [`rapidhash_v3_file`].
 #[doc(hidden)]
 pub fn rapidhash_v3_file_lanes<
     R: Read,

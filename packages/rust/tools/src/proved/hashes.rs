@@ -64,6 +64,7 @@ impl RapidhashVersion {
     }
 }
 
+// Returns V1 of a slice.
 fn hash_v1(protected: bool, bytes: &[u8]) -> u64 {
     let secrets = v1::RapidSecrets::default_ref();
     if protected {
@@ -73,6 +74,7 @@ fn hash_v1(protected: bool, bytes: &[u8]) -> u64 {
     }
 }
 
+// Returns V2 of a slice.
 fn hash_v2(version: Minor, protected: bool, bytes: &[u8]) -> u64 {
     let secrets = v2::RapidSecrets::default_ref();
     match (version, protected) {
@@ -85,6 +87,7 @@ fn hash_v2(version: Minor, protected: bool, bytes: &[u8]) -> u64 {
     }
 }
 
+// Returns V1 of a reader's first `len` bytes.
 fn hash_v1_file<R: Read>(protected: bool, reader: &mut R, len: u64) -> io::Result<u64> {
     let secrets = v1::RapidSecrets::default_ref();
     if protected {
@@ -94,6 +97,7 @@ fn hash_v1_file<R: Read>(protected: bool, reader: &mut R, len: u64) -> io::Resul
     }
 }
 
+// Returns V2 of a reader's first `len` bytes.
 fn hash_v2_file<R: Read>(
     version: Minor,
     protected: bool,

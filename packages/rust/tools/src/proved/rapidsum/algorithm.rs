@@ -16,8 +16,8 @@ use std::io::{Error, ErrorKind, Read};
 /// How many bytes are read from a file at once, into a buffer on the stack.
 const PIECE: usize = 65536;
 
-/// V1 and V2 read longer files of a known length in pieces. A file of the system may have fewer
-/// bytes than its length, but has no such length.
+/// V1 and V2 read longer files of a known length in pieces. A file of /proc or /sys may have fewer
+/// bytes than its length, which is always below this.
 const WHOLE: u64 = 65536;
 
 /// A version, and the word from which its seed is derived instead of the default word.
