@@ -11,6 +11,8 @@ REPLACED = [
     ("v3/stream/parts", "secrets: &'a RapidSecrets", "secrets: Owned<'a>", "as above"),
     ("v3/stream v3/stream/c_stream", "secrets: &'a RapidSecrets", "secrets: &RapidSecrets", "as above"),
     ("v3/stream v3/stream/c_stream", "secrets,\n", "secrets: crate::held::Owned::new(secrets),\n", "as above"),
+    ("key", "//! encodings ([`same_keys`](crate::laws::same_keys)), so", "//! encodings, so", "the laws are contracts"),
+    ("key", "#[derive(Clone, Copy)]", "#[derive(Debug, Clone, Copy, PartialEq, Eq, Hash)]", "users expect these"),
     ("seeding", "    counter: u64,\n    random: u64,", "    pub(crate) counter: u64,\n    pub(crate) random: u64,",
      "a thread keeps the words of its source apart"),
     ("rng", "from_moment(secs: u64, nanos: u32)", "from_moment(time: Duration)", "a duration is always valid"),

@@ -20,6 +20,7 @@
 //! |---|---|
 //! | values that are stored or sent | [`v3::rapidhash_v3`]; [`v3::RapidStreamHasherV3`] in pieces, `v3::rapidhash_v3_file` for a reader |
 //! | the same with less code | [`v3::rapidhash_v3_nano_inline`], or V3 with `COMPACT`: [`v3::rapidhash_v3_inline`] |
+//! | a key of several fields, the same in every language | [`key::hash`] |
 //! | values that older programs stored | [`v1`], [`v2`] |
 //! | maps and sets | `RapidHashMap`, `RapidHashSet`, or those of other crates with [`fast::RandomState`] |
 //! | tables, filters and sketches, which use the bits of a hash as they are | [`quality::RandomState`] |
@@ -107,6 +108,7 @@ mod held;
 pub mod inner;
 #[cfg(feature = "std")]
 mod io;
+pub mod key;
 mod proved;
 pub mod quality;
 mod random;

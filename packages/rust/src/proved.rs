@@ -9,6 +9,7 @@ pub mod inner {
     }
 }
 pub mod kernel;
+pub mod key;
 #[cfg(feature = "std")]
 pub mod known_length;
 pub mod lanes;
