@@ -65,6 +65,20 @@ def vector_queries(literal, integer):
     compare("count_of_vectors", count, 3032 + 16 + 717)
 
 
+def key_queries(literal, integer):
+    """Yields a query for each key with fields in the file of keys, whose result must be true."""
+    lines = (TOP / "crates/test_replay/data/keys.tsv").read_text().splitlines()[3:]
+    compare("count_of_keys", len(lines), 120)
+    for key, rule, number in (line.split("\t") for line in lines):
+        fields = ["NULL" if text == "-" else literal(bytes.fromhex(text[1:])) if text[0] == "x" else integer(int(text))
+                  for text in key.split()]
+        name, _, word = rule.partition(":")
+        name = {"default": "", "cpp": "_with_seed", "seed": "_with_secrets"}[name]
+        words = [integer(signed(int(word)))] if word else []
+        if fields:
+            yield f"SELECT rapidhash_v3_key{name}({', '.join(words + fields)}) = {signed(int(number))};"
+
+
 def lines_with_results(page):
     """Returns the queries of a page that state their results, with these results."""
     return re.findall(r"^(SELECT .*?); *-- (-?\w+)$", "".join(blocks(page, "sql")), re.M)

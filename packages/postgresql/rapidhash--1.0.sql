@@ -6,6 +6,14 @@ CREATE FUNCTION rapidhash_hex(hash bigint) RETURNS text
 CREATE FUNCTION rapidhash_agg_finish(internal) RETURNS bigint
     AS 'MODULE_PATHNAME', 'finish_agg' LANGUAGE C IMMUTABLE PARALLEL SAFE;
 
+-- The hash of a key of several fields, of which NULL is one.
+CREATE FUNCTION rapidhash_v3_key(VARIADIC fields "any") RETURNS bigint
+    AS 'MODULE_PATHNAME', 'sql_v3_key' LANGUAGE C IMMUTABLE PARALLEL SAFE;
+CREATE FUNCTION rapidhash_v3_key_with_seed(seed bigint, VARIADIC fields "any") RETURNS bigint
+    AS 'MODULE_PATHNAME', 'sql_v3_key_with_seed' LANGUAGE C IMMUTABLE PARALLEL SAFE;
+CREATE FUNCTION rapidhash_v3_key_with_secrets(number bigint, VARIADIC fields "any") RETURNS bigint
+    AS 'MODULE_PATHNAME', 'sql_v3_key_with_secrets' LANGUAGE C IMMUTABLE PARALLEL SAFE;
+
 -- Creates each version for bytea, text, and bigint: by default, with a seed, and with secrets made from a number. Those
 -- that can be streamed are also aggregates.
 DO $body$

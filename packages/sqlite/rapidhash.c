@@ -114,6 +114,67 @@ static void call(sqlite3_context *context, int count, sqlite3_value **values)
         sqlite3_result_int64(context, (sqlite3_int64)function->hash(message.bytes, message.len, word));
 }
 
+/* A call for a key, and its first argument, from which `make` makes the secrets. */
+struct key {
+    const char *name;
+    const char *word;
+    void (*make)(uint64_t word, struct rapidhash_secrets *secrets);
+};
+
+static const struct key keys[] = {
+    {"rapidhash_v3_key", NULL, rapidhash_seed_secrets},
+    {"rapidhash_v3_key_with_seed", "seed", rapidhash_seed_secrets},
+    {"rapidhash_v3_key_with_secrets", "number", rapidhash_make_secrets},
+};
+
+/* Appends a value to a key. Returns 0 with an error set if it is no field. */
+static int add_field(sqlite3_context *context, const char *name, int at, sqlite3_value *value,
+                     struct rapidhash_stream *stream)
+{
+    struct message message;
+    char refused[120];
+    switch (sqlite3_value_type(value)) {
+    case SQLITE_NULL:
+        rapidhash_key_nothing(stream);
+        return 1;
+    case SQLITE_INTEGER:
+        rapidhash_key_integer(stream, sqlite3_value_int64(value));
+        return 1;
+    case SQLITE_FLOAT:
+        sqlite3_snprintf(sizeof refused, refused, "argument %d is a REAL, and no field of a key: cast it to TEXT, BLOB "
+                         "or INTEGER", at);
+        refuse(context, name, refused);
+        return 0;
+    default:
+        if (!read_message(context, name, value, &message))
+            return 0;
+        rapidhash_key_bytes(stream, message.bytes, message.len);
+        return 1;
+    }
+}
+
+/* Returns the hash of a key of several fields. */
+static void call_key(sqlite3_context *context, int count, sqlite3_value **values)
+{
+    const struct key *const key = sqlite3_user_data(context);
+    struct rapidhash_secrets secrets;
+    struct rapidhash_stream stream;
+    uint64_t word = 0;
+    int at = key->word != NULL;
+    if (count < at) {
+        refuse(context, key->name, "the first argument is missing");
+        return;
+    }
+    if (at == 1 && !read_word(context, key->name, key->word, values[0], &word))
+        return;
+    key->make(word, &secrets);
+    rapidhash_v3_start(&stream, &secrets);
+    for (; at < count; at++)
+        if (!add_field(context, key->name, at + 1, values[at], &stream))
+            return;
+    sqlite3_result_int64(context, (sqlite3_int64)rapidhash_stream_finish(&stream));
+}
+
 /* Returns a hash as 16 hexadecimal digits. */
 static void digits_of(sqlite3_context *context, int count, sqlite3_value **values)
 {
@@ -215,6 +276,9 @@ int sqlite3_rapidhash_init(sqlite3 *database, char **error, const sqlite3_api_ro
     for (at = 0; at < COUNT(functions) && status == SQLITE_OK; at++)
         status = sqlite3_create_function_v2(database, functions[at].name, functions[at].word == NULL ? 1 : 2, FLAGS,
             (void *)&functions[at], call, NULL, NULL, NULL);
+    for (at = 0; at < COUNT(keys) && status == SQLITE_OK; at++)
+        status = sqlite3_create_function_v2(database, keys[at].name, -1, FLAGS, (void *)&keys[at], call_key, NULL, NULL,
+            NULL);
     for (at = 0; at < 2 * COUNT(aggregates) && status == SQLITE_OK; at++)
         status = sqlite3_create_window_function(database, aggregates[at / 2].name, 1 + (int)(at % 2), FLAGS,
             (void *)&aggregates[at / 2], step, answer, answer, lose, NULL);

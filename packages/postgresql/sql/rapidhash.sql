@@ -9,6 +9,11 @@ SELECT rapidhash_v3(1.5);
 SELECT rapidhash_v3(1.5::real);
 -- A call with secrets requires their number.
 SELECT rapidhash_v3_with_secrets('a');
+-- Fields of a key, and what is none.
+SELECT rapidhash_v3_key('user', 4711, NULL), rapidhash_v3_key_with_seed(7, 'user', 4711, NULL);
+SELECT rapidhash_v3_key('a', 1.5);
+SELECT rapidhash_v3_key('a', now());
+SELECT rapidhash_v3_key(VARIADIC ARRAY[1, 2]);
 -- NULL as any argument.
 SELECT rapidhash_v3(NULL::text), rapidhash_v3('a', NULL), rapidhash_v3(NULL::text, 1), rapidhash_v3_with_secrets(1, NULL),
   rapidhash_hex(NULL);

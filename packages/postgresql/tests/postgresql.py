@@ -13,7 +13,7 @@ from pathlib import Path
 
 sys.path.append(str(Path(__file__).parents[3] / "tests"))
 from cases import ROOM, TOP, blocks, compare, finish, needs, shell, tell  # noqa: E402
-from sql import BINDINGS, HELLO, STREAMS, lines_with_results, unpack, vector_queries  # noqa: E402
+from sql import BINDINGS, HELLO, STREAMS, key_queries, lines_with_results, signed, unpack, vector_queries  # noqa: E402
 
 PAGE = "packages/postgresql/README.md"
 # The directory of its databases, which also contains its socket.
@@ -64,6 +64,16 @@ def vectors():
     tell("vectors", *[query[:200] for query, line in zip_longest(queries, found, fillvalue="") if line != "t"])
 
 
+def keys():
+    queries = [*key_queries(lambda message: f"'\\x{message.hex()}'::bytea", "'{}'::bigint".format)]
+    found = ask("\n".join(queries))
+    tell("keys", *[query[:200] for query, line in zip_longest(queries, found, fillvalue="") if line != "t"])
+    user = signed(14742763072502883419)
+    for fields in ("'user', 4711, NULL", "'user'::text, 4711::smallint, NULL::text", "'user'::varchar, 4711::bigint, NULL"):
+        compare(f"key of {fields}", ask(f"SELECT rapidhash_v3_key({fields})"), [str(user)])
+    compare("key with no seed", ask("SELECT rapidhash_v3_key_with_seed(NULL, 1) IS NULL"), ["t"])
+
+
 def installcheck():
     """Runs the extension's own tests, as its users do, which compare types, errors and NULL with a stored output."""
     status, printed = shell("make -s -C build/postgresql installcheck", PGHOST=str(DATA), PGUSER="test")
@@ -102,7 +112,7 @@ def aggregates():
 
 def rest():
     # The calls and rapidhash_hex, the aggregates, and the functions that these are made of.
-    compare("functions", ask(FUNCTIONS), ["a|f|18|9|t", "f|f|19|9|t", "f|t|73|48|t"])
+    compare("functions", ask(FUNCTIONS), ["a|f|18|9|t", "f|f|22|11|t", "f|t|73|48|t"])
     for query, wanted in lines_with_results(PAGE):
         compare(query, ask(query), [wanted])
     [query] = re.findall(r"^SELECT .*_agg.*;$", blocks(PAGE, "sql")[0], re.M)
@@ -133,7 +143,7 @@ def start(binaries, shared):
 needs("cc", "pg_config", "psql", "setpriv", "/usr/lib/postgresql/*/bin/initdb", "/usr/include/postgresql/*/server/postgres.h")
 stop = start(*folders_of_the_server())
 try:
-    for step in (install, installcheck, unpacked_archive, vectors, storages, aggregates, rest):
+    for step in (install, installcheck, unpacked_archive, vectors, keys, storages, aggregates, rest):
         step()
 finally:
     shell(stop, "/")

@@ -10,7 +10,7 @@ from pathlib import Path
 sys.path.append(str(Path(__file__).parents[3] / "tests"))
 from cases import ROOM, TOP, blocks, compare, finish, needs, shell, skip_all, tell  # noqa: E402
 from sql import BINDINGS, DIGITS, HELLO, NOTHING, TEXT, TEXT_HASH  # noqa: E402
-from sql import lines_with_results, signed, unpack, vector_queries  # noqa: E402
+from sql import key_queries, lines_with_results, signed, unpack, vector_queries  # noqa: E402
 
 PAGE = "packages/sqlite/README.md"
 REAL = "a REAL cannot be hashed: cast it to TEXT, BLOB or INTEGER"
@@ -28,6 +28,10 @@ ERRORS = {
     "rapidhash_v3()": "wrong number of arguments to function rapidhash_v3()",
     "rapidhash_v3_with_secrets(1)": "wrong number of arguments to function rapidhash_v3_with_secrets()",
     "rapidhash_v3_agg(1, 2, 3)": "wrong number of arguments to function rapidhash_v3_agg()",
+    "rapidhash_v3_key('a', 1.5)":
+        "rapidhash_v3_key: argument 2 is a REAL, and no field of a key: cast it to TEXT, BLOB or INTEGER",
+    "rapidhash_v3_key_with_seed()": "rapidhash_v3_key_with_seed: the first argument is missing",
+    "rapidhash_v3_key_with_secrets('1')": "rapidhash_v3_key_with_secrets: the number must be an INTEGER",
 }
 MEMORY = """cc -std=c99 -g -Wall -Wextra -Werror -fsanitize=address,undefined -fno-sanitize-recover=all -Ipackages/c/include \
     packages/sqlite/rapidhash.c packages/sqlite/tests/test_memory.c -lsqlite3 -o "$ROOM/test_memory"
@@ -59,6 +63,14 @@ def ask(database, query, *values):
 def vectors(database):
     queries = vector_queries(lambda message: f"x'{message.hex()}'", str)
     tell("vectors", *[query[:200] for query in queries if ask(database, query) != [(1,)]])
+
+
+def keys(database):
+    queries = key_queries(lambda message: f"x'{message.hex()}'", str)
+    tell("keys", *[query[:200] for query in queries if ask(database, query) != [(1,)]])
+    found = ask(database, """SELECT rapidhash_v3_key(), rapidhash_v3_key('user', 4711, NULL),
+        rapidhash_v3_key_with_seed(7, x'75736572', 4711, NULL), rapidhash_v3_key_with_seed(NULL, 1)""")
+    compare("keys_of_each_type", found, [(NOTHING, signed(14742763072502883419), 4558979304646042975, None)])
 
 
 def types(database, name):
@@ -135,6 +147,7 @@ commands()
 loaded = opened()
 loaded.execute("CREATE TABLE many (place INTEGER, part INTEGER, word TEXT)")
 vectors(loaded)
+keys(loaded)
 types(loaded, "types")
 types(opened("UTF-16le"), "types_in_utf_16le")
 types(opened("UTF-16be"), "types_in_utf_16be")
@@ -148,6 +161,6 @@ query = "SELECT rapidhash_v1(zeroblob(140000000)), rapidhash_v2_2(CAST(zeroblob(
 compare("long_values", ask(loaded, query), [(signed(15042570400923500380), signed(1949155381881807616))])
 compare("names", (ask(loaded, "SELECT count(*) FROM pragma_function_list WHERE name LIKE 'rapidhash%'"),
                   shell("nm -D --defined-only build/rapidhash.so | cut -d ' ' -f 3")[1]),
-        ([(31,)], "sqlite3_rapidhash_init\n"))
+        ([(34,)], "sqlite3_rapidhash_init\n"))
 compare("failing_memory", shell(MEMORY), (0, "every failed allocation ended in SQLITE_NOMEM\n"))
 finish()
