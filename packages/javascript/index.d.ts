@@ -40,6 +40,9 @@ export interface Hasher {
   load(saved: ArrayBuffer | ArrayBufferView): this;
 }
 
+/** A field of a key: nothing, an integer of 64 bits (a safe one, or a BigInt), a text, or bytes. */
+export type Field = null | undefined | number | bigint | string | Uint8Array | ArrayBuffer | DataView;
+
 /** The functions. A hash is from 0 to 2^64 - 1, the same on every machine. */
 export interface Rapidhash {
   v1(data: Message, options?: Options): bigint;
@@ -59,6 +62,9 @@ export interface Rapidhash {
   v3MicroHex(data: Message, options?: Options): string;
   v3NanoHex(data: Message, options?: Options): string;
   v3ProtectedHex(data: Message, options?: Options): string;
+  /** Returns the hash of a key of several fields, the same in every language. Any other field is an error. */
+  v3Key(...fields: Field[]): bigint;
+  v3KeyWith(options: Options, ...fields: Field[]): bigint;
   /** Makes a seed and secrets from a number, for every version except V1. If others choose input, use a random one. */
   makeSecrets(number: bigint | number): BigUint64Array;
   /** Returns the default secrets with a seed derived from a word, for every version except V1. */

@@ -5,6 +5,7 @@
 //
 // A hash is a BigInt below 2n ** 64n, the same on every machine. README.md describes every call.
 import { bytesOf, choose, kindOf, sizeOf, word } from "./arguments.mjs";
+import { encodeKey } from "./key.mjs";
 import { checkModule, isLong, Library, messageOf, piece } from "./library.mjs";
 import { Stream } from "./stream.mjs";
 import code from "./module.mjs";
@@ -106,6 +107,8 @@ function calls(library) {
   return {
     v1, v2_0, v2_1, v2_2, v3, v3Micro, v3Nano, v3Protected,
     v1Hex, v2_0Hex, v2_1Hex, v2_2Hex, v3Hex, v3MicroHex, v3NanoHex, v3ProtectedHex,
+    v3Key: (...fields) => v3(encodeKey(fields)),
+    v3KeyWith: (options, ...fields) => v3(encodeKey(fields), options),
     makeSecrets: secrets("make_secrets", 8),
     seedSecrets: secrets("seed_secrets", 8),
     makeSecretsV1: secrets("make_secrets_v1", 4),

@@ -25,8 +25,7 @@ static void read_secrets(const struct form *form, const struct start *start, str
         rapidhash_seed_secrets(start->has_seed ? start->seed : 0, &column->own.others);
 }
 
-/* Returns the letter of a buffer's format if its items have the machine's byte order, or else 0. */
-static char letter_of(const Py_buffer *buffer)
+char letter_of(const Py_buffer *buffer)
 {
     const char *format = buffer->format == NULL ? "B" : buffer->format;
     if (*format == '@' || *format == '=' || (PY_LITTLE_ENDIAN && *format == '<'))
@@ -34,12 +33,10 @@ static char letter_of(const Py_buffer *buffer)
     return *format != 0 && format[1] == 0 ? *format : 0;
 }
 
-/* Opens the room for `count` hashes. Returns 0, or -1 with an error set. */
-static int open_out(PyObject *out, size_t count, struct column *column)
+int open_out(PyObject *out, size_t count, Py_buffer *buffer)
 {
-    const Py_buffer *buffer = &column->out;
     char letter;
-    if (PyObject_GetBuffer(out, &column->out, PyBUF_WRITABLE | PyBUF_FORMAT | PyBUF_C_CONTIGUOUS) < 0)
+    if (PyObject_GetBuffer(out, buffer, PyBUF_WRITABLE | PyBUF_FORMAT | PyBUF_C_CONTIGUOUS) < 0)
         return -1;
     letter = letter_of(buffer);
     if (buffer->itemsize != 8 || (letter != 'Q' && letter != 'L'))
@@ -49,7 +46,7 @@ static int open_out(PyObject *out, size_t count, struct column *column)
                      buffer->len / 8);
     else
         return 0;
-    PyBuffer_Release(&column->out);
+    PyBuffer_Release(buffer);
     return -1;
 }
 
@@ -58,7 +55,7 @@ static int open_column(PyObject *module, PyObject *const *args, size_t count, st
 {
     const struct form *form = form_of(args[0]);
     struct start start;
-    if (form == NULL || read_start(module, form, args[1], args[2], &start) < 0 || open_out(args[3], count, column) < 0)
+    if (form == NULL || read_start(module, form, args[1], args[2], &start) < 0 || open_out(args[3], count, &column->out) < 0)
         return -1;
     read_secrets(form, &start, column);
     return 0;
@@ -88,9 +85,8 @@ static void name_item(Py_ssize_t at, PyObject *item)
         PyErr_Format(PyExc_TypeError, "items[%zd] must be bytes, another buffer, or a str, not %R", at, Py_TYPE(item));
 }
 
-/* Returns a new reference to an item of a list or tuple, or NULL with an error set. Without the global lock, another
- * thread can remove the item before this one holds it. */
-static PyObject *item_of(PyObject *items, int is_list, Py_ssize_t at)
+/* Without the global lock, another thread can remove the item before this one holds it. */
+PyObject *item_of(PyObject *items, int is_list, Py_ssize_t at)
 {
 #ifdef Py_GIL_DISABLED
     (void)is_list;

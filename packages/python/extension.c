@@ -74,22 +74,24 @@ static PyObject *digits_of(uint64_t hash)
 #define FORM(version, own) \
     static uint64_t with_secrets_##version(const void *bytes, size_t len, const void *secrets) \
     { return rapidhash_##version##_with_secrets(bytes, len, secrets); } \
-    static const struct form form_##version = { \
+    static const struct form version##_form = { \
         #version, rapidhash_##version, rapidhash_##version##_with_seed, with_secrets_##version, \
         sizeof(struct own##_secrets) == sizeof(struct rapidhash_v1_secrets)}; \
     static PyObject *call_##version(PyObject *module, PyObject *const *args, Py_ssize_t count, PyObject *names) \
     { \
         uint64_t value; \
-        if (hash(&form_##version, module, args, count, names, &value) < 0) return NULL; \
+        if (hash(&version##_form, module, args, count, names, &value) < 0) return NULL; \
         return PyLong_FromUnsignedLongLong(value); \
     } \
     static PyObject *hex_##version(PyObject *module, PyObject *const *args, Py_ssize_t count, PyObject *names) \
     { \
         uint64_t value; \
-        return hash(&form_##version, module, args, count, names, &value) < 0 ? NULL : digits_of(value); \
+        return hash(&version##_form, module, args, count, names, &value) < 0 ? NULL : digits_of(value); \
     }
 RAPIDHASH_C_VERSIONS(FORM)
-#define PLACE(version, own) &form_##version,
+#define PLACE(version, own) &version##_form,
+
+const struct form *const form_v3 = &v3_form;
 
 const struct form *form_of(PyObject *version)
 {
@@ -134,7 +136,8 @@ static PyMethodDef calls[] = {
     RAPIDHASH_C_VERSIONS(CALLS)
     {"made", made, METH_O, NULL}, {"made_v1", made_v1, METH_O, NULL}, {"seeded", seeded, METH_O, NULL},
     {"each", FAST(each), METH_FASTCALL, NULL}, {"each_row", FAST(each_row), METH_FASTCALL, NULL},
-    {"each_slice", FAST(each_slice), METH_FASTCALL, NULL}, {NULL, NULL, 0, NULL}};
+    {"each_slice", FAST(each_slice), METH_FASTCALL, NULL}, {"key", FAST(key_of), METH_FASTCALL, NULL},
+    {"each_key", FAST(each_key), METH_FASTCALL, NULL}, {NULL, NULL, 0, NULL}};
 
 /* The module's state: the classes of secrets, that of V1 second. Each interpreter has its own. */
 static int fill(PyObject *module)

@@ -47,6 +47,20 @@ void release_message(struct message *message);
 /* Returns the form of a version's name, or NULL with an error set. */
 const struct form *form_of(PyObject *version);
 
+/* V3. */
+extern const struct form *const form_v3;
+
+/* Returns the letter of a buffer's format if its items have the machine's byte order, or else 0. */
+char letter_of(const Py_buffer *buffer);
+
+/* Opens the room for `count` hashes. Returns 0, or -1 with an error set. */
+int open_out(PyObject *out, size_t count, Py_buffer *buffer);
+
+/* Returns a new reference to an item of a list or tuple, or NULL with an error set. */
+PyObject *item_of(PyObject *items, int is_list, Py_ssize_t at);
+
+PyObject *key_of(PyObject *module, PyObject *const *args, Py_ssize_t count);
+PyObject *each_key(PyObject *module, PyObject *const *args, Py_ssize_t count);
 PyObject *each(PyObject *module, PyObject *const *args, Py_ssize_t count);
 PyObject *each_row(PyObject *module, PyObject *const *args, Py_ssize_t count);
 PyObject *each_slice(PyObject *module, PyObject *const *args, Py_ssize_t count);

@@ -22,6 +22,10 @@ async function pieces(): Promise<bigint> {
   return (await new V3Nano().updateFrom(parts())).digest() ^ hasher.digest();
 }
 
+const key: bigint = library.v3Key("text", 1, 2n, null, undefined, data, data.buffer) ^ library.v3KeyWith({ seed: 1 }, 1);
+
+// @ts-expect-error A date is not a field.
+library.v3Key(new Date());
 // @ts-expect-error A seed is not a string.
 library.v3(data, { seed: "7" });
 // @ts-expect-error A bare seed is not an options object.

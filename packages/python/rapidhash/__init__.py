@@ -27,7 +27,7 @@ from ._secrets import Secrets, SecretsV1
 __all__ = ["v1", "v2_0", "v2_1", "v2_2", "v3", "v3_micro", "v3_nano", "v3_protected",
            "v1_hexdigest", "v2_0_hexdigest", "v2_1_hexdigest", "v2_2_hexdigest",
            "v3_hexdigest", "v3_micro_hexdigest", "v3_nano_hexdigest", "v3_protected_hexdigest",
-           "each", "each_row", "each_slice", "make_secrets", "Secrets", "SecretsV1",
+           "each", "each_row", "each_slice", "v3_key", "each_key", "make_secrets", "Secrets", "SecretsV1",
            "V3", "V3Micro", "V3Nano", "file_digest", "__version__"]
 
 __version__ = "1.0.0"
@@ -90,6 +90,45 @@ def each_slice(data, offsets, version="v3", seed=None, secrets=None, out=None):
     view = memoryview(offsets)
     out = _room(max(view.nbytes // view.itemsize - 1, 0)) if out is None else out
     _extension.each_slice(data, version, seed, secrets, out, view)
+    return out
+
+
+def v3_key(*fields, seed=None, secrets=None):
+    """Returns the hash of a key of several fields, the same in every language. A field is None, an int from -2**63 to
+    2**63 - 1, a str, or bytes. Different keys are hashed as different messages.
+
+        >>> rapidhash.v3_key("user", 4711, None)
+        14742763072502883419
+
+    Raises TypeError for any other field, such as a float or a bool, and OverflowError for an int outside the range."""
+    return _extension.key(fields, seed, secrets)
+
+
+def _fields(at, column):
+    """Returns a column as a list, a tuple, or a buffer of integers."""
+    if isinstance(column, (str, bytes, bytearray)) or hasattr(column, "columns"):
+        raise TypeError(f"columns[{at}] must be a column of fields, not {type(column)!r}")
+    if hasattr(column, "isna"):  # a Series or an Index of pandas
+        if getattr(column.dtype, "kind", "O") in "iu" and not hasattr(column.dtype, "na_value"):
+            return column.to_numpy()
+        return [None if missing else field for field, missing in zip(column.tolist(), column.isna())]
+    try:
+        return column if isinstance(column, (list, tuple)) else memoryview(column)
+    except TypeError:
+        return tuple(column)
+
+
+def each_key(*columns, seed=None, secrets=None, out=None):
+    """Returns the hash of each row of one or more columns, as v3_key returns it, in the same way as `each`.
+
+    A column is a list, a tuple or another iterable of fields, a contiguous buffer of integers, such as a NumPy array, or
+    a Series of pandas, whose missing values are None. Raises TypeError for any other column, such as a str, a DataFrame
+    or an array of objects, and ValueError if the columns have different numbers of rows."""
+    if not columns:
+        raise TypeError("each_key() needs at least one column")
+    columns = tuple(_fields(at, column) for at, column in enumerate(columns))
+    out = _room(len(columns[0])) if out is None else out
+    _extension.each_key(columns, seed, secrets, out, len(columns[0]))
     return out
 
 

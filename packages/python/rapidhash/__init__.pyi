@@ -11,7 +11,7 @@ __all__ = [
     "v1", "v2_0", "v2_1", "v2_2", "v3", "v3_micro", "v3_nano", "v3_protected",
     "v1_hexdigest", "v2_0_hexdigest", "v2_1_hexdigest", "v2_2_hexdigest",
     "v3_hexdigest", "v3_micro_hexdigest", "v3_nano_hexdigest", "v3_protected_hexdigest",
-    "each", "each_row", "each_slice", "make_secrets", "Secrets", "SecretsV1",
+    "each", "each_row", "each_slice", "v3_key", "each_key", "make_secrets", "Secrets", "SecretsV1",
     "V3", "V3Micro", "V3Nano", "file_digest", "__version__",
 ]
 
@@ -40,6 +40,10 @@ def v3_protected_hexdigest(data: _Data, seed: _Seed = ..., secrets: Secrets | No
 
 _Out = TypeVar("_Out", bound=WriteableBuffer)
 
+_Field = ReadableBuffer | str | SupportsIndex | None
+
+def v3_key(*fields: _Field, seed: _Seed = ..., secrets: Secrets | None = ...) -> int: ...
+
 # Each of these has two overloads: for a new array, and for a buffer of the caller's.
 @overload
 def each(items: Iterable[_Data], version: _Version = ..., seed: _Seed = ...,
@@ -59,6 +63,13 @@ def each_slice(data: _Data, offsets: ReadableBuffer, version: _Version = ..., se
 @overload
 def each_slice(data: _Data, offsets: ReadableBuffer, version: _Version = ..., seed: _Seed = ...,
                secrets: Secrets | SecretsV1 | None = ..., *, out: _Out) -> _Out: ...
+# A column is an iterable of fields, a buffer of integers, or a Series of pandas.
+@overload
+def each_key(*columns: Iterable[_Field] | ReadableBuffer, seed: _Seed = ..., secrets: Secrets | None = ...,
+             out: None = ...) -> array[int]: ...
+@overload
+def each_key(*columns: Iterable[_Field] | ReadableBuffer, seed: _Seed = ..., secrets: Secrets | None = ...,
+             out: _Out) -> _Out: ...
 @overload
 def make_secrets(number: SupportsIndex, version: Literal[1]) -> SecretsV1: ...
 @overload

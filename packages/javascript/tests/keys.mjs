@@ -1,0 +1,60 @@
+// Tests keys of several fields: the file of keys, kinds of fields, and what is no field.
+import assert from "node:assert/strict";
+import { readFileSync } from "node:fs";
+import { test } from "node:test";
+
+import { loadSync } from "yervound-rapidhash";
+
+const library = loadSync();
+const { v3, v3Key, v3KeyWith } = library;
+const user = 14742763072502883419n;
+
+/** Returns the field of a text: `-`, a decimal integer, or x and hexadecimal digits. */
+function fieldOf(text) {
+  if (text === "-") return null;
+  return text[0] === "x" ? Uint8Array.from(Buffer.from(text.slice(1), "hex")) : BigInt(text);
+}
+
+test("the file of keys", () => {
+  const lines = readFileSync(new URL("keys.tsv", import.meta.url), "utf8").trimEnd().split("\n").slice(3);
+  assert.equal(lines.length, 120);
+  for (const line of lines) {
+    const [key, rule, known] = line.split("\t");
+    const fields = key.split(" ").filter((text) => text !== "").map(fieldOf);
+    const [name, number] = rule.split(":");
+    const options = name === "cpp" ? { seed: BigInt(number) }
+      : name === "seed" ? { secrets: library.makeSecrets(BigInt(number)) } : {};
+    assert.equal(v3KeyWith(options, ...fields), BigInt(known), line);
+    if (name === "default") assert.equal(v3Key(...fields), BigInt(known), line);
+  }
+});
+
+test("kinds of fields", () => {
+  const bytes = new TextEncoder().encode("user");
+  for (const text of ["user", bytes, bytes.buffer, new DataView(bytes.buffer)])
+    for (const nothing of [null, undefined]) assert.equal(v3Key(text, 4711, nothing), user);
+  assert.equal(v3Key("user", 4711n, null), user);
+  assert.equal(v3Key("中文"), v3Key(new TextEncoder().encode("中文")));
+  assert.equal(v3Key(-0), v3Key(0));
+  assert.equal(v3Key(), v3(""));
+  const long = "x".repeat(300000);
+  assert.equal(v3Key(long), v3Key(new TextEncoder().encode(long)));
+  assert.notEqual(v3Key("ab", "c"), v3Key("a", "bc"));
+});
+
+test("what is no field", () => {
+  const range = "fields[1] must be from -(2n ** 63n) to 2n ** 63n - 1n";
+  for (const field of [1n << 63n, -(1n << 63n) - 1n])
+    assert.throws(() => v3Key(1, field), { name: "RangeError", message: range });
+  for (const field of [1.5, NaN, Infinity, 2 ** 53]) {
+    const message = `fields[0] must be a safe integer, or a BigInt, not ${field}`;
+    assert.throws(() => v3Key(field), { name: "RangeError", message });
+  }
+  const refused = [[true, "boolean"], [[1], "Array"], [{}, "Object"], [new Date(0), "Date"], [Symbol("a"), "symbol"],
+    [() => 0, "function"], [new Float64Array(1), "Float64Array"], [new BigInt64Array(1), "BigInt64Array"]];
+  for (const [field, kind] of refused) {
+    const message = `fields[2] must be null, an integer, a string or a Uint8Array, not ${kind}`;
+    assert.throws(() => v3Key(1, 2, field), { name: "TypeError", message });
+  }
+  assert.throws(() => v3KeyWith({ sed: 1 }, 1), { message: "unknown option 'sed': expected seed or secrets" });
+});

@@ -1,0 +1,137 @@
+"""Tests keys of several fields with an installed copy of the package."""
+
+import array
+import unittest
+from pathlib import Path
+
+import rapidhash
+
+TABLE = Path(__file__).with_name("keys.tsv")
+
+
+def field(text):
+    if text == "-":
+        return None
+    return bytes.fromhex(text[1:]) if text[0] == "x" else int(text)
+
+
+def words(rule):
+    name, _, number = rule.partition(":")
+    if name == "default":
+        return {}
+    return {"seed": int(number)} if name == "cpp" else {"secrets": rapidhash.make_secrets(int(number))}
+
+
+class Keys(unittest.TestCase):
+    @unittest.skipUnless(TABLE.exists(), "the source distribution has no file of keys")
+    def test_the_file_of_keys(self):
+        rows = [line.split("\t") for line in TABLE.read_text().splitlines()[3:]]
+        self.assertEqual(len(rows), 120)
+        for key, rule, known in rows:
+            fields = [field(text) for text in key.split()]
+            self.assertEqual(rapidhash.v3_key(*fields, **words(rule)), int(known), (key, rule))
+            if fields:
+                columns = [[value] * 2 for value in fields]
+                self.assertEqual(list(rapidhash.each_key(*columns, **words(rule))), [int(known)] * 2, (key, rule))
+
+    def test_kinds_of_fields(self):
+        user = 14742763072502883419
+        for text in ("user", b"user", bytearray(b"user"), memoryview(b"user"), array.array("B", b"user")):
+            self.assertEqual(rapidhash.v3_key(text, 4711, None), user, type(text))
+
+        class Index:
+            def __index__(self):
+                return 4711
+
+        self.assertEqual(rapidhash.v3_key("user", Index(), None), user)
+        names, numbers = ["user", "\u4e2d\u6587", None], [4711, -1, 0]
+        wanted = [rapidhash.v3_key(*row) for row in zip(names, numbers)]
+        for column in (numbers, tuple(numbers), iter(numbers), *(array.array(kind, numbers) for kind in "hilq")):
+            self.assertEqual(list(rapidhash.each_key(names, column)), wanted)
+        for kind in "BHILQ":
+            self.assertEqual(rapidhash.each_key(array.array(kind, [7]))[0], rapidhash.v3_key(7))
+
+    def test_long_keys(self):
+        for size in (*range(230, 280), 1000, 100_000):
+            for fields in ((bytes(size),), (7, bytes(size), None), ("a", bytes(100), bytes(size), -1)):
+                parts = []
+                for field in fields:
+                    number = field if isinstance(field, int) else len(field or b"")
+                    tag = b"\0" if field is None else b"\1" if isinstance(field, int) else b"\2"
+                    text = field.encode() if isinstance(field, str) else field if isinstance(field, bytes) else b""
+                    parts += [tag, b"" if field is None else number.to_bytes(8, "little", signed=True), text]
+                self.assertEqual(rapidhash.v3_key(*fields, seed=7), rapidhash.v3(b"".join(parts), seed=7))
+
+    def test_it_writes_to_a_buffer(self):
+        out = array.array("Q", [0, 0])
+        self.assertIs(rapidhash.each_key([1, 2], out=out), out)
+        self.assertEqual(list(out), [rapidhash.v3_key(1), rapidhash.v3_key(2)])
+        self.assertEqual(list(rapidhash.each_key([])), [])
+        with self.assertRaisesRegex(ValueError, "out must have room for exactly 1 hashes, and it has 2"):
+            rapidhash.each_key([1], out=out)
+
+    def test_what_is_no_field(self):
+        for value in (1.5, True, [1], {}, object(), array.array("i", [1]), array.array("d", [1]), memoryview(b"").cast("b")):
+            with self.assertRaisesRegex(TypeError, r"^fields\[1\] must be None, an int, a str or bytes, not <class '"):
+                rapidhash.v3_key(1, value)
+            with self.assertRaisesRegex(TypeError, r"^columns\[1\]\[2\] must be None, an int, a str or bytes, not "):
+                rapidhash.each_key([1, 2, 3], ["a", None, value])
+        for value in (2**63, -2**63 - 1, 2**200):
+            with self.assertRaisesRegex(OverflowError, r"^fields\[0\] must be from -2\*\*63 to 2\*\*63 - 1$"):
+                rapidhash.v3_key(value)
+        with self.assertRaisesRegex(OverflowError, r"^columns\[0\]\[1\] must be from -2\*\*63 to 2\*\*63 - 1$"):
+            rapidhash.each_key(array.array("Q", [2**63 - 1, 2**63]))
+        with self.assertRaises(UnicodeEncodeError):
+            rapidhash.v3_key("\ud800")
+        with self.assertRaisesRegex(TypeError, "pass either seed or secrets, not both"):
+            rapidhash.v3_key(1, seed=1, secrets=rapidhash.make_secrets(1))
+
+    def test_what_is_no_column(self):
+        class Frame:
+            columns = ["a"]
+
+        for column in ("text", b"bytes", Frame()):
+            with self.assertRaisesRegex(TypeError, r"^columns\[1\] must be a column of fields, not <class '"):
+                rapidhash.each_key([1], column)
+        for column in (array.array("d", [1.5]), memoryview(bytes(4)).cast("B", (2, 2))):
+            with self.assertRaisesRegex(TypeError, r"^columns\[0\] must be a list, a tuple, or a buffer of integers"):
+                rapidhash.each_key(column)
+        with self.assertRaisesRegex(ValueError, r"^columns\[1\] has 1 rows, and columns\[0\] has 2$"):
+            rapidhash.each_key([1, 2], [1])
+        with self.assertRaisesRegex(TypeError, "at least one column"):
+            rapidhash.each_key()
+
+    def test_series_of_pandas(self):
+        class Series(list):  # as pandas has it, for a machine without pandas
+            dtype, tolist = None, list.copy
+
+            def isna(self):
+                return [value is None or value != value for value in self]
+
+        try:
+            import pandas
+            columns = pandas.Series(["a", None, float("nan"), "b"]), pandas.array([1, None, -3, 2**62], "Int64")
+            whole = pandas.Series([1, 2**40, -3, 4]), pandas.Series([1, 2, 3, 2**63], dtype="uint64")
+        except ImportError:
+            columns, whole = (Series(["a", None, float("nan"), "b"]), Series([1, None, -3, 2**62])), None
+        rows = zip(["a", None, None, "b"], [1, None, -3, 2**62])
+        self.assertEqual(list(rapidhash.each_key(*columns)), [rapidhash.v3_key(*row) for row in rows])
+        if whole:
+            self.assertEqual(list(rapidhash.each_key(whole[0])), [rapidhash.v3_key(n) for n in (1, 2**40, -3, 4)])
+            with self.assertRaisesRegex(OverflowError, r"^columns\[0\]\[3\] must be from "):
+                rapidhash.each_key(whole[1])
+
+    def test_a_list_that_shrinks(self):
+        names = ["a", "b", "c"]
+
+        class Shrinking:
+            def __index__(self):
+                names.clear()
+                return 1
+
+        with self.assertRaises(IndexError):
+            rapidhash.each_key(names, [Shrinking()] * 3)
+
+
+if __name__ == "__main__":
+    unittest.main()
