@@ -1,54 +1,8 @@
-//! Tests keys of several fields: the file of keys, the types of fields, and keys that differ.
+//! Tests keys of several fields: the types of fields, and keys in a stream. vectors.rs has the file of keys.
 #![cfg(feature = "std")]
 
 use rapidhash::key::{self, Field, KeyField};
-use rapidhash::v3::{RapidSecrets, RapidStreamHasherV3, rapidhash_v3};
-
-/// Hashes the fields of a line: `-`, a decimal integer, or x and hexadecimal digits.
-fn hash_of(line: &str, secrets: &RapidSecrets) -> u64 {
-    let bytes: Vec<Vec<u8>> = line
-        .split_whitespace()
-        .map(|text| match text.strip_prefix('x') {
-            Some(digits) => (0..digits.len() / 2)
-                .map(|at| u8::from_str_radix(&digits[2 * at..2 * at + 2], 16).unwrap())
-                .collect(),
-            None => Vec::new(),
-        })
-        .collect();
-    let fields: Vec<Field> = line
-        .split_whitespace()
-        .zip(&bytes)
-        .map(|(text, bytes)| match text {
-            "-" => Field::Nothing,
-            _ if text.starts_with('x') => Field::Bytes(bytes),
-            _ => Field::Integer(text.parse::<i64>().unwrap() as u64),
-        })
-        .collect();
-    key::hash_seeded(&fields[..], secrets)
-}
-
-#[test]
-fn the_file_of_keys() {
-    let mut cases = 0;
-    for line in include_str!("../../../crates/test_replay/data/keys.tsv")
-        .lines()
-        .skip(3)
-    {
-        let columns: Vec<&str> = line.split('\t').collect();
-        let secrets = match columns[1].split_once(':') {
-            None => RapidSecrets::seed_cpp(0),
-            Some(("cpp", word)) => RapidSecrets::seed_cpp(word.parse().unwrap()),
-            Some((_, number)) => RapidSecrets::seed(number.parse().unwrap()),
-        };
-        assert_eq!(
-            hash_of(columns[0], &secrets).to_string(),
-            columns[2],
-            "{line}"
-        );
-        cases += 1;
-    }
-    assert_eq!(cases, 120);
-}
+use rapidhash::v3::{RapidStreamHasherV3, rapidhash_v3};
 
 #[test]
 fn types_of_fields() {

@@ -10,7 +10,7 @@ use std::path::Path;
 #[test]
 fn every_vector_file_is_replayed() {
     let folder = Path::new(env!("CARGO_MANIFEST_DIR")).join("../../crates/test_replay/data");
-    assert_eq!(replay::folder(&folder), Ok(9878));
+    assert_eq!(replay::folder(&folder), Ok(9998));
 }
 
 /// A length without its upper bits would be that of five bytes. The bytes are never written, so they

@@ -5,6 +5,7 @@
 
 pub mod forms;
 pub mod items;
+mod keys;
 pub mod messages;
 mod reads;
 pub mod rules;
@@ -22,10 +23,11 @@ pub type Case = Result<(), String>;
 type Replay = fn(&str) -> Case;
 
 /// The kinds of files, by the names of their columns.
-const KINDS: [(&str, Replay); 13] = [
+const KINDS: [(&str, Replay); 14] = [
     (slices::COLUMNS, slices::replay),
     (items::CORE_COLUMNS, items::replay_core),
     (items::COLUMNS, items::replay),
+    (keys::COLUMNS, keys::replay),
     (reads::COLUMNS, reads::replay),
     (streams::COLUMNS, streams::replay),
     (streams::LANES_COLUMNS, streams::replay_lanes),
