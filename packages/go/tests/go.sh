@@ -3,6 +3,7 @@
 . "$(dirname "$0")/../../../tests/cases.sh"
 export GOCACHE=$room/go GOPROXY=off
 export RAPIDHASH_VECTORS=$room/rapidhash_vectors.tsv RAPIDHASH_SECRETS=$top/crates/test_replay/data/secrets.tsv
+export RAPIDHASH_KEYS=$top/crates/test_replay/data/keys.tsv
 
 # Checks that an example, which go test runs, has each line of the page.
 runs_the_page() {
@@ -35,7 +36,7 @@ try licences has_the_licences .
 try version requires_the_go_of_the_page
 try layout bash -c '[ -z "$(gofmt -l .)" ]'
 # The functions, methods, and types of the release.
-try names bash -c '[ "$(go doc -all | grep -cE "^(func|type) ")" -eq 56 ]'
+try names bash -c '[ "$(go doc -all | grep -cE "^(func|type) ")" -eq 65 ]'
 try tests env CGO_ENABLED=0 go test -timeout 0 -count 1 .
 try race go test -timeout 0 -count 1 -short -race .
 try fuzz go test -timeout 0 -run - -fuzz FuzzPieces -fuzztime 20000x .
