@@ -162,7 +162,7 @@ sizes docs/EXAMPLES.md s/390,451,572/390,451,573/
 clauses docs/api/v3.md 0,/^Proved:.*≡/s|≡|≤|
 pictures docs/images/lanes.svg s|prefers-color-scheme: dark|prefers-color-scheme: light|
 calls docs/api/v3.md $a one more
-version packages/c/rapidhash_c.3 s|Yervound 1.0|Yervound 1.1|
+version packages/c/rapidhash_c.3 s|Yervound 1.0|Yervound 0.9|
 figures README.md s|<!-- means -->|<!-- means -->9 |
 EDITS
 refuses tests/pages.py <<'EDITS'
