@@ -102,6 +102,17 @@ manual_has_the_header() {
     mandoc -Tascii "$top/packages/c/rapidhash_c.3" | sed 's|.\x08||g' | signatures | diff "$room/signatures" -
 }
 
+# Checks that the manual page has the preconditions of the header, word by word.
+manual_has_the_preconditions() {
+  local text
+  sed -E 's|^ \* *(- )?||' "$header" | tr -d '`' | tr -s ' \n' ' ' |
+    grep -oP 'bytes points to .*? during the call\.|It refers to its secrets.*? in use\.' >"$room/preconditions"
+  mandoc -Tutf8 "$top/packages/c/rapidhash_c.3" | sed 's|.\x08||g' | tr -s ' \n' ' ' >"$room/page"
+  [ "$(wc -l <"$room/preconditions")" -eq 2 ] && while read -r text; do
+    grep -qF "$text" "$room/page" || { echo "not on the page: $text" && return 1; }
+  done <"$room/preconditions"
+}
+
 # Runs the example on the manual page, built with the command on the page.
 manual_example_runs() {
   local command
@@ -292,6 +303,7 @@ for (size_t at = 0; at < 4800; at += length) rapidhash_stream_write(&stream, byt
 return rapidhash_v3_with_seed(bytes, length, length);|8 16 100 4096|30 30 73 1750
 COUNTS
 try_with manual_and_header mandoc manual_has_the_header
+try_with preconditions_of_the_manual mandoc manual_has_the_preconditions
 
 # The library that cc builds from the header, which replaces the proved one on other machines.
 try header_build builds_from_the_header
