@@ -121,10 +121,13 @@ fails_if_a_copy_fails() {
 
 # Installs below DESTDIR, with separate directories for programs and libraries.
 serves_a_packager() {
-  local stage=$room/stage pc=$room/stage/usr/lib/here/pkgconfig/rapidhash_c.pc
+  local stage="$room/a stage" pc="$room/a stage/usr/lib/here/pkgconfig/rapidhash_c.pc"
   local folders=(DESTDIR="$stage" PREFIX=/usr BINDIR=/opt/bin LIBDIR=/usr/lib/here DATADIR=/opt/share)
   installs "${folders[@]}" || return 1
-  told_folder() { realpath -s "$(pkg-config --variable="$1" "$pc")"; }
+  # pkg-config splits the names of files at spaces, and writes a backslash before a space.
+  told_folder() {
+    realpath -s "$(PKG_CONFIG_LIBDIR=${pc%/*} pkg-config --variable="$1" rapidhash_c | sed 's|\\ | |g')"
+  }
   [ "$(told_folder prefix)" = "$stage/usr" ] && [ "$(told_folder libdir)" = "$stage/usr/lib/here" ] &&
     [ "$(told_folder includedir)" = "$stage/usr/include" ] && [ -e "$stage/opt/share/man/man3/rapidhash_c.3" ] &&
     { ! has "$builder" || [ -x "$stage/opt/bin/rapidsum" ] && [ -e "$stage/opt/share/man/man1/rapidhash.1" ]; } &&

@@ -56,6 +56,18 @@ chmod -R a-w repo
 calls read_only_checkout 7 $'first\ninput' 1 ''
 chmod -R u+w repo
 
+# Checks that the process that was started becomes the tool, which receives signals.
+becomes_the_tool() {
+  local started
+  mkfifo waits && exec 5<>waits
+  PATH=$programs "$tool" <waits >/dev/null 2>&1 &
+  started=$!
+  for _ in {1..100}; do [ "$(cat "/proc/$started/comm")" != rapidhash_cli ] || break; sleep 0.05; done
+  cat "/proc/$started/comm" && kill $started && wait $started
+  [ $? -eq 143 ] && exec 5>&- && grep -qx rapidhash_cli "$room/log"
+}
+try signals becomes_the_tool
+
 echo second >repo/crates/rapidhash_portable/src/lib.rt
 calls edited_source 7 $'second\ninput' 2 "$told"
 mkdir repo/crates/rapidhash_portable/specs && echo >repo/crates/rapidhash_portable/specs/New.antt
