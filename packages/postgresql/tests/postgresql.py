@@ -103,6 +103,9 @@ def aggregates():
 def rest():
     # The calls and rapidhash_hex, the aggregates, and the functions that these are made of.
     compare("functions", ask(FUNCTIONS), ["a|f|18|9|t", "f|f|19|9|t", "f|t|73|48|t"])
+    exports = shell("nm -D --defined-only build/postgresql/rapidhash.so | cut -d ' ' -f 3 | grep -v '^pg_finfo_'")[1].split()
+    called = ask("SELECT DISTINCT prosrc FROM pg_proc WHERE probin LIKE '%rapidhash'")
+    compare("exports", sorted(exports), sorted(["Pg_magic_func", *called]))
     for query, wanted in lines_with_results(PAGE):
         compare(query, ask(query), [wanted])
     [query] = re.findall(r"^SELECT .*_agg.*;$", blocks(PAGE, "sql")[0], re.M)
