@@ -128,7 +128,7 @@ try edits_of_libraries each_edit_counts
 # Checks that make builds each product of a package again after an edit of any of its files.
 each_file_counts() {
   local product files file
-  make -pq -C "$top" >rules 2>/dev/null
+  { make -pq -C "$top"; make -pq -C "$top" kit=; } >rules 2>/dev/null
   while read -r product files; do
     (cd "$top" && git ls-files $files | grep -vE '^packages/[a-z]+/(tests|page)/') >listed && [ -s listed ] && while read -r file; do
       grep -qE "^$product: (.* )?$file( |\$)" rules || { echo "$product: $file" && return 1; }
@@ -139,6 +139,9 @@ build/rapidhash.wasm packages/javascript/*.c packages/javascript/*.h packages/ja
 build/npm/rapidhash.cjs packages/javascript/*.mjs packages/javascript/*.d.ts packages/javascript/*.json packages/javascript/*.md
 build/yervound-rapidhash-1.0.0.jar packages/java/src/main packages/java/pom.xml packages/java/make.mk
 build/rapidhash.so packages/sqlite/*.c packages/sqlite/make.mk
+build/header/rapidhash_c.o packages/c/*.c packages/c/include/*.h packages/c/make.mk
+build/header/librapidhash_c.so.1 packages/c/*.map packages/c/make.mk
+build/cargo/release/rapid% packages/rust/src packages/rust/tools/src packages/rust/build.rs packages/rust/Cargo.toml packages/rust/tools/Cargo.toml
 PRODUCTS
 }
 try files_of_packages each_file_counts
