@@ -289,6 +289,9 @@ under=qemu-s390x try_with properties_s390x "$s390x qemu-s390x" \
   has_the_properties "$both" clang --target=s390x-linux-gnu -static -O2
 under='valgrind -q --error-exitcode=9' try_with content 'valgrind /usr/include/valgrind/memcheck.h' \
   has_the_properties content cc -O2 -DTEST_CONTENT
+# Without optimization each branch of the source is one, also where the compiler would have found code without it.
+under='valgrind -q --error-exitcode=9' try_with content_of_each_branch 'valgrind /usr/include/valgrind/memcheck.h' \
+  has_the_properties content cc -O0 -DTEST_CONTENT
 try_with threads gcc has_the_properties threads gcc -O1 -fsanitize=thread -DTEST_THREADS -lpthread
 try_with rows_per_iteration gcc folds_two_rows gcc '15 11 13'
 try_with rows_per_iteration_clang clang folds_two_rows clang '29 21 13'
