@@ -23,9 +23,10 @@ FUNCTIONS = """SELECT prokind, proisstrict, count(*), count(*) FILTER (WHERE pro
     FROM pg_proc WHERE proname LIKE 'rapidhash%' GROUP BY 1, 2 ORDER BY 1, 2"""
 STORED = """CREATE TABLE stored (word text); ALTER TABLE stored ALTER word SET STORAGE {0};
     INSERT INTO stored SELECT repeat('hello', {1}); SELECT rapidhash_v3(word) = rapidhash_v3(repeat('hello', {1})),
+    (SELECT rapidhash_v3_agg(word) FROM stored) = rapidhash_v3(repeat('hello', {1})),
     pg_column_size(word) < octet_length(word) FROM stored; DROP TABLE stored"""
 # The server stores a value compressed, in pieces, or with a shorter header.
-STORAGES = (("EXTENDED", 100000, "t"), ("EXTERNAL", 100000, "f"), ("PLAIN", 1, "f"))
+STORAGES = (("EXTENDED", 220000, "t"), ("EXTERNAL", 220000, "f"), ("PLAIN", 1, "f"))
 
 
 def folders_of_the_server():
@@ -72,7 +73,7 @@ def installcheck():
 
 def storages():
     for storage, count, is_compressed in STORAGES:
-        compare(f"storage {storage}", ask(STORED.format(storage, count)), [f"t|{is_compressed}"])
+        compare(f"storage {storage}", ask(STORED.format(storage, count)), [f"t|t|{is_compressed}"])
 
 
 def aggregates():
