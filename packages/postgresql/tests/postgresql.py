@@ -94,6 +94,9 @@ def aggregates():
         query = f"""SELECT rapidhash_v3_agg(word) OVER rows = rapidhash_v3(string_agg(word, '') OVER rows)
             FROM {values} WINDOW rows AS (ORDER BY place{frame})"""
         compare(f"window{frame}", ask(query), ["t"] * 4)
+    query = "SELECT rapidhash_v3_agg(word, {0}) = rapidhash_v3('hello', {0})"
+    compare("two_aggregates", ask(query.format(1) + query.format(2).replace("SELECT", ",") +
+                                  " FROM (VALUES ('hel'), ('lo')) v(word)"), ["t|t"])
     # Each row is compressed, so its bytes are in memory that the server frees before the next row.
     ask("CREATE TABLE compressed AS SELECT repeat('hello', 600) AS word FROM generate_series(1, 3)")
     compare("compressed_rows", ask("SELECT rapidhash_v3_agg(word) = rapidhash_v3(repeat('hello', 1800)) "
