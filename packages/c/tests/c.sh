@@ -274,7 +274,7 @@ try_with cpp_header_32_bits "g++ $multilib/libstdc++.a" calls_from_cpp g++ c++11
 # Each path of the loads and the product, on machines of 64 and 32 bits and of both byte orders. A test stands in for the
 # functions of MSVC.
 both='product streams'
-try properties has_the_properties "$both" cc -O2
+try properties has_the_properties "$both" cc -O2 -DTEST_PRODUCTS=16777216
 try_with properties_clang clang has_the_properties "$both" clang -O2
 try_with properties_tcc tcc has_the_properties "$both" tcc
 try properties_without_int128 has_the_properties "$both" cc -O2 -DRAPIDHASH_NO_INT128

@@ -50,6 +50,26 @@ static void add_up(uint64_t a, uint64_t b, uint64_t *low, uint64_t *high)
     }
 }
 
+/* The number of random products: 2^24 show an error for a word in 2^20. */
+#ifndef TEST_PRODUCTS
+#define TEST_PRODUCTS 65536
+#endif
+
+static void test_random_products(void)
+{
+    uint64_t a = 1, b = 2, i;
+
+    for (i = 0; i < TEST_PRODUCTS; i++) {
+        uint64_t low, high, known_low, known_high;
+
+        a = a * 6364136223846793005 + 1442695040888963407;
+        b = (b ^ a >> 31) * 0x9e3779b97f4a7c15;
+        rapidhash_multiply_(a, b, &low, &high);
+        add_up(a, b, &known_low, &known_high);
+        expect("a random product", i, low == known_low && high == known_high);
+    }
+}
+
 static void test_product(void)
 {
     static const uint64_t words[] = {
@@ -70,6 +90,7 @@ static void test_product(void)
             add_up(words[i], words[j], &known_low, &known_high);
             expect("the product of words", i * WORDS + j, low == known_low && high == known_high);
         }
+    test_random_products();
     expect("8 bytes", 8, rapidhash_load8_(stored + 1) == 0x8807860584038201);
     expect("4 bytes", 4, rapidhash_load4_(stored + 1) == 0x84038201);
     expect("4 bytes, of which the last is above 127", 4, rapidhash_load4_(stored + 2) == 0x05840382);
