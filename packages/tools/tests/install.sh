@@ -47,6 +47,16 @@ has_the_texts_of_the_help() {
     done <"$room/texts"
 }
 
+# Checks that the manual of rapidhash names the version of each option as its help does, before the next option.
+names_each_version() {
+  local option name
+  "$prefix/bin/rapidhash" --help | sed -nE 's/^  (--v[13][a-z-]*) +Use (v.*) hashing .*/\1|\2/p' >"$room/versions"
+  mandoc -Tutf8 "$prefix/share/man/man1/rapidhash.1" | sed -E 's/.\x08//g' | tr -s ' \n' ' ' >"$room/manual"
+  [ "$(wc -l <"$room/versions")" -eq 4 ] && while IFS='|' read -r option name; do
+    grep -qiE -e " $option ([^-]|-[^-])*$name\b" "$room/manual" || { echo "$option: $name" && return 1; }
+  done <"$room/versions"
+}
+
 # Checks that the completions of a program are those that completions.py tests: PROGRAM
 has_its_completions() {
   diff <(cat "$top/packages/tools/$1".{bash,fish,zsh}) <(cd "$prefix/share" &&
@@ -209,6 +219,7 @@ try_with example_of_the_manual "$builder" compares_by_the_manual
 cd "$top" || exit 1
 try_with options_of_the_manual "$builder" names_every_option rapidhash 8
 try_with options_of_the_manual_of_sums "$builder" names_every_option rapidsum 14
+try_with versions_of_the_manual "$builder mandoc" names_each_version
 try_with texts_of_the_manual_of_sums "$builder mandoc" has_the_texts_of_the_help
 for name in rapidhash rapidsum; do try_with "completions_of_$name" "$builder" has_its_completions "$name"; done
 for folder in PREFIX=usr BINDIR= LIBDIR='/a b' INCLUDEDIR="/a'b" DATADIR=$'/a\nb' \
