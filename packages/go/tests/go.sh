@@ -29,6 +29,12 @@ copies_whole_pieces() {
   [ "$(go tool objdump -s 'Stream..(Write|fold)$' "$room/test" | grep -c 'CALL runtime.memmove')" -eq 5 ]
 }
 
+# Checks that all tests pass, of which none may skip itself: without their files, those of the vectors do.
+passes_every_test() {
+  CGO_ENABLED=0 go test -v -timeout 0 -count 1 . >"$room/tests" 2>&1 || { grep -v '^ *\(=== \|--- PASS\)' "$room/tests" && return 1; }
+  ! grep -A 1 -e '--- SKIP' "$room/tests"
+}
+
 needs go
 cd "$top/packages/go" || exit 1
 prepare_by write_vectors "$room"
@@ -37,7 +43,7 @@ try version requires_the_go_of_the_page
 try layout bash -c '[ -z "$(gofmt -l .)" ]'
 # The functions, methods, and types of the release.
 try names bash -c '[ "$(go doc -all | grep -cE "^(func|type) ")" -eq 65 ]'
-try tests env CGO_ENABLED=0 go test -timeout 0 -count 1 .
+try tests passes_every_test
 try race go test -timeout 0 -count 1 -short -race .
 try fuzz go test -timeout 0 -run - -fuzz FuzzPieces -fuzztime 20000x .
 try 386 env GOARCH=386 go test -timeout 0 -count 1 .

@@ -99,6 +99,8 @@ try java_pom pom_is_current
 try java_names has_its_names
 try java_version is_for_the_jdk_of_the_page
 try java_copies copies_whole_arrays
+# No machine here has the other byte order: no source may ask for that of the machine.
+try java_byte_order bash -c '! grep -rnE "nativeOrder|Unsafe" "$1"' - "$folder/src/main"
 for test in "$folder"/src/test/java/example/yervound/rapidhash/*Test.java; do
   try "java_$(basename "$test" .java)" passes "$(basename "$test" .java)"
 done
