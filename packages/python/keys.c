@@ -124,8 +124,8 @@ static int open_fields(PyObject *column, Py_ssize_t at, Py_ssize_t rows, struct 
         fields->letter = letter_of(&fields->buffer);
         size = fields->buffer.ndim == 1 ? fields->buffer.len / fields->buffer.itemsize : -1;
         if (fields->letter == 0 || strchr("bhilqBHILQ", fields->letter) == NULL || size < 0) {
-            PyErr_Format(PyExc_TypeError, "columns[%zd] must be a list, a tuple, or a buffer of integers in a row, and it "
-                         "is %R of the format '%s'", at, Py_TYPE(column), fields->buffer.format);
+            PyErr_Format(PyExc_TypeError, "columns[%zd] must be a list, a tuple, or a buffer of integers in a row, and "
+                         "it is %R of the format '%s'", at, Py_TYPE(column), fields->buffer.format);
             PyBuffer_Release(&fields->buffer);
             return -1;
         }

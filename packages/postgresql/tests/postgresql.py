@@ -72,6 +72,10 @@ def keys():
     user = signed(14742763072502883419)
     for fields in ("'user', 4711, NULL", "'user'::text, 4711::smallint, NULL::text", "'user'::varchar, 4711::bigint, NULL"):
         compare(f"key of {fields}", ask(f"SELECT rapidhash_v3_key({fields})"), [str(user)])
+    for number in (-1, -2**15, 2**15 - 1, 2**31 - 1, -2**31):
+        types = ["smallint"] * (-2**15 <= number < 2**15) + ["integer", "bigint"]
+        keys = ", ".join(f"rapidhash_v3_key('{number}'::{type})" for type in types)
+        compare(f"key of {number}", ask(f"SELECT count(DISTINCT key) FROM unnest(ARRAY[{keys}]) key"), ["1"])
     compare("key with no seed", ask("SELECT rapidhash_v3_key_with_seed(NULL, 1) IS NULL"), ["t"])
 
 
