@@ -77,8 +77,8 @@ static double avalanche(hash *h, size_t len, int flips_seed, int messages)
     return worst * sqrt(messages) / sqrt(2 * log(2.0 * (double)inputs * 64));
 }
 
-static const char *const sets[] = {"integers", "integers times 2^40", "counters", "URLs", "words", "zeros of each length",
-                                   "two bits of 128 bytes", "six small words", "seeds"};
+static const char *const sets[] = {"integers", "integers times 2^40", "counters", "URLs", "words",
+                                   "zeros of each length", "two bits of 128 bytes", "six small words", "seeds"};
 static const char *word;
 
 /* Writes the next word of the dictionary. */
