@@ -127,7 +127,7 @@ test:
 	@prove --exec "" packages/tools/tests tests/examples
 
 # Each file of figures has a bench with its name. A bench that fails leaves the figures unchanged.
-bench: $(patsubst %,bench/%.tsv,slices rust c java memory tool packages size)
+bench: $(patsubst %,bench/%.tsv,slices rust c java memory tool packages size xxh3 quality)
 	@bench/figures --write
 
 .PHONY: always

@@ -233,8 +233,17 @@ def means():
             yield f"README.md has the means {told}"
 
 
+def commits():
+    """Checks that the heads of the files of figures name commits that this branch has. A shallow clone has too few."""
+    heads = {file.name: " ".join(re.findall("^# (.*)", file.read_text(), re.M)) for file in TOP.glob("bench/*.tsv")}
+    if shell("git rev-parse --is-shallow-repository")[1].strip() == "false":
+        yield from (f"bench/{name}: no commit {commit}" for name, head in heads.items()
+                    for commit in re.findall(r"\bcommit (\w+)", head)
+                    if shell(f"git merge-base --is-ancestor {commit} HEAD")[0] != 0)
+
+
 for check in (links, paths, variables, limits, names, layers, edits, vectors, statements, sizes, clauses, benches, pictures,
-              means):
+              means, commits):
     tell(check.__name__, *check())
 for made, maker in (("calls", "scripts/api"), ("version", "scripts/version"), ("figures", "bench/figures")):
     tell(made, *made_by(maker))

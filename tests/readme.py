@@ -1,7 +1,8 @@
 #!/usr/bin/env python3
-"""Runs each command of the shell blocks of README.md and docs/COMMANDS.md, and the program of docs/RATTLE.md in a new
-repository with a copy of the library. The numbers in docs/PROVED.md are those that the checker prints. The values are
-those of the Rust crate. Without the kit, it only runs the commands, with cargo's programs. With the arguments --repository FOLDER, it only writes that repository, for tests/vendor.sh."""
+"""Runs the programs and each command of the shell blocks of README.md, the commands of docs/COMMANDS.md, and the program
+of docs/RATTLE.md in a new repository with a copy of the library. The numbers in docs/PROVED.md are those that the
+checker prints. The values are those of the Rust crate. Without the kit, it runs the first programs, and the commands
+with cargo's programs. With the arguments --repository FOLDER, it only writes that repository, for tests/vendor.sh."""
 
 import os
 import re
@@ -43,8 +44,24 @@ def run_shell_blocks():
             tell(command, *[printed[-600:]] * (status != 0 or said is not None and printed.strip() != said[1]))
 
 
+def run_first_programs():
+    """Builds and runs the programs of README.md in Rust and C, which print what their comments state."""
+    (ROOM / "src").mkdir()
+    manifest = '[package]\nname = "first"\nversion = "0.0.0"\nedition = "2021"\n' + blocks("README.md", "toml")[0]
+    (ROOM / "Cargo.toml").write_text(manifest.replace("/path/to/yervound", str(TOP)))
+    for language, file, tool, command in (
+            ("rust", "src/main.rs", "cargo", "cargo run --quiet --offline"),
+            ("c", "hello.c", "cc", f"cc -std=c99 -Wall -Werror -I'{TOP}/packages/c/include' hello.c -o hello && ./hello")):
+        program, name = blocks("README.md", language)[0], f"the first program in {language}"
+        (ROOM / file).write_text(program)
+        if reason := lacks(tool):
+            skip(name, reason)
+        else:
+            compare(name, shell(command, ROOM)[1], re.search(r"// prints (.*)", program)[1] + "\n")
+
+
 def check_statements():
-    """Compares what docs/PROVED.md states of a single proof, of the axioms, and of the definition's size."""
+    """Compares what docs/PROVED.md states of a single proof, the axioms, the kit, and the definition's size."""
     page = (TOP / "docs/PROVED.md").read_text()
     command, _, wanted = blocks("docs/PROVED.md", "sh")[0].strip().partition("  # ")
     compare(command, shell(f"{{ {command}; }} 2>/dev/null")[1].strip(), wanted)
@@ -55,6 +72,7 @@ def check_statements():
     said = [of_crate.get(crate) or shell("rt check", TOP / "crates" / crate)[1] for crate, _ in rows]
     found = [re.findall(r"^logic=proved functions=\d+ (?:axioms=(\d+) )?target=", text, re.M) for text in said]
     compare("axioms", [count[-1:] for count in found], [["" if count == "none" else count] for _, count in rows])
+    compare("the kit", shell("rt version")[1].split()[0], re.search(r"begins with\s+`(\S+)`", page)[1])
     files = re.findall(r"`(\w+)`", re.search(r"The whole definition is in seven .*? lines: (.*?);", page, re.S)[1])
     lines = [(TOP / "crates/rapidhash_portable/specs" / f"{name}.antt").read_text().count("\n") for name in files]
     compare("the lines of the definition", f"{sum(lines)} lines", re.search(r"seven .*?(\d+ lines)", page, re.S)[1])
@@ -88,6 +106,7 @@ def run_program():
 if sys.argv[1:2] == ["--repository"]:
     write_repository(Path(sys.argv[2]))
 else:
+    run_first_programs()
     if reason := lacks("rt" if has("rt") else "cargo"):
         skip("commands", reason)
     else:

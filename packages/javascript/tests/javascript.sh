@@ -28,7 +28,7 @@ runs_the_page() {
   cd "$room/first" && { echo 'import { equal } from "node:assert"; const file = new Blob(["hello"]);' &&
     blocks "$top/packages/javascript/README.md" js loadSync; } |
     sed -E 's,^([a-z].*\)); *// ([0-9]+n|"[0-9a-f]+").*,equal(\1\, \2);,' >page.mjs &&
-    [ "$(grep -c '^equal' page.mjs)" = 3 ] && node page.mjs
+    [ "$(grep -c '^equal' page.mjs)" = 4 ] && node page.mjs
 }
 
 # Tests the page's worker, beside the package, as the page lays them out.

@@ -14,7 +14,7 @@ installs_as_the_page_says() {
   "$python" -m venv "$room/fresh" && PATH=$room/fresh/bin:$PATH works_as_its_page_says "$page" &&
     echo hello >data.bin && blocks "$page" python import | sed -E '1s/^/from array import array; /
       s/^(rapidhash.*\)) +# ([0-9]{16,}|".*"|array.*)/assert \1 == \2/' >page.py &&
-    [ "$(grep -c '^assert' page.py)" = 3 ] && "$room/fresh/bin/python" page.py
+    [ "$(grep -c '^assert' page.py)" = 4 ] && "$room/fresh/bin/python" page.py
 }
 
 # Checks that the wheel has its files, the licences of the repository, and no other files.
