@@ -105,8 +105,8 @@ export function isHex(encoding) {
   return encoding === "hex";
 }
 
-/** Returns the pieces of a web stream or a Node stream, or of a Blob, a File or a Response, which have one. Some engines
- * have no iterator for web streams. */
+/** Returns the pieces of a web stream or a Node stream, or of a Blob, a File or a Response, which have one. Some
+ * engines have no iterator for web streams. */
 export function piecesOf(source) {
   if (typeof source?.[Symbol.asyncIterator] === "function") return source;
   if (typeof source?.getReader === "function") return readAll(source.getReader());

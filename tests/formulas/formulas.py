@@ -52,13 +52,12 @@ def build_definition():
 
 
 def build_crate():
-    """Builds the Rust crate over random reads and a random product, which no constant function can call. A constant that
-    calls one becomes a function too."""
+    """Builds the Rust crate over random reads and a random product, which no constant function can call. Those that make
+    a stream call neither."""
     folder = shutil.copytree(TOP / "packages" / "rust" / "src", ROOM / "crate")
     for path in folder.rglob("*.rs"):
-        text = re.sub(r"\bconst fn\b", "fn", path.read_text())
-        text = re.sub(r"\bconst DEFAULT: Self = (.*);", r"fn made_default() -> Self { \1 }", text)
-        path.write_text(text.replace("Self::DEFAULT", "Self::made_default()"))
+        if path.name not in ("held.rs", "stream.rs", "folded.rs"):
+            path.write_text(re.sub(r"\bconst fn\b", "fn", path.read_text()))
     shutil.copy(FOLDER / "util.rs", folder / "proved")
     return shell("rustc -O --edition 2021 --crate-type rlib --crate-name rapidhash --cap-lints allow"
                  " --cfg 'feature=\"std\"' crate/lib.rs", ROOM)
