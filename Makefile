@@ -164,6 +164,7 @@ release:
 # The next three are not part of the gate, because they take some additional minutes.
 test-edits:
 	@tests/release/must_fail.py
+	@tests/release/failing_tests.py
 
 test-machines:
 	@prove --verbose --exec '' tests/release/machines.sh

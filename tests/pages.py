@@ -210,7 +210,31 @@ def benches():
         yield f"the benches print {found}"
 
 
-for check in (links, paths, variables, limits, names, layers, edits, vectors, statements, sizes, clauses, benches, pictures):
+def means():
+    """Computes the table of means from the files and columns that its rows name."""
+    source = {"Rattle": ("slices", "ours"), "Rust": ("rust", "rust"), "C": ("c", "header")}
+    page = (TOP / "docs" / "PERFORMANCE.md").read_text()
+    table = [[cell.strip() for cell in row.split("|")[1:-1]] for row in
+             re.search("<!-- versions -->(.*?)<!-- end -->", page, re.S)[1].split("\n") if row and "---" not in row]
+    for called, count, *cells in table[1:]:
+        language, _, kind = called.partition(", ")
+        file, ours = source[language]
+        lines = [line.split("\t") for line in (TOP / "bench" / f"{file}.tsv").read_text().splitlines() if line[0] != "#"]
+        ours, crate = lines[0].index(ours), lines[0].index("crate")
+        for form, shown in zip(table[0][2:], cells):
+            pattern = rf"{form} seeded [\d-]+" if kind == "other secrets" else rf"{form} [\d-]+" + f", {kind}" * bool(kind)
+            rows = [row for row in lines if re.fullmatch(pattern, row[0])]
+            mean = math.exp(sum(math.log(float(row[crate]) / float(row[ours])) for row in rows) / max(1, len(rows)))
+            if shown != (f"{mean:.2f}" if rows else "") or form == "v3" and count != str(len(rows)):
+                yield f"{called}, {form}: {shown}, and not {mean:.2f} of {len(rows)} rows"
+        told = re.search("<!-- means -->(.*?)<!-- end -->", (TOP / "README.md").read_text())[1].split(", ")
+        wanted = {f"{form.replace('v', 'V')} {shown}" for form, shown in zip(table[0][2:], cells) if shown}
+        if called == "Rust, default release" and wanted != {*told}:
+            yield f"README.md has the means {told}"
+
+
+for check in (links, paths, variables, limits, names, layers, edits, vectors, statements, sizes, clauses, benches, pictures,
+              means):
     tell(check.__name__, *check())
 for made, maker in (("calls", "scripts/api"), ("version", "scripts/version"), ("figures", "bench/figures")):
     tell(made, *made_by(maker))

@@ -25,7 +25,7 @@ ends() {
 # first line: LINE SAID [SAID-OF-THE-TWIN]
 edit_ends() {
   rm -rf "$room/edits" && mkdir -p "$room"/edits/{crates/one/{must-fail,src},tests/release,bin} && cd "$room/edits" &&
-    touch crates.txt HANDLES && cp "$top/tests/cases.py" tests && cp "$top/tests/release/must_fail.py" tests/release &&
+    touch crates.txt HANDLES && cp "$top/tests/cases.py" tests && cp "$top"/tests/release/{must_fail,edits}.py tests/release &&
     echo '{ 1 }' >crates/one/src/lib.rt &&
     printf '%s\n' 'refused: f, goal' 'file: src/lib.rt' 'old: { 1 }' 'new: { 2 }' >crates/one/must-fail/a.edit &&
     { [ -z "${3-}" ] || { mkdir -p tests/release/twins/one && sed 's/refused: f, goal/proved: f/; s/{ 2 }/{ 3 }/' \
@@ -33,6 +33,19 @@ edit_ends() {
     printf '#!/bin/sh\ngrep -q "{ 2 }" src/lib.rt && echo "fn one::f: $SAID"\ngrep -q "{ 3 }" src/lib.rt && echo "fn one::f: $TWIN"\n' \
       >bin/rt && chmod +x bin/rt && SAID=$2 TWIN=${3-} PATH=$PWD/bin:$PATH python3 tests/release/must_fail.py >../said
   [ "$?:$(head -n 1 "$room/said")" = "$(($(grep -c ^not <<<"$1"))):$1 - one/a" ]
+}
+
+# Runs tests/release/failing_tests.py over an edit, with which a test has this result, and without it that one. So many
+# of its cases must fail: COUNT RESULT RESULT-WITHOUT
+test_ends() {
+  rm -rf "$room/edits" && mkdir -p "$room"/edits/{crates/{one/{must-fail,src},two},scripts,packages/rust,tests/release,bin} &&
+    cd "$room/edits" && touch crates.txt HANDLES && cp "$top/tests/cases.py" tests && echo '{ 1 }' >crates/one/src/lib.rt &&
+    cp "$top"/tests/release/{edits,failing_tests}.py tests/release &&
+    printf '%s\n' 'refused: f, goal' 'file: src/lib.rt' 'old: { 1 }' 'new: { 2 }' >crates/one/must-fail/a.edit &&
+    printf 'edit\tplace\ttest\none/a\ttwo\tt\n' >tests/release/failing_tests.tsv &&
+    printf '#!/bin/sh\ngrep -q "{ 2 }" ../one/src/lib.rt && echo test t ... %s || echo test t ... %s\n' "$2" "$3" >bin/rt &&
+    chmod +x bin/rt && PATH=$PWD/bin:$PATH python3 tests/release/failing_tests.py >../said
+  [ "$?:$(grep -c '^not ok' "$room/said")" = "$(($1 > 0)):$1" ] && grep -qx '1\.\.3' "$room/said"
 }
 
 # Runs the gate, with the word in `mode`, in a repository in which this is one of two scripts, with `two` cases in
@@ -103,6 +116,9 @@ for said in 'ok:not proved: `goal`' 'not ok:not proved: `other`' 'not ok:proved:
 done
 try an_edit_with_a_twin edit_ends ok 'not proved: `goal`' proved
 try an_edit_whose_twin_is_refused edit_ends 'not ok' 'not proved: `goal`' 'not proved: `goal`'
+try an_edit_with_which_a_test_fails test_ends 0 FAILED ok
+try an_edit_that_no_test_sees test_ends 1 ok ok
+try a_test_that_fails_without_the_edit test_ends 1 FAILED FAILED
 two_cases='printf "ok - a\nok - b\n1..2\n"'
 try a_gate gate_ends '6 passed, 0 failed' "$two_cases"
 try a_gate_with_a_failure gate_ends '5 passed, 1 failed' 'printf "ok - a\nnot ok - b\n1..2\n"'
@@ -162,8 +178,9 @@ sizes docs/EXAMPLES.md s/390,451,572/390,451,573/
 clauses docs/api/v3.md 0,/^Proved:.*≡/s|≡|≤|
 pictures docs/images/lanes.svg s|prefers-color-scheme: dark|prefers-color-scheme: light|
 calls docs/api/v3.md $a one more
-version packages/c/rapidhash_c.3 s|Yervound 1.0|Yervound 1.1|
+version packages/c/rapidhash_c.3 s|Yervound 1.0|Yervound 0.9|
 figures README.md s|<!-- means -->|<!-- means -->9 |
+means docs/PERFORMANCE.md /^. C, clang/s/| 0[.]/| 1./
 EDITS
 refuses tests/pages.py <<'EDITS'
 names docs/C.md s|`rapidhash_v3_micro_inline`|`print_heading`|

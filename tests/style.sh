@@ -49,8 +49,10 @@ scripts_in() {
   git grep -lE "^#!.*$1|^# shellcheck shell=$1" -- . ':!*.md'
 }
 
+# In the scripts of users, each path is quoted: it may have a space.
 lints_shell() {
-  scripts_in bash | xargs shellcheck --external-sources --source-path=SCRIPTDIR --severity=warning
+  scripts_in '(ba)?sh$' | xargs shellcheck --external-sources --source-path=SCRIPTDIR --severity=warning &&
+    scripts_in '(ba)?sh$' | grep -E '^(bin|scripts)/' | xargs shellcheck --include=SC2086
 }
 
 lints_python() {

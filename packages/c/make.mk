@@ -10,14 +10,14 @@ $(archive): build/header/rapidhash_c.o
 	@rm -f $@
 	@$(AR) rcs $@ $<
 
-$(shared): build/header/rapidhash_c.o packages/c/librapidhash_c.map
+$(shared): build/header/rapidhash_c.o packages/c/librapidhash_c.map packages/c/make.mk
 	@$(CC) -shared $(LDFLAGS) -Wl,-soname,$(soname),--version-script,packages/c/librapidhash_c.map,-z,relro,-z,now $< -o $@
 else
 # The kit's linker, located from the path that rt prints, and the directories that may contain a machine's C library.
 linker = $(dir $(shell rt doc))toolchain/bin/ld.lld
 system = /lib/x86_64-linux-gnu /lib64 /usr/lib
 
-$(shared): $(archive) packages/c/librapidhash_c.map
+$(shared): $(archive) packages/c/librapidhash_c.map packages/c/make.mk
 	@command -v rt >/dev/null || { echo 'make: rt, whose kit has the linker, is not on PATH' >&2; exit 2; }
 	@mkdir -p build
 	@$(linker) -shared -soname $(soname) -z now -z relro -z noexecstack -z text --gc-sections --build-id=sha1 \

@@ -2,6 +2,7 @@ package rapidhash
 
 import (
 	"math/big"
+	"math/rand"
 	"testing"
 )
 
@@ -19,6 +20,21 @@ func TestProduct(t *testing.T) {
 				t.Errorf("%#x * %#x: %#x, and %#x is the product", a, b, found, known)
 			}
 			compare(t, "mix", mix(a, b), low^high)
+		}
+	}
+}
+
+// TestRandomProducts compares so many products, from four of 32-bit halves, that an error for a word in 2^20 is seen.
+func TestRandomProducts(t *testing.T) {
+	const half = 1<<32 - 1
+	random := rand.New(rand.NewSource(1))
+	for i := 0; i < 1<<24; i++ {
+		a, b := random.Uint64(), random.Uint64()
+		cross := a >> 32 * (b & half)
+		middle := a&half*(b>>32) + a&half*(b&half)>>32 + cross&half
+		known := a>>32*(b>>32) + cross>>32 + middle>>32
+		if low, high := multiply(a, b); low != a*b || high != known || mix(a, b) != low^high {
+			t.Fatalf("%#x * %#x: %#x and %#x", a, b, high, low)
 		}
 	}
 }

@@ -7,7 +7,7 @@ const [nothing, integer, bytes] = [0, 1, 2];
 /** Returns the bytes of a string, a Uint8Array, an ArrayBuffer or a DataView, or undefined for anything else. */
 function textOf(field) {
   const kind = kindOf(field);
-  if (typeof field !== "string" && kind !== undefined && kind !== "Uint8Array") return undefined;
+  if (kind !== undefined && kind !== "Uint8Array") return undefined;
   try {
     return bytesOf(field);
   } catch (error) {
@@ -30,6 +30,8 @@ function partsOf(field, at) {
   if (field === null || field === undefined) return [nothing];
   const number = integerOf(field, at);
   if (number !== undefined) return [integer, number];
+  if (typeof field === "string" && /\p{Surrogate}/u.test(field))
+    throw new TypeError(`fields[${at}] has half of a surrogate pair`);
   const text = textOf(field);
   if (text !== undefined) return [bytes, BigInt(sizeOf(text)), text];
   const kind = typeof field === "object" ? Object.prototype.toString.call(field).slice(8, -1) : typeof field;

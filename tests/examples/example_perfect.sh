@@ -21,6 +21,9 @@ seq 1 1000 >few
 seq 1 2000 >asked
 (numbered few; seq 1001 2000 | sed 's/^/absent /') >wanted
 prints a_list_that_takes_many_seeds "$program" few <asked
+seq 1 1048577 >many
+printf '1048577\n1\n0\n' >asked && printf '1048577 1048577\n1 1\nabsent 0\n' >wanted
+prints a_list_of_1048577 "$program" many <asked
 reads_lines 1 2 3 absent "$program"
 
 exec </dev/null

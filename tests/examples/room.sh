@@ -65,6 +65,8 @@ reads_lines() {
   answers a_return_is_a_part_of_its_line "$4 pear\r\n$1 pear\n" 'pear\r\npear' "${@:5}" fruit
   answers lines_that_are_not_utf_8 "$1 \377\n$4 \376\n" '\377\n\376\n' "${@:5}" bytes
   answers an_empty_list_has_no_line "$4 fig\n$4 \n" 'fig\n\n' "${@:5}" /dev/null
+  printf '%070000d\n' 7 >long && sed "s/^/$1 /" long >wanted
+  prints a_line_of_70000_bytes "${@:5}" long <long
   answers no_line_is_asked '' '' "${@:5}" fruit
 }
 
@@ -83,6 +85,13 @@ refuses_lists() {
   head -c 100000000 /dev/zero >large
   fault memory_refused_to_a_list 1 'could not read large: out of memory' in_kibibytes 60000 "$program" large
   fault memory_refused_to_a_line 1 'out of memory' in_kibibytes 60000 "$program" fruit <large
+}
+
+# Ends the script if the program reads a file in small pieces: large files, at a call for each, would take hours.
+reads_large_pieces() {
+  head -c 1048576 /dev/zero >pieces
+  ! can_trace || prepare_by reads_in 17 pieces "$program" pieces
+  rm -f "$room/untraced" pieces
 }
 
 # Switches to another user if this one may read everything. Only the other user notices unreadable files.

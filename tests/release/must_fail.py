@@ -16,6 +16,7 @@ from pathlib import Path
 
 sys.path.append(str(Path(__file__).parents[1]))
 from cases import ROOM, TOP, finish, shell, tell  # noqa: E402
+from edits import apply, crate_of  # noqa: E402
 
 
 def link(source, target):
@@ -24,11 +25,6 @@ def link(source, target):
         os.link(source, target)
     except OSError:
         shutil.copy2(source, target)
-
-
-def crate_of(edit):
-    """Returns the crate of an edit in its must-fail/, or of a twin in the directory of its name."""
-    return edit.parent.name if edit.suffix == ".twin" else edit.parent.parent.name
 
 
 def applied(edit):
@@ -40,18 +36,8 @@ def applied(edit):
         shutil.copytree(out, copy / out.relative_to(TOP), copy_function=link)
     for name in ("crates.txt", "HANDLES"):
         shutil.copy(TOP / name, copy)
-    folder = copy / "crates" / crate
-    head, *lines = (line.split(": ", 1) for line in edit.read_text().splitlines())
-    for key, text in lines:
-        if key == "file":
-            file = folder / text
-        elif key == "old":
-            old = text
-        elif file.read_text().count(old) != 1:
-            raise ValueError(f"{edit.name}: its old text is in {file.name} {file.read_text().count(old)} times")
-        else:
-            file.write_text(file.read_text().replace(old, text))
-    return folder, *head[1].split(", ")
+    function, *goal, _ = apply(edit, copy / "crates")
+    return copy / "crates" / crate, function, *goal
 
 
 def said_of(function, output):

@@ -1,8 +1,8 @@
 //! Keys of several fields: one hash for each key, the same in every language.
 //!
-//! A field is nothing (as SQL's NULL), an integer or bytes. It is encoded as a tag, and then nothing,
-//! the integer as 8 bytes, or the number of bytes as 8 bytes and the bytes. All numbers are little-
-//! endian. The hash of a key is V3 of its fields' encodings. Different keys have different
+//! A field is nothing (as SQL's NULL), an integer or bytes. Its encoding is a tag, followed by the
+//! integer as 8 bytes, or by the number of bytes as 8 bytes and the bytes. All numbers are
+//! little-endian. The hash of a key is V3 of its fields' encodings. Different keys have different
 //! encodings ([`same_keys`](crate::laws::same_keys)), so `("ab", "c")` never meets `("a", "bc")`.
 
 ghost use Rattle.std.specs.Prelude.{◌≡◌};

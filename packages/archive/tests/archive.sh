@@ -78,6 +78,33 @@ refuses_changes() {
     grep -x 'make release: the tree has changes: commit them first' "$room/said" && [ ! -e "$room/changed/build" ]
 }
 
+# Checks that a release has each product of make, for which empty files stand in, its commit and all checksums.
+releases_a_commit() {
+  local file files=(a.tar.gz a.tgz a.jar wheels/a.whl wheels/b.tar.gz debian/a.deb debian/b.deb debian/a.dsc debian/a.tar.xz)
+  git clone -q -s "$top" "$room/released" && cd "$room/released" || return
+  for file in "${files[@]}" wheels/made debian/log; do install -D /dev/null "build/$file" || return; done
+  make -s MAKE=true kit=yes release && cd build/release && git rev-parse HEAD | diff - COMMIT &&
+    diff <(printf '%s\n' COMMIT SHA256SUMS "${files[@]##*/}" | sort) <(printf '%s\n' * | sort) &&
+    sha256sum --check SHA256SUMS | grep -c ': OK$' | grep -x "$((${#files[@]} + 1))"
+}
+
+# Checks that a bench that fails leaves its figures as they were, and one that succeeds replaces them.
+keeps_the_figures() {
+  cd "$room/released" && printf '#!/bin/sh\necho new\nexit 1\n' >bench/size && ! make -s bench/size.tsv &&
+    git diff --exit-code bench/size.tsv && printf '#!/bin/sh\necho new\n' >bench/size && make -s bench/size.tsv &&
+    [ "$(cat bench/size.tsv)" = new ]
+}
+
+# Checks that a new entry of the changelogs reaches each file with the version, except the old entries and symbols.
+carries_the_version() {
+  local old history=packages/debian/debian/changelog
+  git clone -q -s "$top" "$room/next" && cd "$room/next" && old=$(sed -n 's/^__version__ = "\(.*\)"$/\1/p' packages/python/*/__init__.py) &&
+    sed -i '0,/^## \[/s//## [9.8.7] - 2027-01-01\n\n&/' CHANGELOG.md && sed -i "1s/($old)/(9.8.7)/" $history &&
+    scripts/version --write &&
+    ! git grep -nE "${old//./[.]}|(Yervound|rapidsum) ${old%.*}\b" -- . ':!CHANGELOG.md' ':!packages/debian/debian' \
+      ':!packages/rust/tools/src' ':!bench/*.tsv' ':!scripts/version'
+}
+
 # Checks that make without the kit refuses before it builds anything: TARGET
 refuses_without_the_kit() {
   git clone -q -s "$top" "$room/$1" && ! make -s -C "$room/$1" kit= "$1" >"$room/said" 2>&1 &&
@@ -95,6 +122,9 @@ packs_a_part() {
 }
 
 for target in dist release; do try "${target}_without_the_kit" refuses_without_the_kit "$target"; done
+try release_of_a_commit releases_a_commit
+try failed_bench keeps_the_figures
+try next_version carries_the_version
 needs rt esbuild wasm-ld clang npm javac /usr/lib/python3/dist-packages/{setuptools,wheel}
 try release_of_a_changed_tree refuses_changes
 try partial_archive packs_a_part

@@ -108,6 +108,17 @@ manual_has_the_header() {
     mandoc -Tascii "$top/packages/c/rapidhash_c.3" | sed 's|.\x08||g' | signatures | diff "$room/signatures" -
 }
 
+# Checks that the manual page has the preconditions of the header, word by word.
+manual_has_the_preconditions() {
+  local text
+  sed -E 's|^ \* *(- )?||' "$header" | tr -d '`' | tr -s ' \n' ' ' |
+    grep -oP 'bytes points to .*? during the call\.|It refers to its secrets.*? in use\.' >"$room/preconditions"
+  mandoc -Tutf8 "$top/packages/c/rapidhash_c.3" | sed 's|.\x08||g' | tr -s ' \n' ' ' >"$room/page"
+  [ "$(wc -l <"$room/preconditions")" -eq 2 ] && while read -r text; do
+    grep -qF "$text" "$room/page" || { echo "not on the page: $text" && return 1; }
+  done <"$room/preconditions"
+}
+
 # Runs the example on the manual page, built with the command on the page.
 manual_example_runs() {
   local command
@@ -302,7 +313,7 @@ try_with cpp_header_32_bits "g++ $multilib/libstdc++.a" calls_from_cpp g++ c++11
 # Each path of the loads and the product, on machines of 64 and 32 bits and of both byte orders. A test stands in for the
 # functions of MSVC.
 both='product streams'
-try properties has_the_properties "$both" cc -O2
+try properties has_the_properties "$both" cc -O2 -DTEST_PRODUCTS=16777216
 try_with properties_clang clang has_the_properties "$both" clang -O2
 try_with properties_tcc tcc has_the_properties "$both" tcc
 try properties_without_int128 has_the_properties "$both" cc -O2 -DRAPIDHASH_NO_INT128
@@ -320,6 +331,9 @@ try_with keys_32_bits "gcc $multilib/libgcc.a" has_the_keys gcc -m32 -O2
 under=qemu-s390x try_with keys_s390x "$s390x qemu-s390x" has_the_keys clang --target=s390x-linux-gnu -static -O2
 under='valgrind -q --error-exitcode=9' try_with content 'valgrind /usr/include/valgrind/memcheck.h' \
   has_the_properties content cc -O2 -DTEST_CONTENT
+# Without optimization each branch of the source is one, also where the compiler would have found code without it.
+under='valgrind -q --error-exitcode=9' try_with content_of_each_branch 'valgrind /usr/include/valgrind/memcheck.h' \
+  has_the_properties content cc -O0 -DTEST_CONTENT
 try_with threads gcc has_the_properties threads gcc -O1 -fsanitize=thread -DTEST_THREADS -lpthread
 try_with rows_per_iteration gcc folds_two_rows gcc '15 11 13'
 try_with rows_per_iteration_clang clang folds_two_rows clang '29 21 13'
@@ -337,6 +351,7 @@ try_with words_of_the_header clang keeps_words_in_registers
 for compiler in gcc clang; do try_with "attributes_$compiler" "$compiler" has_attributes "$compiler"; done
 try_with fetched_by_cmake 'cmake make c++' fetches_by_cmake
 try_with manual_and_header mandoc manual_has_the_header
+try_with preconditions_of_the_manual mandoc manual_has_the_preconditions
 
 # The library that cc builds from the header, which replaces the proved one on other machines.
 try header_build builds_from_the_header

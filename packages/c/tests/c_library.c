@@ -217,6 +217,23 @@ static int cases_of[FORMS + 1];
 #endif
 #endif
 
+/* Compares the hash of a single piece that a stream of a version gets, if it has streams. */
+static void check_piece(const char *name, const void *message, size_t len, uint64_t known)
+{
+    struct rapidhash_secrets secrets;
+    struct rapidhash_stream stream;
+    size_t i;
+
+    rapidhash_seed_secrets(0, &secrets);
+    for (i = 0; i < STREAMS; i++) {
+        if (strcmp(stream_forms[i].name, name) != 0)
+            continue;
+        stream_forms[i].start(&stream, &secrets);
+        rapidhash_stream_write(&stream, message, len);
+        compare(name, "in one piece", rapidhash_stream_finish(&stream), known);
+    }
+}
+
 /* Compares the hashes of a case by its form and by the rule of its secrets: those by default also by its other calls,
  * above 4 GiB in V3 alone. */
 static void check_case(const char *name, const char *rule, const void *message, size_t len, uint64_t known)
@@ -239,6 +256,8 @@ static void check_case(const char *name, const char *rule, const void *message, 
     if (is_default) {
         compare(name, rule, form->hash(message, len), known);
         words[0] = form->is_v1 ? 0xbdd89aa982704029u : 0;
+        if (len <= sizeof large || (IS_FAST && strcmp(name, "v3") == 0))
+            check_piece(name, message, len, known);
         if (len > sizeof large && (!IS_FAST || strcmp(name, "v3") != 0))
             return;
     }

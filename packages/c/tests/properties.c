@@ -1,5 +1,5 @@
 /* Tests properties of the header that no table of values shows. The argument selects one:
- *   product  the loads and the product, of words at which a carry or a half could be wrong
+ *   product  the loads, the canonical bytes, and the product of words at which a carry or a half could be wrong
  *   streams  a stream that was reset, copied, or assigned to itself after each length up to three rows, and the finish
  *            of a stream in memory that cannot be written
  *   threads  calls of several threads at a time, under ThreadSanitizer
@@ -50,6 +50,26 @@ static void add_up(uint64_t a, uint64_t b, uint64_t *low, uint64_t *high)
     }
 }
 
+/* The number of random products: 2^24 show an error for a word in 2^20. */
+#ifndef TEST_PRODUCTS
+#define TEST_PRODUCTS 65536
+#endif
+
+static void test_random_products(void)
+{
+    uint64_t a = 1, b = 2, i;
+
+    for (i = 0; i < TEST_PRODUCTS; i++) {
+        uint64_t low, high, known_low, known_high;
+
+        a = a * 6364136223846793005 + 1442695040888963407;
+        b = (b ^ a >> 31) * 0x9e3779b97f4a7c15;
+        rapidhash_multiply_(a, b, &low, &high);
+        add_up(a, b, &known_low, &known_high);
+        expect("a random product", i, low == known_low && high == known_high);
+    }
+}
+
 static void test_product(void)
 {
     static const uint64_t words[] = {
@@ -58,6 +78,8 @@ static void test_product(void)
         0x2d358dccaa6c78a5, 0xdeadbeefcafef00d};
     enum { WORDS = sizeof words / sizeof words[0] };
     static const uint8_t stored[] = {0xff, 0x01, 0x82, 0x03, 0x84, 0x05, 0x86, 0x07, 0x88, 0xff};
+    static const uint8_t canonical[] = {0x88, 0x07, 0x86, 0x05, 0x84, 0x03, 0x82, 0x01};
+    uint8_t written[8];
     size_t i, j;
 
     for (i = 0; i < WORDS; i++)
@@ -68,9 +90,13 @@ static void test_product(void)
             add_up(words[i], words[j], &known_low, &known_high);
             expect("the product of words", i * WORDS + j, low == known_low && high == known_high);
         }
+    test_random_products();
     expect("8 bytes", 8, rapidhash_load8_(stored + 1) == 0x8807860584038201);
     expect("4 bytes", 4, rapidhash_load4_(stored + 1) == 0x84038201);
     expect("4 bytes, of which the last is above 127", 4, rapidhash_load4_(stored + 2) == 0x05840382);
+    rapidhash_to_canonical(0x8807860584038201, written);
+    expect("written canonical bytes", 8, memcmp(written, canonical, 8) == 0);
+    expect("read canonical bytes", 8, rapidhash_from_canonical(canonical) == 0x8807860584038201);
 }
 
 struct form {
@@ -171,10 +197,16 @@ static void test_content(void)
 #ifdef TEST_THREADS
 static void *hash_all(void *sum)
 {
+    struct rapidhash_v1_secrets made_v1;
+    struct rapidhash_secrets made;
     size_t n;
 
-    for (n = 0; n < 2000; n += 7)
+    for (n = 0; n < 2000; n += 7) {
         *(uint64_t *)sum += all_hashes(n, n, 100);
+        rapidhash_make_secrets(n, &made);
+        rapidhash_v1_make_secrets(n, &made_v1);
+        *(uint64_t *)sum += made.seed + made.secrets[6] + made_v1.seed + made_v1.secrets[2];
+    }
     return NULL;
 }
 

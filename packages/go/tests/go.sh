@@ -3,6 +3,7 @@
 . "$(dirname "$0")/../../../tests/cases.sh"
 export GOCACHE=$room/go GOPROXY=off
 export RAPIDHASH_VECTORS=$room/rapidhash_vectors.tsv RAPIDHASH_SECRETS=$top/crates/test_replay/data/secrets.tsv
+export RAPIDHASH_KEYS=$top/crates/test_replay/data/keys.tsv
 
 # Checks that an example, which go test runs, has each line of the page.
 runs_the_page() {
@@ -45,6 +46,12 @@ clones() {
     go test -tags go1.25 -overlay "$room/overlay" -run TestClone -v . | grep '^--- PASS: TestClone'
 }
 
+# Checks that all tests pass, of which none may skip itself: without their files, those of the vectors do.
+passes_every_test() {
+  CGO_ENABLED=0 go test -v -timeout 0 -count 1 . >"$room/tests" 2>&1 || { grep -v '^ *\(=== \|--- PASS\)' "$room/tests" && return 1; }
+  ! grep -A 1 -e '--- SKIP' "$room/tests"
+}
+
 needs go
 cd "$top/packages/go" || exit 1
 prepare_by write_vectors "$room"
@@ -52,8 +59,8 @@ try licences has_the_licences .
 try version requires_the_go_of_the_page
 try layout bash -c '[ -z "$(gofmt -l .)" ]'
 # The functions, methods, and types of the release.
-try names bash -c '[ "$(go doc -all | grep -cE "^(func|type) ")" -eq 60 ]'
-try tests env CGO_ENABLED=0 go test -timeout 0 -count 1 .
+try names bash -c '[ "$(go doc -all | grep -cE "^(func|type) ")" -eq 69 ]'
+try tests passes_every_test
 try race go test -timeout 0 -count 1 -short -race .
 try fuzz go test -timeout 0 -run - -fuzz FuzzPieces -fuzztime 20000x .
 try 386 env GOARCH=386 go test -timeout 0 -count 1 .

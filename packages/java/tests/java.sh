@@ -7,6 +7,7 @@ jar=$top/build/yervound-rapidhash-1.0.0.jar
 junit=/usr/share/java/junit4.jar:/usr/share/java/hamcrest.jar
 package=example.yervound.rapidhash
 export RAPIDHASH_VECTORS=$room/rapidhash_vectors.tsv RAPIDHASH_SECRETS=$top/crates/test_replay/data/secrets.tsv
+export RAPIDHASH_KEYS=$top/crates/test_replay/data/keys.tsv
 
 # Compiles all sources in directories, without a warning: OUTPUT CLASSPATH DIRECTORY..
 compile() {
@@ -80,7 +81,7 @@ contains_the_licences() {
 # Checks that the classes have the number of public types and members that the package had at its release.
 has_its_names() {
   jar -tf "$jar" | sed -n 's|^\(example/.*\)\.class$|\1|p' | xargs javap -cp "$jar" -public >"$room/names" &&
-    cat "$room/names" && [ "$(grep -c '\bpublic ' "$room/names")" -eq 42 ]
+    cat "$room/names" && [ "$(grep -c '\bpublic ' "$room/names")" -eq 46 ]
 }
 
 # Checks that all classes are for the oldest JDK that docs/BINDINGS.md names: JDK 11 reads major version 55.
@@ -109,6 +110,8 @@ try java_pom pom_is_current
 try java_names has_its_names
 try java_version is_for_the_jdk_of_the_page
 try java_copies copies_whole_arrays
+# No machine here has the other byte order: no source may ask for that of the machine.
+try java_byte_order bash -c '! grep -rnE "nativeOrder|Unsafe" "$1"' - "$folder/src/main"
 for test in "$folder"/src/test/java/example/yervound/rapidhash/*Test.java; do
   try "java_$(basename "$test" .java)" passes "$(basename "$test" .java)"
 done

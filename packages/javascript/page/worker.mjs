@@ -14,9 +14,10 @@ async function byPieces(file, hashers) {
   for (const reader = file.stream().getReader(); ;) {
     const { done: isEnd, value } = await reader.read();
     if (isEnd) break;
-    for (const [, hasher] of hashers) hasher.update(value);
-    kept?.set(value, done);
     done += value.length;
+    if (done > file.size) break;
+    for (const [, hasher] of hashers) hasher.update(value);
+    kept?.set(value, done - value.length);
     if (performance.now() - told < pause) continue;
     told = performance.now();
     postMessage({ done, hashes: digests() });

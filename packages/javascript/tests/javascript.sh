@@ -31,6 +31,12 @@ runs_the_page() {
     [ "$(grep -c '^equal' page.mjs)" = 3 ] && node page.mjs
 }
 
+# Tests the page's worker, beside the package, as the page lays them out.
+refuses_changed_files() {
+  mkdir "$room/worker" && cp "$room"/first/node_modules/yervound-rapidhash/*.mjs "$room/worker" &&
+    cp "$top"/packages/javascript/{page/worker,tests/changed}.mjs "$room/worker" && cd "$room/worker" && node --test changed.mjs
+}
+
 runs_in_node() {
   cd "$room/first" && node --test "$1.mjs"
 }
@@ -87,6 +93,7 @@ try page runs_the_page
 for name in known refused keys vectors node; do
   try "node_$name" runs_in_node "$name"
 done
+try changed_files refuses_changed_files
 try node_require runs_required
 try_with esbuild esbuild bundles esbuild src/index.js --bundle --outfile=bundle/main.js
 try_with webpack webpack bundles webpack --mode production --output-path bundle

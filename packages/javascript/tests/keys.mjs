@@ -56,5 +56,7 @@ test("what is no field", () => {
     const message = `fields[2] must be null, an integer, a string or a Uint8Array, not ${kind}`;
     assert.throws(() => v3Key(1, 2, field), { name: "TypeError", message });
   }
+  for (const half of ["a\ud800", "\udc00", "\ud800a"])
+    assert.throws(() => v3Key(half), { name: "TypeError", message: "fields[0] has half of a surrogate pair" });
   assert.throws(() => v3KeyWith({ sed: 1 }, 1), { message: "unknown option 'sed': expected seed or secrets" });
 });

@@ -60,7 +60,9 @@ const text = await read(new URL("rapidhash_vectors.tsv", import.meta.url));
 const lines = text.trimEnd().split("\n").filter((line) => !/^(#|version\t)/.test(line));
 
 test("all vectors, whole and in pieces", () => {
+  let compared = 0;
   for (const line of lines) {
+    compared += 1;
     const [version, rule, digits, hash] = line.split("\t");
     if (digits.startsWith("zeros:")) {
       const [, Stream] = named(version);
@@ -71,7 +73,7 @@ test("all vectors, whole and in pieces", () => {
     const message = Uint8Array.from(pairs, (pair) => Number.parseInt(pair, 16));
     for (const options of optionsOf(version, rule)) compare(version, message, options, BigInt(hash));
   }
-  assert.equal(lines.length, 3568);
+  assert.equal(compared, 3568);
   const versions = new Set(lines.map((line) => named(line.split("\t")[0])[0]));
   assert.deepEqual([...versions].sort(), Object.keys(library).filter((name) => `${name}Hex` in library).sort());
 });

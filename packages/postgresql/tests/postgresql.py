@@ -23,9 +23,10 @@ FUNCTIONS = """SELECT prokind, proisstrict, count(*), count(*) FILTER (WHERE pro
     FROM pg_proc WHERE proname LIKE 'rapidhash%' GROUP BY 1, 2 ORDER BY 1, 2"""
 STORED = """CREATE TABLE stored (word text); ALTER TABLE stored ALTER word SET STORAGE {0};
     INSERT INTO stored SELECT repeat('hello', {1}); SELECT rapidhash_v3(word) = rapidhash_v3(repeat('hello', {1})),
+    (SELECT rapidhash_v3_agg(word) FROM stored) = rapidhash_v3(repeat('hello', {1})),
     pg_column_size(word) < octet_length(word) FROM stored; DROP TABLE stored"""
 # The server stores a value compressed, in pieces, or with a shorter header.
-STORAGES = (("EXTENDED", 100000, "t"), ("EXTERNAL", 100000, "f"), ("PLAIN", 1, "f"))
+STORAGES = (("EXTENDED", 220000, "t"), ("EXTERNAL", 220000, "f"), ("PLAIN", 1, "f"))
 
 
 def folders_of_the_server():
@@ -71,6 +72,10 @@ def keys():
     user = signed(14742763072502883419)
     for fields in ("'user', 4711, NULL", "'user'::text, 4711::smallint, NULL::text", "'user'::varchar, 4711::bigint, NULL"):
         compare(f"key of {fields}", ask(f"SELECT rapidhash_v3_key({fields})"), [str(user)])
+    for number in (-1, -2**15, 2**15 - 1, 2**31 - 1, -2**31):
+        types = ["smallint"] * (-2**15 <= number < 2**15) + ["integer", "bigint"]
+        keys = ", ".join(f"rapidhash_v3_key('{number}'::{type})" for type in types)
+        compare(f"key of {number}", ask(f"SELECT count(DISTINCT key) FROM unnest(ARRAY[{keys}]) key"), ["1"])
     compare("key with no seed", ask("SELECT rapidhash_v3_key_with_seed(NULL, 1) IS NULL"), ["t"])
 
 
@@ -82,7 +87,7 @@ def installcheck():
 
 def storages():
     for storage, count, is_compressed in STORAGES:
-        compare(f"storage {storage}", ask(STORED.format(storage, count)), [f"t|{is_compressed}"])
+        compare(f"storage {storage}", ask(STORED.format(storage, count)), [f"t|t|{is_compressed}"])
 
 
 def aggregates():
@@ -103,6 +108,9 @@ def aggregates():
         query = f"""SELECT rapidhash_v3_agg(word) OVER rows = rapidhash_v3(string_agg(word, '') OVER rows)
             FROM {values} WINDOW rows AS (ORDER BY place{frame})"""
         compare(f"window{frame}", ask(query), ["t"] * 4)
+    query = "SELECT rapidhash_v3_agg(word, {0}) = rapidhash_v3('hello', {0})"
+    compare("two_aggregates", ask(query.format(1) + query.format(2).replace("SELECT", ",") +
+                                  " FROM (VALUES ('hel'), ('lo')) v(word)"), ["t|t"])
     # Each row is compressed, so its bytes are in memory that the server frees before the next row.
     ask("CREATE TABLE compressed AS SELECT repeat('hello', 600) AS word FROM generate_series(1, 3)")
     compare("compressed_rows", ask("SELECT rapidhash_v3_agg(word) = rapidhash_v3(repeat('hello', 1800)) "
@@ -113,6 +121,9 @@ def aggregates():
 def rest():
     # The calls and rapidhash_hex, the aggregates, and the functions that these are made of.
     compare("functions", ask(FUNCTIONS), ["a|f|18|9|t", "f|f|22|11|t", "f|t|73|48|t"])
+    exports = shell("nm -D --defined-only build/postgresql/rapidhash.so | cut -d ' ' -f 3 | grep -v '^pg_finfo_'")[1].split()
+    called = ask("SELECT DISTINCT prosrc FROM pg_proc WHERE probin LIKE '%rapidhash'")
+    compare("exports", sorted(exports), sorted(["Pg_magic_func", *called]))
     for query, wanted in lines_with_results(PAGE):
         compare(query, ask(query), [wanted])
     [query] = re.findall(r"^SELECT .*_agg.*;$", blocks(PAGE, "sql")[0], re.M)

@@ -108,6 +108,21 @@ class Buffers(unittest.TestCase):
         alone = min(time_of(rapidhash.v3) for _ in range(9))
         self.assertLess(min(time_of(hasher.update) for _ in range(9)), 8 * alone)  # Byte by byte it is 30 or more.
 
+    def test_no_kind_of_message_takes_longer(self):
+        def time_of(call, data):
+            start = time.thread_time()
+            call(data)
+            return time.thread_time() - start
+
+        size = 1 << 22
+        offsets, text = array.array("i", [0, size]), "a" * size
+        calls = [(rapidhash.v3, kind) for kind in (bytes(size), bytearray(size), memoryview(bytes(size)), text)]
+        calls += [(lambda kind: rapidhash.each([kind]), kind) for kind in (bytes(size), bytearray(size), text)]
+        calls += [(lambda data: rapidhash.each_row(data, size), bytes(size)),
+                  (lambda data: rapidhash.each_slice(data, offsets), bytes(size))]
+        least = [min(time_of(*call) for _ in range(15)) for call in calls]
+        self.assertLess(max(least), 2.5 * min(least), least)  # A loop over the bytes, or a copy, takes three times as long.
+
     def test_other_threads_run_meanwhile(self):
         data, short, hasher = bytes(65_537), bytes(65_536), rapidhash.V3()
         offsets = array.array("i", [0, 8])

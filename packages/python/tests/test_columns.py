@@ -46,6 +46,11 @@ class Columns(unittest.TestCase):
         self.assertEqual(list(rapidhash.each_slice("hello", array.array("i", [0, 0, 5]))),
                          [232177599295442350, 3327445792987248966])
 
+    def test_long_messages(self):
+        items = [bytes([at + 1]) * 1_100_000 for at in range(2)]
+        for found in ways(items):
+            self.assertEqual(list(found), [rapidhash.v3(item) for item in items])
+
     def test_offsets_need_not_start_at_0(self):
         found = rapidhash.each_slice(memoryview(WHOLE), memoryview(array.array("q", OFFSETS))[100:])
         self.assertEqual(found, rapidhash.each(ITEMS[100:]))

@@ -159,6 +159,10 @@ page(loaded)
 # packages/javascript/tests/javascript.sh.
 query = "SELECT rapidhash_v1(zeroblob(140000000)), rapidhash_v2_2(CAST(zeroblob(140000000) AS TEXT))"
 compare("long_values", ask(loaded, query), [(signed(15042570400923500380), signed(1949155381881807616))])
+query = "SELECT rapidhash_v3_agg(word, 1) = rapidhash_v3('hello', 1), rapidhash_v3_agg(word, 2) = rapidhash_v3('hello', 2)"
+compare("two_aggregates", ask(loaded, query + " FROM (SELECT 'hel' AS word UNION ALL SELECT 'lo')"), [(1, 1)])
+query = "SELECT rapidhash_v3_agg(value) = rapidhash_v3(value) FROM (SELECT CAST(zeroblob(1100000) AS {}) AS value)"
+compare("long_rows", ask(loaded, query.format("TEXT")) + ask(loaded, query.format("BLOB")), [(1,), (1,)])
 compare("names", (ask(loaded, "SELECT count(*) FROM pragma_function_list WHERE name LIKE 'rapidhash%'"),
                   shell("nm -D --defined-only build/rapidhash.so | cut -d ' ' -f 3")[1]),
         ([(34,)], "sqlite3_rapidhash_init\n"))

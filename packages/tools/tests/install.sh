@@ -47,6 +47,16 @@ has_the_texts_of_the_help() {
     done <"$room/texts"
 }
 
+# Checks that the manual of rapidhash names the version of each option as its help does, before the next option.
+names_each_version() {
+  local option name
+  "$prefix/bin/rapidhash" --help | sed -nE 's/^  (--v[13][a-z-]*) +Use (v.*) hashing .*/\1|\2/p' >"$room/versions"
+  mandoc -Tutf8 "$prefix/share/man/man1/rapidhash.1" | sed -E 's/.\x08//g' | tr -s ' \n' ' ' >"$room/manual"
+  [ "$(wc -l <"$room/versions")" -eq 4 ] && while IFS='|' read -r option name; do
+    grep -qiE -e " $option ([^-]|-[^-])*$name\b" "$room/manual" || { echo "$option: $name" && return 1; }
+  done <"$room/versions"
+}
+
 # Checks that the completions of a program are those that completions.py tests: PROGRAM
 has_its_completions() {
   diff <(cat "$top/packages/tools/$1".{bash,fish,zsh}) <(cd "$prefix/share" &&
@@ -121,10 +131,13 @@ fails_if_a_copy_fails() {
 
 # Installs below DESTDIR, with separate directories for programs and libraries.
 serves_a_packager() {
-  local stage=$room/stage pc=$room/stage/usr/lib/here/pkgconfig/rapidhash_c.pc
+  local stage="$room/a stage" pc="$room/a stage/usr/lib/here/pkgconfig/rapidhash_c.pc"
   local folders=(DESTDIR="$stage" PREFIX=/usr BINDIR=/opt/bin LIBDIR=/usr/lib/here DATADIR=/opt/share)
   installs "${folders[@]}" || return 1
-  told_folder() { realpath -s "$(pkg-config --variable="$1" "$pc")"; }
+  # pkg-config splits the names of files at spaces, and writes a backslash before a space.
+  told_folder() {
+    realpath -s "$(PKG_CONFIG_LIBDIR=${pc%/*} pkg-config --variable="$1" rapidhash_c | sed 's|\\ | |g')"
+  }
   [ "$(told_folder prefix)" = "$stage/usr" ] && [ "$(told_folder libdir)" = "$stage/usr/lib/here" ] &&
     [ "$(told_folder includedir)" = "$stage/usr/include" ] && [ -e "$stage/opt/share/man/man3/rapidhash_c.3" ] &&
     { ! has "$builder" || [ -x "$stage/opt/bin/rapidsum" ] && [ -e "$stage/opt/share/man/man1/rapidhash.1" ]; } &&
@@ -206,6 +219,7 @@ try_with example_of_the_manual "$builder" compares_by_the_manual
 cd "$top" || exit 1
 try_with options_of_the_manual "$builder" names_every_option rapidhash 8
 try_with options_of_the_manual_of_sums "$builder" names_every_option rapidsum 14
+try_with versions_of_the_manual "$builder mandoc" names_each_version
 try_with texts_of_the_manual_of_sums "$builder mandoc" has_the_texts_of_the_help
 for name in rapidhash rapidsum; do try_with "completions_of_$name" "$builder" has_its_completions "$name"; done
 for folder in PREFIX=usr BINDIR= LIBDIR='/a b' INCLUDEDIR="/a'b" DATADIR=$'/a\nb' \

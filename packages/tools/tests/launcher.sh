@@ -56,6 +56,18 @@ chmod -R a-w repo
 calls read_only_checkout 7 $'first\ninput' 1 ''
 chmod -R u+w repo
 
+# Checks that the process that was started becomes the tool, which receives signals.
+becomes_the_tool() {
+  local started
+  mkfifo waits && exec 5<>waits
+  PATH=$programs "$tool" <waits >/dev/null 2>&1 &
+  started=$!
+  for _ in {1..100}; do [ "$(cat "/proc/$started/comm")" != rapidhash_cli ] || break; sleep 0.05; done
+  cat "/proc/$started/comm" && kill $started && wait $started
+  [ $? -eq 143 ] && exec 5>&- && grep -qx rapidhash_cli "$room/log"
+}
+try signals becomes_the_tool
+
 echo second >repo/crates/rapidhash_portable/src/lib.rt
 calls edited_source 7 $'second\ninput' 2 "$told"
 mkdir repo/crates/rapidhash_portable/specs && echo >repo/crates/rapidhash_portable/specs/New.antt
@@ -116,7 +128,7 @@ try edits_of_libraries each_edit_counts
 # Checks that make builds each product of a package again after an edit of any of its files.
 each_file_counts() {
   local product files file
-  make -pq -C "$top" >rules 2>/dev/null
+  { make -pq -C "$top"; make -pq -C "$top" kit=; } >rules 2>/dev/null
   while read -r product files; do
     (cd "$top" && git ls-files $files | grep -vE '^packages/[a-z]+/(tests|page)/') >listed && [ -s listed ] && while read -r file; do
       grep -qE "^$product: (.* )?$file( |\$)" rules || { echo "$product: $file" && return 1; }
@@ -127,6 +139,9 @@ build/rapidhash.wasm packages/javascript/*.c packages/javascript/*.h packages/ja
 build/npm/rapidhash.cjs packages/javascript/*.mjs packages/javascript/*.d.ts packages/javascript/*.json packages/javascript/*.md
 build/yervound-rapidhash-1.0.0.jar packages/java/src/main packages/java/pom.xml packages/java/make.mk
 build/rapidhash.so packages/sqlite/*.c packages/sqlite/make.mk
+build/header/rapidhash_c.o packages/c/*.c packages/c/include/*.h packages/c/make.mk
+build/header/librapidhash_c.so.1 packages/c/*.map packages/c/make.mk
+build/cargo/release/rapid% packages/rust/src packages/rust/tools/src packages/rust/build.rs packages/rust/Cargo.toml packages/rust/tools/Cargo.toml
 PRODUCTS
 }
 try files_of_packages each_file_counts

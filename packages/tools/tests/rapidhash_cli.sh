@@ -20,6 +20,7 @@ by_the_kit() {
   if [ -n "${BUILT-}" ]; then skip "$2" "Rust's runtime"; else "$@"; fi
 }
 
+reads_large_pieces
 known=15965596575264898037
 known_by_v3=11612086640089003834
 versions_fault='You must specify a single rapidhash version to use. See --help for more.'
@@ -63,6 +64,11 @@ for words in --v1 --v2.2 --v3; do
 done
 for version in --v1 --v3; do
   hashes "two_pieces$version" "$("$program" $version something)" $version < <(printf some; sleep 0.1; echo thing)
+done
+# Many short reads: in a pipe with O_DIRECT, each byte that is written is read by itself.
+for version in --v1 --v3; do
+  hashes "200,000_reads$version" "$(head -c 200000 large | "$program" $version)" $version \
+    < <(head -c 200000 large | perl -MFcntl -0777 -ne 'fcntl STDOUT, F_SETFL, 040000; syswrite STDOUT, $_ for split //')
 done
 mkfifo fifo
 cat large >fifo &

@@ -4,6 +4,7 @@
 # have.
 . "$(dirname "$0")/../../../tests/examples/room.sh"
 export LC_ALL=C
+reads_large_pieces
 
 # Creates the files of a case. One of the three names contains a newline, a backslash, and a carriage return.
 files() {
@@ -89,6 +90,7 @@ case_check_strictly() { list && printf 'garbage\n' >>list && "$sum" -c --strict 
 case_check_of_malformed_lines_alone() { printf 'garbage\n' >list && "$sum" -c list; }
 case_check_with_comments() { list && printf '# comment\n\n' >>list && "$sum" -c --strict list; }
 case_check_without_a_last_newline() { list && printf %s "$(cat list)" >short && "$sum" -c short; }
+case_check_of_a_name_of_300_bytes() { list && sed "1s/first/$(printf %0300d 1)/" list >long && "$sum" -c long; }
 case_check_to_a_full_disk() { list && "$sum" -c list >/dev/full; }
 
 case_unreadable() { chmod 0 first && "${as_user[@]}" "$sum" first 'second name'; }
@@ -206,7 +208,25 @@ as_by_the_kit() {
   done
 }
 kit=$top/crates/rapidsum/out/rapidsum
-if [ -n "${BUILT-}" ] && [ -x "$kit" ]; then try pairs_of_words as_by_the_kit; fi
+# Prints the least memory, in steps of a twentieth, in which a program hashes ten million bytes from a pipe: PROGRAM
+least_memory() {
+  local kibibytes
+  for ((kibibytes = 10000; kibibytes < 200000; kibibytes += kibibytes / 20)); do
+    ! head -c 10000000 /dev/zero | in_kibibytes "$kibibytes" "$1" -a v1 >/dev/null 2>&1 || break
+  done
+  echo "$kibibytes"
+}
+
+# Checks that this build needs at most a fifth more memory than the kit's.
+needs_as_little_memory() {
+  local ours theirs
+  ours=$(least_memory "$program") theirs=$(least_memory "$kit") && echo "$ours KiB, $theirs KiB" &&
+    [ "$ours" -lt 200000 ] && [ $((10 * ours)) -le $((12 * theirs)) ]
+}
+if [ -n "${BUILT-}" ] && [ -x "$kit" ]; then
+  try pairs_of_words as_by_the_kit
+  try memory_of_both_builds needs_as_little_memory
+fi
 
 # As SIGPIPE does in sha256sum.
 runs closed_pipe 141 '' '' to_a_closed_pipe "$program" first first

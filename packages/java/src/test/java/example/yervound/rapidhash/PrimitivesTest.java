@@ -4,6 +4,7 @@ import static org.junit.Assert.assertEquals;
 
 import java.math.BigInteger;
 import java.nio.ByteBuffer;
+import java.util.SplittableRandom;
 import org.junit.Test;
 
 public class PrimitivesTest {
@@ -26,6 +27,29 @@ public class PrimitivesTest {
                 BigInteger known = number(a).multiply(number(b));
                 assertEquals(a + " * " + b, known, number(high).shiftLeft(64).add(number(low)));
                 assertEquals(low ^ high, Primitives.mix(a, b));
+            }
+        }
+    }
+
+    /** The upper half of a product, from four products of 32-bit halves. */
+    private static long high(long a, long b) {
+        long half = 0xffffffffL;
+        long cross = (a >>> 32) * (b & half);
+        long middle = (a & half) * (b >>> 32) + ((a & half) * (b & half) >>> 32) + (cross & half);
+        return (a >>> 32) * (b >>> 32) + (cross >>> 32) + (middle >>> 32);
+    }
+
+    /** So many that a product which is wrong for a word in 2^20 is seen. */
+    @Test
+    public void randomProducts() {
+        SplittableRandom random = new SplittableRandom(1);
+        for (int i = 0; i < 1 << 24; i++) {
+            long a = random.nextLong();
+            long b = random.nextLong();
+            long known = high(a, b);
+            boolean areHalves = Primitives.low(a, b) == a * b && Primitives.high(a, b) == known;
+            if (!areHalves || Primitives.mix(a, b) != (a * b ^ known)) {
+                throw new AssertionError(a + " * " + b);
             }
         }
     }

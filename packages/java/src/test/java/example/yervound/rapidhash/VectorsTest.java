@@ -26,7 +26,7 @@ public class VectorsTest {
             .collect(Collectors.toList());
     }
 
-    private static byte[] bytesOf(String digits) {
+    static byte[] bytesOf(String digits) {
         byte[] bytes = new byte[digits.length() / 2];
         for (int at = 0; at < bytes.length; at++) {
             bytes[at] = (byte) Integer.parseInt(digits.substring(2 * at, 2 * at + 2), 16);

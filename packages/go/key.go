@@ -1,0 +1,68 @@
+package rapidhash
+
+import (
+	"encoding/binary"
+	"unsafe"
+)
+
+// The tags of the encoding.
+const (
+	nothingTag = iota
+	integerTag
+	bytesTag
+)
+
+// A Field is a field of a key: nothing (as SQL's NULL), an integer, or bytes. The zero Field is nothing. A Field of bytes
+// refers to them, so that they must not change before the key is hashed.
+type Field struct {
+	tag   byte
+	value int64
+	text  string
+}
+
+// Nothing returns a field that is nothing.
+func Nothing() Field { return Field{} }
+
+// Integer returns a field that is an integer. An unsigned one of 64 bits is int64(value), its two's complement.
+func Integer(value int64) Field { return Field{tag: integerTag, value: value} }
+
+// Text returns a field that is the bytes of a string.
+func Text(text string) Field { return Field{tag: bytesTag, text: text} }
+
+// Bytes returns a field of bytes. It equals the Text of the same bytes.
+func Bytes(data []byte) Field { return Field{tag: bytesTag, text: *(*string)(unsafe.Pointer(&data))} }
+
+// V3Key returns the hash of a key of several fields, with the default seed and secrets. It is the same in every language.
+// Different keys are hashed as different messages.
+func V3Key(fields ...Field) uint64 { return V3KeyWithSecrets(nil, fields...) }
+
+// V3KeyWithSeed returns the hash of a key with the default secrets and a seed word.
+func V3KeyWithSeed(seed uint64, fields ...Field) uint64 {
+	return V3KeyWithSecrets(&Secrets{seedOf(seed), defaults}, fields...)
+}
+
+// V3KeyWithSecrets returns the hash of a key with a seed and secrets. If they are nil, the default ones are used.
+func V3KeyWithSecrets(s *Secrets, fields ...Field) uint64 {
+	var stream Stream
+	stream.start(7, s)
+	for i := range fields {
+		stream.WriteField(fields[i])
+	}
+	return stream.Sum64()
+}
+
+// WriteField appends a field of a key to the message.
+func (stream *Stream) WriteField(field Field) {
+	head := [9]byte{field.tag}
+	switch field.tag {
+	case nothingTag:
+		stream.Write(head[:1])
+	case integerTag:
+		binary.LittleEndian.PutUint64(head[1:], uint64(field.value))
+		stream.Write(head[:])
+	default:
+		binary.LittleEndian.PutUint64(head[1:], uint64(len(field.text)))
+		stream.Write(head[:])
+		stream.WriteString(field.text)
+	}
+}

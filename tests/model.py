@@ -1,0 +1,197 @@
+"""Implements the hashes from docs/ALGORITHM.md alone, with the secrets of that page."""
+
+import re
+
+from cases import TOP
+
+PAGE = (TOP / "docs" / "ALGORITHM.md").read_text()
+LANES = {"V3": 7, "micro": 5, "nano": 3}
+AA = 0xAAAAAAAAAAAAAAAA
+S = [int(number, 16) for _, number in sorted(re.findall(r"\b(S\d) \| (0x\w{16})", PAGE))]
+
+
+def product(a, b, protected=False):
+    low, high = a * b % 2**64, a * b >> 64
+    return (low ^ a, high ^ b) if protected else (low, high)
+
+
+def mix(a, b, protected=False):
+    low, high = product(a, b, protected)
+    return low ^ high
+
+
+def shape(version, n, bug):
+    """Returns the numbers of lanes, rows, and rows of three, and the secrets for the tail's pairs."""
+    if version in LANES:
+        return LANES[version], max(0, n - 1) // (16 * LANES[version]), 0, (2, 2, 1, 1, 2, 1)
+    if version == "V1":
+        return 3, bug if n == 48 else n // 48, 0, (2, 2)
+    if version == "core":
+        return (3, n // 48 if n > 48 else 0, 0, (0, 0)) if n <= 400 else (7, n // 112, n % 112 // 48, (0, 0))
+    if n <= (56 if version == "V2.0" else 64):
+        return 7, 0, 0, (0, 1, version == "V2.2")
+    return 7, n // 112, n % 112 // 48, (2, 2)
+
+
+def last_words(version, m, n):
+    def w(k, size=8):
+        return int.from_bytes(m[k : k + size], "little")
+
+    if n > 16 or n > 7 and version != "V1":
+        return w(n - 16 if n > 16 else 0), w(n - 8)
+    if n > 3:
+        word = w(0, 4) << 32 | w(n - 4, 4)
+        other = w(4, 4) << 32 | w(n - 8, 4) if n > 7 else word
+        return (word, other) if version == "V1" else (w(0, 4), w(n - 4, 4))
+    if n == 0:
+        return 0, 0
+    if version in ("V1", "V2.0", "V2.1"):
+        return m[0] << 56 | m[n // 2] << 32 | m[-1], 0
+    return m[0] << (56 if version == "V2.2" else 45) | m[-1], m[n // 2]
+
+
+def hash_of(version, m, seed, s, avalanche=True, protected=False, bug=False):
+    n = len(m)
+    words = [int.from_bytes(m[k : k + 8], "little") for k in range(0, n, 8)]
+    seed ^= n if version[:2] in ("V1", "V2") or version in LANES and 4 <= n <= 16 else 0
+    count, rows, rows_of_three, tail = shape(version, n, bug)
+    lanes, at = [seed] * count, 0
+    for lane in [*range(count)] * rows + [0, 1, 2] * rows_of_three:
+        lanes[lane] = mix(words[at] ^ s[lane], words[at + 1] ^ lanes[lane], protected)
+        at += 2
+    seed, t = 0, n - 8 * at
+    for lane in lanes:
+        seed ^= lane
+    seed ^= s[1] if version == "V1" and t > 16 else 0
+    for pair in range(max(0, t - 1) // 16):
+        seed = mix(words[at + 2 * pair] ^ s[tail[pair]], words[at + 2 * pair + 1] ^ seed, protected)
+    first, second = last_words(version, m, n)
+    secret, mixed_in = s[1], (AA ^ n, s[1])
+    if version == "V1":
+        mixed_in = s[0] ^ n, s[1]
+    elif version in LANES:
+        first, mixed_in = first ^ (t if n > 16 else 0), (AA, s[1] ^ t)
+    elif version == "core":
+        seed = (n + seed) % 2**64
+        secret, mixed_in = s[0], (AA ^ seed, s[1])
+    low, high = product(first ^ secret, second ^ seed, protected)
+    return mix(low ^ mixed_in[0], high ^ mixed_in[1], protected) if avalanche else low ^ high
+
+
+def repaired(x):
+    for bits, bit in ((0xFFFF << 48, 63), (0xFFFF << 24, 31), (0xFFFF, 0)):
+        x |= 0 if x & bits else 1 << bit
+    return x
+
+
+def premix(x, i):
+    return repaired(x ^ mix(x ^ S[2], S[i]))
+
+
+def secrets_of(rule, number, is_v1):
+    """Returns a seed and its secrets."""
+    count = 3 if is_v1 else 7
+    if rule in ("cpp", "seed_cpp", "default"):
+        x = int(number or 0xBDD89AA982704029 * is_v1)
+        return [x ^ (mix(x ^ S[0], S[1]) if is_v1 else mix(x ^ S[2], S[1])), *S[:count]]
+    if rule == "bare":
+        seed, *places = number.split(",")
+        at = dict(map(int, place.split("=")) for place in places)
+        return [int(seed), *(at.get(k, 0) for k in range(count))]
+    if rule == "words":
+        return drawn(int(number), count + 1)[:-1]
+    made = [premix(int(number), 0)]
+    for i in range(count):
+        made.append(premix(made[-1], i))
+    return [premix(made[0], 2 if is_v1 else 6), *made[1:]] if rule == "seed then reseed" else made
+
+
+def made_secrets(r):
+    state, made = mix(r ^ S[2], S[1]), []
+    for i in range(7):
+        state = repaired(mix(state ^ S[0], r ^ S[i]))
+        made.append(state)
+    return made
+
+
+def seed_source(r, z):
+    """Returns the global seed of a random word, and four seeds of its source with a second word."""
+    start = mix(r ^ S[0], 0xBDD89AA982704029)
+    counter, seeds = mix((z + 1) % 2**64 ^ S[3], start ^ S[4]), [start]
+    for _ in range(4):
+        counter = (counter + S[0]) % 2**64
+        seeds.append(counter ^ mix(counter ^ S[2], z ^ S[1]))
+    return seeds
+
+
+def drawn(x, count, is_portable=True):
+    """Returns words of the generator and its last state."""
+    words = []
+    for _ in range(count):
+        x = (x + S[0]) % 2**64
+        words.append(mix(x, x ^ S[1] if is_portable else S[1]))
+    return [*words, x]
+
+
+def drawn_by_time(x, seconds, nanos):
+    y = mix(mix((seconds % 2**32 << 32 | nanos) ^ S[0], x ^ S[1]) ^ S[0], S[2])
+    return mix(y, y ^ S[1]), y
+
+
+def message(rule, n):
+    name, _, rest = rule.partition(":")
+    if name == "square":
+        return bytes((i * i + 7 * i + n) % 251 for i in range(n))
+    if name == "text":
+        return rest.replace("\\n", "\n").encode()
+    if name == "at":
+        at = dict(map(int, place.split("=")) for place in rest.split(",") if place)
+        return bytes(at.get(i, 0) for i in range(n))
+    return b"".join(word.to_bytes(8, "little") for word in drawn(int(rest), n // 8 + 1))[:n]
+
+
+def hashed_items(case, items):
+    """Computes the in-memory hasher's value of a list of items, as in docs/ALGORITHM.md."""
+    avalanche, protected = (case[option] == "1" for option in ("avalanche", "protected"))
+    with_sponge = case.get("sponge") == "1"
+    rule, _, number = case["secrets"].partition(":")
+    seed, *s = secrets_of(rule, number, False)
+    block, end = 0, 0
+    for item in items:
+        kind, _, value = item.partition(":")
+        if kind == "bytes":
+            seed = hash_of("core", bytes.fromhex(value.replace("-", "")), seed, s, avalanche, protected)
+            continue
+        width = 64 if kind.endswith("size") else int(kind[1:])
+        number = int(value) % 2**width
+        if width == 128:
+            seed = mix(number % 2**64 ^ seed, number >> 64 ^ s[0], protected)
+        elif not with_sponge:
+            seed = mix(number ^ s[0], number ^ seed, protected)
+        else:
+            if end + width > 128:
+                seed, block, end = mix(block % 2**64 ^ seed, block >> 64 ^ s[0], protected), 0, 0
+            block, end = block | number << end, end + width
+    if end:
+        seed = mix(block % 2**64 ^ seed, block >> 64 ^ s[0], protected)
+    return mix(seed, S[1], protected) if avalanche else seed
+
+
+def hashed_slice(version, case, content):
+    rule, _, number = case["secrets"].partition(":")
+    seed, *secrets = secrets_of(rule, number, version == "V1")
+    avalanche, protected = case.get("avalanche", "1") == "1", case["protected"] == "1"
+    return hash_of(version, content, seed, secrets, avalanche, protected, case.get("v1_bug") == "1")
+
+
+def hashed_pieces(version, case):
+    """Computes the hash at each f of a stream's operations, of the bytes since the start or the last r."""
+    content, written, hashes = message(case["message"], int(case["length"])), b"", []
+    for operation in case["operations"].split():
+        if operation == "f":
+            hashes.append(hashed_slice(version, case, written))
+        elif operation == "r":
+            written = b""
+        else:
+            written, content = written + content[: int(operation)], content[int(operation) :]
+    return hashes
