@@ -39,9 +39,9 @@ JAVA
     [ "$(java -p "$jar:$room/module" -m first/first.First)" = 3327445792987248966 ]
 }
 
-# Tests the classes in the jar. Without the variables, VectorsTest would skip its files: TEST
+# Tests the classes in the jar. Without the variables, tests would skip their files: TEST
 passes() {
-  [ "$(env | grep -c '^RAPIDHASH_')" -eq 2 ] &&
+  [ "$(env | grep -c '^RAPIDHASH_')" -eq 3 ] &&
     java -ea -cp "$jar:$room/tests:$junit" org.junit.runner.JUnitCore "$package.$1"
 }
 
@@ -56,13 +56,13 @@ pom_is_current() {
     [ "$(grep -c '<dependency>' "$folder/pom.xml")" -eq "$(grep -cx ' *<scope>test</scope>' "$folder/pom.xml")" ]
 }
 
-# Builds and tests the package by Maven with Debian's plugins, offline and without the files of vectors: two tests are
-# skipped. The jar must have the values.
+# Builds and tests the package by Maven with Debian's plugins, offline and without the files of vectors: the three tests
+# that read one are skipped. The jar must have the values.
 builds_by_maven() {
   cp -rs /usr/share/maven-repo "$room/maven-repo" && cp -r "$folder" "$room/maven" && cd "$room/maven" &&
-    env -u RAPIDHASH_VECTORS -u RAPIDHASH_SECRETS mvn -o -B -Dmaven.repo.local="$room/maven-repo" package &&
+    env -u RAPIDHASH_VECTORS -u RAPIDHASH_SECRETS -u RAPIDHASH_KEYS mvn -o -B -Dmaven.repo.local="$room/maven-repo" package &&
     [ "$(cat target/surefire-reports/*.xml | grep -c '<testcase ')" -eq "$(grep -rhE '^ *@Test' src/test | wc -l)" ] &&
-    [ "$(cat target/surefire-reports/*.xml | grep -c '<skipped ')" -eq 2 ] &&
+    [ "$(cat target/surefire-reports/*.xml | grep -c '<skipped')" -eq 3 ] &&
     jar=$room/maven/target/yervound-rapidhash-1.0.0.jar runs_as_a_module
 }
 
