@@ -105,11 +105,15 @@ export function isHex(encoding) {
   return encoding === "hex";
 }
 
-/** Returns the pieces of a web stream or a Node stream. Some engines have no iterator for web streams. */
+/** Returns the pieces of a web stream or a Node stream, or of a Blob, a File or a Response, which have one. Some engines
+ * have no iterator for web streams. */
 export function piecesOf(source) {
   if (typeof source?.[Symbol.asyncIterator] === "function") return source;
   if (typeof source?.getReader === "function") return readAll(source.getReader());
-  throw new TypeError("expected a stream or another async iterable");
+  if (typeof source?.stream === "function") return piecesOf(source.stream());
+  if (typeof source?.arrayBuffer === "function" && source.body !== undefined)
+    return source.body === null ? [] : piecesOf(source.body);
+  throw new TypeError("expected a stream, a Blob, a Response, or another async iterable");
 }
 
 async function* readAll(reader) {

@@ -17,8 +17,8 @@ export interface WebStream {
   };
 }
 
-/** A Node stream, a web stream, or any other async iterable of pieces. */
-export type Pieces = AsyncIterable<Message> | WebStream;
+/** A Node stream, a web stream, or any other async iterable of pieces; also a Blob, a File, or a Response. */
+export type Pieces = AsyncIterable<Message> | WebStream | { stream(): WebStream } | { readonly body: WebStream | null };
 
 /** Hashes a message in pieces. */
 export interface Hasher {

@@ -38,7 +38,8 @@ export class Stream {
   }
 
   /** Appends a piece to the message. Returns the hasher. */
-  update(data) {
+  update(data, ...others) {
+    if (others.length > 0) throw new TypeError("update takes one piece: an encoding or an option has no effect");
     const library = this.#library;
     const message = messageOf(data);
     const stream = this.#enter();

@@ -34,8 +34,14 @@ int read_message(PyObject *data, const char *name, struct message *message)
         if (message->bytes == NULL)
             return -1;
     } else if (PyObject_CheckBuffer(data)) {
-        if (PyObject_GetBuffer(data, &message->buffer, PyBUF_SIMPLE) < 0)
+        if (PyObject_GetBuffer(data, &message->buffer, PyBUF_FORMAT | PyBUF_C_CONTIGUOUS) < 0)
             return -1;
+        if (message->buffer.format != NULL && strchr(message->buffer.format, 'O') != NULL) {
+            PyErr_Format(PyExc_TypeError, "%s must not be an array of objects, whose bytes are addresses: %R", name,
+                         Py_TYPE(data));
+            PyBuffer_Release(&message->buffer);
+            return -1;
+        }
         message->bytes = message->buffer.buf;
         len = message->buffer.len;
     } else {

@@ -55,7 +55,8 @@ static int open_column(PyObject *module, PyObject *const *args, size_t count, st
 {
     const struct form *form = form_of(args[0]);
     struct start start;
-    if (form == NULL || read_start(module, form, args[1], args[2], &start) < 0 || open_out(args[3], count, &column->out) < 0)
+    if (form == NULL || read_start(module, form, args[1], args[2], &start) < 0 ||
+        open_out(args[3], count, &column->out) < 0)
         return -1;
     read_secrets(form, &start, column);
     return 0;

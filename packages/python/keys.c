@@ -124,8 +124,8 @@ static int open_fields(PyObject *column, Py_ssize_t at, Py_ssize_t rows, struct 
         fields->letter = letter_of(&fields->buffer);
         size = fields->buffer.ndim == 1 ? fields->buffer.len / fields->buffer.itemsize : -1;
         if (fields->letter == 0 || strchr("bhilqBHILQ", fields->letter) == NULL || size < 0) {
-            PyErr_Format(PyExc_TypeError, "columns[%zd] must be a list, a tuple, or a buffer of integers in a row, and it "
-                         "is %R of the format '%s'", at, Py_TYPE(column), fields->buffer.format);
+            PyErr_Format(PyExc_TypeError, "columns[%zd] must be a list, a tuple, or a buffer of integers in a row, and "
+                         "it is %R of the format '%s'", at, Py_TYPE(column), fields->buffer.format);
             PyBuffer_Release(&fields->buffer);
             return -1;
         }
@@ -138,12 +138,21 @@ static int open_fields(PyObject *column, Py_ssize_t at, Py_ssize_t rows, struct 
     return -1;
 }
 
-#define INTEGER(letter, type) \
+#define SIGNED(letter, type) \
     case letter: { \
         type number; \
         memcpy(&number, place, sizeof number); \
-        if (number > 0 && (uint64_t)number > INT64_MAX) return refuse_value(at, row); \
-        append_number(key, 1, (uint64_t)number); \
+        append_number(key, 1, (uint64_t)(int64_t)number); \
+        return 0; \
+    }
+#define UNSIGNED(letter, type) \
+    case letter: { \
+        type number; \
+        uint64_t value; \
+        memcpy(&number, place, sizeof number); \
+        value = number; \
+        if (value > INT64_MAX) return refuse_value(at, row); \
+        append_number(key, 1, value); \
         return 0; \
     }
 
@@ -156,17 +165,17 @@ static int add_row(const struct fields *fields, Py_ssize_t at, Py_ssize_t row, s
     if (fields->items == NULL) {
         place = (const char *)fields->buffer.buf + row * fields->buffer.itemsize;
         switch (fields->letter) {
-            INTEGER('b', signed char)
-            INTEGER('h', short)
-            INTEGER('i', int)
-            INTEGER('l', long)
-            INTEGER('q', long long)
-            INTEGER('B', unsigned char)
-            INTEGER('H', unsigned short)
-            INTEGER('I', unsigned)
-            INTEGER('L', unsigned long)
+            SIGNED('b', signed char)
+            SIGNED('h', short)
+            SIGNED('i', int)
+            SIGNED('l', long)
+            SIGNED('q', long long)
+            UNSIGNED('B', unsigned char)
+            UNSIGNED('H', unsigned short)
+            UNSIGNED('I', unsigned)
+            UNSIGNED('L', unsigned long)
             default:
-            INTEGER('Q', unsigned long long)
+            UNSIGNED('Q', unsigned long long)
         }
     }
     item = item_of(fields->items, PyList_Check(fields->items), row);

@@ -52,10 +52,12 @@ def build_definition():
 
 
 def build_crate():
-    """Builds the Rust crate over random reads and a random product, which no constant function can call."""
+    """Builds the Rust crate over random reads and a random product, which no constant function can call. Those that make
+    a stream call neither."""
     folder = shutil.copytree(TOP / "packages" / "rust" / "src", ROOM / "crate")
     for path in folder.rglob("*.rs"):
-        path.write_text(re.sub(r"\bconst fn\b", "fn", path.read_text()))
+        if path.name not in ("held.rs", "stream.rs", "folded.rs"):
+            path.write_text(re.sub(r"\bconst fn\b", "fn", path.read_text()))
     shutil.copy(FOLDER / "util.rs", folder / "proved")
     return shell("rustc -O --edition 2021 --crate-type rlib --crate-name rapidhash --cap-lints allow"
                  " --cfg 'feature=\"std\"' crate/lib.rs", ROOM)

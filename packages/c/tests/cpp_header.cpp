@@ -89,7 +89,8 @@ static void check_keys()
     compare("a key", rapidhash::key(user, 4711, nullptr), hash_of_user);
     compare("a key of other types", rapidhash::key("user", std::uint64_t(4711), nullptr), hash_of_user);
     compare("a key with a seed", rapidhash::key(rapidhash::seed(7), user, short(4711), nullptr), 4558979304646042975U);
-    compare("a key with secrets", rapidhash::key(rapidhash::make_secrets(42), user, 4711L, nullptr), 889031379977575174U);
+    compare("a key with secrets", rapidhash::key(rapidhash::make_secrets(42), user, 4711L, nullptr),
+            889031379977575174U);
     compare("a negative integer", rapidhash::key(-1), 8262727485331911684U);
     compare("an integer of 64 bits", rapidhash::key(std::uint64_t(1) << 63), 5746365357831264740U);
 #if __cplusplus >= 201703L

@@ -221,7 +221,11 @@ test("streams of the web", async () => {
     const stream = parts();
     await hasher.reset().updateFrom({ getReader: () => getReader.call(stream) });
     assert.equal(hasher.digest(), value);
-    assert.equal((await hasher.reset().updateFrom(new Blob([data]).stream())).digest(), value);
+    for (const source of [new Blob([data]).stream(), new Blob([data]), new Response(data), new Response(parts())])
+      assert.equal((await hasher.reset().updateFrom(source)).digest(), value);
+    const empty = whole(new Uint8Array(0), { secrets: own });
+    for (const source of [new Blob([]), new Response(null)])
+      assert.equal((await hasher.reset().updateFrom(source)).digest(), empty);
   }
 });
 
@@ -238,7 +242,7 @@ test("many pieces, and empty ones", async () => {
 test("both starts, alone and side by side", async () => {
   const other = await load();
   assert.deepEqual(Object.keys(other), Object.keys(library));
-  assert.equal(Object.keys(library).length, 24);
+  assert.equal(Object.keys(library).length, 26);
   assert.equal(other.v3("hello"), 3327445792987248966n);
   const [left, right] = [new V3().update("hel"), new other.V3().update("hel")];
   assert.equal(left.update("lo").digest(), right.update("lo").digest());

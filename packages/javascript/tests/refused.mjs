@@ -172,6 +172,13 @@ test("refused messages", () => {
       assert.throws(() => call(message), wanted);
 });
 
+test("a second argument of update", () => {
+  const hasher = new V3().update("a");
+  for (const other of ["utf8", undefined, { seed: 1 }])
+    assert.throws(() => hasher.update("b", other), { name: "TypeError", message: /^update takes one piece/ });
+  assert.equal(hasher.digest(), v3("a"));
+});
+
 test("a stream that fails, and what is none", async () => {
   const broken = () => new ReadableStream({
     pull(controller) {
@@ -183,7 +190,7 @@ test("a stream that fails, and what is none", async () => {
   await assert.rejects(new V3().updateFrom(reader), { name: "Error", message: "broken" });
   for (const source of [data, "text", [data], 7, null, undefined])
     await assert.rejects(new V3().updateFrom(source),
-      { name: "TypeError", message: "expected a stream or another async iterable" });
+      { name: "TypeError", message: "expected a stream, a Blob, a Response, or another async iterable" });
   let [cancelled, pulled] = [0, 0];
   const numbers = () => new ReadableStream({
     pull(controller) {

@@ -22,7 +22,8 @@ async function pieces(): Promise<bigint> {
   return (await new V3Nano().updateFrom(parts())).digest() ^ hasher.digest();
 }
 
-const key: bigint = library.v3Key("text", 1, 2n, null, undefined, data, data.buffer) ^ library.v3KeyWith({ seed: 1 }, 1);
+const key: bigint = library.v3Key("text", 1, 2n, null, undefined, data, data.buffer);
+const seeded: bigint = library.v3KeyWith({ seed: 1 }, key, new DataView(data.buffer));
 
 // @ts-expect-error A date is not a field.
 library.v3Key(new Date());

@@ -60,6 +60,8 @@ def each(items, version="v3", seed=None, secrets=None, out=None):
 
     `version` is the name of a hash in this module. With `out`, writes to this buffer of unsigned 64-bit integers and
     returns it. If a call raises an error, the contents of `out` are unspecified."""
+    if isinstance(items, (str, bytes, bytearray)) or hasattr(items, "columns"):
+        raise TypeError(f"items must be an iterable of messages, not {type(items)!r}")
     items = items if type(items) in (list, tuple) else tuple(items)
     out = _room(len(items)) if out is None else out
     _extension.each(items, version, seed, secrets, out)
@@ -71,6 +73,8 @@ def each_row(data, width, version="v3", seed=None, secrets=None, out=None):
 
     Raises ValueError if `width` does not divide the number of bytes, or if `out` overlaps `data`."""
     view, width = memoryview(data), _integer("width", width)
+    if "O" in view.format:
+        raise TypeError("data must not be an array of objects, whose bytes are addresses")
     if width < 1:
         raise ValueError(f"width must be at least 1, not {width}")
     count, rest = divmod(view.nbytes, width)

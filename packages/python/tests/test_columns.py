@@ -30,6 +30,23 @@ def ways(items, **words):
 
 
 class Columns(unittest.TestCase):
+    def test_what_is_no_column(self):
+        class Frame(dict):
+            columns = ["a"]
+
+        for items in ("text", b"bytes", bytearray(3), Frame()):
+            with self.assertRaisesRegex(TypeError, "^items must be an iterable of messages, not <class '"):
+                rapidhash.each(items)
+
+    def test_objects_are_no_messages(self):
+        objects = (ctypes.py_object * 2)("a", "b")
+        with self.assertRaisesRegex(TypeError, "^data must not be an array of objects, whose bytes are addresses"):
+            rapidhash.v3(objects)
+        with self.assertRaisesRegex(TypeError, "^data must not be an array of objects, whose bytes are addresses"):
+            rapidhash.each_row(objects, 8)
+        with self.assertRaisesRegex(TypeError, r"^items\[1\] must be bytes, another buffer, or a str, not "):
+            rapidhash.each([b"", objects])
+
     def test_they_have_the_hashes_of_the_calls(self):
         for version in VERSIONS:
             call, made = getattr(rapidhash, version), rapidhash.make_secrets(2**40 + 1, 1 if version == "v1" else 3)

@@ -10,10 +10,10 @@ import java.util.Objects;
 /**
  * The hash of a key of several fields, the same in every language: {@code RapidhashKey.hash("user", 4711, null)}.
  *
- * <p>A field is null (as SQL's NULL), a Byte, Short, Integer or Long, a CharSequence as UTF-8, a byte[], or the remaining
- * bytes of a ByteBuffer. Different keys are hashed as different messages by {@link Rapidhash#V3}. A method throws
- * IllegalArgumentException, naming the field's place and type, for any other field, such as a Double, and for a text with
- * half of a surrogate pair.
+ * <p>A field is null (as SQL's NULL), a Byte, Short, Integer or Long, a CharSequence as UTF-8, a byte[], or the
+ * remaining bytes of a ByteBuffer. Different keys are hashed as different messages by {@link Rapidhash#V3}. A method
+ * throws IllegalArgumentException, naming the field's place and type, for any other field, such as a Double, and for a
+ * text with half of a surrogate pair.
  */
 public final class RapidhashKey {
     private static final byte NOTHING = 0;
@@ -45,7 +45,8 @@ public final class RapidhashKey {
     private static void add(RapidhashStream stream, Object field, int at) {
         if (field == null) {
             stream.update(NOTHING);
-        } else if (field instanceof Long || field instanceof Integer || field instanceof Short || field instanceof Byte) {
+        } else if (field instanceof Long || field instanceof Integer || field instanceof Short
+            || field instanceof Byte) {
             addNumber(stream, INTEGER, ((Number) field).longValue());
         } else if (field instanceof byte[]) {
             addBytes(stream, ByteBuffer.wrap((byte[]) field));
