@@ -17,7 +17,7 @@ import java.util.Set;
 import java.util.stream.Collectors;
 import org.junit.Test;
 
-/** Compares all values of the Rust crate. Two environment variables name their files; without them, two tests are skipped. */
+/** Compares all values of the Rust crate. Environment variables name two files; without them, two tests are skipped. */
 public class VectorsTest {
     private static Iterable<String[]> lines(String variable) throws IOException {
         String name = System.getenv(variable);
