@@ -10,6 +10,8 @@ keys=$top/crates/test_replay/data/keys.tsv
 rust=$room/rust/x86_64-pc-windows-gnu/release
 wine=/usr/lib/wine/wine64
 export WINEPREFIX=$room/prefix WINEDEBUG=-all LC_ALL=C.UTF-8
+# Wine's server writes its directory until it ends.
+trap '/usr/lib/wine/wineserver64 -k; chmod -R u+rwx "$room"; rm -rf "$room"' EXIT
 
 # Compiles a program for Windows: ARGUMENT..
 build() {
