@@ -45,7 +45,7 @@ endif
 name = yervound-1.0-x86_64-linux
 
 .PHONY: all built tool sums library wasm npm page wheel jar sqlite postgresql deb check check-source quick test fmt bench \
-  install uninstall clean dist vendor release products test-edits test-machines test-vendor rapidhash_c \
+  install uninstall clean dist vendor release products test-edits test-machines test-windows test-vendor rapidhash_c \
   rapidhash_cli rapidsum example_bloom example_perfect example_shards example_dedupe
 .DELETE_ON_ERROR:
 MAKEFLAGS += --no-builtin-rules
@@ -161,13 +161,16 @@ release:
 	@cp build/*.t*gz build/*.jar build/wheels/*.* build/debian/*.deb build/debian/*.dsc build/debian/*.tar.xz build/release
 	@cd build/release && sha256sum -- * >SHA256SUMS
 
-# The next three are not part of the gate, because they take some additional minutes.
+# The next four are not part of the gate, because they take some additional minutes.
 test-edits:
 	@tests/release/must_fail.py
 	@tests/release/failing_tests.py
 
 test-machines:
 	@prove --verbose --exec '' tests/release/machines.sh
+
+test-windows:
+	@prove --verbose --exec '' tests/release/windows.sh
 
 test-vendor:
 	@tests/vendor.sh ci

@@ -19,10 +19,19 @@ package rapidhash
 
 import "unsafe"
 
-// bytesOf returns the bytes of a string, which must not be modified.
+// bytesOf returns the bytes of a string, which must not be modified. A slice is laid out as a string and a capacity.
 func bytesOf(text string) []byte {
-	return unsafe.Slice(*(**byte)(unsafe.Pointer(&text)), len(text))
+	return *(*[]byte)(unsafe.Pointer(&struct {
+		string
+		capacity int
+	}{text, len(text)}))
 }
+
+// Sum64 returns the hash of data that V3 returns, under the name that other packages of hashes have for theirs.
+func Sum64(data []byte) uint64 { return V3(data) }
+
+// Sum64String returns the hash that Sum64 returns for the bytes of text, without a copy.
+func Sum64String(text string) uint64 { return V3String(text) }
 
 // V1 returns the V1 hash of data with the default seed and secrets.
 func V1(data []byte) uint64 { return v1(data, defaultSeedV1, &defaultsV1) }

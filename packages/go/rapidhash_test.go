@@ -31,6 +31,11 @@ func TestDefaultSecrets(t *testing.T) {
 	}
 	compare(t, "v1 of a line", V1([]byte("something\n")), 15965596575264898037)
 	compare(t, "v3 of nothing", V3(nil), 232177599295442350)
+	compare(t, "Sum64", Sum64(data()), 7088138960297660729)
+	compare(t, "Sum64String", Sum64String(string(data())), 7088138960297660729)
+	stream := New()
+	stream.Write(data())
+	compare(t, "New", stream.Sum64(), 7088138960297660729)
 }
 
 func TestUnevenPieces(t *testing.T) {

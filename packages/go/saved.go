@@ -26,16 +26,28 @@ var magic = [10]byte{'r', 'a', 'p', 'i', 'd', 'h', 'a', 's', 'h', 1}
 
 // MarshalBinary returns the state of the stream, including its seed and secrets. The error is always nil.
 func (stream *Stream) MarshalBinary() ([]byte, error) {
+	return stream.AppendBinary(make([]byte, 0, binary.Size(state{})))
+}
+
+// AppendBinary appends the state of the stream, as MarshalBinary returns it. The error is always nil.
+func (stream *Stream) AppendBinary(out []byte) ([]byte, error) {
 	stream.ensureStarted()
-	saved := state{Magic: magic, Count: uint8(stream.count), Size: uint8(stream.size)}
-	saved.Secrets, saved.Lanes = stream.secrets, stream.lanes
+	out = append(append(out, magic[:]...), uint8(stream.count), 0, uint8(stream.size))
 	if stream.isFolded {
-		saved.IsFolded = 1
+		out[len(out)-2] = 1
 	}
-	copy(saved.Kept[:], stream.kept[:foldedSize+stream.size])
-	var out bytes.Buffer
-	err := binary.Write(&out, binary.BigEndian, &saved)
-	return out.Bytes(), err
+	out = binary.BigEndian.AppendUint64(out, stream.secrets.Seed)
+	for _, secret := range stream.secrets.Secrets {
+		out = binary.BigEndian.AppendUint64(out, secret)
+	}
+	for _, lane := range stream.lanes {
+		out = binary.BigEndian.AppendUint64(out, lane)
+	}
+	kept := stream.kept
+	for at := foldedSize + stream.size; at < len(kept); at++ {
+		kept[at] = 0
+	}
+	return append(out, kept[:]...), nil
 }
 
 // UnmarshalBinary restores a state that MarshalBinary returned. If the bytes are not such a state, it returns an error

@@ -27,6 +27,9 @@ var (
 	_ encoding.BinaryUnmarshaler = (*Stream)(nil)
 )
 
+// New starts a stream for V3 with the default seed and secrets, as Sum64 has them.
+func New() *Stream { return NewV3(nil) }
+
 // NewV3 starts a stream for V3. If secrets is nil, the default ones are used.
 func NewV3(secrets *Secrets) *Stream { return new(Stream).start(7, secrets) }
 
@@ -63,26 +66,36 @@ func (stream *Stream) ensureStarted() {
 
 // Write appends a piece to the message. It never returns an error.
 func (stream *Stream) Write(data []byte) (int, error) {
-	stream.ensureStarted()
-	if len(data) > 16*stream.count-stream.size {
-		stream.fold(data)
+	if size := stream.size; len(data) <= 16*stream.count-size {
+		copy(stream.kept[foldedSize+size:], data)
+		stream.size = size + len(data)
 	} else {
-		stream.size += copy(stream.kept[foldedSize+stream.size:], data)
+		stream.fold(data)
 	}
 	return len(data), nil
 }
 
 // fold appends a piece that exceeds the room left. It keeps the last 1 to 16 * count bytes, and the 16 before them.
 func (stream *Stream) fold(data []byte) {
-	kept, secrets := stream.kept[:foldedSize+16*stream.count], stream.secrets.Secrets[:stream.count]
+	if stream.count == 0 {
+		stream.start(7, nil)
+		stream.Write(data)
+		return
+	}
+	row := 16 * stream.count
+	kept, secrets := stream.kept[:foldedSize+row], stream.secrets.Secrets[:stream.count]
 	end := copy(kept[foldedSize+stream.size:], data)
 	stream.lanes.fold(kept[foldedSize:], 0, secrets)
-	rest := stream.lanes.fold(data[end:], 1, secrets)
-	if end = len(data) - len(rest); end >= foldedSize {
-		copy(kept[:foldedSize], data[end-foldedSize:])
-	} else {
-		copy(kept, kept[len(kept)-foldedSize:])
+	rest := data[end:]
+	if len(rest) > row {
+		rest = stream.lanes.fold(rest, 1, secrets)
+		end = len(data) - len(rest)
 	}
+	folded := kept[row:]
+	if end >= foldedSize {
+		folded = data[end-foldedSize:]
+	}
+	*(*[foldedSize]byte)(kept) = *(*[foldedSize]byte)(folded)
 	stream.size, stream.isFolded = copy(kept[foldedSize:], rest), true
 }
 

@@ -149,6 +149,9 @@ func TestSavedBytes(t *testing.T) {
 	if err != nil || hex.EncodeToString(saved) != savedByAnotherRelease {
 		t.Errorf("%x %v", saved, err)
 	}
+	if saved, err = stream.AppendBinary([]byte{7}); err != nil || hex.EncodeToString(saved) != "07"+savedByAnotherRelease {
+		t.Errorf("appended: %x %v", saved, err)
+	}
 	old, _ := hex.DecodeString(savedByAnotherRelease)
 	if err := stream.UnmarshalBinary(old); err != nil {
 		t.Fatal(err)
@@ -177,6 +180,7 @@ func TestSavedBytesOfShortStreams(t *testing.T) {
 
 func TestAllocatesNothing(t *testing.T) {
 	made, madeV1, sum, restarted := MakeSecrets(1), MakeSecretsV1(1), make([]byte, 8), NewV3(nil)
+	saved := make([]byte, 0, 261)
 	for _, size := range []int{0, 3, 16, 100, 5000} {
 		bytes, text := long()[:size], string(long()[:size])
 		runs := map[string]func(){
@@ -197,6 +201,7 @@ func TestAllocatesNothing(t *testing.T) {
 					stream.Write(bytes)
 					stream.WriteString(text)
 					stream.Sum(sum[:0])
+					stream.AppendBinary(saved[:0])
 				}
 			}
 		}

@@ -1,4 +1,4 @@
-/* rapidhash for C++: hashes of strings and bytes, a hasher for std::unordered_map and std::unordered_set, streams, and
+/* rapidhash for C++: hashes of strings and bytes, hashers for std::unordered_map and std::unordered_set, streams, and
  * conversions of a hash to bytes and digits.
  *
  *     std::uint64_t hash = rapidhash::hash("hello");
@@ -63,17 +63,28 @@ inline secrets seed_secrets(seed start) noexcept
 }
 
 /* A view of bytes, the argument of the functions below. A std::string, string_view, vector, array, or span of bytes or
- * characters converts implicitly, and so does a C string, without its terminating zero. It owns nothing. */
+ * characters converts implicitly, and so do a C string, without its terminating zero, and an array of char, up to its
+ * first zero or its end. It owns nothing. */
 class bytes {
     template <class Range>
     using element = typename std::remove_pointer<decltype(std::declval<const Range &>().data())>::type;
     template <class Element>
     using if_byte = typename std::enable_if<
         sizeof(Element) == 1 && (std::is_integral<Element>::value || std::is_enum<Element>::value)>::type;
+    template <class Text>
+    using if_text = typename std::enable_if<
+        std::is_same<Text, const char *>::value || std::is_same<Text, char *>::value, int>::type;
 
 public:
     bytes(const void *data, std::size_t size) noexcept : data_(data), size_(size) {}
-    bytes(const char *text) noexcept : data_(text), size_(std::strlen(text)) {}
+    template <class Text, if_text<Text> = 0>
+    bytes(const Text &text) noexcept : data_(text), size_(std::strlen(text)) {}
+    template <std::size_t Size>
+    bytes(const char (&text)[Size]) noexcept : data_(text), size_(Size)
+    {
+        if (const void *const end = std::memchr(text, 0, Size))
+            size_ = static_cast<std::size_t>(static_cast<const char *>(end) - text);
+    }
     bytes(std::nullptr_t) = delete;
     template <class Range, class = if_byte<element<Range>>>
     bytes(const Range &range) noexcept : data_(range.data()), size_(range.size()) {}
@@ -103,16 +114,27 @@ inline std::uint64_t hash(bytes message, const secrets &own) noexcept
     return ::rapidhash_v3_with_secrets(message.data(), message.size(), &own);
 }
 
-/* Hashes the keys of an unordered container. Since C++20, a container with std::equal_to<> finds a std::string by a
- * string_view or a C string, without a copy. If others choose the keys, make secrets from a random number:
- * std::unordered_set<std::string, rapidhash::hasher> names(0, rapidhash::hasher(rapidhash::make_secrets(number))); */
+/* Hashes the keys of an unordered container with the default seed and secrets. It has no state, so that a table is as
+ * small as with std::hash. Since C++20, a container with std::equal_to<> finds a std::string by a string_view or a C
+ * string, without a copy. Every bit of a hash depends on each bit of the key, as is_avalanching tells other tables. */
 class hasher {
 public:
     using is_transparent = void;
+    using is_avalanching = void;
 
-    hasher() noexcept : hasher(seed(0)) {}
-    explicit hasher(seed start) noexcept : secrets_(seed_secrets(start)) {}
-    explicit hasher(const secrets &own) noexcept : secrets_(own) {}
+    std::size_t operator()(bytes key) const noexcept { return static_cast<std::size_t>(hash(key)); }
+};
+
+/* The same with a seed word, or with a seed and secrets. If others choose the keys, make them from a random number:
+ * std::unordered_set<std::string, rapidhash::seeded_hasher> names(
+ *     0, rapidhash::seeded_hasher(rapidhash::make_secrets(number))); */
+class seeded_hasher {
+public:
+    using is_transparent = void;
+    using is_avalanching = void;
+
+    explicit seeded_hasher(seed start) noexcept : secrets_(seed_secrets(start)) {}
+    explicit seeded_hasher(const secrets &own) noexcept : secrets_(own) {}
 
     std::size_t operator()(bytes key) const noexcept { return static_cast<std::size_t>(hash(key, secrets_)); }
 

@@ -2,8 +2,9 @@
  *
  *     uint64_t hash = rapidhash_v3("hello", 5);
  *
- * The header works with C99 to C23 and C++11 to C++23, with every compiler, on machines of 32 and 64 bits and of either
- * byte order. Its names do not clash with those of the C++ library's rapidhash.h. For C++ there is also rapidhash.hpp.
+ * The header works with C99 to C23 and C++11 to C++23, on machines of 32 and 64 bits and of either byte order. Its
+ * tests run it by gcc, clang and tcc on Linux, and for Windows, under Wine, by mingw-w64's gcc and by clang in MSVC's
+ * mode. Its names do not clash with those of the C++ library's rapidhash.h. For C++ there is also rapidhash.hpp.
  *
  * Linking. A program that defines RAPIDHASH_LINK before it includes the header gets declarations only. It links
  * with -lrapidhash_c (pkg-config: rapidhash_c), which on x86-64-v2 Linux can be the formally verified library.
@@ -50,6 +51,16 @@
 #else
 #define RAPIDHASH_API static inline
 #endif
+
+/* Calls of the library. A hash reads memory and changes none, so that a compiler may join equal calls. It may warn of
+ * NULL. If the code is inlined, the compiler sees both for itself. */
+#if defined(RAPIDHASH_LINK) && defined(__GNUC__)
+#define RAPIDHASH_PURE RAPIDHASH_API __attribute__((pure))
+#define RAPIDHASH_NONNULL(...) __attribute__((nonnull(__VA_ARGS__)))
+#else
+#define RAPIDHASH_PURE RAPIDHASH_API
+#define RAPIDHASH_NONNULL(...)
+#endif
 #ifdef __cplusplus
 extern "C" {
 #endif
@@ -83,52 +94,58 @@ struct rapidhash_secrets {
  * collisions must be hard to predict. Make the secrets once and reuse them.
  *
  * `secrets` must not be NULL. Its previous contents are ignored, and nothing else may access it during the call. */
-RAPIDHASH_API void rapidhash_v1_make_secrets(uint64_t number, struct rapidhash_v1_secrets *secrets);
-RAPIDHASH_API void rapidhash_make_secrets(uint64_t number, struct rapidhash_secrets *secrets);
+RAPIDHASH_API RAPIDHASH_NONNULL(2) void rapidhash_v1_make_secrets(
+    uint64_t number, struct rapidhash_v1_secrets *secrets);
+RAPIDHASH_API RAPIDHASH_NONNULL(2) void rapidhash_make_secrets(uint64_t number, struct rapidhash_secrets *secrets);
 
 /* Sets the default secrets and a seed derived from the word `seed`, as the Rust crate's RapidSecrets::seed_cpp does.
  * According to that crate, the C++ library derives its seed in the same way. The default seed is that of word 0, and in
  * V1 that of 0xbdd89aa982704029. The preconditions are those of rapidhash_make_secrets.
  *
  * Security: a seed word does not stop an attacker, since the default secrets are public. */
-RAPIDHASH_API void rapidhash_v1_seed_secrets(uint64_t seed, struct rapidhash_v1_secrets *secrets);
-RAPIDHASH_API void rapidhash_seed_secrets(uint64_t seed, struct rapidhash_secrets *secrets);
+RAPIDHASH_API RAPIDHASH_NONNULL(2) void rapidhash_v1_seed_secrets(uint64_t seed, struct rapidhash_v1_secrets *secrets);
+RAPIDHASH_API RAPIDHASH_NONNULL(2) void rapidhash_seed_secrets(uint64_t seed, struct rapidhash_secrets *secrets);
 
 /* Returns the hash with the default seed and secrets. In the Rust crate: rapidhash_v1, rapidhash_v2_inline (with the
  * minor number and AVALANCHE), rapidhash_v3, and the inline functions of micro and nano. */
-RAPIDHASH_API uint64_t rapidhash_v1(const void *bytes, size_t len);
-RAPIDHASH_API uint64_t rapidhash_v2_0(const void *bytes, size_t len);
-RAPIDHASH_API uint64_t rapidhash_v2_1(const void *bytes, size_t len);
-RAPIDHASH_API uint64_t rapidhash_v2_2(const void *bytes, size_t len);
-RAPIDHASH_API uint64_t rapidhash_v3(const void *bytes, size_t len);
-RAPIDHASH_API uint64_t rapidhash_v3_micro(const void *bytes, size_t len);
-RAPIDHASH_API uint64_t rapidhash_v3_nano(const void *bytes, size_t len);
+RAPIDHASH_PURE uint64_t rapidhash_v1(const void *bytes, size_t len);
+RAPIDHASH_PURE uint64_t rapidhash_v2_0(const void *bytes, size_t len);
+RAPIDHASH_PURE uint64_t rapidhash_v2_1(const void *bytes, size_t len);
+RAPIDHASH_PURE uint64_t rapidhash_v2_2(const void *bytes, size_t len);
+RAPIDHASH_PURE uint64_t rapidhash_v3(const void *bytes, size_t len);
+RAPIDHASH_PURE uint64_t rapidhash_v3_micro(const void *bytes, size_t len);
+RAPIDHASH_PURE uint64_t rapidhash_v3_nano(const void *bytes, size_t len);
 
 /* Returns the hash with the default secrets and a seed derived from the word `seed`, as in rapidhash_seed_secrets.
  * Messages can be found that collide under every seed word. */
-RAPIDHASH_API uint64_t rapidhash_v1_with_seed(const void *bytes, size_t len, uint64_t seed);
-RAPIDHASH_API uint64_t rapidhash_v2_0_with_seed(const void *bytes, size_t len, uint64_t seed);
-RAPIDHASH_API uint64_t rapidhash_v2_1_with_seed(const void *bytes, size_t len, uint64_t seed);
-RAPIDHASH_API uint64_t rapidhash_v2_2_with_seed(const void *bytes, size_t len, uint64_t seed);
-RAPIDHASH_API uint64_t rapidhash_v3_with_seed(const void *bytes, size_t len, uint64_t seed);
-RAPIDHASH_API uint64_t rapidhash_v3_micro_with_seed(const void *bytes, size_t len, uint64_t seed);
-RAPIDHASH_API uint64_t rapidhash_v3_nano_with_seed(const void *bytes, size_t len, uint64_t seed);
+RAPIDHASH_PURE uint64_t rapidhash_v1_with_seed(const void *bytes, size_t len, uint64_t seed);
+RAPIDHASH_PURE uint64_t rapidhash_v2_0_with_seed(const void *bytes, size_t len, uint64_t seed);
+RAPIDHASH_PURE uint64_t rapidhash_v2_1_with_seed(const void *bytes, size_t len, uint64_t seed);
+RAPIDHASH_PURE uint64_t rapidhash_v2_2_with_seed(const void *bytes, size_t len, uint64_t seed);
+RAPIDHASH_PURE uint64_t rapidhash_v3_with_seed(const void *bytes, size_t len, uint64_t seed);
+RAPIDHASH_PURE uint64_t rapidhash_v3_micro_with_seed(const void *bytes, size_t len, uint64_t seed);
+RAPIDHASH_PURE uint64_t rapidhash_v3_nano_with_seed(const void *bytes, size_t len, uint64_t seed);
 
 /* Returns the hash with the caller's seed and secrets. */
-RAPIDHASH_API uint64_t rapidhash_v1_with_secrets(const void *bytes, size_t len, const struct rapidhash_v1_secrets *own);
-RAPIDHASH_API uint64_t rapidhash_v2_0_with_secrets(const void *bytes, size_t len, const struct rapidhash_secrets *own);
-RAPIDHASH_API uint64_t rapidhash_v2_1_with_secrets(const void *bytes, size_t len, const struct rapidhash_secrets *own);
-RAPIDHASH_API uint64_t rapidhash_v2_2_with_secrets(const void *bytes, size_t len, const struct rapidhash_secrets *own);
-RAPIDHASH_API uint64_t rapidhash_v3_with_secrets(const void *bytes, size_t len, const struct rapidhash_secrets *own);
-RAPIDHASH_API uint64_t rapidhash_v3_micro_with_secrets(
+RAPIDHASH_PURE RAPIDHASH_NONNULL(3) uint64_t rapidhash_v1_with_secrets(
+    const void *bytes, size_t len, const struct rapidhash_v1_secrets *own);
+RAPIDHASH_PURE RAPIDHASH_NONNULL(3) uint64_t rapidhash_v2_0_with_secrets(
     const void *bytes, size_t len, const struct rapidhash_secrets *own);
-RAPIDHASH_API uint64_t rapidhash_v3_nano_with_secrets(
+RAPIDHASH_PURE RAPIDHASH_NONNULL(3) uint64_t rapidhash_v2_1_with_secrets(
+    const void *bytes, size_t len, const struct rapidhash_secrets *own);
+RAPIDHASH_PURE RAPIDHASH_NONNULL(3) uint64_t rapidhash_v2_2_with_secrets(
+    const void *bytes, size_t len, const struct rapidhash_secrets *own);
+RAPIDHASH_PURE RAPIDHASH_NONNULL(3) uint64_t rapidhash_v3_with_secrets(
+    const void *bytes, size_t len, const struct rapidhash_secrets *own);
+RAPIDHASH_PURE RAPIDHASH_NONNULL(3) uint64_t rapidhash_v3_micro_with_secrets(
+    const void *bytes, size_t len, const struct rapidhash_secrets *own);
+RAPIDHASH_PURE RAPIDHASH_NONNULL(3) uint64_t rapidhash_v3_nano_with_secrets(
     const void *bytes, size_t len, const struct rapidhash_secrets *own);
 
 /* Returns the protected V3 hash, which XORs the factors into each product. It differs from V3. */
-RAPIDHASH_API uint64_t rapidhash_v3_protected(const void *bytes, size_t len);
-RAPIDHASH_API uint64_t rapidhash_v3_protected_with_seed(const void *bytes, size_t len, uint64_t seed);
-RAPIDHASH_API uint64_t rapidhash_v3_protected_with_secrets(
+RAPIDHASH_PURE uint64_t rapidhash_v3_protected(const void *bytes, size_t len);
+RAPIDHASH_PURE uint64_t rapidhash_v3_protected_with_seed(const void *bytes, size_t len, uint64_t seed);
+RAPIDHASH_PURE RAPIDHASH_NONNULL(3) uint64_t rapidhash_v3_protected_with_secrets(
     const void *bytes, size_t len, const struct rapidhash_secrets *own);
 
 /* A streaming hasher for V3, micro, or nano: hashes a message in pieces. Call a _start function before any other, and
@@ -144,14 +161,15 @@ struct rapidhash_stream {
 };
 
 /* Appends the next `len` bytes to the message. */
-RAPIDHASH_API void rapidhash_stream_write(struct rapidhash_stream *stream, const void *bytes, size_t len);
+RAPIDHASH_API RAPIDHASH_NONNULL(1) void rapidhash_stream_write(
+    struct rapidhash_stream *stream, const void *bytes, size_t len);
 
 /* Returns the hash of the message so far, as rapidhash_v3_with_secrets, or that of micro or nano, hashes it as a whole.
  * Does not modify the stream: more bytes may follow. */
-RAPIDHASH_API uint64_t rapidhash_stream_finish(const struct rapidhash_stream *stream);
+RAPIDHASH_PURE RAPIDHASH_NONNULL(1) uint64_t rapidhash_stream_finish(const struct rapidhash_stream *stream);
 
 /* Empties the message but keeps the secrets and the version. */
-RAPIDHASH_API void rapidhash_stream_reset(struct rapidhash_stream *stream);
+RAPIDHASH_API RAPIDHASH_NONNULL(1) void rapidhash_stream_reset(struct rapidhash_stream *stream);
 
 /* Starts a stream with 7, 5, or 3 lanes. Call one of the three functions below instead. */
 static inline void rapidhash_stream_start(
@@ -463,6 +481,13 @@ RAPIDHASH_FORCE_INLINE uint64_t rapidhash_seed_(uint64_t word)
 RAPIDHASH_NOINLINE uint64_t rapidhash_v2_with_rows_(const uint8_t *p, size_t n, uint64_t seed, const uint64_t *s)
 { return rapidhash_with_rows_(&rapidhash_v2_2_form_, p, n, seed, s); }
 
+/* Hides a constant seed from clang for x86-64, which would join it with a secret in a vector and move both back. */
+#if defined(__clang__) && defined(__x86_64__)
+#define RAPIDHASH_C_HIDE(word) __asm__("" : "+r"(word))
+#else
+#define RAPIDHASH_C_HIDE(word) ((void)0)
+#endif
+
 /* Defines the code of a version and its three hashes. */
 #define RAPIDHASH_C_DEFINE(version, own) \
     RAPIDHASH_NOINLINE uint64_t rapidhash_##version##_with_rows_( \
@@ -471,6 +496,7 @@ RAPIDHASH_NOINLINE uint64_t rapidhash_v2_with_rows_(const uint8_t *p, size_t n, 
     RAPIDHASH_NOINLINE uint64_t rapidhash_##version##_long_( \
         const uint8_t *p, size_t n, uint64_t seed, const uint64_t *s) \
     { \
+        RAPIDHASH_C_HIDE(seed); \
         if (n <= rapidhash_##version##_form_.limit) \
             return rapidhash_close_tail_(&rapidhash_##version##_form_, false, p, n, n, seed, s); \
         return rapidhash_##version##_form_.threes ? rapidhash_v2_with_rows_(p, n, seed, s) \

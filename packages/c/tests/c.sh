@@ -96,9 +96,9 @@ C
   done
 }
 
-# Prints the functions in a text without comments: the return type, name, and parameters of each.
+# Prints the public functions in a text without comments: the return type, name, and parameters of each.
 signatures() {
-  tr -s ' \n' ' ' | grep -oE '(void|uint64_t|uint32_t) rapidhash_[a-z0-9_]+\([^()]*\)' | sed 's/( /(/' | sort
+  tr -s ' \n' ' ' | grep -oE '(void|uint64_t|uint32_t) rapidhash_[a-z0-9_]*[a-z0-9]\([^()]*\)' | sed 's/( /(/' | sort
 }
 
 # Checks that the manual page has each function of the header with the same signature, and no other.
@@ -170,10 +170,10 @@ counts_instructions() {
       [ "$(instructions "$call" 0)" != "$([[ $name = v3_[mn]* ]] || instructions "$call" 1)" ] || return 1
   done <<'COUNTS'
 v2_2 31 110 2090
-v3 35 121 2074
-v3_micro 35 112 1960
-v3_nano 35 102 2011
-v3_protected 40 141 3008
+v3 35 77 2077
+v3_micro 35 109 1961
+v3_nano 35 103 2011
+v3_protected 40 97 2774
 COUNTS
 }
 
@@ -224,6 +224,39 @@ SAID
 # Runs make in that copy: ARGUMENT..
 make_by_cc_alone() {
   make -s -C "$room/bare" kit= cargo= "$@"
+}
+
+# Checks that programs that link the library are told of NULL, and that a compiler calls a hash once for equal arguments:
+# COMPILER
+has_attributes() {
+  local call
+  for call in 'rapidhash_v1_with_secrets("", 0, NULL)' 'rapidhash_v3_with_secrets("", 0, NULL)' \
+    'rapidhash_stream_finish(NULL)' 'rapidhash_stream_reset(NULL)' 'rapidhash_make_secrets(7, NULL)'; do
+    "$1" -DRAPIDHASH_LINK "-I$include" -Werror=nonnull -x c -c -o /dev/null - 2>"$room/said" \
+      <<<"#include \"rapidhash_c.h\"
+void call(void) { (void)$call; }" && echo "$call" && return 1
+    grep nonnull "$room/said" || return 1
+  done
+  "$1" -O1 -DRAPIDHASH_LINK "-I$include" -x c -S -o - - <<<'#include "rapidhash_c.h"
+uint64_t sum(const void *p, size_t n) { return rapidhash_v3(p, n) + 3 * rapidhash_v3(p, n); }' >"$room/sum.s" &&
+    [ "$(grep -c rapidhash_v3 "$room/sum.s")" -eq 1 ]
+}
+
+# Checks that clang keeps the words of a call with the default seed out of vector registers, which would cost moves.
+keeps_words_in_registers() {
+  clang -O2 "-I$include" -x c -c -o "$room/words.o" - <<<'#include "rapidhash_c.h"
+uint64_t hash(const void *p, size_t n) { return rapidhash_v3(p, n); }' &&
+    objdump --disassemble=rapidhash_v3_long_ "$room/words.o" >"$room/words" && grep '\smul ' "$room/words" &&
+    ! grep xmm "$room/words"
+}
+
+# Builds the programs of docs/CPP.md with the header that FetchContent and add_subdirectory give.
+fetches_by_cmake() {
+  mkdir -p "$room/fetch" && cd "$room/fetch" && blocks "$top/docs/CPP.md" cpp hello >hello.cpp &&
+    blocks "$top/docs/CPP.md" cmake FetchContent >CMakeLists.txt && YERVOUND=$top cmake -B fetched &&
+    cmake --build fetched && [ "$(fetched/hello)" = 3327445792987248966 ] && cp -r "$top/packages/c" copy &&
+    sed -i 's/^FetchContent_Declare.*/add_subdirectory(copy)/; /FetchContent/d' CMakeLists.txt &&
+    cmake -B added && cmake --build added && [ "$(added/hello)" = 3327445792987248966 ]
 }
 
 # Compiles and runs the programs of docs/C.md and docs/CPP.md with the headers alone, as the pages say.
@@ -314,6 +347,9 @@ return rapidhash_v3_protected(bytes, length);|8 16 100 4096|32 32 100 2262
 for (size_t at = 0; at < 4800; at += length) rapidhash_stream_write(&stream, bytes + at, length); return 0;|1 16 100|182455 13555 6570
 return rapidhash_v3_with_seed(bytes, length, length);|8 16 100 4096|30 30 73 1750
 COUNTS
+try_with words_of_the_header clang keeps_words_in_registers
+for compiler in gcc clang; do try_with "attributes_$compiler" "$compiler" has_attributes "$compiler"; done
+try_with fetched_by_cmake 'cmake make c++' fetches_by_cmake
 try_with manual_and_header mandoc manual_has_the_header
 try_with preconditions_of_the_manual mandoc manual_has_the_preconditions
 

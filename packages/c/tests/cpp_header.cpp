@@ -52,7 +52,14 @@ static void check_texts()
     const std::vector<signed char> vector(text.begin(), text.end());
     const std::array<unsigned char, 5> array = {{'h', 'e', 'l', 'l', 'o'}};
 
+    const char unterminated[5] = {'h', 'e', 'l', 'l', 'o'};
+    const char *const pointer = text.c_str();
+    char buffer[16] = "hello";
+
     compare("a literal", rapidhash::hash("hello"), hash_of_hello);
+    compare("an array that no zero ends", rapidhash::hash(unterminated), hash_of_hello);
+    compare("a buffer", rapidhash::hash(buffer), hash_of_hello);
+    compare("a C string", rapidhash::hash(pointer), hash_of_hello);
     compare("a string", rapidhash::hash(text), hash_of_hello);
     compare("a vector", rapidhash::hash(vector), hash_of_hello);
     compare("an array", rapidhash::hash(array), hash_of_hello);
@@ -120,7 +127,8 @@ static void check_copies()
 static void check_tables()
 {
     std::unordered_map<std::string, int, rapidhash::hasher> counts;
-    std::unordered_set<std::string, rapidhash::hasher> names(0, rapidhash::hasher(rapidhash::make_secrets(1)));
+    const rapidhash::seeded_hasher seeded(rapidhash::make_secrets(1));
+    std::unordered_set<std::string, rapidhash::seeded_hasher> names(0, seeded);
 
     for (int number = 0; number < 1000; number++) {
         counts[std::to_string(number % 100)]++;
@@ -164,7 +172,7 @@ static void check_case(const std::string &name, const Start &start, const std::s
     rapidhash::stream pieces(start);
 
     compare(name, rapidhash::hash(message, start), known);
-    compare(name + ", by a hasher", rapidhash::hasher(start)(message), static_cast<std::size_t>(known));
+    compare(name + ", by a hasher", rapidhash::seeded_hasher(start)(message), static_cast<std::size_t>(known));
     for (std::size_t at = 0, size = 1; at < message.size(); at += size, size++) {
         if (size > message.size() - at)
             size = message.size() - at;

@@ -4,6 +4,7 @@
 
 #include <string>
 #include <type_traits>
+#include <unordered_set>
 #include <utility>
 #include <vector>
 
@@ -24,12 +25,19 @@ static_assert(!converts<std::vector<std::uint16_t>, bytes>::value, "numbers of 1
 static_assert(!converts<std::nullptr_t, bytes>::value, "nothing is no text");
 static_assert(!converts<int, seed>::value, "a number is no seed");
 static_assert(std::is_copy_assignable<stream>::value, "a stream can be copied");
-static_assert(!converts<seed, hasher>::value && !converts<secrets, hasher>::value
+static_assert(!converts<seed, seeded_hasher>::value && !converts<secrets, seeded_hasher>::value
                   && !converts<seed, stream>::value && !converts<secrets, stream>::value,
               "a seed is neither a hasher nor a stream");
 static_assert(std::is_same<decltype(stream().update("").update("", 0)), stream &>::value, "update copies no stream");
 static_assert(seed(7).word == 7, "a seed can be a constant");
-static_assert(noexcept(hasher()(std::string())) && noexcept(hasher(seed(1))("")) && noexcept(hasher(own)({"", 0}))
+static_assert(std::is_empty<hasher>::value && sizeof(std::unordered_set<std::string, hasher>)
+                  == sizeof(std::unordered_set<std::string>), "a table is as small as with std::hash");
+static_assert(!std::is_default_constructible<seeded_hasher>::value, "a seeded hasher has a seed");
+static_assert(std::is_void<hasher::is_avalanching>::value && std::is_void<seeded_hasher::is_avalanching>::value
+                  && std::is_void<hasher::is_transparent>::value && std::is_void<seeded_hasher::is_transparent>::value,
+              "other tables need not mix a hash");
+static_assert(noexcept(hasher()(std::string())) && noexcept(seeded_hasher(seed(1))(""))
+                  && noexcept(seeded_hasher(own)({"", 0}))
                   && noexcept(hash("")) && noexcept(hash({bytes("").data(), 0}, own))
                   && noexcept(bytes("").size())
                   && noexcept(hash("", seed_secrets(seed(make_secrets(1).seed))))

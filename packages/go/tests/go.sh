@@ -26,7 +26,24 @@ folds_many_rows() {
 
 # Checks by the calls in that program that a stream copies whole pieces: byte by byte, short ones would take longer.
 copies_whole_pieces() {
-  [ "$(go tool objdump -s 'Stream..(Write|fold)$' "$room/test" | grep -c 'CALL runtime.memmove')" -eq 5 ]
+  [ "$(go tool objdump -s 'Stream..(Write|fold)$' "$room/test" | grep -c 'CALL runtime.memmove')" -eq 3 ]
+}
+
+# Checks that a call with a string multiplies nothing before the hash: unsafe.Slice checks a product for its length.
+casts_strings() {
+  go tool objdump -s 'rapidhash.V3String$' "$room/test" >"$room/string" && grep -q 'CALL.*rapidhash.v3(SB)' "$room/string" &&
+    ! grep MUL "$room/string"
+}
+
+# Tests Clone with the library's package hash as Go 1.25 has it: an older Go's gets the interface.
+clones() {
+  local root
+  root=$(go env GOROOT) && cp "$root/src/hash/hash.go" "$room/hash.go" &&
+    { grep -q 'type Cloner ' "$room/hash.go" ||
+      printf 'type Cloner interface {\n\tHash\n\tClone() (Cloner, error)\n}\n' >>"$room/hash.go"; } &&
+    echo "{\"Replace\": {\"$root/src/hash/hash.go\": \"$room/hash.go\"}}" >"$room/overlay" &&
+    go vet -tags go1.25 -overlay "$room/overlay" . &&
+    go test -tags go1.25 -overlay "$room/overlay" -run TestClone -v . | grep '^--- PASS: TestClone'
 }
 
 # Checks that all tests pass, of which none may skip itself: without their files, those of the vectors do.
@@ -42,7 +59,7 @@ try licences has_the_licences .
 try version requires_the_go_of_the_page
 try layout bash -c '[ -z "$(gofmt -l .)" ]'
 # The functions, methods, and types of the release.
-try names bash -c '[ "$(go doc -all | grep -cE "^(func|type) ")" -eq 65 ]'
+try names bash -c '[ "$(go doc -all | grep -cE "^(func|type) ")" -eq 69 ]'
 try tests passes_every_test
 try race go test -timeout 0 -count 1 -short -race .
 try fuzz go test -timeout 0 -run - -fuzz FuzzPieces -fuzztime 20000x .
@@ -52,6 +69,8 @@ try_with s390x qemu-s390x env GOARCH=s390x go test -timeout 0 -count 1 -short -e
 for os in linux windows darwin; do try "vet_$os" env GOOS="$os" GOARCH=amd64 go vet .; done
 try rows_per_iteration folds_many_rows
 try copies copies_whole_pieces
+try strings casts_strings
+try clone clones
 try vet_formulas go vet -tags formulas ./...
 try lines_of_the_page runs_the_page
 try page works_as_its_page_says README.md

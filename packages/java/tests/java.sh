@@ -24,7 +24,7 @@ compiles_formulas() {
 
 # Prints the hash of hello in a program that requires the module.
 runs_as_a_module() {
-  mkdir "$room/module" && echo "module first { requires $package; }" >"$room/module/module-info.java" &&
+  mkdir -p "$room/module" && echo "module first { requires $package; }" >"$room/module/module-info.java" &&
     cat >"$room/module/First.java" <<JAVA && javac -p "$jar" -d "$room/module" "$room"/module/*.java &&
 package first;
 
@@ -39,9 +39,10 @@ JAVA
     [ "$(java -p "$jar:$room/module" -m first/first.First)" = 3327445792987248966 ]
 }
 
-# Tests the classes in the jar: TEST
+# Tests the classes in the jar. Without the variables, tests would skip their files: TEST
 passes() {
-  java -ea -cp "$jar:$room/tests:$junit" org.junit.runner.JUnitCore "$package.$1"
+  [ "$(env | grep -c '^RAPIDHASH_')" -eq 3 ] &&
+    java -ea -cp "$jar:$room/tests:$junit" org.junit.runner.JUnitCore "$package.$1"
 }
 
 # Checks that the module has the version of the pom, which has the licences and no package that its users need.
@@ -52,7 +53,17 @@ pom_is_current() {
   <artifactId>yervound-rapidhash</artifactId>
   <version>$version</version>"* ]] &&
     grep -x ' *<name>MIT OR Apache-2.0</name>' "$folder/pom.xml" &&
-    [ "$(grep -c '<artifactId>' "$folder/pom.xml")" -eq $((1 + $(grep -cx ' *<scope>test</scope>' "$folder/pom.xml"))) ]
+    [ "$(grep -c '<dependency>' "$folder/pom.xml")" -eq "$(grep -cx ' *<scope>test</scope>' "$folder/pom.xml")" ]
+}
+
+# Builds and tests the package by Maven with Debian's plugins, offline and without the files of vectors: the three tests
+# that read one are skipped. The jar must have the values.
+builds_by_maven() {
+  cp -rs /usr/share/maven-repo "$room/maven-repo" && cp -r "$folder" "$room/maven" && cd "$room/maven" &&
+    env -u RAPIDHASH_VECTORS -u RAPIDHASH_SECRETS -u RAPIDHASH_KEYS mvn -o -B -Dmaven.repo.local="$room/maven-repo" package &&
+    [ "$(cat target/surefire-reports/*.xml | grep -c '<testcase ')" -eq "$(grep -rhE '^ *@Test' src/test | wc -l)" ] &&
+    [ "$(cat target/surefire-reports/*.xml | grep -c '<skipped')" -eq 3 ] &&
+    jar=$room/maven/target/yervound-rapidhash-1.0.0.jar runs_as_a_module
 }
 
 # Checks that a test makes each call of the page, with HELLO as the bytes.
@@ -106,6 +117,9 @@ for test in "$folder"/src/test/java/example/yervound/rapidhash/*Test.java; do
 done
 try java_formulas compiles_formulas
 try java_calls_of_the_page runs_the_page
+plugins=/usr/share/maven-repo/org/apache/maven/plugins/maven
+try_with java_maven "mvn $plugins-compiler-plugin/3.10.1 $plugins-resources-plugin $plugins-jar-plugin \
+  $plugins-surefire-plugin" builds_by_maven
 try java_page works_as_its_page_says "$folder/README.md"
 
 finish

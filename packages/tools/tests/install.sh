@@ -108,7 +108,7 @@ prints_the_hash_of_hello() {
 
 by_cmake_as_the_page_says() (
   export HOME=$room/home
-  cd "$HOME" && blocks "$top/docs/CPP.md" cmake project >CMakeLists.txt &&
+  cd "$HOME" && blocks "$top/docs/CPP.md" cmake find_package >CMakeLists.txt &&
     blocks "$top/docs/CPP.md" sh cmake >commands && prints_the_hash_of_hello 1
 )
 
