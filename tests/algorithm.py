@@ -6,8 +6,8 @@ import ctypes
 import re
 
 from cases import ROOM, TOP, compare, finish, lacks, shell, skip, tell
-from model import (LANES, PAGE, S, drawn, drawn_by_time, hash_of, hashed_items, hashed_pieces, hashed_slice, made_secrets,
-                   message, secrets_of, seed_source)
+from model import (LANES, PAGE, S, drawn, drawn_by_time, field_bytes, hash_of, hashed_items, hashed_pieces,
+                   hashed_slice, made_secrets, message, secrets_of, seed_source)
 
 
 def computed(case):
@@ -17,6 +17,8 @@ def computed(case):
         return hashed_pieces({"5": "micro", "3": "nano"}.get(case.get("lanes"), "V3"), case)
     if "call" in case:
         return secrets_of(case["call"], case["number"], version == "V1")
+    if "key" in case:
+        return [hashed_slice("V3", {**case, "protected": "0"}, b"".join(map(field_bytes, case["key"].split())))]
     if "items" in case:
         return [hashed_items(case, case["items"].split() if case["items"] != "(none)" else [])]
     if "length" in case:
@@ -68,7 +70,7 @@ def differences_in_c(length):
         arguments = content, ctypes.c_size_t(length), (ctypes.c_uint64 * 8)(*numbers)
         wanted = hash_of(form, content, numbers[0], numbers[1:], protected=bool(protected))
         name = version.lower().replace("micro", "v3_micro").replace("nano", "v3_nano")
-        calls = [(f"rapidhash_{re.sub('[. ]', '_', name)}_seeded", *arguments)]
+        calls = [(f"rapidhash_{re.sub('[. ]', '_', name)}_with_secrets", *arguments)]
         calls += [("in_pieces", *arguments, ctypes.c_size_t(LANES[version]))] if version in LANES else []
         for name, *arguments in calls:
             call = ctypes.CDLL(ROOM / "header.so")[name]

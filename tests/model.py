@@ -184,6 +184,15 @@ def hashed_slice(version, case, content):
     return hash_of(version, content, seed, secrets, avalanche, protected, case.get("v1_bug") == "1")
 
 
+def field_bytes(text):
+    """Returns the encoding of a key's field: `-`, a decimal integer, or x and hexadecimal digits."""
+    if text == "-":
+        return b"\0"
+    data = bytes.fromhex(text[1:]) if text[0] == "x" else b""
+    number = len(data) if text[0] == "x" else int(text)
+    return (b"\2" if text[0] == "x" else b"\1") + (number % 2**64).to_bytes(8, "little") + data
+
+
 def hashed_pieces(version, case):
     """Computes the hash at each f of a stream's operations, of the bytes since the start or the last r."""
     content, written, hashes = message(case["message"], int(case["length"])), b"", []

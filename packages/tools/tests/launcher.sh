@@ -130,7 +130,7 @@ each_file_counts() {
   local product files file
   { make -pq -C "$top"; make -pq -C "$top" kit=; } >rules 2>/dev/null
   while read -r product files; do
-    (cd "$top" && git ls-files $files | grep -vE '^packages/[a-z]+/(tests|page)/') >listed && [ -s listed ] && while read -r file; do
+    (cd "$top" && git ls-files $files | grep -vE '^packages/[a-z]+/(tests|page|examples)/') >listed && [ -s listed ] && while read -r file; do
       grep -qE "^$product: (.* )?$file( |\$)" rules || { echo "$product: $file" && return 1; }
     done <listed || return 1
   done <<'PRODUCTS'
