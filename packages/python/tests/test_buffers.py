@@ -18,8 +18,9 @@ DATA = bytes(range(120))
 KNOWN = 7088138960297660729  # The V3 hash of DATA by the Rust crate, as in test_rapidhash.py
 
 
-def lets_others_run(call):
-    """Returns whether a call lets another thread run. The switch interval is too long for the thread to preempt it."""
+def lets_others_run(call, times):
+    """Returns whether one of so many calls lets another thread run, which on a busy machine few of them may do. The switch
+    interval is too long for the thread to preempt a call."""
     count, done, interval = [0], threading.Event(), sys.getswitchinterval()
 
     def other():
@@ -32,7 +33,7 @@ def lets_others_run(call):
     try:
         thread.start()
         before = count[0]
-        return any(call() is not None and count[0] != before for _ in range(20_000))
+        return any(call() is not None and count[0] != before for _ in range(times))
     finally:
         done.set()
         sys.setswitchinterval(interval)
@@ -128,9 +129,9 @@ class Buffers(unittest.TestCase):
         offsets = array.array("i", [0, 8])
         for call in (lambda: rapidhash.v3(data), lambda: hasher.update(data), lambda: rapidhash.each([data]),
                      lambda: rapidhash.each_row(data, 65_537), lambda: rapidhash.each_slice(data, offsets)):
-            self.assertTrue(lets_others_run(call))
+            self.assertTrue(lets_others_run(call, 2_000_000))
         for call in (lambda: rapidhash.v3(short), lambda: hasher.update(short), lambda: rapidhash.each([short])):
-            self.assertFalse(lets_others_run(call))
+            self.assertFalse(lets_others_run(call, 20_000))
 
 
 class Files(unittest.TestCase):
