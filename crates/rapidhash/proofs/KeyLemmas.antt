@@ -3,7 +3,7 @@ use Rattle.std.proofs.Common.{◌≡◌, ◌⊎◌, inl, inr, ℕ, ◌+◌, ◌�
 use Rattle.std.specs.Int.{w64, to_le_bytes, from_le_bytes}
 use Rattle.std.proofs.lemmas.Nat.{from_le_bytes-to_le_bytes_8}
 use Rattle.std.proofs.lemmas.List.{append-nil, append_cancel_left, drop_all, length-drop}
-use Rattle.rapidhash_portable.specs.Stream.{StreamRepresents}
+use Rattle.rapidhash_portable.specs.Stream.{RepresentsAfter}
 use Rattle.rapidhash_portable.specs.declared.v3.stream.RapidStreamHasherLanes.{RapidStreamHasherLanes}
 use Rattle.rapidhash.specs.declared.key.Field.{Field}
 use Rattle.rapidhash.specs.declared.key.Field.TheVariants.{Nothing, Integer, Bytes}
@@ -13,7 +13,7 @@ use Rattle.rapidhash.specs.Key.{Appends, Content, IsContent, Missing, Number, Te
 pub appends-join : {lanes avalanche protected' : ℕ} (protected : Bool) (old middle new : RapidStreamHasherLanes lanes avalanche protected') (a b : List ℕ)
     → Appends protected old middle a → Appends protected middle new b → Appends protected old new (a ++ b)
 appends-join protected old middle new a b first second = record {
-  adds = λ x h. subst (λ y. StreamRepresents protected new y) (append_assoc x a b) (second.adds (x ++ a) (first.adds x h));
+  adds = λ earlier x h. subst (λ y. RepresentsAfter earlier protected new y) (append_assoc x a b) (second.adds earlier (x ++ a) (first.adds earlier x h));
   count = second.count;
   secrets = second.secrets ∙ first.secrets;
 }

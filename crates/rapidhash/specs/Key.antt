@@ -1,7 +1,7 @@
 -- The bytes of a key of several fields.
-use Rattle.std.specs.Prelude.{ℕ, ◌≡◌, ◌<◌, ◌^◌, Bool, List, [], ◌∷◌, ◌++◌, length}
+use Rattle.std.specs.Prelude.{ℕ, ◌≡◌, ◌+◌, ◌<◌, ◌^◌, Bool, List, [], ◌∷◌, ◌++◌, length}
 use Rattle.std.specs.Int.{w64, to_le_bytes}
-use Rattle.rapidhash_portable.specs.Stream.{StreamRepresents, chunk_count, secrets_of_stream, steps_of}
+use Rattle.rapidhash_portable.specs.Stream.{RepresentsAfter, chunk_count, secrets_of_stream, steps_of}
 use Rattle.rapidhash_portable.specs.declared.v3.stream.RapidStreamHasherLanes.{RapidStreamHasherLanes}
 use Rattle.rapidhash.specs.declared.key.Field.{Field}
 use Rattle.rapidhash.specs.declared.key.Field.TheVariants.{Nothing, Integer, Bytes}
@@ -39,6 +39,6 @@ key_bytes (field ∷ fields) = field_bytes field ++ key_bytes fields
 
 -- a write adds bytes to the message of a stream hasher, folds each chunk that a further byte follows, and keeps the secrets
 pub record Appends {lanes avalanche protected' : ℕ} (protected : Bool) (old new : RapidStreamHasherLanes lanes avalanche protected') (bytes : List ℕ) : Type 0 where
-  pub adds : (x : List ℕ) → StreamRepresents protected old x → StreamRepresents protected new (x ++ bytes)
-  pub count : (x : List ℕ) → StreamRepresents protected new x → steps_of new ≡ chunk_count lanes (length x)
+  pub adds : (earlier : ℕ) (x : List ℕ) → RepresentsAfter earlier protected old x → RepresentsAfter earlier protected new (x ++ bytes)
+  pub count : (earlier : ℕ) (x : List ℕ) → RepresentsAfter earlier protected new x → earlier + steps_of new ≡ chunk_count lanes (length x)
   pub secrets : secrets_of_stream new ≡ secrets_of_stream old

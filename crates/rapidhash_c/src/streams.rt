@@ -19,8 +19,8 @@ pub extern "C" fn rapidhash_stream_reset(stream: &mut RapidStream<'_>)
 /// Adds a piece to the message.
 #[unsafe(no_mangle)]
 pub extern "C" fn rapidhash_stream_write(stream: &mut RapidStream<'_>, bytes: &[u8])
-    ensures adds { (x : List ℕ) → RepresentsByLanes stream.old x →
-        RepresentsByLanes stream.new (x ++ bytes.now) }
+    ensures adds { (earlier : ℕ) (x : List ℕ) → RepresentsByLanes earlier stream.old x →
+        RepresentsByLanes earlier stream.new (x ++ bytes.now) }
     ensures secrets { secrets_by_lanes stream.new ≡ secrets_by_lanes stream.old }
     ensures lanes { lanes_of stream.new ≡ lanes_of stream.old }
 {
@@ -30,7 +30,7 @@ pub extern "C" fn rapidhash_stream_write(stream: &mut RapidStream<'_>, bytes: &[
 /// Returns the hash of the message so far. It changes nothing: further pieces may follow.
 #[unsafe(no_mangle)]
 pub extern "C" fn rapidhash_stream_finish(stream: &RapidStream<'_>) -> u64
-    ensures { (x : List ℕ) → RepresentsByLanes stream.now x → result
+    ensures { (earlier : ℕ) (x : List ℕ) → RepresentsByLanes earlier stream.now x → result
         ≡ seeded_hash (V3 (lanes_of stream.now)) standard
         (secrets_by_lanes stream.now) x }
 {

@@ -8,6 +8,7 @@ pub mod InMemoryLemmas
 pub mod LanesLemmas
 pub mod ListLemmas
 pub mod ReadingLemmas
+pub mod SavedLemmas
 pub mod SecretsLemmas
 pub mod StreamLemmas
 pub mod TailLemmas

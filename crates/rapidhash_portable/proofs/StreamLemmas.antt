@@ -49,13 +49,13 @@ mul_some lanes (suc rows) some = omega arith
 
 -- no bytes
 pub PartsRepresent-none : (protected : Bool) (lanes : ℕ) (s : Parts) → s.folded.lanes ≡ replicate 7 s.secrets.now.seed →
-    s.folded.count.steps ≡ 0 → s.any ≡ false → s.len ≡ 0 → PartsRepresent protected lanes s []
+    s.folded.count.steps ≡ 0 → s.any ≡ false → s.len ≡ 0 → PartsRepresent protected lanes 0 s []
 PartsRepresent-none protected lanes s held steps any len =
     let none : chunk_count lanes 0 ≡ 0 = zero-div (16 * lanes) in
     let z : 16 * (lanes * 0) ≡ 0 = omega arith in
     record {
       folded = rw (none, held) HaveFolded-none;
-      steps = rw none steps;
+      steps = omega (arith, none, steps);
       any = rw none any;
       buffered = rw (len, none, z) refl;
       carried = λ some. absurd (omega (arith, none));
@@ -75,12 +75,12 @@ Running-more r held' rest' steps' more n folded counted size room next = record 
 }
 
 -- the bytes behind the last whole chunk are buffered
-pub PartsRepresent-rest : (protected : Bool) {lanes : ℕ} (s : Parts) (y carried tail kept' kept'' : List ℕ) (i j : ℕ) → IsLaneCount lanes →
-    (r : Running protected s.secrets.now.secrets y lanes s.secrets.now.seed s.folded.lanes s.folded.count.steps tail) → length tail ≤ 16 * lanes → length tail < length y →
+pub PartsRepresent-rest : (protected : Bool) {lanes earlier : ℕ} (s : Parts) (y carried tail kept' kept'' : List ℕ) (i j : ℕ) → IsLaneCount lanes →
+    (r : Running protected s.secrets.now.secrets y lanes s.secrets.now.seed s.folded.lanes (earlier + s.folded.count.steps) tail) → length tail ≤ 16 * lanes → length tail < length y →
     s.any ≡ true → length s.kept ≡ 128 → length carried ≡ 16 → carried ≡ take 16 (drop (length y - length tail - 16) y) →
     kept' ≡ put_mid 0 i s.kept carried → length kept' ≡ 128 → kept'' ≡ put_mid 16 j kept' tail →
-    PartsRepresent protected lanes (record s { kept = kept''; len = length tail }) y
-PartsRepresent-rest protected {lanes} s y carried tail kept' kept'' i j count r few less flag size sixteen before e size' e' =
+    PartsRepresent protected lanes earlier (record s { kept = kept''; len = length tail }) y
+PartsRepresent-rest protected {lanes} {earlier} s y carried tail kept' kept'' i j count r few less flag size sixteen before e size' e' =
     let rows = PrefixIsFolded-all r.prefix (omega arith) in
     let left = PrefixIsFolded-left r.prefix in
     let some = some_rows lanes r.prefix.rows (length tail) (length y) left less in
@@ -98,8 +98,8 @@ PartsRepresent-rest protected {lanes} s y carried tail kept' kept'' i j count r 
 
 -- ---- the data of a message
 
-module _ {protected : Bool} {lanes : ℕ} {s : Parts} {x : List ℕ}
-    (count : IsLaneCount lanes) (h : PartsRepresent protected lanes s x) (size : length s.kept ≡ 128) (fits : s.len ≤ 16 * lanes) where
+module _ {protected : Bool} {lanes earlier : ℕ} {s : Parts} {x : List ℕ}
+    (count : IsLaneCount lanes) (h : PartsRepresent protected lanes earlier s x) (size : length s.kept ≡ 128) (fits : s.len ≤ 16 * lanes) where
   low : folded_bytes lanes (length x) ≤ length x - 1
   low = chunk_count-low lanes (length x) (omega arith)
 
@@ -116,7 +116,7 @@ module _ {protected : Bool} {lanes : ℕ} {s : Parts} {x : List ℕ}
 
   -- a piece that fits into the buffer
   pub PartsRepresent-fits : (d kept' : List ℕ) (j : ℕ) → s.len + length d ≤ 16 * lanes → kept' ≡ put_mid (16 + s.len) j s.kept d →
-      PartsRepresent protected lanes (record s { kept = kept'; len = s.len + length d }) (x ++ d)
+      PartsRepresent protected lanes earlier (record s { kept = kept'; len = s.len + length d }) (x ++ d)
   PartsRepresent-fits d kept' j room e =
       let whole = length-buffered in
       let edge = low in
@@ -151,7 +151,7 @@ module _ {protected : Bool} {lanes : ℕ} {s : Parts} {x : List ℕ}
   pub Running-filled : (d kept' chunk held' : List ℕ) (j steps' : ℕ) → 16 * lanes - s.len < length d →
       kept' ≡ put_mid (16 + s.len) j s.kept (take (16 * lanes - s.len) d) → chunk ≡ take (16 * lanes) (drop 16 kept') →
       HaveFolded protected s.secrets.now.secrets chunk lanes s.folded.lanes held' 1 → steps' ≡ s.folded.count.steps + 1 →
-      Running protected s.secrets.now.secrets (x ++ d) lanes s.secrets.now.seed held' steps' (drop (16 * lanes - s.len) d)
+      Running protected s.secrets.now.secrets (x ++ d) lanes s.secrets.now.seed held' (earlier + steps') (drop (16 * lanes - s.len) d)
   Running-filled d kept' chunk held' j steps' enough e is folded one =
       let old : List ℕ = take s.len (drop 16 s.kept) in
       let sized : length old ≡ s.len = length-kept in
@@ -159,12 +159,12 @@ module _ {protected : Bool} {lanes : ℕ} {s : Parts} {x : List ℕ}
       let more = length-append old d in
       let total = length-append x d in
       let whole = length-buffered in
-      let start : Running protected s.secrets.now.secrets (x ++ d) lanes s.secrets.now.seed s.folded.lanes s.folded.count.steps (old ++ d) = record {
+      let start : Running protected s.secrets.now.secrets (x ++ d) lanes s.secrets.now.seed s.folded.lanes (earlier + s.folded.count.steps) (old ++ d) = record {
         prefix = record { rows = chunk_count lanes (length x); lanes = HaveFolded-append h.folded d (omega arith); rest_is = buffered-append d; left = omega arith };
         counted = h.steps;
       } in
       let head = HaveFolded-take (16 * lanes) (old ++ d) (rw (is ∙ filled_chunk d kept' j enough e) at folded) (omega arith) (omega arith) in
-      Running-more start held' (drop (16 * lanes - s.len) d) steps' 1 (16 * lanes) head one (omega arith) (omega arith)
+      Running-more start held' (drop (16 * lanes - s.len) d) (earlier + steps') 1 (16 * lanes) head (omega (arith, one)) (omega arith) (omega arith)
       (sym (drop-behind old d (16 * lanes) (16 * lanes - s.len) (omega arith)))
 
   -- with a chunk the message is longer than that

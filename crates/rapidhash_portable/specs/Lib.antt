@@ -8,6 +8,7 @@ pub mod InMemory
 pub mod Lanes
 pub mod Multiply
 pub mod Reading
+pub mod Saved
 pub mod Secrets
 pub mod SeedSource
 pub mod Source

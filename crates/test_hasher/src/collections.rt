@@ -66,7 +66,7 @@ fn room_is_that_of_std(rt: HostRuntime) -> Result<(), Fail> {
     let secrets = GlobalSecrets::new(1);
     let mut source = SeedSource::new(&secrets, 2);
     let state = fast::RandomState::new(&secrets, &mut source);
-    for count in 0..30usize {
+    for count in (0..30usize).chain([100_000]) {
         let map: RapidHashMap<u32, u32, _> = HashMapExt::with_capacity(rt.alloc(), count, state)?;
         let plain: HashMap<u32, u32> = HashMap::with_capacity(rt.alloc(), count)?;
         assert!(rt; map.capacity() == plain.capacity());

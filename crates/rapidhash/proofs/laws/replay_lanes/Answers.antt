@@ -27,7 +27,7 @@ loop-op-preserved g c =
             kept = ap secrets_of_stream w.hasher-is ∙ w.write.ensures.secrets ∙ kept;
             message = (
               y,
-              subst (λ h. StreamRepresents P h y) (sym w.hasher-is) (w.write.ensures.adds x message.1),
+              subst (λ h. StreamRepresents P h y) (sym w.hasher-is) (w.write.ensures.adds 0 x message.1),
               message.2
                   ∙ ap (λ a. items ++ a) (finishes_from-step g.row.LANES chosen secrets x ops i _ _ (omega arith) w.in-Write.is)
                   ∙ ap (λ v. v.items ++ finishes_from g.row.LANES chosen secrets y (drop (i + 1) ops)) (sym w.answers-is),
@@ -35,7 +35,7 @@ loop-op-preserved g c =
           }
       | in-Finish+in_ok-push-in-Finish w ↦
           let rest = finishes_from g.row.LANES chosen secrets x (drop (i + 1) ops) in
-          let hash = w.finish.ensures x message.1 ∙ ap (λ s. seeded_hash (V3 g.row.LANES) chosen s x) kept in
+          let hash = w.finish.ensures 0 x message.1 ∙ ap (λ s. seeded_hash (V3 g.row.LANES) chosen s x) kept in
           let pushed : w.push.new.self.items ≡ items ++ w.finish.result ∷ [] = rw w.in_ok-push-in-Finish.was at w.push.ensures.items in
           record {
             kept = ap secrets_of_stream w.hasher-is ∙ kept;

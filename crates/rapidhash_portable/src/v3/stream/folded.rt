@@ -65,6 +65,24 @@ impl Folded {
         }
     }
 
+    /// Returns lanes that hold these words.
+    pub(super) const fn with_lanes(lanes: [u64; 7]) -> Self
+        ensures lanes { result.lanes ≡ lanes }
+        ensures none { result.count.steps ≡ 0 }
+    {
+        Folded {
+            lanes,
+            count: Count::new(),
+        }
+    }
+
+    /// Returns the lanes.
+    pub(super) fn lanes(&self) -> &[u64]
+        ensures { result.now ≡ self.now.lanes }
+    {
+        &self.lanes
+    }
+
     /// Folds the chunk at the head of `bytes`, one pair into each of the first `LANES` lanes.
     #[inline(always)]
     pub(crate) fn step<const LANES: usize, const PROTECTED: bool>(
@@ -108,11 +126,11 @@ impl Folded {
         secrets: &[u64; 7],
     ) -> &'x [u8]
         requires { IsLaneCount LANES }
-        ensures on { (x : List ℕ) (seed : ℕ) →
+        ensures on { (x : List ℕ) (seed earlier : ℕ) →
             Running PROTECTED secrets.now x LANES seed
-            self.old.lanes self.old.count.steps bytes.now →
+            self.old.lanes (earlier + self.old.count.steps) bytes.now →
             Running PROTECTED secrets.now x LANES seed
-            self.new.lanes self.new.count.steps result.now }
+            self.new.lanes (earlier + self.new.count.steps) result.now }
         ensures all { length result.now ≤ 16 * LANES }
         ensures fewer { length result.now ≤ length bytes.now }
     {

@@ -31,7 +31,7 @@ pub(crate) struct Parts<'a> {
 
 /// Returns the 16 bytes from `from` on.
 #[inline(always)]
-fn sixteen(bytes: &[u8], from: usize) -> [u8; 16]
+pub(super) fn sixteen(bytes: &[u8], from: usize) -> [u8; 16]
     requires { from + 16 ≤ length bytes.now }
     ensures { result ≡ take 16 (drop from bytes.now) }
 {
@@ -77,8 +77,9 @@ impl<'a> Parts<'a> {
     pub(crate) fn write<const LANES: usize, const PROTECTED: bool>(&mut self, piece: &[u8])
         requires lanes { IsLaneCount LANES }
         requires fits { self.old.len ≤ 16 * LANES }
-        ensures adds { (x : List ℕ) → PartsRepresent PROTECTED LANES self.old x →
-            PartsRepresent PROTECTED LANES self.new (x ++ piece.now) }
+        ensures adds { (earlier : ℕ) (x : List ℕ) →
+            PartsRepresent PROTECTED LANES earlier self.old x →
+            PartsRepresent PROTECTED LANES earlier self.new (x ++ piece.now) }
         ensures secrets { self.new.secrets.now ≡ self.old.secrets.now }
         ensures fits { self.new.len ≤ 16 * LANES }
     {
@@ -99,8 +100,9 @@ impl<'a> Parts<'a> {
         requires lanes { IsLaneCount LANES }
         requires fits { self.old.len ≤ 16 * LANES }
         requires past { 16 * LANES - self.old.len < length piece.now }
-        ensures adds { (x : List ℕ) → PartsRepresent PROTECTED LANES self.old x →
-            PartsRepresent PROTECTED LANES self.new (x ++ piece.now) }
+        ensures adds { (earlier : ℕ) (x : List ℕ) →
+            PartsRepresent PROTECTED LANES earlier self.old x →
+            PartsRepresent PROTECTED LANES earlier self.new (x ++ piece.now) }
         ensures secrets { self.new.secrets.now ≡ self.old.secrets.now }
         ensures fits { self.new.len ≤ 16 * LANES }
     {
@@ -133,7 +135,7 @@ impl<'a> Parts<'a> {
     ) -> u64
         requires lanes { IsLaneCount LANES }
         requires fits { self.now.len ≤ 16 * LANES }
-        ensures { (x : List ℕ) → PartsRepresent PROTECTED LANES self.now x →
+        ensures { (earlier : ℕ) (x : List ℕ) → PartsRepresent PROTECTED LANES earlier self.now x →
             result
             ≡ seeded_hash (V3 LANES) (options AVALANCHE PROTECTED) self.now.secrets.now x }
     {
@@ -151,7 +153,7 @@ impl<'a> Parts<'a> {
     /// Starts again with no bytes.
     #[inline(always)]
     pub(crate) fn reset<const LANES: usize, const PROTECTED: bool>(&mut self)
-        ensures empty { PartsRepresent PROTECTED LANES self.new [] }
+        ensures empty { PartsRepresent PROTECTED LANES 0 self.new [] }
         ensures count { self.new.folded.count.steps ≡ 0 }
         ensures secrets { self.new.secrets.now ≡ self.old.secrets.now }
         ensures len { self.new.len ≡ 0 }

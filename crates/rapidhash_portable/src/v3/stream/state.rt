@@ -1,13 +1,14 @@
 //! The data of a stream hasher, and their invariant. The checker accepts no ghost field beside code
 //! that lends an array, so each method here is one line, and all code is in `parts`.
 
-ghost use Rattle.std.specs.Prelude.{◌≡◌, ◌*◌, ◌≤◌, ◌++◌, ℕ, List, []};
+ghost use Rattle.std.specs.Prelude.{◌≡◌, ◌*◌, ◌^◌, ◌<◌, ◌≤◌, ◌++◌, ℕ, All, List, []};
 ghost use Rattle.rapidhash_portable.specs.declared.form.Form.TheVariants.{V3};
 ghost use Rattle.rapidhash_portable.specs.Lanes.{IsLaneCount};
 ghost use Rattle.rapidhash_portable.specs.Form.{options};
 ghost use Rattle.rapidhash_portable.specs.Hash.{seeded_hash};
 
 use super::parts::Parts;
+use super::saved::SAVED_SIZE;
 
 /// The data of a stream hasher, of which at most one chunk is buffered.
 #[derive(Drop)]
@@ -18,12 +19,14 @@ pub(crate) struct State<'a, const LANES: usize> {
 }
 
 impl<'a, const LANES: usize> State<'a, LANES> {
+    ghost use Rattle.rapidhash_portable.specs.Saved.{saved_parts};
     ghost use Rattle.rapidhash_portable.specs.Stream.{PartsRepresent};
 
     #[inline(always)]
     pub(crate) fn write<const PROTECTED: bool>(&mut self, piece: &[u8])
-        ensures adds { (x : List ℕ) → PartsRepresent PROTECTED LANES self.old.parts x →
-            PartsRepresent PROTECTED LANES self.new.parts (x ++ piece.now) }
+        ensures adds { (earlier : ℕ) (x : List ℕ) →
+            PartsRepresent PROTECTED LANES earlier self.old.parts x →
+            PartsRepresent PROTECTED LANES earlier self.new.parts (x ++ piece.now) }
         ensures secrets { self.new.parts.secrets.now ≡ self.old.parts.secrets.now }
     {
         self.parts.write::<LANES, PROTECTED>(piece);
@@ -31,7 +34,8 @@ impl<'a, const LANES: usize> State<'a, LANES> {
 
     #[inline(always)]
     pub(crate) fn finish<const AVALANCHE: bool, const PROTECTED: bool>(&self) -> u64
-        ensures { (x : List ℕ) → PartsRepresent PROTECTED LANES self.now.parts x →
+        ensures { (earlier : ℕ) (x : List ℕ) →
+            PartsRepresent PROTECTED LANES earlier self.now.parts x →
             result
             ≡ seeded_hash (V3 LANES) (options AVALANCHE PROTECTED) self.now.parts.secrets.now x }
     {
@@ -40,10 +44,18 @@ impl<'a, const LANES: usize> State<'a, LANES> {
 
     #[inline(always)]
     pub(crate) fn reset<const PROTECTED: bool>(&mut self)
-        ensures empty { PartsRepresent PROTECTED LANES self.new.parts [] }
+        ensures empty { PartsRepresent PROTECTED LANES 0 self.new.parts [] }
         ensures count { self.new.parts.folded.count.steps ≡ 0 }
         ensures secrets { self.new.parts.secrets.now ≡ self.old.parts.secrets.now }
     {
         self.parts.reset::<LANES, PROTECTED>();
+    }
+
+    #[inline]
+    pub(crate) fn save(&self, options: u8) -> [u8; SAVED_SIZE]
+        ensures bytes { result ≡ saved_parts LANES options self.now.parts }
+        ensures words { All (λ lane. lane < 2 ^ 64) self.now.parts.folded.lanes }
+    {
+        self.parts.save::<LANES>(options)
     }
 }

@@ -1,4 +1,4 @@
-use Rattle.std.proofs.Common.{◌≡◌, ◌+◌, ◌-◌, ◌++◌, false, take, drop, subst, sym, ap, ◌∙◌, arith}
+use Rattle.std.proofs.Common.{zero-add, ◌≡◌, ◌+◌, ◌-◌, ◌++◌, false, take, drop, subst, sym, ap, ◌∙◌, arith}
 use Rattle.std.proofs.lemmas.List.{take_all}
 use Rattle.std.proofs.Math.Seq.{take-add}
 use Rattle.rapidhash_portable.specs.Stream.{StreamRepresents}
@@ -13,10 +13,10 @@ loop-at-preserved g c =
     let at = c.loop-at.at in
     let one : at + 1 - at ≡ 1 = omega arith in
     let more : take at bytes ++ take (at + 1 - at) (drop at bytes) ≡ take (at + 1) bytes = ap (λ n. take at bytes ++ take n (drop at bytes)) one ∙ sym (take-add at 1 bytes) in
-    subst (StreamRepresents false c.write.new.self) more (c.write.ensures.adds (take at bytes) c.loop-at.invariant)
+    subst (StreamRepresents false c.write.new.self) more (c.write.ensures.adds 0 (take at bytes) c.loop-at.invariant)
 
 pub returns : goal.returns
 returns g c =
     let whole = take_all c.loop-at.at c.args.bytes.now (omega arith) in
     let represents = subst (StreamRepresents false c.loop-at.hasher) whole c.loop-at.invariant in
-    record { represents = represents; steps = represents.steps }
+    record { represents = represents; steps = rw zero-add at represents.steps }

@@ -29,7 +29,7 @@ loop-turn-preserved g c =
         secrets = grind (arith, common_steps);
         size = grind (arith, common_steps);
         within = grind (arith, common_steps);
-        read = rw (w.hasher-is, w.at-is) (HaveRead-added (λ x. StreamRepresents (not (nat_eq g.row.PROTECTED 0)) w.write-then-at.new.self x) kept w.write-then-at.ensures.adds);
+        read = rw (w.hasher-is, w.at-is) (HaveRead-added (λ x. StreamRepresents (not (nat_eq g.row.PROTECTED 0)) w.write-then-at.new.self x) kept (w.write-then-at.ensures.adds 0));
       }
       | else-at w ↦ record {
         clean = grind (arith, common_steps);
@@ -49,12 +49,12 @@ returns-then-n-eq0-clause-all g c =
     let same = simp unary_clauses at (rw none at (filled_more c.loop-turn.at c.in_ok-n.n c.loop-turn.buffer c.read.new.buf within (omega (arith, c.in_ok-n.ensures.bound)))) in
     let kept = sym (append-nil (take c.loop-turn.at c.loop-turn.buffer)) ∙ same in
     let x = inv.read.front ++ take c.loop-turn.at c.loop-turn.buffer in
-    let represents = subst (λ k. StreamRepresents (not (nat_eq g.row.PROTECTED 0)) c.write.new.self (inv.read.front ++ k)) (sym kept) (c.write.ensures.adds inv.read.front inv.read.represents) in
+    let represents = subst (λ k. StreamRepresents (not (nat_eq g.row.PROTECTED 0)) c.write.new.self (inv.read.front ++ k)) (sym kept) (c.write.ensures.adds 0 inv.read.front inv.read.represents) in
     let secrets = c.write.ensures.secrets ∙ inv.secrets in
     let room : 0 < length c.read.new.buf = omega (arith, inv.within, inv.size) in
     record {
       bytes = x;
       taken = rw append-nil at (Consumes-trans _ _ _ x _ inv.read.taken (rw none at bytes.0));
-      ok = (c.finish.ensures x represents ∙ ap (λ s. seeded_hash (V3 g.row.LANES) (options true (not (nat_eq g.row.PROTECTED 0))) s x) secrets, bytes.1 none room);
+      ok = (c.finish.ensures 0 x represents ∙ ap (λ s. seeded_hash (V3 g.row.LANES) (options true (not (nat_eq g.row.PROTECTED 0))) s x) secrets, bytes.1 none room);
       endless = tt;
     }

@@ -3,7 +3,7 @@ use Rattle.rapidhash_portable.proofs.StreamLemmas.{AfterRows-represents, chunk-b
 use Rattle.rapidhash_portable.proofs.v3.stream.parts.Parts.finish.Goals as goal
 
 pub returns : goal.returns
-returns g c = λ x h.
+returns g c = λ earlier x h.
     let s = c.args.self.now in
     let count = c.requires.lanes in
     let on : s.any ≡ _ = c.if-not-self.false in

@@ -4,7 +4,7 @@ use Rattle.rapidhash_portable.proofs.StreamLemmas.{PartsRepresent-fits}
 use Rattle.rapidhash_portable.proofs.v3.stream.parts.Parts.write.Goals as goal
 
 pub returns-then-piece-self-clause-adds : goal.returns-then-piece-self-clause-adds
-returns-then-piece-self-clause-adds g c = λ x h.
+returns-then-piece-self-clause-adds g c = λ earlier x h.
     let s = c.args.self.now in
     let d = c.args.piece.now in
     let j : ℕ = 16 + s.len + length d - (16 + s.len) in

@@ -10,7 +10,7 @@ use Rattle.rapidhash_portable.proofs.v3.stream.parts.Parts.write_past.Goals as g
 use Rattle.rapidhash_portable.proofs.v3.stream.parts.Parts.write_past.Goals.{then-end-ge16, else-end-ge16}
 
 pub returns-clause-adds : goal.returns-clause-adds
-returns-clause-adds g c = λ x h.
+returns-clause-adds g c = λ earlier x h.
     let s = c.args.self.now in
     let d = c.args.piece.now in
     let sixteen : length c.if-end-ge16.carried ≡ 16 = omega arith in
@@ -22,7 +22,7 @@ returns-clause-adds g c = λ x h.
     let is : take (16 + size - 16) (drop 16 kept) ≡ take size (drop 16 kept) = ap (λ (k : ℕ). take k (drop 16 kept)) width in
     let after : kept ≡ put_mid (16 + s.len) j s.kept (take room d) = ap (λ (l : List ℕ). put_mid (16 + s.len) j s.kept l) c.copy_from_slice.ensures.after in
     let filled = Running-filled c.requires.lanes h (omega arith) c.requires.fits d kept _ _ j _ c.requires.past after is c.step.ensures.folded c.step.ensures.one in
-    let running = c.fold_chunks-rest.ensures.on (x ++ d) s.secrets.now.seed (rw (← take_rest d room) at filled) in
+    let running = c.fold_chunks-rest.ensures.on (x ++ d) s.secrets.now.seed earlier (rw (← take_rest d room) at filled) in
     let tail : List ℕ = c.fold_chunks-rest.result.now in
     let end : ℕ = length d - length tail in
     let left = PrefixIsFolded-left running.prefix in
