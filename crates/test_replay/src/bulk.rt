@@ -16,18 +16,22 @@ pub const COLUMNS: &str =
 /// The columns of a file of the in-memory core.
 pub const MEMORY_COLUMNS: &str = "avalanche\tprotected\tmessage\tlength\tsecrets\texpected";
 
-/// Returns the version of a case.
+/// Returns the version of a case, whose name may lack `v3-` and have the minor number apart.
 pub fn version_of(form: &str, bug: &str, minor: &str) -> Option<Tested> {
-    match (form, bug, minor) {
-        ("v1", "1", _) => Some(Tested::V1Bug),
-        ("v1", "0", _) | ("v3", _, _) => Version::of_name(form).map(Tested::Named),
-        ("v2", _, "0") => Some(Tested::Named(Version::V2Minor0)),
-        ("v2", _, "1") => Some(Tested::Named(Version::V2Minor1)),
-        ("v2", _, "2") => Some(Tested::Named(Version::V2Minor2)),
-        ("micro", _, _) => Some(Tested::Named(Version::V3Micro)),
-        ("nano", _, _) => Some(Tested::Named(Version::V3Nano)),
-        _ => None,
+    if form == "v1" && bug == "1" {
+        return Some(Tested::V1Bug);
     }
+    for version in Version::all() {
+        let name = version.name();
+        let found = match form {
+            "v2" => name.strip_prefix("v2.") == Some(minor),
+            _ => name == form || name.strip_prefix("v3-") == Some(form),
+        };
+        if found {
+            return Some(Tested::Named(version));
+        }
+    }
+    None
 }
 
 /// Returns the options of a case.

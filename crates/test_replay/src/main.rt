@@ -15,6 +15,7 @@ mod lengths;
 mod pieces;
 mod readers;
 mod rules;
+mod saved;
 mod seeds;
 mod streams;
 mod tally;
@@ -82,6 +83,7 @@ fn replay_line(alloc: Global, columns: &str, line: &str) -> Result<Agreement> {
         readers::COLUMNS => readers::replay(alloc, line),
         streams::COLUMNS => streams::replay(alloc, line),
         streams::LANES_COLUMNS => streams::replay_with_lanes(alloc, line),
+        saved::COLUMNS => saved::replay(alloc, line),
         seeds::COLUMNS => seeds::replay(alloc, line),
         seeds::RESEED_COLUMNS => seeds::replay_reseed(alloc, line),
         seeds::MADE_COLUMNS => seeds::replay_made(alloc, line),
