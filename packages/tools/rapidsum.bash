@@ -4,7 +4,7 @@
 _rapidsum() {
   local help options word=${COMP_WORDS[COMP_CWORD]}
   help=$(rapidsum --help 2>/dev/null)
-  options=" $(grep -oE '^ +(-., )?--[a-z-]+' <<<"$help")"
+  options=" $(grep -oE '^ +(-., )?--[a-z0-9-]+' <<<"$help")"
   COMPREPLY=()
   case " ${COMP_WORDS[*]:1:COMP_CWORD-1} " in
     *" --help "* | *" -h "* | *" --version "* | *" -V "*) options= ;;

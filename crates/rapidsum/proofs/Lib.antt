@@ -2,4 +2,5 @@ mod Calls
 mod Checks
 mod Lines
 mod Lists
+mod Named
 mod Tags

@@ -21,9 +21,13 @@ use Rattle.rapidsum.specs.declared.entry.Line.TheVariants.{Entry}
 use Rattle.rapidsum.specs.declared.line.Layout.{Layout}
 use Rattle.rapidsum.specs.declared.line.Layout.TheVariants.{Binary, Tagged, Text}
 
--- whether a text has a newline
+-- whether a text has the byte that ends a line
+abbrev pub has_byte : ℕ → List ℕ → Bool
+has_byte end text = list_any (λ byte. byte == end) text
+
+-- whether it has a newline
 abbrev pub has_newline : List ℕ → Bool
-has_newline text = list_any (λ byte. byte == 10) text
+has_newline text = has_byte 10 text
 
 -- two texts without a newline have none together
 joined : (xs ys : List ℕ) → has_newline xs ≡ false → has_newline ys ≡ false → has_newline (xs ++ ys) ≡ false
@@ -92,22 +96,22 @@ line_of-line layout algorithm hash name =
     cond-line (needs_escape name) (body_of layout algorithm hash (escaped name))
     (body-line layout algorithm hash (escaped name) (escaped-line name))
 
--- where a line ends: at the first newline
-line_end : (line rest : List ℕ) (n : ℕ) → has_newline line ≡ false → All (λ byte. byte ≢ 10) (take n (line ++ 10 ∷ rest))
-    → (n < length (line ++ 10 ∷ rest) → slice_index (line ++ 10 ∷ rest) n ≡ 10) → n ≡ length line
-line_end [] rest zero none before found = refl
-line_end [] rest (suc n) none before found = absurd (before 0 0 (omega arith) refl)
-line_end (c ∷ cs) rest zero none before found = let is : c ≡ 10 = found (omega arith) in grind (arith)
-line_end (c ∷ cs) rest (suc n) none before found =
-    ap suc (line_end cs rest n (grind (arith)) (λ k d below. before (suc k) d (omega (arith, below))) (λ below. found (omega (arith, below))))
+-- where a line ends: at the first such byte
+line_end : (end : ℕ) (line rest : List ℕ) (n : ℕ) → has_byte end line ≡ false → All (λ byte. byte ≢ end) (take n (line ++ end ∷ rest))
+    → (n < length (line ++ end ∷ rest) → slice_index (line ++ end ∷ rest) n ≡ end) → n ≡ length line
+line_end end [] rest zero none before found = refl
+line_end end [] rest (suc n) none before found = absurd (before 0 0 (omega arith) refl)
+line_end end (c ∷ cs) rest zero none before found = let is : c ≡ end = found (omega arith) in grind (arith)
+line_end end (c ∷ cs) rest (suc n) none before found =
+    ap suc (line_end end cs rest n (grind (arith)) (λ k d below. before (suc k) d (omega (arith, below))) (λ below. found (omega (arith, below))))
 
 -- the line before that place, and the text from there on
-pub line_parts : (line rest text : List ℕ) (n : ℕ) → has_newline line ≡ false → text ≡ line ++ 10 ∷ rest
-    → All (λ byte. byte ≢ 10) (take n text) → (n < length text → slice_index text n ≡ 10)
-    → (take n text ≡ line) × (drop n text ≡ 10 ∷ rest)
-line_parts line rest text n none is before found =
-    let end = line_end line rest n none (rw is at before) (rw is at found) in
-    (rw (end, is) (take-append_seam line (10 ∷ rest)), rw (end, is) (drop-append_seam line (10 ∷ rest)))
+pub line_parts : (end : ℕ) (line rest text : List ℕ) (n : ℕ) → has_byte end line ≡ false → text ≡ line ++ end ∷ rest
+    → All (λ byte. byte ≢ end) (take n text) → (n < length text → slice_index text n ≡ end)
+    → (take n text ≡ line) × (drop n text ≡ end ∷ rest)
+line_parts end line rest text n none is before found =
+    let place = line_end end line rest n none (rw is at before) (rw is at found) in
+    (rw (place, is) (take-append_seam line (end ∷ rest)), rw (place, is) (drop-append_seam line (end ∷ rest)))
 
 -- the entries so far are those of the first lines, and the rest of the text has the other lines
 abbrev pub IsReadTo : {A : Type 0} → List (OneEntry A) → List ℕ → List Printed → Type 0
@@ -117,15 +121,15 @@ IsReadTo (entry ∷ entries) rest (line ∷ lines) =
     Names entry (carried line.layout line.algorithm) line.hash line.name × IsReadTo entries rest lines
 
 -- the contracts of the calls in the loop
-abbrev pub IsNext : List ℕ → List ℕ → List ℕ → Type 0
-IsNext text line more = (one rest : List ℕ) → has_newline one ≡ false → text ≡ one ++ 10 ∷ rest → (line ≡ one) × (more ≡ rest)
+abbrev pub IsNext : ℕ → List ℕ → List ℕ → List ℕ → Type 0
+IsNext end text line more = (one rest : List ℕ) → has_byte end one ≡ false → text ≡ one ++ end ∷ rest → (line ≡ one) × (more ≡ rest)
 
 abbrev pub Reads : {A : Type 0} → List ℕ → Line A → Type 0
 Reads line read = (layout : Layout) (algorithm : Algorithm) (hash : ℕ) (name : List ℕ) → Fits algorithm hash
     → line ≡ line_of layout algorithm hash name → IsEntry read layout algorithm hash name
 
 -- the next line of a list is its first printed line
-next-printed : (line : Printed) (lines : List Printed) (text first more : List ℕ) → text ≡ list_of (line ∷ lines) → IsNext text first more
+next-printed : (line : Printed) (lines : List Printed) (text first more : List ℕ) → text ≡ list_of (line ∷ lines) → IsNext 10 text first more
     → (first ≡ line_of line.layout line.algorithm line.hash line.name) × (more ≡ list_of lines)
 next-printed line lines text first more is next =
     let one = line_of line.layout line.algorithm line.hash line.name in
@@ -134,7 +138,7 @@ next-printed line lines text first more is next =
 
 -- one more entry
 pub entry-next : {A : Type 0} (entries : List (OneEntry A)) (entry : OneEntry A) (text first more : List ℕ) (lines : List Printed)
-    → AllFit lines → IsReadTo entries text lines → 0 < length text → IsNext text first more → Reads first (Entry entry)
+    → AllFit lines → IsReadTo entries text lines → 0 < length text → IsNext 10 text first more → Reads first (Entry entry)
     → IsReadTo (entries ++ entry ∷ []) more lines
 entry-next [] entry text first more [] fit read some next reads = absurd (omega (arith, ap length read))
 entry-next [] entry text first more (line ∷ lines) fit read some next reads =
@@ -146,7 +150,7 @@ entry-next (e ∷ es) entry text first more (line ∷ lines) fit read some next 
 
 -- no line of a list is anything else
 pub no_other : {A : Type 0} (entries : List (OneEntry A)) (text first more : List ℕ) (lines : List Printed)
-    → AllFit lines → IsReadTo entries text lines → 0 < length text → IsNext text first more
+    → AllFit lines → IsReadTo entries text lines → 0 < length text → IsNext 10 text first more
     → ((layout : Layout) (algorithm : Algorithm) (hash : ℕ) (name : List ℕ) → Fits algorithm hash → first ≡ line_of layout algorithm hash name → ⊥)
     → ⊥
 no_other [] text first more [] fit read some next other = absurd (omega (arith, ap length read))

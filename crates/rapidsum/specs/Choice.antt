@@ -3,12 +3,13 @@ use Rattle.std.specs.Prelude.{ℕ, Bool, true, false, bytes_eq, codes, List, [],
 use Rattle.rapidhash_portable.specs.declared.form.Version.{Version as TheVersion}
 use Rattle.rapidhash_portable.specs.Version.{name_of as version_name, versions}
 use Rattle.rapidsum.specs.declared.choice.Choice.{Choice}
-use Rattle.rapidsum.specs.declared.choice.Choice.TheVariants.{Algorithm, Seed, Check, Quiet, Status, IgnoreMissing, Strict, Warn, Binary, Text, Tag, Zero, Help, Version}
+use Rattle.rapidsum.specs.declared.choice.Choice.TheVariants.{Algorithm, Seed, FilesFrom, Check, Quiet, Status, IgnoreMissing, Strict, Warn, Binary, Text, Tag, Zero, Help, Version}
 
 -- the name of each option after two hyphens
 abbrev pub name_of : Choice → List ℕ
 name_of Algorithm = codes "algorithm"
 name_of Seed = codes "seed"
+name_of FilesFrom = codes "files0-from"
 name_of Check = codes "check"
 name_of Quiet = codes "quiet"
 name_of Status = codes "status"
@@ -26,6 +27,7 @@ name_of Version = codes "version"
 abbrev pub letter_of : Choice → List ℕ
 letter_of Algorithm = codes "a"
 letter_of Seed = []
+letter_of FilesFrom = []
 letter_of Check = codes "c"
 letter_of Quiet = []
 letter_of Status = []
@@ -41,7 +43,7 @@ letter_of Version = codes "V"
 
 -- all options
 abbrev pub all : List Choice
-all = Algorithm ∷ Seed ∷ Check ∷ Quiet ∷ Status ∷ IgnoreMissing ∷ Strict ∷ Warn ∷ Binary ∷ Text ∷ Tag ∷ Zero ∷ Help ∷ Version ∷ []
+all = Algorithm ∷ Seed ∷ FilesFrom ∷ Check ∷ Quiet ∷ Status ∷ IgnoreMissing ∷ Strict ∷ Warn ∷ Binary ∷ Text ∷ Tag ∷ Zero ∷ Help ∷ Version ∷ []
 
 -- whether an option has a name
 abbrev pub has_name : List ℕ → Choice → Bool
@@ -64,10 +66,16 @@ abbrev pub is_algorithm : Choice → Bool
 is_algorithm Algorithm = true
 is_algorithm other = false
 
+-- whether an option is --files0-from
+abbrev pub is_files_from : Choice → Bool
+is_files_from FilesFrom = true
+is_files_from other = false
+
 -- whether an option takes a value
 abbrev pub takes_value : Choice → Bool
 takes_value Algorithm = true
 takes_value Seed = true
+takes_value FilesFrom = true
 takes_value other = false
 
 -- whether a version has a name

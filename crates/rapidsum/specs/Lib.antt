@@ -7,4 +7,5 @@ pub mod List
 pub mod Options
 pub mod Parse
 pub mod Seed
+pub mod Sources
 pub mod Style

@@ -6,7 +6,7 @@ use Rattle.rapidsum.specs.declared.algorithm.Algorithm.{Algorithm as TheAlgorith
 use Rattle.rapidhash_portable.specs.declared.form.Version.{Version as TheVersion}
 use Rattle.rapidhash_portable.specs.declared.form.Version.TheVariants.{V3}
 use Rattle.rapidsum.specs.declared.choice.Choice.{Choice}
-use Rattle.rapidsum.specs.declared.choice.Choice.TheVariants.{Algorithm, Seed, Check, Quiet, Status, IgnoreMissing, Strict, Warn, Binary, Text, Tag, Zero, Help, Version}
+use Rattle.rapidsum.specs.declared.choice.Choice.TheVariants.{Algorithm, Seed, FilesFrom, Check, Quiet, Status, IgnoreMissing, Strict, Warn, Binary, Text, Tag, Zero, Help, Version}
 use Rattle.rapidsum.specs.declared.line.Layout.{Layout}
 use Rattle.rapidsum.specs.declared.line.Layout.TheVariants as layout
 use Rattle.rapidsum.specs.declared.line.Style.{Style}
@@ -50,6 +50,7 @@ with_layout options chosen = record options { layout = Some chosen }
 abbrev pub with_flag : Options → Choice → Result Options Reason
 with_flag o Algorithm = Err reason.Repeated
 with_flag o Seed = Err reason.Repeated
+with_flag o FilesFrom = Err reason.Repeated
 with_flag o Check = once o.check (record o { check = true })
 with_flag o Quiet = once o.quiet (record o { quiet = true })
 with_flag o Status = once o.status (record o { status = true })

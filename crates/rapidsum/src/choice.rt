@@ -1,7 +1,7 @@
 //! The options and versions by their names.
 
 ghost use Rattle.std.specs.Prelude.{◌≡◌};
-ghost use Rattle.rapidsum.specs.Choice.{all, is_algorithm, letter_of, lettered, name_of, named, takes_value, version_named};
+ghost use Rattle.rapidsum.specs.Choice.{all, has_name, is_algorithm, is_files_from, letter_of, lettered, name_of, named, takes_value, version_named};
 
 use rapidhash_portable::form::Version;
 
@@ -10,6 +10,7 @@ use rapidhash_portable::form::Version;
 pub enum Choice {
     Algorithm,
     Seed,
+    FilesFrom,
     Check,
     Quiet,
     Status,
@@ -48,12 +49,13 @@ fn spelled(letter: &'static str, name: &'static str, value: &'static str) -> Spe
 
 impl Choice {
     /// Returns all options, in the order of the help.
-    pub fn all() -> [Choice; 14]
+    pub fn all() -> [Choice; 15]
         ensures { result ≡ all }
     {
         [
             Choice::Algorithm,
             Choice::Seed,
+            Choice::FilesFrom,
             Choice::Check,
             Choice::Quiet,
             Choice::Status,
@@ -77,6 +79,7 @@ impl Choice {
         match self {
             Choice::Algorithm => spelled("a", "algorithm", "VERSION"),
             Choice::Seed => spelled("", "seed", "NUMBER"),
+            Choice::FilesFrom => spelled("", "files0-from", "F"),
             Choice::Check => spelled("c", "check", ""),
             Choice::Quiet => spelled("", "quiet", ""),
             Choice::Status => spelled("", "status", ""),
@@ -97,6 +100,7 @@ impl Choice {
         match self {
             Choice::Algorithm => "Hash with this version [default: v3]",
             Choice::Seed => "Hash with the seed made from this number",
+            Choice::FilesFrom => "Read the names of the FILEs from F, each ended by NUL",
             Choice::Check => "Read checksums from the FILEs and check them",
             Choice::Quiet => "Don't print OK for each file that matches",
             Choice::Status => "Don't print anything but errors",
@@ -119,11 +123,25 @@ impl Choice {
         matches!(self, Choice::Algorithm)
     }
 
+    /// Returns whether this is `--files0-from`.
+    pub fn is_files_from(self) -> bool
+        ensures { result ≡ is_files_from self }
+    {
+        matches!(self, Choice::FilesFrom)
+    }
+
     /// Returns whether an option takes a value.
     pub fn takes_value(self) -> bool
         ensures { result ≡ takes_value self }
     {
-        matches!(self, Choice::Algorithm | Choice::Seed)
+        matches!(self, Choice::Algorithm | Choice::Seed | Choice::FilesFrom)
+    }
+
+    // Returns whether the option has a name.
+    fn has_name(self, name: &[u8]) -> bool
+        ensures { result ≡ has_name name.now self }
+    {
+        self.spelling().name.as_bytes() == name
     }
 
     /// Returns the option with a name.
@@ -132,7 +150,7 @@ impl Choice {
         ensures { result ≡ named name.now }
     {
         for choice in Choice::all() {
-            if choice.spelling().name.as_bytes() == name {
+            if choice.has_name(name) {
                 return Some(choice);
             }
         }

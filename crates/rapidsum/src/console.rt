@@ -7,7 +7,13 @@ use crate::options::Options;
 use crate::problem::Problem;
 use std::alloc::Global;
 use std::io;
-use std::io::Write;
+use std::io::{IsTerminal, Write};
+
+/// Lines are written when they have this many bytes.
+const BLOCK: usize = 65536;
+
+const STDIN_TWICE: &[u8] =
+    b"rapidsum: when reading file names from stdin, no file name of '-' allowed\n";
 
 /// Standard output, standard error, and the options that select the output.
 #[derive(Drop)]
@@ -16,6 +22,9 @@ pub struct Console<'a> {
     pub rt: &'a HostRuntime,
     /// The options of a check.
     pub options: Options,
+    /// The lines that are not written yet.
+    pub lines: Vec<u8>,
+    is_terminal: bool,
 }
 
 /// Returns a name as in a line, and the texts around it.
@@ -30,32 +39,74 @@ pub fn with_name(alloc: Global, start: &str, name: &[u8], end: &str) -> Result<V
     Ok(text)
 }
 
-impl Console<'_> {
+impl<'a> Console<'a> {
+    /// Returns the standard streams without a line.
+    pub fn new(rt: &'a HostRuntime, options: Options) -> Self {
+        Console {
+            rt,
+            options,
+            lines: Vec::new(rt.alloc()),
+            is_terminal: rt.stdout().is_terminal(),
+        }
+    }
+
+    /// Writes the lines so far.
+    pub fn flush(&mut self) -> Result<(), Problem> {
+        let written = self.rt.stdout().write_all(self.lines.as_slice());
+        self.lines.clear();
+        written.map_err(Problem::Write)
+    }
+
+    /// Writes the lines so far if they are a block, or if standard output is a terminal.
+    pub fn end_line(&mut self) -> Result<(), Problem> {
+        if self.is_terminal || self.lines.len() >= BLOCK {
+            self.flush()?;
+        }
+        Ok(())
+    }
+
+    // Writes a text to standard error, after the lines so far.
+    fn say(&mut self, text: &[u8]) -> Result<(), Problem> {
+        self.flush()?;
+        self.rt.stderr().write_all(text).map_err(Problem::Write)
+    }
+
     /// Reports on standard error why a file or a list is refused.
-    pub fn complain(&self, name: &[u8], why: &str) -> Result<(), Problem> {
+    pub fn complain(&mut self, name: &[u8], why: &str) -> Result<(), Problem> {
         let mut text = with_name(self.rt.alloc(), "rapidsum: ", name, ": ")?;
         text.extend_from_slice(why.as_bytes())?;
         text.push(b'\n')?;
-        self.rt
-            .stderr()
-            .write_all(text.as_slice())
-            .map_err(Problem::Write)
+        self.say(text.as_slice())
+    }
+
+    /// Returns whether a name in a list can name a file, and reports it otherwise.
+    pub fn accepts(&mut self, list: &[u8], number: u64, name: &[u8]) -> Result<bool, Problem> {
+        let alloc = self.rt.alloc();
+        match (list, name) {
+            (_, []) => {
+                let end = format!(in alloc; ":{number}: invalid zero-length file name\n")?;
+                self.say(with_name(alloc, "rapidsum: ", list, end.as_str())?.as_slice())?;
+            }
+            ([b'-'], [b'-']) => self.say(STDIN_TWICE)?,
+            _ => return Ok(true),
+        }
+        Ok(false)
     }
 
     /// Reports on standard error why a file could not be opened or read.
-    pub fn complain_of(&self, name: &[u8], error: io::Error) -> Result<(), Problem> {
+    pub fn complain_of(&mut self, name: &[u8], error: io::Error) -> Result<(), Problem> {
         let why = format!(in self.rt.alloc(); "{error}")?;
         self.complain(name, why.as_str())
     }
 
     // Reports a malformed line of a list.
-    fn warn_of_line(&self, name: &[u8], number: u64) -> Result<(), Problem> {
+    fn warn_of_line(&mut self, name: &[u8], number: u64) -> Result<(), Problem> {
         let why = format!(in self.rt.alloc(); "{number}: improperly formatted checksum line")?;
         self.complain(name, why.as_str())
     }
 
     /// Reports each malformed line of a list, if the option `--warn` is set.
-    pub fn warn_of_lines(&self, name: &[u8], list: &List) -> Result<(), Problem> {
+    pub fn warn_of_lines(&mut self, name: &[u8], list: &List) -> Result<(), Problem> {
         if !self.options.warn {
             return Ok(());
         }
@@ -66,17 +117,18 @@ impl Console<'_> {
     }
 
     // Prints a warning with the number of wrong lines or files, if there are any.
-    fn warn(&self, count: usize, one: &str, several: &str) -> Result<(), Problem> {
+    fn warn(&mut self, count: usize, one: &str, several: &str) -> Result<(), Problem> {
         if count == 0 || self.options.status {
             return Ok(());
         }
         let what = if count == 1 { one } else { several };
-        eprintln!(self.rt; "rapidsum: WARNING: {count} {what}").map_err(Problem::Write)
+        let text = format!(in self.rt.alloc(); "rapidsum: WARNING: {count} {what}\n")?;
+        self.say(text.as_bytes())
     }
 
     /// Prints the warnings at the end of a list, unless the option `--status` is set.
     pub fn warn_of_verdicts(
-        &self,
+        &mut self,
         name: &[u8],
         list: &List,
         checked: &Checked<Global>,
@@ -97,9 +149,17 @@ impl Console<'_> {
             "computed checksum did NOT match",
             "computed checksums did NOT match",
         )?;
-        let missing = checked.count(Verdict::Missing);
-        if missing > 0 && checked.count(Verdict::Same) == 0 && !self.options.status {
-            return self.complain(name, "no file was verified");
+        if checked.count(Verdict::Same) > 0 || self.options.status {
+            return Ok(());
+        }
+        if different > 0 {
+            self.complain(
+                name,
+                "no file matched: the list may be for another version, seed or program",
+            )?;
+        }
+        if checked.count(Verdict::Missing) > 0 {
+            self.complain(name, "no file was verified")?;
         }
         Ok(())
     }
@@ -126,9 +186,7 @@ impl Report for Console<'_> {
             return Ok(());
         }
         let text = with_name(self.rt.alloc(), "", name, end)?;
-        self.rt
-            .stdout()
-            .write_all(text.as_slice())
-            .map_err(Problem::Write)
+        self.lines.extend_from_slice(text.as_slice())?;
+        self.end_line()
     }
 }

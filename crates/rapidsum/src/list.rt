@@ -18,25 +18,26 @@ pub struct List {
     pub malformed: Vec<u64>,
 }
 
-// Returns the number of bytes before the first newline, or of all bytes if there is none.
-fn line_length(text: &[u8]) -> usize
+// Returns the number of bytes before the first byte that ends a line, or of all bytes if there is
+// none.
+fn line_length(text: &[u8], end: u8) -> usize
     ensures within { result ≤ length text.now }
-    ensures before { All (λ byte. byte ≢ 10) (take result text.now) }
-    ensures found { result < length text.now → slice_index text.now result ≡ 10 }
+    ensures before { All (λ byte. byte ≢ end) (take result text.now) }
+    ensures found { result < length text.now → slice_index text.now result ≡ end }
 {
     text.iter()
-        .position(|byte| *byte == b'\n')
+        .position(|byte| *byte == end)
         .unwrap_or(text.len())
 }
 
-// Returns the first line of a text, without its newline, and the text after it.
+/// Returns the first line of a text, without the byte that ends it, and the text after it.
 #[tactic(auto, using(crate::proofs::Lists::line_parts))]
-fn next_line(text: &[u8]) -> (&[u8], &[u8])
-    ensures parts { (line rest : TheList ℕ) → list_any (λ byte. byte == 10) line ≡ false →
-        text.now ≡ line ++ 10 ∷ rest → (result.0.now ≡ line) × (result.1.now ≡ rest) }
+pub fn next_line(text: &[u8], end: u8) -> (&[u8], &[u8])
+    ensures parts { (line rest : TheList ℕ) → list_any (λ byte. byte == end) line ≡ false →
+        text.now ≡ line ++ end ∷ rest → (result.0.now ≡ line) × (result.1.now ≡ rest) }
     ensures shorter { 0 < length text.now → length result.1.now < length text.now }
 {
-    let (line, rest) = text.split_at(line_length(text));
+    let (line, rest) = text.split_at(line_length(text, end));
     match rest {
         [_, rest @ ..] => (line, rest),
         [] => (line, rest),
@@ -58,7 +59,7 @@ pub fn read_list(alloc: Global, text: &[u8]) -> Result<List, Problem>
     };
     let (mut rest, mut number) = (text, 0u64);
     while !rest.is_empty() {
-        let (line, more) = next_line(rest);
+        let (line, more) = next_line(rest, b'\n');
         rest = more;
         number = number.saturating_add(1);
         match read_line(alloc, line)? {

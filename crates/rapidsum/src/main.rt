@@ -17,6 +17,7 @@ mod parts;
 mod problem;
 mod runs;
 mod seed;
+mod sources;
 mod state;
 mod stop;
 mod store;

@@ -90,7 +90,7 @@ impl Options {
         match choice {
             Choice::Help => Err(Reason::Help),
             Choice::Version => Err(Reason::Version),
-            Choice::Algorithm | Choice::Seed => Err(Reason::Repeated),
+            Choice::Algorithm | Choice::Seed | Choice::FilesFrom => Err(Reason::Repeated),
             Choice::Check => once(
                 self.check,
                 Options {

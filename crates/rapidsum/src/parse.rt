@@ -1,19 +1,43 @@
 //! The parser of the arguments, by the conventions of GNU's programs.
 
-ghost use Rattle.std.specs.Prelude.{map, vec_items, IfOk};
-ghost use Rattle.rapidsum.specs.Parse.{Makes, call_of};
+ghost use Rattle.std.specs.Prelude.{map, option_map, vec_items, IfOk};
+ghost use Rattle.rapidsum.specs.Parse.{Makes, call_of, unless_both};
 
 use crate::options::Options;
 use crate::state::{Next, State};
-use crate::stop::Stop;
+use crate::stop::{Reason, Stop};
 use std::alloc::{AllocError, Allocator};
 
-/// A call: its options and its files.
+/// A call: its options and its files, or a list of their names.
 #[derive(Drop)]
 pub struct Call<'a, A: Allocator> {
     pub options: Options,
+    /// The list of `--files0-from`.
+    pub list: Option<&'a [u8]>,
     /// The names of the files.
     pub files: Vec<&'a [u8], A>,
+}
+
+// Returns the call, unless it has files beside a list.
+fn without_both<'a, A: Allocator>(
+    options: Options,
+    list: Option<&'a [u8]>,
+    files: Vec<&'a [u8], A>,
+) -> Result<Call<'a, A>, Stop<'a>>
+    ensures { Makes result (unless_both options (option_map (λ name. name.now) list.entry)
+        (map (λ file. file.now) files.entry.items)) }
+{
+    match (list, files.as_slice()) {
+        (Some(_), [file, ..]) => Err(Stop {
+            reason: Reason::ExtraOperand,
+            text: *file,
+        }),
+        (Some(_), []) | (None, _) => Ok(Call {
+            options,
+            list,
+            files,
+        }),
+    }
 }
 
 /// Returns the call that the arguments after the program's name make.
@@ -31,6 +55,7 @@ pub fn parse<A: Allocator, B: Allocator>(
     let mut files = Vec::new(alloc);
     let mut state = State {
         options: Options::none(),
+        list: None,
         next: Next::Any,
     };
     for word in words {
@@ -45,7 +70,7 @@ pub fn parse<A: Allocator, B: Allocator>(
         }
     }
     Ok(match state.finish() {
-        Ok(options) => Ok(Call { options, files }),
+        Ok(options) => without_both(options, state.list, files),
         Err(stop) => Err(stop),
     })
 }

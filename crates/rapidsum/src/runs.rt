@@ -6,6 +6,7 @@ use crate::disk::Disk;
 use crate::list::read_list;
 use crate::parse::Call;
 use crate::problem::Problem;
+use crate::sources::names_in;
 use crate::store::Store;
 use crate::sum::write_sum;
 use std::alloc::Global;
@@ -15,15 +16,42 @@ use std::io::Read;
 /// Prints or checks the files of a call, or standard input if it names none. Returns whether all
 /// files could be read and all checks passed.
 pub fn run_files(rt: &HostRuntime, call: &Call<'_, Global>) -> Result<bool, Problem> {
-    let options = call.options;
-    let mut console = Console { rt, options };
-    let disk = Disk::new(rt);
+    let mut console = Console::new(rt, call.options);
+    let passed = run_call(&mut console, &Disk::new(rt), call);
+    console.flush()?;
+    passed
+}
+
+// Does the same, but may leave lines that are not written yet.
+fn run_call(
+    console: &mut Console<'_>,
+    disk: &Disk<'_>,
+    call: &Call<'_, Global>,
+) -> Result<bool, Problem> {
+    if let Some(list) = call.list {
+        return run_listed(console, disk, list);
+    }
     if call.files.is_empty() {
-        return run_file(&mut console, &disk, b"-");
+        return run_file(console, disk, b"-");
     }
     let mut passed = true;
     for name in &call.files {
-        passed = run_file(&mut console, &disk, name)? && passed;
+        passed = run_file(console, disk, name)? && passed;
+    }
+    Ok(passed)
+}
+
+// Prints or checks the files whose names are in a list.
+fn run_listed(console: &mut Console<'_>, disk: &Disk<'_>, list: &[u8]) -> Result<bool, Problem> {
+    let Some(text) = text_of(console, disk, list)? else {
+        return Ok(false);
+    };
+    let names = names_in(console.rt.alloc(), text.as_slice())?;
+    let (mut passed, mut number) = (true, 0u64);
+    for name in &names {
+        number = number.saturating_add(1);
+        let is_right = console.accepts(list, number, name)? && run_file(console, disk, name)?;
+        passed = is_right && passed;
     }
     Ok(passed)
 }
@@ -38,11 +66,14 @@ fn run_file(console: &mut Console<'_>, disk: &Disk<'_>, name: &[u8]) -> Result<b
 }
 
 // Prints the line of a file, or reports why it cannot be read.
-fn print_sum(console: &Console<'_>, disk: &Disk<'_>, name: &[u8]) -> Result<bool, Problem> {
+fn print_sum(console: &mut Console<'_>, disk: &Disk<'_>, name: &[u8]) -> Result<bool, Problem> {
     let (rt, options) = (console.rt, console.options);
-    let (algorithm, style, mut out) = (options.algorithm(), options.style(), rt.stdout());
-    match write_sum(rt.alloc(), disk, name, algorithm, style, &mut out) {
-        Ok(()) => Ok(true),
+    let (algorithm, style, lines) = (options.algorithm(), options.style(), &mut console.lines);
+    match write_sum(rt.alloc(), disk, name, algorithm, style, lines) {
+        Ok(()) => {
+            console.end_line()?;
+            Ok(true)
+        }
         Err(Problem::Read(error)) => {
             console.complain_of(name, error)?;
             Ok(false)
@@ -58,15 +89,26 @@ fn read_whole(alloc: Global, disk: &Disk<'_>, name: &[u8]) -> io::Result<Vec<u8>
     Ok(text)
 }
 
+// Returns the whole text of a list, or reports why it cannot be read.
+fn text_of(
+    console: &mut Console<'_>,
+    disk: &Disk<'_>,
+    name: &[u8],
+) -> Result<Option<Vec<u8>>, Problem> {
+    match read_whole(console.rt.alloc(), disk, name) {
+        Ok(text) => Ok(Some(text)),
+        Err(error) => {
+            console.complain_of(name, error)?;
+            Ok(None)
+        }
+    }
+}
+
 // Checks the files of the list with this name.
 fn check_list(console: &mut Console<'_>, disk: &Disk<'_>, name: &[u8]) -> Result<bool, Problem> {
     let (rt, given) = (console.rt, console.options.algorithm());
-    let text = match read_whole(rt.alloc(), disk, name) {
-        Ok(text) => text,
-        Err(error) => {
-            console.complain_of(name, error)?;
-            return Ok(false);
-        }
+    let Some(text) = text_of(console, disk, name)? else {
+        return Ok(false);
     };
     let list = read_list(rt.alloc(), text.as_slice())?;
     console.warn_of_lines(name, &list)?;

@@ -4,7 +4,7 @@ ghost use Rattle.std.specs.Prelude.{◌≡◌, ◌<◌, ◌∷◌, [], None, con
 ghost use Rattle.rapidsum.specs.Choice.{name_of, takes_value};
 ghost use Rattle.rapidsum.specs.Options.{conflict};
 ghost use Rattle.rapidsum.specs.declared.stop.Reason.TheVariants.{UnexpectedValue};
-ghost use Rattle.rapidsum.specs.Parse.{Gives, after_by, after_choice, after_flag, after_letters, after_name, after_option, after_value, after_value_letter, equals_place, finish_by, is_file, is_option, unless_conflict, with_next};
+ghost use Rattle.rapidsum.specs.Parse.{Gives, Leads, after_by, after_choice, after_flag, after_letters, after_list, after_name, after_option, after_value, after_value_letter, chosen, equals_place, finish_by, is_file, is_option, unless_conflict, with_next};
 
 use crate::choice::Choice;
 use crate::options::Options;
@@ -25,8 +25,10 @@ pub enum Next {
 
 /// The options so far.
 #[derive(Clone, Copy)]
-pub struct State {
+pub struct State<'a> {
     pub options: Options,
+    /// The list of `--files0-from`.
+    pub list: Option<&'a [u8]>,
     pub next: Next,
 }
 
@@ -45,35 +47,53 @@ fn equals_place(text: &[u8]) -> Option<usize>
     text.iter().position(|byte| *byte == b'=')
 }
 
-impl State {
-    fn with_next(self, next: Next) -> State
-        ensures { result ≡ with_next self next }
+impl<'a> State<'a> {
+    fn with_next(self, next: Next) -> State<'a>
+        ensures { chosen result ≡ with_next (chosen self.entry) next }
     {
-        let options = self.options;
-        State { options, next }
+        State { next, ..self }
     }
 
     // Returns the state after an option that takes no value.
-    fn after_flag<'a>(self, choice: Choice) -> Result<State, Stop<'a>>
-        ensures { Gives result (after_flag self choice) }
+    fn after_flag(self, choice: Choice) -> Result<State<'a>, Stop<'a>>
+        ensures { Leads result (after_flag (chosen self.entry) choice) }
     {
         match self.options.with_flag(choice) {
             Ok(options) => Ok(State {
                 options,
                 next: Next::Any,
+                ..self
             }),
             Err(reason) => Err(stop_at(reason, choice)),
         }
     }
 
-    // Returns the state after an option and its value.
-    fn after_value<'a>(self, choice: Choice, value: &'a [u8]) -> Result<State, Stop<'a>>
-        ensures { Gives result (after_value self choice value.now) }
+    // Returns the state after `--files0-from` and its value.
+    fn after_list(self, choice: Choice, name: &'a [u8]) -> Result<State<'a>, Stop<'a>>
+        ensures { Leads result (after_list (chosen self.entry) choice name.now) }
     {
+        match self.list {
+            Some(_) => Err(stop_at(Reason::Repeated, choice)),
+            None => Ok(State {
+                list: Some(name),
+                next: Next::Any,
+                ..self
+            }),
+        }
+    }
+
+    // Returns the state after an option and its value.
+    fn after_value(self, choice: Choice, value: &'a [u8]) -> Result<State<'a>, Stop<'a>>
+        ensures { Leads result (after_value (chosen self.entry) choice value.now) }
+    {
+        if choice.is_files_from() {
+            return self.after_list(choice, value);
+        }
         match self.options.with_value(choice, value) {
             Ok(options) => Ok(State {
                 options,
                 next: Next::Any,
+                ..self
             }),
             Err(reason) => {
                 if reason.is_repeated() {
@@ -89,8 +109,8 @@ impl State {
     }
 
     // Returns the state after the name of an option without a value in the same argument.
-    fn after_bare_name<'a>(self, choice: Choice) -> Result<State, Stop<'a>>
-        ensures { Gives result (after_choice self [] None choice) }
+    fn after_bare_name(self, choice: Choice) -> Result<State<'a>, Stop<'a>>
+        ensures { Leads result (after_choice (chosen self.entry) [] None choice) }
     {
         if choice.takes_value() {
             Ok(self.with_next(Next::NameValue(choice)))
@@ -100,8 +120,9 @@ impl State {
     }
 
     // Returns the state after the name of an option and a value in the same argument.
-    fn after_named_value<'a>(self, choice: Choice, value: &'a [u8]) -> Result<State, Stop<'a>>
-        ensures { Gives result (cond (takes_value choice) (after_value self choice value.now)
+    fn after_named_value(self, choice: Choice, value: &'a [u8]) -> Result<State<'a>, Stop<'a>>
+        ensures { Leads result (cond (takes_value choice)
+            (after_value (chosen self.entry) choice value.now)
             (Err (UnexpectedValue, name_of choice))) }
     {
         if choice.takes_value() {
@@ -113,9 +134,9 @@ impl State {
 
     // Returns the state after an argument of two hyphens and a text.
     #[tactic(auto, unfolding(crate::specs::Parse::after_name))]
-    fn after_name<'a>(self, word: &'a [u8], text: &'a [u8]) -> Result<State, Stop<'a>>
+    fn after_name(self, word: &'a [u8], text: &'a [u8]) -> Result<State<'a>, Stop<'a>>
         requires { word.now ≡ 45 ∷ 45 ∷ text.now }
-        ensures { Gives result (after_name self text.now) }
+        ensures { Leads result (after_name (chosen self.entry) text.now) }
     {
         let place = equals_place(text);
         let name = match place {
@@ -135,20 +156,19 @@ impl State {
     }
 
     // Returns the state after the letter of an option with a value, and the rest of the argument.
-    fn after_value_letter<'a>(self, choice: Choice, rest: &'a [u8]) -> Result<State, Stop<'a>>
-        ensures { Gives result (after_value_letter self choice rest.now) }
+    fn after_value_letter(self, choice: Choice, rest: &'a [u8]) -> Result<State<'a>, Stop<'a>>
+        ensures { Leads result (after_value_letter (chosen self.entry) choice rest.now) }
     {
-        if rest.is_empty() {
-            Ok(self.with_next(Next::LetterValue(choice)))
-        } else {
-            self.after_value(choice, rest)
+        match rest {
+            [] => Ok(self.with_next(Next::LetterValue(choice))),
+            [_, ..] => self.after_value(choice, rest),
         }
     }
 
     // Returns the state after a hyphen and letters.
     #[tactic(auto, unfolding(crate::specs::Parse::after_letters))]
-    fn after_letters<'a>(self, letters: &'a [u8]) -> Result<State, Stop<'a>>
-        ensures { Gives result (after_letters self letters.now) }
+    fn after_letters(self, letters: &'a [u8]) -> Result<State<'a>, Stop<'a>>
+        ensures { Leads result (after_letters (chosen self.entry) letters.now) }
     {
         let (mut state, mut rest) = (self, letters);
         while let [letter, others @ ..] = rest {
@@ -168,9 +188,9 @@ impl State {
     }
 
     // Returns the state after an argument that begins with a hyphen and is longer.
-    fn after_option<'a>(self, word: &'a [u8]) -> Result<State, Stop<'a>>
+    fn after_option(self, word: &'a [u8]) -> Result<State<'a>, Stop<'a>>
         requires { IsTrue (is_option word.now) }
-        ensures { Gives result (after_option self word.now) }
+        ensures { Leads result (after_option (chosen self.entry) word.now) }
     {
         match word {
             [b'-', b'-'] => Ok(self.with_next(Next::File)),
@@ -182,7 +202,7 @@ impl State {
 
     /// Returns whether an argument is a file.
     pub fn is_file(self, word: &[u8]) -> bool
-        ensures { result ≡ is_file self.next word.now }
+        ensures { result ≡ is_file self.entry.next word.now }
     {
         match self.next {
             Next::Any => !is_option(word),
@@ -192,9 +212,9 @@ impl State {
     }
 
     /// Returns the state after an argument that is no file.
-    pub fn after<'a>(self, word: &'a [u8]) -> Result<State, Stop<'a>>
+    pub fn after(self, word: &'a [u8]) -> Result<State<'a>, Stop<'a>>
         requires { is_file self.next word.now ≡ false }
-        ensures { Gives result (after_by self.next self word.now) }
+        ensures { Leads result (after_by self.entry.next (chosen self.entry) word.now) }
     {
         match self.next {
             Next::Any | Next::File => self.after_option(word),
@@ -203,8 +223,8 @@ impl State {
     }
 
     /// Returns the options at the end of the arguments.
-    pub fn finish<'a>(self) -> Result<Options, Stop<'a>>
-        ensures { Gives result (finish_by self.next self.options) }
+    pub fn finish(self) -> Result<Options, Stop<'a>>
+        ensures { Gives result (finish_by self.entry.next self.entry.options) }
     {
         match self.next {
             Next::Any | Next::File => without_conflict(self.options),

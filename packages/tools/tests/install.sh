@@ -40,9 +40,9 @@ names_every_option() {
 
 # Checks that the manual of rapidsum has the text of each option in its help, after its names.
 has_the_texts_of_the_help() {
-  "$prefix/bin/rapidsum" --help | sed -nE 's/ \[.*//; s/^ .{0,5} (--[a-z-]+)(=[A-Z]+)? +(.*)/\1|\3/p' >"$room/texts" &&
+  "$prefix/bin/rapidsum" --help | sed -nE 's/ \[.*//; s/^ .{0,5} (--[a-z0-9-]+)(=[A-Z]+)? +(.*)/\1|\3/p' >"$room/texts" &&
     mandoc -Tutf8 -O width=200 "$prefix/share/man/man1/rapidsum.1" | sed -E 's/.\x08//g' | tr -s ' \n' ' ' >"$room/manual" &&
-    [ "$(wc -l <"$room/texts")" -eq 14 ] && while IFS='|' read -r option text; do
+    [ "$(wc -l <"$room/texts")" -eq 15 ] && while IFS='|' read -r option text; do
       grep -qiE -e "$option(=[A-Z]+)? ${text//[()]/.}[ ,:;]" "$room/manual" || { echo "$option: $text" && return 1; }
     done <"$room/texts"
 }
@@ -218,7 +218,7 @@ try_with manuals mandoc mandoc -T lint packages/tools/rapid{hash,sum}.1 packages
 try_with example_of_the_manual "$builder" compares_by_the_manual
 cd "$top" || exit 1
 try_with options_of_the_manual "$builder" names_every_option rapidhash 8
-try_with options_of_the_manual_of_sums "$builder" names_every_option rapidsum 14
+try_with options_of_the_manual_of_sums "$builder" names_every_option rapidsum 15
 try_with versions_of_the_manual "$builder mandoc" names_each_version
 try_with texts_of_the_manual_of_sums "$builder mandoc" has_the_texts_of_the_help
 for name in rapidhash rapidsum; do try_with "completions_of_$name" "$builder" has_its_completions "$name"; done

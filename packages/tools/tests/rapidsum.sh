@@ -1,7 +1,7 @@
 #!/usr/bin/env bash
 # Runs crates/rapidsum and sha256sum. In each case, both print the same lines except the hashes, print the same
-# messages except the program's name, and exit with the same status. Further cases test features that sha256sum does not
-# have.
+# messages except the program's name and that no file of a list matched, and exit with the same status. Further cases
+# test features that sha256sum does not have.
 . "$(dirname "$0")/../../../tests/examples/room.sh"
 export LC_ALL=C
 reads_large_pieces
@@ -31,7 +31,7 @@ run_case() {
     s/^(\\?)(SHA256|RAPIDHASH-V3) (.* =) ([0-9a-f]{64}|[0-9a-f]{16})$/\1TAG \3 HASH/' "$room/out.$1"
   sed -i -E 's/^[^ ]*(sha256sum|rapidsum): /sum: /; s/ \(os error [0-9]+\)$//
     s/ SHA256 / /; s/(write error): .*/\1/; s/^(sum: )'"'(.*)': "'/\1\2: /
-    s/^(Try .)(sha256sum|rapidsum)/\1sum/' "$room/err.$1"
+    s/^(Try .)(sha256sum|rapidsum)/\1sum/; /^sum: .*: no file matched: /d' "$room/err.$1"
 }
 
 # Runs a case with both programs and compares the results: CASE
@@ -171,7 +171,12 @@ cp wanted_of_all wanted
 prints a_list_of_all_versions "$program" -c list_of_all
 "$program" --seed 1 first >list
 answers check_with_a_seed 'first: OK\n' '' "$program" --seed 1 -c list
-says check_without_the_seed 'did NOT match' "$program" -c list
+says check_without_the_seed '^rapidsum: list: no file matched: the list may be for another version, seed or program$' \
+  "$program" -c list
+"$program" first >>list
+says a_line_that_matches 'WARNING: 1 computed checksum did NOT match$' "$program" -c list
+! grep -q 'no file matched' "$room/log"
+tell no_file_matched_is_said_of_all $?
 printf 'RAPIDHASH-V9 (first) = a1266b469390773a\n' >list
 says unknown_version_in_a_list 'no properly formatted' "$program" -c list
 
@@ -279,6 +284,40 @@ answers options_after_files 'a1266b469390773a *first\n' '' "$program" first -b
 answers input_among_files 'a1266b469390773a  first\nd961942577685053  -\n' 'else' "$program" first - --
 cp first ./-b && cp first ./--
 answers files_behind_two_hyphens 'a1266b469390773a  -b\na1266b469390773a  --\n' '' "$program" -- -b --
+# Names in a list, and the messages about them, which are those of wc.
+as_wc() {
+  local one
+  printf 'first\0-\0\0' >input
+  for one in wc "$program"; do
+    "$one" "$@" <input 2>&1 >/dev/null | sed -E "s/^[^ ]*(wc|rapidsum): /sum: /; s/^(Try .)(wc|rapidsum)/\1sum/
+      s/cannot open '(.*)' for reading: /\1: /; s/read error: //; s/ \(os error [0-9]+\)$//"
+    echo "status ${PIPESTATUS[0]}"
+  done >both
+  diff <(head -n $(($(wc -l <both) / 2)) both) <(tail -n $(($(wc -l <both) / 2)) both)
+}
+printf 'first\0\0nothing\0second name' >names
+for words in --files0-from=names '--files0-from names' --files0-from=nothing --files0-from=. --files0-from=/dev/null \
+  --files0-from=- 'first --files0-from=names nothing' '--files0-from=names -- -x' --files0-from; do
+  # shellcheck disable=SC2086
+  try "messages of wc for $words" as_wc $words
+done
+names=(first 'second name' $'line\nback\\return\r' -b --)
+printf '%s\0' "${names[@]}" >names && "$program" -- "${names[@]}" >wanted && head -c -1 names >short
+prints names_of_a_list "$program" --files0-from=names
+prints last_name_without_nul "$program" --files0-from short
+prints names_of_input "$program" --files0-from=- <names
+printf 'first\0-\0' >names
+answers input_in_a_list 'a1266b469390773a  first\nd961942577685053  -\n' 'else' "$program" --files0-from=names
+answers empty_list '' 'else' "$program" --files0-from=/dev/null
+"$program" first >list && printf 'list\0list' >names
+answers lists_of_a_list 'first: OK\nfirst: OK\n' '' "$program" -c --files0-from=names
+printf 'first\0nothing\0\0first' >names && "$program" --files0-from=names >both 2>&1
+[ "$(sed 's/ .*//' both)" = $'a1266b469390773a\nrapidsum:\nrapidsum:\na1266b469390773a' ]
+tell each_error_is_in_order $?
+sed 's/first/nothing/' list | cat list - list >mixed && "$program" -c mixed 2>&1 | sed 's/.*nothing: No.*/message/' >both
+[ "$(head -n 4 both)" = $'first: OK\nmessage\nnothing: FAILED open or read\nfirst: OK' ]
+tell each_error_of_a_check_is_in_order $?
+refuses 'the --files0-from option may be given only once' --files0-from=names --files0-from names
 for words in -h --help '-bh --bogus' '--tag -c --help -x'; do
   # shellcheck disable=SC2086
   try "help by $words" bash -c '"$@" | cmp - <("$0" --help)' "$program" "$program" $words
@@ -292,6 +331,8 @@ done
 head -c 67108864 /dev/zero | tr '\0' 'x' >large
 says memory_refused memory in_kibibytes 32768 "$program" -c large
 try reads_in_pieces reads_in 1025 large "$program" large
+says memory_refused_to_a_list_of_names 'large: .*memory' in_kibibytes 32768 "$program" --files0-from=large
+head -c 8000000 /dev/zero >empty && says memory_refused_to_names memory in_kibibytes 65536 "$program" --files0-from=empty
 yes 'a1266b469390773a  first' | head -n 20000 >entries
 try memory_of_a_list grows_by_a_factor "$program" -c --quiet entries
 try memory_of_input grows_by_a_factor "$program" -a v1 <large
@@ -317,6 +358,24 @@ truncate -s 300000000 sparse
 script -qec "$program sparse" log </dev/null >/dev/null 2>&1
 grep -q '128 MiB.*256 MiB' log && grep -qP '\r\x1b\[Kc266dafd0143ba3a  sparse' log
 tell progress_on_a_terminal_is_erased $?
+# Lines are written in blocks, but to a terminal at once.
+writes_blocks() {
+  can_trace && yes first | head -n 20000 | tr '\n' '\0' >names &&
+    strace -qqo "$room/calls" -e trace=write "$program" --files0-from=names >sums && [ "$(wc -l <sums)" -eq 20000 ] &&
+    [ "$(wc -l <"$room/calls")" -le 8 ]
+}
+writes_lines() {
+  can_trace && script -qec "strace -qqo calls -e trace=write $program first first" log </dev/null >/dev/null 2>&1 &&
+    [ "$(grep -c 'write(1, "a1266b469390773a' calls)" -eq 2 ]
+}
+try blocks_of_lines writes_blocks
+try lines_on_a_terminal writes_lines
+# Whether standard error is a terminal is asked once, for all files.
+asks_once() {
+  can_trace && strace -qqo "$room/calls" -e trace=readlink,ioctl "$program" first first first &&
+    [ "$(grep -cE '"/proc/self/fd/2"|ioctl\(2,' "$room/calls")" -eq 1 ]
+}
+try asks_for_a_terminal_once asks_once
 answers no_progress_elsewhere 'c266dafd0143ba3a  sparse\n' '' "$program" sparse
 # Standard output may be a terminal without standard error.
 script -qec "$program sparse 2>errors" log </dev/null >/dev/null 2>&1

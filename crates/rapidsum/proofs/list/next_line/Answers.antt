@@ -1,4 +1,4 @@
-use Rattle.std.proofs.Common.{◌≡◌, ◌∷◌, ℕ, drop, take, sym, ap, ◌∙◌}
+use Rattle.std.proofs.Common.{◌≡◌, ◌∷◌, ℕ, drop, length, take, sym, ap, ◌∙◌, arith}
 use Rattle.std.proofs.Math.Seq.{take-length}
 use Rattle.std.proofs.lemmas.List.{length-drop}
 use Rattle.rapidsum.proofs.Lists.{line_parts}
@@ -6,9 +6,15 @@ use Rattle.rapidsum.proofs.list.next_line.Goals as goal
 
 pub returns-in-len1-up-clause-parts : goal.returns-in-len1-up-clause-parts
 returns-in-len1-up-clause-parts c = λ line rest none is.
-    let parts = line_parts line rest c.args.text.now c.line_length.result none is c.line_length.ensures.before c.line_length.ensures.found in
+    let parts = line_parts c.args.end line rest c.args.text.now c.line_length.result none is c.line_length.ensures.before c.line_length.ensures.found in
     let behind = c.split_at.result.1.now in
-    let back : behind ≡ 10 ∷ rest = c.split_at.ensures.back ∙ parts.1 in (
+    let back : behind ≡ c.args.end ∷ rest = c.split_at.ensures.back ∙ parts.1 in (
       c.split_at.ensures.front ∙ parts.0,
       ap (λ (k : ℕ). take k (drop 1 behind)) (sym (length-drop 1 behind)) ∙ take-length (drop 1 behind) ∙ ap (drop 1) back,
     )
+
+pub returns-in-empty-clause-parts : goal.returns-in-empty-clause-parts
+returns-in-empty-clause-parts c = λ line rest none is.
+    let parts = line_parts c.args.end line rest c.args.text.now c.line_length.result none is c.line_length.ensures.before c.line_length.ensures.found in
+    let back : c.split_at.result.1.now ≡ c.args.end ∷ rest = c.split_at.ensures.back ∙ parts.1 in
+    absurd (omega (arith, ap length back, c.in-empty.len_below))

@@ -24,8 +24,8 @@ returns-in-Err g c =
 
 pub returns : goal.returns
 returns g c = elim c.match-finish.branch [
-  | in-Ok-finish w ↦ rw w.result-is (at_end c.args.words.now c.loop-word.word-index _ _ _ _
-      c.loop-word.invariant c.loop-word-test.false w.in-Ok-finish.ensures)
+  | in-Ok-finish w ↦ rw w.result-is (rw (at_end c.args.words.now c.loop-word.word-index _ _ _ _
+      c.loop-word.invariant c.loop-word-test.false w.in-Ok-finish.ensures) w.without_both.ensures)
   | in-Err-finish w ↦ rw w.result-is (stop_at_end c.args.words.now c.loop-word.word-index _ _ _ _
       c.loop-word.invariant c.loop-word-test.false w.in-Err-finish.ensures)
 ]

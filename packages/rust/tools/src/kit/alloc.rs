@@ -1,5 +1,6 @@
 //! Vectors whose growth reports a failed allocation.
 
+use std::io::{self, Write};
 use std::marker::PhantomData;
 use std::ops::Deref;
 use std::slice;
@@ -61,6 +62,11 @@ impl<T, A> Vec<T, A> {
     pub fn as_slice(&self) -> &[T] {
         &self.items
     }
+
+    /// Removes all items and keeps their room.
+    pub fn clear(&mut self) {
+        self.items.clear();
+    }
 }
 
 impl<T: Copy, A> Vec<T, A> {
@@ -70,6 +76,17 @@ impl<T: Copy, A> Vec<T, A> {
             .try_reserve(items.len())
             .map_err(|_| AllocError)?;
         self.items.extend_from_slice(items);
+        Ok(())
+    }
+}
+
+impl<A> Write for Vec<u8, A> {
+    fn write(&mut self, buf: &[u8]) -> io::Result<usize> {
+        self.extend_from_slice(buf)?;
+        Ok(buf.len())
+    }
+
+    fn flush(&mut self) -> io::Result<()> {
         Ok(())
     }
 }

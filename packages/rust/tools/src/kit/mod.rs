@@ -84,8 +84,26 @@ impl HostRuntime {
     }
 }
 
+/// Returns whether a standard stream is a terminal. `std` has this only from Rust 1.70 on, so the name of the device
+/// decides, on Linux.
+fn is_terminal(stream: &str) -> bool {
+    let is_one = |path: &Path| {
+        ["/dev/pts", "/dev/tty", "/dev/console"]
+            .iter()
+            .any(|name| path.starts_with(name))
+    };
+    std::fs::read_link(stream).map_or(false, |path| is_one(&path))
+}
+
 /// Standard output. Each write reaches the system at once, so that its failure is reported.
 pub struct Stdout;
+
+impl Stdout {
+    /// Returns whether it is a terminal.
+    pub fn is_terminal(&self) -> bool {
+        is_terminal("/proc/self/fd/1")
+    }
+}
 
 impl Write for Stdout {
     fn write(&mut self, buf: &[u8]) -> io::Result<usize> {
@@ -104,14 +122,9 @@ impl Write for Stdout {
 pub struct Stderr;
 
 impl Stderr {
-    /// Returns whether it is a terminal. `std` has this only from Rust 1.70 on, so the name of the device decides, on Linux.
+    /// Returns whether it is a terminal.
     pub fn is_terminal(&self) -> bool {
-        let is_one = |path: &Path| {
-            ["/dev/pts", "/dev/tty", "/dev/console"]
-                .iter()
-                .any(|name| path.starts_with(name))
-        };
-        std::fs::read_link("/proc/self/fd/2").map_or(false, |path| is_one(&path))
+        is_terminal("/proc/self/fd/2")
     }
 }
 

@@ -10,6 +10,7 @@ use rapidhash_tool::form::Version;
 pub enum Choice {
     Algorithm,
     Seed,
+    FilesFrom,
     Check,
     Quiet,
     Status,
@@ -45,10 +46,11 @@ fn spelled(letter: &'static str, name: &'static str, value: &'static str) -> Spe
 
 impl Choice {
     /// Returns all options, in the order of the help.
-    pub fn all() -> [Choice; 14] {
+    pub fn all() -> [Choice; 15] {
         [
             Choice::Algorithm,
             Choice::Seed,
+            Choice::FilesFrom,
             Choice::Check,
             Choice::Quiet,
             Choice::Status,
@@ -69,6 +71,7 @@ impl Choice {
         match self {
             Choice::Algorithm => spelled("a", "algorithm", "VERSION"),
             Choice::Seed => spelled("", "seed", "NUMBER"),
+            Choice::FilesFrom => spelled("", "files0-from", "F"),
             Choice::Check => spelled("c", "check", ""),
             Choice::Quiet => spelled("", "quiet", ""),
             Choice::Status => spelled("", "status", ""),
@@ -89,6 +92,7 @@ impl Choice {
         match self {
             Choice::Algorithm => "Hash with this version [default: v3]",
             Choice::Seed => "Hash with the seed made from this number",
+            Choice::FilesFrom => "Read the names of the FILEs from F, each ended by NUL",
             Choice::Check => "Read checksums from the FILEs and check them",
             Choice::Quiet => "Don't print OK for each file that matches",
             Choice::Status => "Don't print anything but errors",
@@ -109,15 +113,25 @@ impl Choice {
         matches!(self, Choice::Algorithm)
     }
 
+    /// Returns whether this is `--files0-from`.
+    pub fn is_files_from(self) -> bool {
+        matches!(self, Choice::FilesFrom)
+    }
+
     /// Returns whether an option takes a value.
     pub fn takes_value(self) -> bool {
-        matches!(self, Choice::Algorithm | Choice::Seed)
+        matches!(self, Choice::Algorithm | Choice::Seed | Choice::FilesFrom)
+    }
+
+    // Returns whether the option has a name.
+    fn has_name(self, name: &[u8]) -> bool {
+        self.spelling().name.as_bytes() == name
     }
 
     /// Returns the option with a name.
     pub fn named(name: &[u8]) -> Option<Choice> {
         for choice in Choice::all() {
-            if choice.spelling().name.as_bytes() == name {
+            if choice.has_name(name) {
                 return Some(choice);
             }
         }

@@ -15,16 +15,17 @@ pub struct List {
     pub malformed: Vec<u64>,
 }
 
-// Returns the number of bytes before the first newline, or of all bytes if there is none.
-fn line_length(text: &[u8]) -> usize {
+// Returns the number of bytes before the first byte that ends a line, or of all bytes if there is
+// none.
+fn line_length(text: &[u8], end: u8) -> usize {
     text.iter()
-        .position(|byte| *byte == b'\n')
+        .position(|byte| *byte == end)
         .unwrap_or(text.len())
 }
 
-// Returns the first line of a text, without its newline, and the text after it.
-fn next_line(text: &[u8]) -> (&[u8], &[u8]) {
-    let (line, rest) = text.split_at(line_length(text));
+/// Returns the first line of a text, without the byte that ends it, and the text after it.
+pub fn next_line(text: &[u8], end: u8) -> (&[u8], &[u8]) {
+    let (line, rest) = text.split_at(line_length(text, end));
     match rest {
         [_, rest @ ..] => (line, rest),
         [] => (line, rest),
@@ -43,7 +44,7 @@ pub fn read_list(alloc: Global, text: &[u8]) -> Result<List, Problem> {
     };
     let (mut rest, mut number) = (text, 0u64);
     while !rest.is_empty() {
-        let (line, more) = next_line(rest);
+        let (line, more) = next_line(rest, b'\n');
         rest = more;
         number = number.saturating_add(1);
         match read_line(alloc, line)? {

@@ -5,14 +5,35 @@
 use rapidhash_tool::kit::Vec;
 use crate::options::Options;
 use crate::state::{Next, State};
-use crate::stop::Stop;
+use crate::stop::{Reason, Stop};
 use rapidhash_tool::kit::alloc::{AllocError, Allocator};
 
-/// A call: its options and its files.
+/// A call: its options and its files, or a list of their names.
 pub struct Call<'a, A: Allocator> {
     pub options: Options,
+    /// The list of `--files0-from`.
+    pub list: Option<&'a [u8]>,
     /// The names of the files.
     pub files: Vec<&'a [u8], A>,
+}
+
+// Returns the call, unless it has files beside a list.
+fn without_both<'a, A: Allocator>(
+    options: Options,
+    list: Option<&'a [u8]>,
+    files: Vec<&'a [u8], A>,
+) -> Result<Call<'a, A>, Stop<'a>> {
+    match (list, files.as_slice()) {
+        (Some(_), [file, ..]) => Err(Stop {
+            reason: Reason::ExtraOperand,
+            text: file,
+        }),
+        (Some(_), []) | (None, _) => Ok(Call {
+            options,
+            list,
+            files,
+        }),
+    }
 }
 
 /// Returns the call that the arguments after the program's name make.
@@ -27,6 +48,7 @@ pub fn parse<A: Allocator, B: Allocator>(
     let mut files = Vec::new(alloc);
     let mut state = State {
         options: Options::none(),
+        list: None,
         next: Next::Any,
     };
     for word in words {
@@ -41,7 +63,7 @@ pub fn parse<A: Allocator, B: Allocator>(
         }
     }
     Ok(match state.finish() {
-        Ok(options) => Ok(Call { options, files }),
+        Ok(options) => without_both(options, state.list, files),
         Err(stop) => Err(stop),
     })
 }

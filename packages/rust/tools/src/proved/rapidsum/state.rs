@@ -21,8 +21,10 @@ pub enum Next {
 
 /// The options so far.
 #[derive(Clone, Copy)]
-pub struct State {
+pub struct State<'a> {
     pub options: Options,
+    /// The list of `--files0-from`.
+    pub list: Option<&'a [u8]>,
     pub next: Next,
 }
 
@@ -36,29 +38,45 @@ fn equals_place(text: &[u8]) -> Option<usize> {
     text.iter().position(|byte| *byte == b'=')
 }
 
-impl State {
-    fn with_next(self, next: Next) -> State {
-        let options = self.options;
-        State { options, next }
+impl<'a> State<'a> {
+    fn with_next(self, next: Next) -> State<'a> {
+        State { next, ..self }
     }
 
     // Returns the state after an option that takes no value.
-    fn after_flag<'a>(self, choice: Choice) -> Result<State, Stop<'a>> {
+    fn after_flag(self, choice: Choice) -> Result<State<'a>, Stop<'a>> {
         match self.options.with_flag(choice) {
             Ok(options) => Ok(State {
                 options,
                 next: Next::Any,
+                ..self
             }),
             Err(reason) => Err(stop_at(reason, choice)),
         }
     }
 
+    // Returns the state after `--files0-from` and its value.
+    fn after_list(self, choice: Choice, name: &'a [u8]) -> Result<State<'a>, Stop<'a>> {
+        match self.list {
+            Some(_) => Err(stop_at(Reason::Repeated, choice)),
+            None => Ok(State {
+                list: Some(name),
+                next: Next::Any,
+                ..self
+            }),
+        }
+    }
+
     // Returns the state after an option and its value.
-    fn after_value<'a>(self, choice: Choice, value: &'a [u8]) -> Result<State, Stop<'a>> {
+    fn after_value(self, choice: Choice, value: &'a [u8]) -> Result<State<'a>, Stop<'a>> {
+        if choice.is_files_from() {
+            return self.after_list(choice, value);
+        }
         match self.options.with_value(choice, value) {
             Ok(options) => Ok(State {
                 options,
                 next: Next::Any,
+                ..self
             }),
             Err(reason) => {
                 if reason.is_repeated() {
@@ -74,7 +92,7 @@ impl State {
     }
 
     // Returns the state after the name of an option without a value in the same argument.
-    fn after_bare_name<'a>(self, choice: Choice) -> Result<State, Stop<'a>> {
+    fn after_bare_name(self, choice: Choice) -> Result<State<'a>, Stop<'a>> {
         if choice.takes_value() {
             Ok(self.with_next(Next::NameValue(choice)))
         } else {
@@ -83,7 +101,7 @@ impl State {
     }
 
     // Returns the state after the name of an option and a value in the same argument.
-    fn after_named_value<'a>(self, choice: Choice, value: &'a [u8]) -> Result<State, Stop<'a>> {
+    fn after_named_value(self, choice: Choice, value: &'a [u8]) -> Result<State<'a>, Stop<'a>> {
         if choice.takes_value() {
             self.after_value(choice, value)
         } else {
@@ -92,7 +110,7 @@ impl State {
     }
 
     // Returns the state after an argument of two hyphens and a text.
-    fn after_name<'a>(self, word: &'a [u8], text: &'a [u8]) -> Result<State, Stop<'a>> {
+    fn after_name(self, word: &'a [u8], text: &'a [u8]) -> Result<State<'a>, Stop<'a>> {
         let place = equals_place(text);
         let name = match place {
             None => text,
@@ -113,16 +131,15 @@ impl State {
     }
 
     // Returns the state after the letter of an option with a value, and the rest of the argument.
-    fn after_value_letter<'a>(self, choice: Choice, rest: &'a [u8]) -> Result<State, Stop<'a>> {
-        if rest.is_empty() {
-            Ok(self.with_next(Next::LetterValue(choice)))
-        } else {
-            self.after_value(choice, rest)
+    fn after_value_letter(self, choice: Choice, rest: &'a [u8]) -> Result<State<'a>, Stop<'a>> {
+        match rest {
+            [] => Ok(self.with_next(Next::LetterValue(choice))),
+            [_, ..] => self.after_value(choice, rest),
         }
     }
 
     // Returns the state after a hyphen and letters.
-    fn after_letters<'a>(self, letters: &'a [u8]) -> Result<State, Stop<'a>> {
+    fn after_letters(self, letters: &'a [u8]) -> Result<State<'a>, Stop<'a>> {
         let (mut state, mut rest) = (self, letters);
         while let [letter, others @ ..] = rest {
             let choice = if let Some(choice) = Choice::lettered(*letter) {
@@ -143,7 +160,7 @@ impl State {
     }
 
     // Returns the state after an argument that begins with a hyphen and is longer.
-    fn after_option<'a>(self, word: &'a [u8]) -> Result<State, Stop<'a>> {
+    fn after_option(self, word: &'a [u8]) -> Result<State<'a>, Stop<'a>> {
         match word {
             [b'-', b'-'] => Ok(self.with_next(Next::File)),
             [b'-', b'-', text @ ..] => self.after_name(word, text),
@@ -162,7 +179,7 @@ impl State {
     }
 
     /// Returns the state after an argument that is no file.
-    pub fn after<'a>(self, word: &'a [u8]) -> Result<State, Stop<'a>> {
+    pub fn after(self, word: &'a [u8]) -> Result<State<'a>, Stop<'a>> {
         match self.next {
             Next::Any | Next::File => self.after_option(word),
             Next::NameValue(choice) | Next::LetterValue(choice) => self.after_value(choice, word),
@@ -170,7 +187,7 @@ impl State {
     }
 
     /// Returns the options at the end of the arguments.
-    pub fn finish<'a>(self) -> Result<Options, Stop<'a>> {
+    pub fn finish(self) -> Result<Options, Stop<'a>> {
         match self.next {
             Next::Any | Next::File => without_conflict(self.options),
             Next::NameValue(choice) => Err(stop_at(Reason::NoValueOfName, choice)),

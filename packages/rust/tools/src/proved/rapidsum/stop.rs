@@ -27,6 +27,8 @@ pub enum Reason {
     InvalidSeed,
     /// The option with this name is there already.
     Repeated,
+    /// This file is named beside a list of names.
+    ExtraOperand,
     /// The option with this name excludes `--text`.
     TagWithText,
     /// The option with this name excludes `--check`.
@@ -57,6 +59,10 @@ impl Reason {
             Reason::InvalidVersion => ("invalid argument '", "' for '--algorithm'"),
             Reason::InvalidSeed => ("invalid seed: '", "'"),
             Reason::Repeated => ("the --", " option may be given only once"),
+            Reason::ExtraOperand => (
+                "extra operand '",
+                "'\nfile operands cannot be combined with --files0-from",
+            ),
             Reason::TagWithText => ("--", " does not support --text mode"),
             Reason::ZeroWithCheck => (
                 "the --",
