@@ -21,6 +21,8 @@ FORMS = re.compile("|".join(rf"\s*{form}" for form in (
     r"#\[cfg\(test\)\]\s*mod\s+tests;",
     r"(?:[+,]|(?<=\w):)\s*Drop\b",
 )))
+# The start of an item that ends with a semicolon.
+ITEM = r"(?:pub )?(?:use|mod|const)\b"
 # The words that must not remain.
 GHOST = {"ghost", "requires", "ensures", "tactic", "Model", "Drop"}
 # Comments, strings, and characters, in which brackets and words do not count.
@@ -61,7 +63,7 @@ def erase(text):
 
 def leave_out(text, begin):
     """Returns the text without the items that start with `begin`, and without their comments."""
-    rest = "[^;]*;" if begin.startswith("use") else rf"[^{{]*{GROUP}"
+    rest = "[^;]*;" if re.match(ITEM, begin) else rf"[^{{]*{GROUP}"
     left = without(re.compile(rf"^(?:[ \t]*\0\d+\0\n)*[ \t]*{re.escape(begin)}\b{rest}", re.MULTILINE), text)[1]
     if left == text:
         raise Refused(f"no item begins {begin!r}")

@@ -106,15 +106,16 @@ class Module:
         self.modules = {item.name: Module(folder / f"{item.name}.rt", item.name, self) for item in inner}
 
     def attach(self):
-        """Attaches each impl block to its type, which is in the same module or in an outer one. A block for a type with
-        specific parameters goes to the alias of that type, if its module has one."""
+        """Attaches each impl block to its type, which is in the same module or in an outer one, or else is private. A block
+        for a type with specific parameters goes to the alias of that type, if its module has one."""
         for block in self.blocks:
             module, (block.name, whole) = self, parts_of(on_one_line(block.signature))
             alias = [item for item in self.items if item.signature.endswith(f" = {whole}")]
             name = alias[0].name if alias else re.match(r"\w+", whole)[0]
-            while not any(item.name == name for item in module.items):
+            while module and not any(item.name == name for item in module.items):
                 module = module.parent
-            next(item for item in module.items if item.name == name).impls.append(block)
+            if module:
+                next(item for item in module.items if item.name == name).impls.append(block)
         for module in self.modules.values():
             module.attach()
 

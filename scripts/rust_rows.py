@@ -9,11 +9,13 @@ REPLACED = [
     ("v3/stream/parts", "use crate::secrets::RapidSecrets;\n", "", "a stream owns its secrets: src/held.rs"),
     ("v3/stream/parts", "use crate::kernel::NOT_COMPACT;", "use crate::held::Owned;\nuse crate::kernel::NOT_COMPACT;", "as above"),
     ("v3/stream/parts", "secrets: &'a RapidSecrets", "secrets: Owned<'a>", "as above"),
-    ("v3/stream v3/stream/c_stream", "secrets: &'a RapidSecrets", "secrets: &RapidSecrets", "as above"),
+    ("v3/stream v3/stream/c_stream v3/stream/saved", "secrets: &'a RapidSecrets", "secrets: &RapidSecrets", "as above"),
     ("v3/stream", "    secrets,\n                    folded",
      "    secrets: crate::held::Owned::new(secrets),\n                    folded", "as above"),
     ("v3/stream/c_stream", "    secrets,\n                folded",
      "    secrets: crate::held::Owned::new(secrets),\n                folded", "as above"),
+    ("v3/stream/saved", "    secrets,\n            folded",
+     "    secrets: crate::held::Owned::new(secrets),\n            folded", "as above"),
     ("key", "//! encodings ([`same_keys`](crate::laws::same_keys)), so", "//! encodings, so", "the laws are contracts"),
     ("key", "#[derive(Clone, Copy)]", "#[derive(Debug, Clone, Copy, PartialEq, Eq, Hash)]", "users expect these"),
     ("seeding", "    counter: u64,\n    random: u64,", "    pub(crate) counter: u64,\n    pub(crate) random: u64,",
@@ -93,6 +95,26 @@ REPLACED = [
     ("inner/hasher", "> Hasher for RapidHasher<'s, AVALANCHE, SPONGE, COMPACT, PROTECTED> {\n",
      "> Hasher for RapidHasher<'s, AVALANCHE, SPONGE, COMPACT, PROTECTED> {\n    forward_integers!();\n\n",
      "Rattle's law on Hasher maps the integer writes to `write`; Rust has none"),
+    ("tests/replay/proved/mod", "pub mod bulk;", "pub mod bulk;\npub mod definitions;\npub mod form;\npub mod laws;\npub mod util;",
+     "crates of their own in Rattle"),
+    ("tests/replay/proved/compare", ", memory_body}", "}", "the core is private in the crate"),
+    ("tests/replay/proved/compare", "fn print_versions(", "pub fn print_versions(", "a test makes the call"),
+    ("tests/replay/proved/seeds", """            if v1::RapidSecrets::seed_of_word(number) != made.seed {
+                bail!("two seeds");
+            }
+""", "", "it is private in the crate"),
+    ("tests/replay/proved/seeds", """            if v3::RapidSecrets::seed_of_word(number) != made.seed {
+                bail!("two seeds");
+            }
+            made
+""", "            made\n", "as above"),
+    ("tests/replay/proved/mod", "fn replay_line(", "pub fn replay_line(", "a test makes the call"),
+    ("tests/replay/proved/hashers", "fn answered<", "pub fn answered<", "as above, for random messages"),
+    ("tests/replay/proved/streams", "fn answers<", "pub fn answers<", "as above"),
+    ("tests/replay/proved/items", "Item::Usize(value.parse::<usize>()?)",
+     "value.parse().map_or(Item::U64(value.parse()?), Item::Usize)", "32 bits hold some of the values"),
+    ("tests/replay/proved/items", "Item::Isize(value.parse::<isize>()?)",
+     "value.parse().map_or(Item::I64(value.parse()?), Item::Isize)", "as above"),
     ("tools/src/proved/lib", "mod command_line;", "extern crate self as rapidhash_tool;\n\nmod command_line;", "one name for both"),
     ("tools/src/proved/rapidsum/disk", """let path = if let Ok(path) = str::from_utf8(name) { path } else {
             return Err(Error::new(ErrorKind::InvalidInput, "the name is not UTF-8"));
@@ -104,6 +126,8 @@ REPLACED = [
     ("tools/src/proved/rapidsum/choice", "by their names.\n", "by their names.\n#![allow(clippy::manual_find)]\n",
      "the proof is of a loop"),
     ("tools/src/proved/rapidsum/runs", "use std::io::Read;\n", "", "the kit's reader has the only call"),
+    ("tools/src/proved/rapidsum/console", "use std::io::{IsTerminal, Write};", "use std::io::Write;", "IsTerminal came with Rust 1.70"),
+    ("tools/src/proved/rapidsum/parse", "text: *file,", "text: file,", "Rust follows the reference by itself"),
     ("tools/src/proved/lib", "mod hashes;", "pub mod form;\nmod hashes;", "the Rust crate has no forms"),
     ("tools/src/proved/lib", "mod lines;", "#[path = \"../kit/mod.rs\"]\npub mod kit;\nmod lines;", "the kit's library"),
 ]
@@ -117,6 +141,14 @@ LEFT_OUT = {
     # random.rs draws the random words itself, so random takes none.
     "src/proved/secrets": ["use crate::seeding", "pub fn random"],
     "tests/portable/proved/secrets": ["#[test]\nfn random_secrets"],
+    # A test makes the calls.
+    "tests/replay/proved/mod": ["fn main", "fn replay", "const USAGE", "use std", "pub mod words"],
+    # The core is private in the crate.
+    "tests/replay/proved/compare": ["fn core_agrees", "pub fn compare", "use super::words",
+                                    "use crate::replay::proved::definitions::core_hash"],
+    "tests/replay/proved/definitions/bodies": ["pub fn memory_body", "use rapidhash::in_memory"],
+    "tests/replay/proved/laws/mod": [f"pub {word} {name}" for word in ("mod", "use") for name in
+                                     ("forms", "keys", "lane", "words", "writes")],
     # Contracts state the counts.
     "tests/portable/proved/values": ["use crate::counts", "#[test]\nfn counted_hashers_hash"],
 }

@@ -1,5 +1,5 @@
-//! The hasher and the states with the avalanche: for tables, filters and sketches that use the bits of a hash as they
-//! are. A map of std, hashbrown or indexmap mixes them itself and is faster with [`crate::fast`].
+//! The hasher and the states with the avalanche: for filters, sketches and shards, which use the bits of a hash without
+//! comparing keys. A map is faster with [`crate::fast`].
 //!
 //! They are the same as in `fast`, but each write of bytes and each hash is mixed once more.
 //!

@@ -133,6 +133,18 @@ over_compat() {
     (cd "$project" && rm -f Cargo.lock && RUSTFLAGS='-D warnings' "$@")
 }
 
+# Runs the traits of rand_core 0.9 over a package that has this part of its interface: Debian has rand_core 0.6.
+generates_by_rand_core_09() {
+  local patch="patch.crates-io.rand_core.path=\"$top/packages/rust/compat/tests/rand_core\""
+  over_compat rng true && printf '%s\n' '[dependencies.rand_core]' 'version = "0.9"' >>"$room/compat/Cargo.toml" &&
+    printf '%s\n' '#[test] #[allow(deprecated)] fn words() { use rapidhash::rng::RapidRng;' \
+      'use rand_core::{RngCore, SeedableRng};' \
+      'let (mut one, mut two) = (RapidRng::seed_from_u64(1), RapidRng::from_seed([1, 0, 0, 0, 0, 0, 0, 0]));' \
+      'let mut bytes = [0; 8]; two.fill_bytes(&mut bytes); assert_eq!(one.next_u64(), u64::from_le_bytes(bytes));' \
+      'assert_eq!(one.next_u32(), two.next_u64() as u32); }' >"$room/compat/src/lib.rs" &&
+    (cd "$room/compat" && rm -f Cargo.lock && RUSTFLAGS='-D warnings' tests_pass cargo --config "$patch" test --lib)
+}
+
 # Checks that compat refuses a feature for random words that it does not have: FEATURE
 refuses_feature() {
   ! over_compat "$1" cargo check 2>"$room/refused" && grep -q 'getrandom_04 need the feature `std`' "$room/refused"
@@ -210,6 +222,7 @@ for features in '' nightly std rand 'std unsafe getrandom_03 getrandom_04'; do
   try "compat_with_${features:-nothing}" over_compat "$features" cargo check
 done
 try_with compat_with_rng_06 "$crates/rand_core-0.6*" over_compat rng_06 cargo check
+try generates_by_rand_core_09 generates_by_rand_core_09
 try getrandom_without_std refuses_feature getrandom_04
 try attack_by_compat tests_pass over_compat std cargo test --test attack
 try attack_by_compat_without_std tests_pass over_compat '' cargo test --test attack

@@ -12,7 +12,7 @@ from types import SimpleNamespace
 
 sys.path[0:0] = [str(Path(__file__).parents[3] / folder) for folder in ("tests", "scripts")]
 from cases import TOP, compare, finish, tell  # noqa: E402
-from eraser import Refused, erase  # noqa: E402
+from eraser import ITEM, Refused, erase  # noqa: E402
 
 rust_crate = SimpleNamespace(**runpy.run_path(str(TOP / "scripts" / "rust_crate")))
 
@@ -99,7 +99,7 @@ def difference(rattle, rust, left_out):
     theirs = without(FORMS, words_of(re.sub(*CHECKED, rattle)))
     for begin in left_out:
         words = re.escape(words_of(begin).removesuffix("\n"))
-        rest = "[^;]*; " if begin.startswith("use") else rf"[^{{]*{GROUP}"
+        rest = "[^;]*; " if re.match(ITEM, begin) else rf"[^{{]*{GROUP}"
         theirs = without(rf"(?:///.* )*{words}\w* {rest}", theirs)
     # rustfmt decides whether a comma precedes a closing bracket.
     texts = [without(r", (?=[]})>] )", text).splitlines() for text in (theirs, as_in_rattle(rust))]
@@ -131,7 +131,7 @@ def assertions():
     for crate, name, target in rust_crate.sources(rust_crate.TESTS):
         text = rattle_of(crate, name)
         for begin in rust_crate.LEFT_OUT.get(target, []):
-            end = "[^;]*;" if begin.startswith("use") else r".*?\n}\n"
+            end = "[^;]*;" if re.match(ITEM, begin) else r".*?\n}\n"
             text = re.sub(re.escape(begin) + end, "", text, count=1, flags=re.DOTALL)
         yield target, *(len(re.findall(r"\bassert(?:_eq|_ne)?!\(", it)) for it in (text, rust_of(target)))
 
@@ -145,9 +145,9 @@ for name, text in REFUSED.items():
 for name, wanted, found in assertions():
     compare(f"{name}.rs has the assertions of its source", found, wanted)
 made = {file for file in TOP.glob("packages/rust/**/*.rs") if file.read_text().startswith("// Made by scripts/")}
-tables = rust_crate.SOURCES, rust_crate.TESTS, rust_crate.TOOLS
+tables = rust_crate.SOURCES, rust_crate.TESTS, rust_crate.REPLAY, rust_crate.TOOLS
 wanted = {TOP / f"packages/rust/{target}.rs" for _, _, target in rust_crate.sources(*tables)}
-compare("the generated files", made, wanted)
+compare("the generated files", sorted(map(str, made ^ wanted)), [])
 for crate, name, target in rust_crate.sources(rust_crate.SOURCES, rust_crate.TOOLS):
     rust = rust_of(target).partition("\n\n")[2]
     found = difference(rust_crate.read(crate, name, target), rust, rust_crate.LEFT_OUT.get(target, []))

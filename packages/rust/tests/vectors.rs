@@ -10,7 +10,20 @@ use std::path::Path;
 #[test]
 fn every_vector_file_is_replayed() {
     let folder = Path::new(env!("CARGO_MANIFEST_DIR")).join("../../crates/test_replay/data");
-    assert_eq!(replay::folder(&folder), Ok(9998));
+    assert_eq!(replay::folder(&folder).unwrap(), 27);
+}
+
+/// Each version has the values of its definition, two versions agree at the lengths where upstream's do, and each cut of a
+/// message has the hash of the whole.
+#[test]
+fn every_length_has_the_value_of_its_definition() {
+    use replay::proved::{compare, lengths, pieces, rules};
+    let secrets = rules::secrets_of("seed:0").unwrap();
+    let bytes = rules::message("rng:0", 1025).unwrap();
+    let short = &bytes[..513];
+    assert_eq!(compare::print_versions(&secrets, short).unwrap(), 0);
+    assert_eq!(lengths::print_lengths(&secrets, short).unwrap(), 0);
+    assert_eq!(pieces::print_pieces(&secrets, &bytes).unwrap(), 0);
 }
 
 /// A length without its upper bits would be that of five bytes. The bytes are never written, so they
@@ -42,5 +55,5 @@ fn random_messages_have_the_checksums_of_the_crate() {
         None => (10_000, 0x0566_8d6b_81ca_507d),
         Some(_) => (1_000_000, 0xd6c1_e773_56fc_7486),
     };
-    assert_eq!(replay::messages::checksum(count), Ok(wanted));
+    assert_eq!(replay::messages::checksum(count).unwrap(), wanted);
 }

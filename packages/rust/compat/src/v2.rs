@@ -53,7 +53,7 @@ impl RapidSecrets {
         Self::of(self.proved().reseed())
     }
 
-    /// Returns the default secrets with a seed made from a number as the C++ library makes it.
+    /// Returns the default secrets with a seed made from a number.
     #[must_use]
     pub const fn seed_cpp(seed: u64) -> Self {
         Self::of(Proved::seed_cpp(seed))

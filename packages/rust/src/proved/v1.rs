@@ -48,8 +48,8 @@ pub const fn rapidhash_v1_seeded(bytes: &[u8], secrets: &RapidSecrets) -> u64 {
 const_fn! {
 /// Returns the hash of `bytes` with every option.
 ///
-/// - `AVALANCHE` mixes the last product once more. Without it the values are not those of the C++
-///   library: leave it out only if what uses the hash mixes by itself.
+/// - `AVALANCHE` mixes the last product once more. Without it the values are not those of
+///   [`rapidhash_v1`]: leave it out only if what uses the hash mixes by itself.
 /// - `COMPACT` folds one row at a time instead of two: less code, the same value.
 /// - With `PROTECTED`, a message cannot cancel its earlier bytes by containing a secret. The hashes
 ///   differ from those without it, and hashing is slower.

@@ -49,8 +49,8 @@ const_fn! {
 /// Returns the hash of `bytes` with every option.
 ///
 /// - `MINOR` is 0, 1 or 2, for V2.0, V2.1 and V2.2. A call with any other does not compile.
-/// - `AVALANCHE` mixes the last product once more. Without it the values are not those of the C++
-///   library: leave it out only if what uses the hash mixes by itself.
+/// - `AVALANCHE` mixes the last product once more. Without it the values are not those of
+///   [`rapidhash_v2_2`]: leave it out only if what uses the hash mixes by itself.
 /// - `COMPACT` folds one row at a time instead of two: less code, the same value.
 /// - With `PROTECTED`, a message cannot cancel its earlier bytes by containing a secret. The hashes
 ///   differ from those without it, and hashing is slower.

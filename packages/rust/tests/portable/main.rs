@@ -4,7 +4,6 @@
 
 #[cfg(feature = "std")]
 mod bulk;
-mod forms;
 mod proved {
     #[cfg(feature = "std")]
     pub mod fakes;

@@ -1,13 +1,13 @@
 //! Hashes of random messages in all forms, with all options, and a checksum of them.
 
-use super::forms::Form::{self, Micro, Nano, V1, V1Bug, V2Minor0, V2Minor1, V2Minor2, V3};
-use super::forms::{Options, Start, hash};
-use super::items::{self, Item};
-use super::rules::start_of;
-use super::streams::{self, Step};
+use super::kit::{AllocError, Result};
+use super::proved::definitions::bodies::{Secrets, Tested, body};
+use super::proved::form::{Options, Version};
+use super::proved::items::Item;
+use super::proved::laws::StreamOp;
+use super::proved::rules::secrets_of;
+use super::proved::{hashers, streams};
 use rapidhash::{v1, v3};
-
-const FORMS: [Form; 8] = [V1, V1Bug, V2Minor0, V2Minor1, V2Minor2, V3, Micro, Nano];
 
 /// Messages are cut from a buffer of this many bytes at any offset, so at any alignment.
 const ROOM: usize = 16384;
@@ -42,19 +42,19 @@ impl Draws {
         }
     }
 
-    fn start(&mut self) -> Result<Start, String> {
+    fn secrets(&mut self) -> Result<Secrets> {
         match self.below(4) {
-            0 => start_of("default"),
-            1 => start_of(&format!("seed:{}", self.word())),
+            0 => secrets_of("default"),
+            1 => secrets_of(&format!("seed:{}", self.word())),
             _ => Ok(self.words()),
         }
     }
 
     /// Returns a seed and secrets of arbitrary words.
-    fn words(&mut self) -> Start {
+    fn words(&mut self) -> Secrets {
         let seed = self.word();
         let [a, b, c, d, e, f, g] = [(); 7].map(|()| self.word());
-        Start {
+        Secrets {
             three: v1::RapidSecrets {
                 seed,
                 secrets: [a, b, c],
@@ -68,15 +68,15 @@ impl Draws {
 }
 
 /// Returns the steps that write a message in random pieces and request its hash.
-fn in_pieces<'d>(draws: &mut Draws, message: &'d [u8]) -> Vec<Step<'d>> {
+fn in_pieces<'d>(draws: &mut Draws, message: &'d [u8]) -> Vec<StreamOp<'d>> {
     let mut rest = message;
     let mut steps = Vec::new();
     while !rest.is_empty() {
         let (piece, others) = rest.split_at(draws.below(rest.len()) + 1);
-        steps.push(Step::Write(piece));
+        steps.push(StreamOp::Write(piece));
         rest = others;
     }
-    steps.push(Step::Finish);
+    steps.push(StreamOp::Finish);
     steps
 }
 
@@ -98,45 +98,61 @@ fn in_memory(draws: &mut Draws, message: &[u8]) -> Vec<Item> {
     all
 }
 
+/// Returns the hash of a version, with the options as values.
+fn hash(version: Tested, options: Options, compact: bool, secrets: &Secrets, bytes: &[u8]) -> u64 {
+    if compact {
+        body::<true>(version, options, secrets, bytes)
+    } else {
+        body::<false>(version, options, secrets, bytes)
+    }
+}
+
+/// The hashes of the stream hasher with 7, 5 or 3 lanes.
+type Answers = fn(Options, &v3::RapidSecrets, &[StreamOp<'_>]) -> Result<Vec<u64>, AllocError>;
+
+/// The versions with streams.
+const STREAMS: [(Version, Answers); 3] = [
+    (Version::V3, streams::answers::<7>),
+    (Version::V3Micro, streams::answers::<5>),
+    (Version::V3Nano, streams::answers::<3>),
+];
+
 /// Returns a hash. A message in pieces must have the hash of the whole.
-fn one(draws: &mut Draws, message: &[u8]) -> Result<u64, String> {
-    let start = draws.start()?;
+fn one(draws: &mut Draws, message: &[u8]) -> Result<u64> {
+    let secrets = draws.secrets()?;
     let [avalanche, compact, protected, sponge] = [(); 4].map(|()| draws.flag());
     let options = Options {
         avalanche,
-        compact,
         protected,
     };
-    let (form, lanes) = match draws.below(FORMS.len() + 4) {
-        8 => (V3, 7),
-        9 => (Micro, 5),
-        10 => (Nano, 3),
-        11 => {
-            let options = items::Options {
-                avalanche,
-                sponge,
-                compact,
-                protected,
-            };
+    let place = draws.below(Tested::ALL.len() + STREAMS.len() + 1);
+    if let Some(version) = Tested::ALL.get(place) {
+        return Ok(hash(*version, options, compact, &secrets, message));
+    }
+    let Secrets { seven, .. } = secrets;
+    let (version, answers) = match STREAMS.get(place - Tested::ALL.len()) {
+        Some(stream) => stream,
+        None => {
             let items = in_memory(draws, message);
-            return Ok(items::hash(options, &start.seven, &items));
+            return Ok(if compact {
+                hashers::answered::<true>(options, sponge, &seven, &items)
+            } else {
+                hashers::answered::<false>(options, sponge, &seven, &items)
+            });
         }
-        place => return Ok(hash(FORMS[place], options, &start, message)),
     };
     let steps = in_pieces(draws, message);
-    let whole = hash(form, options, &start, message);
-    if streams::hashes(lanes, (avalanche, protected), &start.seven, &steps)? == [whole] {
+    let whole = hash(Tested::Named(*version), options, compact, &secrets, message);
+    if answers(options, &seven, &steps)? == [whole] {
         Ok(whole)
     } else {
         let length = message.len();
-        Err(format!(
-            "{length} bytes in pieces have another hash than the whole"
-        ))
+        Err(format!("{length} bytes in pieces have another hash than the whole").into())
     }
 }
 
 /// Returns the checksum of the hashes of `count` messages, in order.
-pub fn checksum(count: u64) -> Result<u64, String> {
+pub fn checksum(count: u64) -> Result<u64> {
     let mut draws = Draws(0);
     let mut room = vec![0u8; ROOM];
     for bytes in room.chunks_exact_mut(8) {

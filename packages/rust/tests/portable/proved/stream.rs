@@ -96,6 +96,103 @@ fn cuts_change_nothing() -> Result<(), Fail> {
     Ok(())
 }
 
+/// Saves the message, restores it under `other` secrets and adds the rest. Returns the hash, or
+/// `None` if the bytes are refused.
+fn over_saved<const LANES: usize, const AVALANCHE: bool, const PROTECTED: bool>(
+    first: &[u8],
+    rest: &[u8],
+    other: &RapidSecrets,
+) -> Option<u64> {
+    let mut hasher = RapidStreamHasherLanes::<LANES, AVALANCHE, PROTECTED>::new(&SECRETS);
+    hasher.write(b"a message that fills more than one buffer, and is forgotten".as_slice());
+    hasher.write(b"a message that fills more than one buffer, and is forgotten".as_slice());
+    hasher.reset();
+    hasher.write(first);
+    let saved = hasher.save();
+    let mut restored =
+        RapidStreamHasherLanes::<LANES, AVALANCHE, PROTECTED>::restore(&saved, other)?;
+    restored.write(rest);
+    Some(restored.finish())
+}
+
+/// A restored stream goes on after each length, and other secrets are refused.
+#[test]
+fn saved_streams() -> Result<(), Fail> {
+    let bytes: Vec<u8> = (0..338u32).map(|i| (i % 251) as u8).collect();
+    let message = bytes.as_slice();
+    let v3 = rapidhash_v3_inline::<true, false, false>(message, &SECRETS);
+    let micro = rapidhash_v3_micro_inline::<false, true>(message, &SECRETS);
+    let nano = rapidhash_v3_nano_inline::<true, true>(message, &SECRETS);
+    for at in 0..339usize {
+        let (first, rest) = message.split_at(at.min(message.len()));
+        assert!(
+            over_saved::<7, true, false>(first, rest, &SECRETS) == Some(v3),
+            "{at}"
+        );
+        assert!(
+            over_saved::<5, false, true>(first, rest, &SECRETS) == Some(micro),
+            "{at}"
+        );
+        assert!(
+            over_saved::<3, true, true>(first, rest, &SECRETS) == Some(nano),
+            "{at}"
+        );
+        let other = &DEFAULT_RAPID_SECRETS;
+        assert!(
+            over_saved::<7, true, false>(first, rest, other).is_none(),
+            "{at}"
+        );
+    }
+    Ok(())
+}
+
+/// Bytes of another length, with a changed byte or of another type are refused.
+#[test]
+fn refused_streams() {
+    let mut hasher: RapidStreamHasherInlineV3<true, false> = RapidStreamHasherLanes::new(&SECRETS);
+    hasher.write(&[7; 230]);
+    let saved = hasher.save();
+    assert!(RapidStreamHasherV3::restore(&saved, &SECRETS).is_some());
+    assert!(RapidStreamHasherV3::restore(&saved[1..], &SECRETS).is_none());
+    assert!(RapidStreamHasherV3::restore(b"", &SECRETS).is_none());
+    assert!(RapidStreamHasherInlineV3::<false, false>::restore(&saved, &SECRETS).is_none());
+    assert!(RapidStreamHasherInlineV3::<true, true>::restore(&saved, &SECRETS).is_none());
+    assert!(RapidStreamHasherInlineMicro::<true, false>::restore(&saved, &SECRETS).is_none());
+    for at in 0..saved.len() {
+        for bit in 0..8u32 {
+            let mut changed = saved;
+            changed[at] ^= 1u8 << bit;
+            assert!(
+                RapidStreamHasherV3::restore(&changed, &SECRETS).is_none(),
+                "{at} {bit}"
+            );
+        }
+    }
+}
+
+/// The saved micro stream with another byte in place `at`, and the check of these bytes.
+fn forged(at: usize) -> [u8; 208] {
+    let mut hasher: RapidStreamHasherInlineMicro<true, false> =
+        RapidStreamHasherLanes::new(&SECRETS);
+    hasher.write(&[7; 150]);
+    let mut saved = hasher.save();
+    saved[at] ^= 1;
+    let (body, _) = saved.split_at(200);
+    let check = rapidhash_v3_inline::<true, false, false>(body, &SECRETS);
+    saved[200..].copy_from_slice(&check.to_le_bytes());
+    saved
+}
+
+/// A lane that folds nothing cannot have changed, even if the check is right.
+#[test]
+fn unused_lanes() {
+    type Micro<'a> = RapidStreamHasherInlineMicro<'a, true, false>;
+    for at in 16..72usize {
+        let accepted = Micro::restore(&forged(at), &SECRETS).is_some();
+        assert!(accepted == (at < 56), "{at}");
+    }
+}
+
 /// A stream hasher is a seed, seven secrets, seven lanes whatever their number, 128 bytes, a length and a
 /// flag.
 #[cfg(target_pointer_width = "64")]

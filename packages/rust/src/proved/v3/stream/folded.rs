@@ -22,6 +22,16 @@ impl Folded {
         Folded { lanes: [seed; 7] }
     }
 
+    /// Returns lanes that hold these words.
+    pub(super) const fn with_lanes(lanes: [u64; 7]) -> Self {
+        Folded { lanes }
+    }
+
+    /// Returns the lanes.
+    pub(super) fn lanes(&self) -> &[u64] {
+        &self.lanes
+    }
+
     /// Folds the chunk at the head of `bytes`, one pair into each of the first `LANES` lanes.
     #[inline(always)]
     pub(crate) fn step<const LANES: usize, const PROTECTED: bool>(

@@ -26,7 +26,7 @@ pub(crate) struct Parts<'a> {
 
 /// Returns the 16 bytes from `from` on.
 #[inline(always)]
-fn sixteen(bytes: &[u8], from: usize) -> [u8; 16] {
+pub(super) fn sixteen(bytes: &[u8], from: usize) -> [u8; 16] {
     let mut out = [0; 16];
     out.copy_from_slice(&bytes[from..from + 16]);
     out

@@ -3,6 +3,7 @@
 //! The data of a stream hasher, with the number of its lanes.
 
 use super::parts::Parts;
+use super::saved::SAVED_SIZE;
 
 /// The data of a stream hasher, of which at most one chunk is buffered.
 #[derive(Clone)]
@@ -24,5 +25,10 @@ impl<'a, const LANES: usize> State<'a, LANES> {
     #[inline(always)]
     pub(crate) fn reset<const PROTECTED: bool>(&mut self) {
         self.parts.reset::<LANES, PROTECTED>();
+    }
+
+    #[inline]
+    pub(crate) fn save(&self, options: u8) -> [u8; SAVED_SIZE] {
+        self.parts.save::<LANES>(options)
     }
 }

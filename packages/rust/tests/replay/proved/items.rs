@@ -1,0 +1,113 @@
+// Made by scripts/rust_crate from crates/test_replay/src/items.rt: change that file.
+
+//! The items of a hasher of maps, and their names in a vector file.
+
+use crate::replay::kit::*;
+
+use crate::replay::proved::definitions::Absorbed;
+use crate::replay::proved::laws::Num;
+use rapidhash::inner::RapidHasher;
+use std::hash::Hasher;
+
+/// Bytes, or an integer by the call for it.
+#[derive(Clone, Debug)]
+pub enum Item {
+    Bytes(Vec<u8>),
+    U8(u8),
+    U16(u16),
+    U32(u32),
+    U64(u64),
+    Usize(usize),
+    U128(u128),
+    I8(i8),
+    I16(i16),
+    I32(i32),
+    I64(i64),
+    Isize(isize),
+    I128(i128),
+}
+
+impl Item {
+    /// Returns the item of the definition.
+    pub fn absorbed(&self) -> Absorbed<'_> {
+        match self {
+            Item::Bytes(bytes) => Absorbed::Bytes(bytes.as_slice()),
+            Item::U8(value) => Absorbed::Number(Num::N8(*value)),
+            Item::U16(value) => Absorbed::Number(Num::N16(*value)),
+            Item::U32(value) => Absorbed::Number(Num::N32(*value)),
+            Item::U64(value) => Absorbed::Number(Num::N64(*value)),
+            Item::Usize(value) => Absorbed::Number(Num::N64(*value as u64)),
+            Item::U128(value) => Absorbed::Wide(*value),
+            Item::I8(value) => Absorbed::Number(Num::N8(value.to_unsigned())),
+            Item::I16(value) => Absorbed::Number(Num::N16(value.to_unsigned())),
+            Item::I32(value) => Absorbed::Number(Num::N32(value.to_unsigned())),
+            Item::I64(value) => Absorbed::Number(Num::N64(value.to_unsigned())),
+            Item::Isize(value) => Absorbed::Number(Num::N64(value.to_unsigned() as u64)),
+            Item::I128(value) => Absorbed::Wide(value.to_unsigned()),
+        }
+    }
+
+    /// Writes it, an integer by the hasher's own call for its type.
+    pub fn write_to<
+        const AVALANCHE: bool,
+        const SPONGE: bool,
+        const COMPACT: bool,
+        const PROTECTED: bool,
+    >(
+        &self,
+        hasher: &mut RapidHasher<'_, AVALANCHE, SPONGE, COMPACT, PROTECTED>,
+    ) {
+        match self {
+            Item::Bytes(bytes) => hasher.write(bytes.as_slice()),
+            Item::U8(value) => hasher.write_u8(*value),
+            Item::U16(value) => hasher.write_u16(*value),
+            Item::U32(value) => hasher.write_u32(*value),
+            Item::U64(value) => hasher.write_u64(*value),
+            Item::Usize(value) => hasher.write_usize(*value),
+            Item::U128(value) => hasher.write_u128(*value),
+            Item::I8(value) => hasher.write_i8(*value),
+            Item::I16(value) => hasher.write_i16(*value),
+            Item::I32(value) => hasher.write_i32(*value),
+            Item::I64(value) => hasher.write_i64(*value),
+            Item::Isize(value) => hasher.write_isize(*value),
+            Item::I128(value) => hasher.write_i128(*value),
+        }
+    }
+}
+
+/// An item by its name: `bytes:` and hex digits, or the type of an integer and its value.
+fn named(word: &str) -> Result<Item> {
+    let (name, value) = if let Some((name, value)) = word.split_once(":") {
+        (name, value)
+    } else {
+        bail!("no name and value in {word}");
+    };
+    Ok(match name {
+        "bytes" => Item::Bytes(hex::decode(if value == "-" { "" } else { value })?),
+        "u8" => Item::U8(value.parse::<u8>()?),
+        "u16" => Item::U16(value.parse::<u16>()?),
+        "u32" => Item::U32(value.parse::<u32>()?),
+        "u64" => Item::U64(value.parse::<u64>()?),
+        "usize" => value.parse().map_or(Item::U64(value.parse()?), Item::Usize),
+        "u128" => Item::U128(value.parse::<u128>()?),
+        "i8" => Item::I8(value.parse::<i8>()?),
+        "i16" => Item::I16(value.parse::<i16>()?),
+        "i32" => Item::I32(value.parse::<i32>()?),
+        "i64" => Item::I64(value.parse::<i64>()?),
+        "isize" => value.parse().map_or(Item::I64(value.parse()?), Item::Isize),
+        "i128" => Item::I128(value.parse::<i128>()?),
+        _ => bail!("no item {word}"),
+    })
+}
+
+/// Returns the items of a field, `(none)` for none.
+pub fn listed(field: &str) -> Result<Vec<Item>> {
+    let mut all = Vec::new();
+    if field == "(none)" {
+        return Ok(all);
+    }
+    for word in field.split_whitespace() {
+        all.push(named(word)?);
+    }
+    Ok(all)
+}
