@@ -3,7 +3,8 @@
  *
  *     std::uint64_t hash = rapidhash::hash("hello");
  *
- * Everything here is V3; rapidhash_c.h has the other versions, the preconditions, and notes on linking, values, and
+ * From C++17 on, with gcc and clang, the hash of a text is also a constant, as in a case of a switch. Everything but
+ * two streams is V3; rapidhash_c.h has the other versions, the preconditions, and notes on linking, values, and
  * security. Works with C++11 to C++23, with or without exceptions, and needs nothing to link. A program that includes
  * the C++ library's rapidhash.h cannot use this header: that file has a function with the name of this namespace.
  */
@@ -11,18 +12,15 @@
 #define RAPIDHASH_HPP
 
 #include "rapidhash_c.h"
+#include "rapidhash_constexpr.hpp"
 
 #include <array>
 #include <climits>
 #include <cstddef>
 #include <cstdint>
-#include <cstring>
 #include <string>
 #include <type_traits>
 #include <utility>
-#if __cplusplus >= 201703L
-#include <optional>
-#endif
 
 namespace rapidhash {
 
@@ -76,81 +74,69 @@ class bytes {
         std::is_same<Text, const char *>::value || std::is_same<Text, char *>::value, int>::type;
 
 public:
-    bytes(const void *data, std::size_t size) noexcept : data_(data), size_(size) {}
+    bytes(const void *data, std::size_t size) noexcept : data_(chars(data)), size_(size) {}
     template <class Text, if_text<Text> = 0>
-    bytes(const Text &text) noexcept : data_(text), size_(std::strlen(text)) {}
+    RAPIDHASH_CONSTEXPR bytes(const Text &text, std::size_t size) noexcept : data_(text), size_(size) {}
+    template <class Text, if_text<Text> = 0>
+    RAPIDHASH_CONSTEXPR bytes(const Text &text) noexcept : data_(text), size_(std::char_traits<char>::length(text)) {}
     template <std::size_t Size>
-    bytes(const char (&text)[Size]) noexcept : data_(text), size_(Size)
+    RAPIDHASH_CONSTEXPR bytes(const char (&text)[Size]) noexcept : data_(text), size_(Size)
     {
-        if (const void *const end = std::memchr(text, 0, Size))
-            size_ = static_cast<std::size_t>(static_cast<const char *>(end) - text);
+        if (const char *const end = std::char_traits<char>::find(text, Size, '\0'))
+            size_ = static_cast<std::size_t>(end - text);
     }
     bytes(std::nullptr_t) = delete;
     template <class Range, class = if_byte<element<Range>>>
-    bytes(const Range &range) noexcept : data_(range.data()), size_(range.size()) {}
+    RAPIDHASH_CONSTEXPR bytes(const Range &range) noexcept : data_(chars(range.data())), size_(range.size()) {}
 
-    const void *data() const noexcept { return data_; }
-    std::size_t size() const noexcept { return size_; }
+    RAPIDHASH_CONSTEXPR const char *data() const noexcept { return data_; }
+    RAPIDHASH_CONSTEXPR std::size_t size() const noexcept { return size_; }
 
 private:
-    const void *data_;
+    static constexpr const char *chars(const char *data) noexcept { return data; }
+    static const char *chars(const void *data) noexcept { return static_cast<const char *>(data); }
+
+    const char *data_;
     std::size_t size_;
 };
 
+/* Selects a function for values that are neither a text nor bytes. */
+template <class Value>
+using if_no_bytes = typename std::enable_if<!std::is_convertible<const Value &, bytes>::value, int>::type;
+
 /* Returns the hash with the default seed and secrets, with a seed word, or with the caller's seed and secrets. A number
  * is neither: pass a pointer and a length as {pointer, length}, and a seed word as seed(word). */
-inline std::uint64_t hash(bytes message) noexcept
+RAPIDHASH_CONSTEXPR std::uint64_t hash(bytes message) noexcept
 {
+    RAPIDHASH_IF_CONSTANT(constant::v3(message.data(), message.size(), constant::seed_of(0),
+                                       constant::default_secrets));
     return ::rapidhash_v3(message.data(), message.size());
 }
 
-inline std::uint64_t hash(bytes message, seed start) noexcept
+RAPIDHASH_CONSTEXPR std::uint64_t hash(bytes message, seed start) noexcept
 {
+    RAPIDHASH_IF_CONSTANT(constant::v3(message.data(), message.size(), constant::seed_of(start.word),
+                                       constant::default_secrets));
     return ::rapidhash_v3_with_seed(message.data(), message.size(), start.word);
 }
 
-inline std::uint64_t hash(bytes message, const secrets &own) noexcept
+RAPIDHASH_CONSTEXPR std::uint64_t hash(bytes message, const secrets &own) noexcept
 {
+    RAPIDHASH_IF_CONSTANT(constant::v3(message.data(), message.size(), own.seed, own.secrets));
     return ::rapidhash_v3_with_secrets(message.data(), message.size(), &own);
 }
 
-/* Hashes the keys of an unordered container with the default seed and secrets. It has no state, so that a table is as
- * small as with std::hash. Since C++20, a container with std::equal_to<> finds a std::string by a string_view or a C
- * string, without a copy. Every bit of a hash depends on each bit of the key, as is_avalanching tells other tables. */
-class hasher {
+/* Hashes a message in pieces, with the version that a function of C starts. It contains its secrets and can be copied
+ * and moved. One thread at a time. */
+template <void (&Start)(::rapidhash_stream *, const secrets *)>
+class basic_stream {
 public:
-    using is_transparent = void;
-    using is_avalanching = void;
+    basic_stream() noexcept : basic_stream(seed(0)) {}
+    explicit basic_stream(seed start) noexcept : basic_stream(seed_secrets(start)) {}
+    explicit basic_stream(const secrets &own) noexcept : secrets_(own) { Start(&state_, &secrets_); }
+    basic_stream(const basic_stream &other) noexcept { *this = other; }
 
-    std::size_t operator()(bytes key) const noexcept { return static_cast<std::size_t>(hash(key)); }
-};
-
-/* The same with a seed word, or with a seed and secrets. If others choose the keys, make them from a random number:
- * std::unordered_set<std::string, rapidhash::seeded_hasher> names(
- *     0, rapidhash::seeded_hasher(rapidhash::make_secrets(number))); */
-class seeded_hasher {
-public:
-    using is_transparent = void;
-    using is_avalanching = void;
-
-    explicit seeded_hasher(seed start) noexcept : secrets_(seed_secrets(start)) {}
-    explicit seeded_hasher(const secrets &own) noexcept : secrets_(own) {}
-
-    std::size_t operator()(bytes key) const noexcept { return static_cast<std::size_t>(hash(key, secrets_)); }
-
-private:
-    secrets secrets_;
-};
-
-/* Hashes a message in pieces. It contains its secrets and can be copied and moved. One thread at a time. */
-class stream {
-public:
-    stream() noexcept : stream(seed(0)) {}
-    explicit stream(seed start) noexcept : stream(seed_secrets(start)) {}
-    explicit stream(const secrets &own) noexcept : secrets_(own) { ::rapidhash_v3_start(&state_, &secrets_); }
-    stream(const stream &other) noexcept { *this = other; }
-
-    stream &operator=(const stream &other) noexcept
+    basic_stream &operator=(const basic_stream &other) noexcept
     {
         secrets_ = other.secrets_;
         state_ = other.state_;
@@ -159,13 +145,13 @@ public:
     }
 
     /* Appends a piece to the message. */
-    stream &update(bytes piece) noexcept
+    basic_stream &update(bytes piece) noexcept
     {
         ::rapidhash_stream_write(&state_, piece.data(), piece.size());
         return *this;
     }
 
-    stream &update(const void *data, std::size_t size) noexcept { return update(bytes(data, size)); }
+    basic_stream &update(const void *data, std::size_t size) noexcept { return update(bytes(data, size)); }
 
     /* Returns the hash of the message so far. Does not modify the stream; more pieces may follow. */
     std::uint64_t finish() const noexcept { return ::rapidhash_stream_finish(&state_); }
@@ -173,57 +159,31 @@ public:
     /* Empties the message but keeps the secrets. */
     void reset() noexcept { ::rapidhash_stream_reset(&state_); }
 
+    /* Returns the saved stream, the same on every machine and in every language. It has bytes of the message but no
+     * secrets. */
+    std::array<unsigned char, RAPIDHASH_STREAM_SAVED> save() const noexcept
+    {
+        std::array<unsigned char, RAPIDHASH_STREAM_SAVED> saved;
+        ::rapidhash_stream_save(&state_, saved.data());
+        return saved;
+    }
+
+    /* Replaces the message by that of a saved stream. Returns false and does not modify the stream if save() did not
+     * return these bytes for a stream with the same seed and secrets. */
+    bool restore(bytes saved) noexcept
+    {
+        const void *const start = saved.data();
+        return ::rapidhash_stream_restore(&state_, static_cast<const unsigned char *>(start), saved.size());
+    }
+
 private:
     secrets secrets_;
     ::rapidhash_stream state_;
 };
 
-/* Appends a field of a key to a V3 stream of C: nothing (nullptr, or an empty std::optional), an integer, or bytes. */
-inline void add_field(::rapidhash_stream *state, std::nullptr_t) noexcept { ::rapidhash_key_nothing(state); }
-inline void add_field(::rapidhash_stream *state, bytes field) noexcept
-{
-    ::rapidhash_key_bytes(state, field.data(), field.size());
-}
-
-template <class Integer, class = typename std::enable_if<std::is_integral<Integer>::value>::type>
-void add_field(::rapidhash_stream *state, Integer field) noexcept
-{
-    static_assert(sizeof(field) <= 8, "an integer of a key has at most 64 bits");
-    ::rapidhash_key_integer(state, static_cast<std::int64_t>(field));
-}
-
-#if __cplusplus >= 201703L
-template <class Field>
-void add_field(::rapidhash_stream *state, const std::optional<Field> &field) noexcept
-{
-    field ? add_field(state, *field) : add_field(state, nullptr);
-}
-#endif
-
-/* Returns the hash of a key of several fields, the same in every language: each field is nullptr for nothing (as SQL's
- * NULL), an integer, bytes, or from C++17 on a std::optional of these. An integer of more than 63 bits is its two's
- * complement. Different keys are different messages. */
-template <class... Fields>
-std::uint64_t key(const secrets &own, const Fields &...fields) noexcept
-{
-    ::rapidhash_stream state;
-    ::rapidhash_v3_start(&state, &own);
-    const int in_order[] = {0, (add_field(&state, fields), 0)...};
-    static_cast<void>(in_order);
-    return ::rapidhash_stream_finish(&state);
-}
-
-template <class... Fields>
-std::uint64_t key(seed start, const Fields &...fields) noexcept
-{
-    return key(seed_secrets(start), fields...);
-}
-
-template <class... Fields>
-std::uint64_t key(const Fields &...fields) noexcept
-{
-    return key(seed(0), fields...);
-}
+using stream = basic_stream<::rapidhash_v3_start>;
+using micro_stream = basic_stream<::rapidhash_v3_micro_start>;
+using nano_stream = basic_stream<::rapidhash_v3_nano_start>;
 
 /* Convert a hash to 8 bytes, most significant first, and back: the same on every machine, so they can be stored. */
 inline std::array<unsigned char, 8> to_canonical(std::uint64_t hash) noexcept
@@ -250,7 +210,7 @@ inline std::string to_hex(std::uint64_t hash)
 /* Parses exactly 16 hexadecimal digits, in either case. For anything else, returns false and does not modify `hash`. */
 inline bool from_hex(bytes digits, std::uint64_t &hash) noexcept
 {
-    const char *const text = static_cast<const char *>(digits.data());
+    const char *const text = digits.data();
     std::uint64_t read = 0;
 
     if (digits.size() != 16)
@@ -269,5 +229,7 @@ inline bool from_hex(bytes digits, std::uint64_t &hash) noexcept
 }
 
 } /* namespace rapidhash */
+
+#include "rapidhash_keys.hpp"
 
 #endif

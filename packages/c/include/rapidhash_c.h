@@ -44,12 +44,37 @@
 #define RAPIDHASH_C_VERSION_STRING "1.0"
 #define RAPIDHASH_C_VERSION_NUMBER (100 * RAPIDHASH_C_VERSION_MAJOR + RAPIDHASH_C_VERSION_MINOR)
 
-/* The functions are inlined by default and only declared with RAPIDHASH_LINK. With RAPIDHASH_IMPLEMENTATION they are
- * external symbols: packages/c/rapidhash_c.c builds the library in this way. */
-#if defined(RAPIDHASH_LINK) || defined(RAPIDHASH_IMPLEMENTATION)
-#define RAPIDHASH_API extern
+/* Inlined functions and tables. In C++ all files of a program share them, as the functions that call them need, and so
+ * must define the same macros of this header. A shared library exports none. Before C++17 each file has its tables. */
+#ifndef __cplusplus
+#define RAPIDHASH_SHARED static
+#elif defined(__ELF__) && defined(__GNUC__)
+#define RAPIDHASH_SHARED __attribute__((visibility("hidden")))
 #else
-#define RAPIDHASH_API static inline
+#define RAPIDHASH_SHARED
+#endif
+#define RAPIDHASH_INLINE RAPIDHASH_SHARED inline
+#if defined(__cplusplus) && __cplusplus >= 201703L
+#define RAPIDHASH_TABLE RAPIDHASH_SHARED inline constexpr
+#else
+#define RAPIDHASH_TABLE static const
+#endif
+
+/* The functions are inlined by default and only declared with RAPIDHASH_LINK. With RAPIDHASH_IMPLEMENTATION they are
+ * external symbols: packages/c/rapidhash_c.c builds the library in this way. They are visible whatever -fvisibility is.
+ * A library that contains them can define RAPIDHASH_API as __attribute__((visibility("hidden"))). For a DLL of Windows,
+ * define RAPIDHASH_DLL too. */
+#ifdef RAPIDHASH_API
+#elif !defined(RAPIDHASH_LINK) && !defined(RAPIDHASH_IMPLEMENTATION)
+#define RAPIDHASH_API RAPIDHASH_INLINE
+#elif defined(RAPIDHASH_DLL) && defined(RAPIDHASH_LINK)
+#define RAPIDHASH_API extern __declspec(dllimport)
+#elif defined(RAPIDHASH_DLL)
+#define RAPIDHASH_API extern __declspec(dllexport)
+#elif defined(__ELF__) && defined(__GNUC__)
+#define RAPIDHASH_API extern __attribute__((visibility("default")))
+#else
+#define RAPIDHASH_API extern
 #endif
 
 /* Calls of the library. A hash reads memory and changes none, so that a compiler may join equal calls. It may warn of
@@ -61,7 +86,7 @@
 #define RAPIDHASH_PURE RAPIDHASH_API
 #define RAPIDHASH_NONNULL(...)
 #endif
-#ifdef __cplusplus
+#if defined(__cplusplus) && (defined(RAPIDHASH_LINK) || defined(RAPIDHASH_IMPLEMENTATION))
 extern "C" {
 #endif
 
@@ -172,7 +197,7 @@ RAPIDHASH_PURE RAPIDHASH_NONNULL(1) uint64_t rapidhash_stream_finish(const struc
 RAPIDHASH_API RAPIDHASH_NONNULL(1) void rapidhash_stream_reset(struct rapidhash_stream *stream);
 
 /* Starts a stream with 7, 5, or 3 lanes. Call one of the three functions below instead. */
-static inline void rapidhash_stream_start(
+RAPIDHASH_INLINE void rapidhash_stream_start(
     struct rapidhash_stream *stream, size_t lanes, const struct rapidhash_secrets *secrets)
 {
     memset(stream, 0, sizeof *stream);
@@ -182,37 +207,78 @@ static inline void rapidhash_stream_start(
 }
 
 /* Starts an empty stream, whose hash will be that of rapidhash_v3_with_secrets, or of micro or nano. */
-static inline void rapidhash_v3_start(struct rapidhash_stream *stream, const struct rapidhash_secrets *secrets)
+RAPIDHASH_INLINE void rapidhash_v3_start(struct rapidhash_stream *stream, const struct rapidhash_secrets *secrets)
 { rapidhash_stream_start(stream, 7, secrets); }
-static inline void rapidhash_v3_micro_start(struct rapidhash_stream *stream, const struct rapidhash_secrets *secrets)
+RAPIDHASH_INLINE void rapidhash_v3_micro_start(struct rapidhash_stream *stream, const struct rapidhash_secrets *secrets)
 { rapidhash_stream_start(stream, 5, secrets); }
-static inline void rapidhash_v3_nano_start(struct rapidhash_stream *stream, const struct rapidhash_secrets *secrets)
+RAPIDHASH_INLINE void rapidhash_v3_nano_start(struct rapidhash_stream *stream, const struct rapidhash_secrets *secrets)
 { rapidhash_stream_start(stream, 3, secrets); }
 
 /* Append a field of a key to the message of a V3 stream: nothing (as SQL's NULL), an integer, or bytes (a text is its
  * UTF-8). The hash after the last field is that of the key in every language. docs/ALGORITHM.md has the encoding, in
  * which different keys are different messages. The preconditions are those of rapidhash_stream_write. */
-static inline void rapidhash_key_nothing(struct rapidhash_stream *stream) { rapidhash_stream_write(stream, "", 1); }
-static inline void rapidhash_key_number_(struct rapidhash_stream *stream, unsigned char tag, uint64_t number)
+RAPIDHASH_INLINE void rapidhash_key_nothing(struct rapidhash_stream *stream) { rapidhash_stream_write(stream, "", 1); }
+RAPIDHASH_INLINE void rapidhash_put8_(uint64_t word, unsigned char *bytes)
+{ for (int at = 0; at < 8; at++, word >>= 8) bytes[at] = (unsigned char)(word & 255); }
+RAPIDHASH_INLINE void rapidhash_key_number_(struct rapidhash_stream *stream, unsigned char tag, uint64_t number)
 {
     unsigned char field[9] = {tag};
-    for (int at = 1; at < 9; at++, number >>= 8) field[at] = (unsigned char)(number & 255);
+    rapidhash_put8_(number, field + 1);
     rapidhash_stream_write(stream, field, sizeof field);
 }
-static inline void rapidhash_key_integer(struct rapidhash_stream *stream, int64_t value)
+RAPIDHASH_INLINE void rapidhash_key_integer(struct rapidhash_stream *stream, int64_t value)
 { rapidhash_key_number_(stream, 1, (uint64_t)value); }
-static inline void rapidhash_key_bytes(struct rapidhash_stream *stream, const void *bytes, size_t len)
+RAPIDHASH_INLINE void rapidhash_key_bytes(struct rapidhash_stream *stream, const void *bytes, size_t len)
 {
     rapidhash_key_number_(stream, 2, len);
     rapidhash_stream_write(stream, bytes, len);
 }
 
+/* Saves a stream as RAPIDHASH_STREAM_SAVED bytes, for which `saved` must have room. They are the same on every machine
+ * and in every language (docs/BINDINGS.md, "Saved streams"), and contain bytes of the message but no secrets. */
+#define RAPIDHASH_STREAM_SAVED 208
+RAPIDHASH_INLINE void rapidhash_stream_save(const struct rapidhash_stream *stream, unsigned char *saved)
+{
+    const size_t carried = stream->has_rows ? 16 : 0, lanes = stream->has_rows ? stream->lanes : 0;
+    memset(saved, 0, RAPIDHASH_STREAM_SAVED);
+    memcpy(saved, "rapidV3\1", 8);
+    saved[8] = (unsigned char)stream->lanes;
+    saved[9] = 1;
+    saved[10] = stream->has_rows;
+    saved[11] = (unsigned char)stream->len;
+    for (size_t i = 0; i < lanes; i++) rapidhash_put8_(stream->lane[i] ^ stream->secrets->seed, saved + 16 + 8 * i);
+    memcpy(saved + 88 - carried, stream->buffer + 16 - carried, carried + stream->len);
+    rapidhash_put8_(rapidhash_v3_with_secrets(saved, 200, stream->secrets), saved + 200);
+}
+
+/* Replaces the message of a started stream by that of a saved one. Returns false and does not modify the stream if
+ * rapidhash_stream_save did not write these `len` bytes for a stream of the same version, seed and secrets. */
+RAPIDHASH_INLINE bool rapidhash_stream_restore(struct rapidhash_stream *stream, const unsigned char *saved, size_t len)
+{
+    struct rapidhash_stream restored = *stream;
+    unsigned char again[RAPIDHASH_STREAM_SAVED];
+    unsigned changed = 0;
+    if (len != sizeof again || saved[10] > 1 || saved[11] < saved[10] || saved[11] > 16 * stream->lanes) return false;
+    for (size_t at = 0; at < 56; at++) {
+        if (at % 8 == 0) restored.lane[at / 8] = stream->secrets->seed;
+        restored.lane[at / 8] ^= (uint64_t)saved[16 + at] << 8 * (at % 8);
+    }
+    restored.has_rows = saved[10];
+    restored.len = saved[11];
+    memcpy(restored.buffer, saved + 72, sizeof restored.buffer);
+    rapidhash_stream_save(&restored, again);
+    for (size_t at = 0; at < sizeof again; at++) changed |= (unsigned)(again[at] ^ saved[at]);
+    if (changed) return false;
+    *stream = restored;
+    return true;
+}
+
 /* Writes a hash as 8 bytes, most significant first, the same on every machine. `bytes` must have room for 8 bytes. */
-static inline void rapidhash_to_canonical(uint64_t hash, unsigned char *bytes)
+RAPIDHASH_INLINE void rapidhash_to_canonical(uint64_t hash, unsigned char *bytes)
 { for (int at = 7; at >= 0; at--, hash >>= 8) bytes[at] = (unsigned char)(hash & 255); }
 
 /* Returns the hash that rapidhash_to_canonical wrote into these 8 bytes. */
-static inline uint64_t rapidhash_from_canonical(const unsigned char *bytes)
+RAPIDHASH_INLINE uint64_t rapidhash_from_canonical(const unsigned char *bytes)
 {
     uint64_t hash = 0;
     for (int at = 0; at < 8; at++) hash = hash << 8 | bytes[at];
@@ -224,14 +290,18 @@ static inline uint64_t rapidhash_from_canonical(const unsigned char *bytes)
  * A function with FORCE_INLINE is inlined into a caller whose constant arguments choose its code. Messages above 16
  * bytes leave the caller for a function with NOINLINE; those with rows, which need all registers, for another one. */
 #if defined(__GNUC__)
-#define RAPIDHASH_FORCE_INLINE static inline __attribute__((always_inline))
-#define RAPIDHASH_NOINLINE static __attribute__((noinline, unused))
-#elif defined(_MSC_VER)
-#define RAPIDHASH_FORCE_INLINE static __forceinline
-#define RAPIDHASH_NOINLINE static __declspec(noinline) inline
+#define RAPIDHASH_FORCE_INLINE RAPIDHASH_INLINE __attribute__((always_inline))
+#ifdef __cplusplus
+#define RAPIDHASH_NOINLINE RAPIDHASH_INLINE __attribute__((noinline))
 #else
-#define RAPIDHASH_FORCE_INLINE static inline
-#define RAPIDHASH_NOINLINE static
+#define RAPIDHASH_NOINLINE static __attribute__((noinline, unused))
+#endif
+#elif defined(_MSC_VER)
+#define RAPIDHASH_FORCE_INLINE RAPIDHASH_SHARED __forceinline
+#define RAPIDHASH_NOINLINE RAPIDHASH_SHARED __declspec(noinline) inline
+#else
+#define RAPIDHASH_FORCE_INLINE RAPIDHASH_INLINE
+#define RAPIDHASH_NOINLINE RAPIDHASH_INLINE
 #endif
 
 /* A debug build may define this as assert. It states the bounds that every load and copy relies on. */
@@ -299,12 +369,12 @@ RAPIDHASH_FORCE_INLINE void rapidhash_multiply_(uint64_t a, uint64_t b, uint64_t
 #endif /* RAPIDHASH_PRIMITIVES */
 
 /* The default secrets, and the default seeds of V1 and of the other versions. */
-static const uint64_t rapidhash_default_secrets_[7] = {
+RAPIDHASH_TABLE uint64_t rapidhash_default_secrets_[7] = {
     UINT64_C(0x2d358dccaa6c78a5), UINT64_C(0x8bb84b93962eacc9), UINT64_C(0x4b33a62ed433d4a3),
     UINT64_C(0x4d5a2da51de1aa47), UINT64_C(0xa0761d6478bd642f), UINT64_C(0xe7037ed1a0b428db),
     UINT64_C(0x90ed1765281c388c)};
-static const uint64_t rapidhash_v1_default_seed_ = UINT64_C(0x763305bbe7bea536);
-static const uint64_t rapidhash_default_seed_ = UINT64_C(0x422765567d8fbfd6);
+RAPIDHASH_TABLE uint64_t rapidhash_v1_default_seed_ = UINT64_C(0x763305bbe7bea536);
+RAPIDHASH_TABLE uint64_t rapidhash_default_seed_ = UINT64_C(0x422765567d8fbfd6);
 
 /* The parameters of a version. Each caller of the kernel passes constant ones, so the compiler resolves every test. */
 struct rapidhash_form_ {
@@ -322,7 +392,7 @@ struct rapidhash_form_ {
 };
 
 /* The form of each version, as in crates/rapidhash_portable/specs/Form.antt. */
-static const struct rapidhash_form_
+RAPIDHASH_TABLE struct rapidhash_form_
     rapidhash_v1_form_           = {3,  48, 0, 0, {2, 2},             {2, 2},             56, 1, 0, 1, 0},
     rapidhash_v2_0_form_         = {7,  56, 0, 1, {2, 2},             {0, 1, 0},          56, 1, 0, 0, 0},
     rapidhash_v2_1_form_         = {7,  64, 0, 1, {2, 2},             {0, 1, 0},          56, 1, 0, 0, 0},
@@ -539,6 +609,7 @@ RAPIDHASH_API void rapidhash_seed_secrets(uint64_t seed, struct rapidhash_secret
 #if defined(__GNUC__) && !defined(__clang__) && __GNUC__ >= 11
 #pragma GCC diagnostic push
 #pragma GCC diagnostic ignored "-Warray-bounds"
+#pragma GCC diagnostic ignored "-Wstringop-overflow"
 #pragma GCC diagnostic ignored "-Wstringop-overread"
 #endif
 /* Copies up to 128 bytes: the first and the last of them, which may overlap. Copies of fixed sizes need no call. */
@@ -628,7 +699,7 @@ RAPIDHASH_API void rapidhash_stream_reset(struct rapidhash_stream *stream)
 }
 
 #endif /* RAPIDHASH_LINK */
-#ifdef __cplusplus
+#if defined(__cplusplus) && (defined(RAPIDHASH_LINK) || defined(RAPIDHASH_IMPLEMENTATION))
 }
 #endif
 #endif

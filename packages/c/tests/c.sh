@@ -61,10 +61,10 @@ has_the_properties() {
   done
 }
 
-# Compares the hashes of keys: COMPILER ARGUMENT..
-has_the_keys() {
-  "$@" -Wall -Wextra -Werror "-I$include" "$tests/keys.c" -o "$room/keys" &&
-    ${under-} "$room/keys" <"$top/crates/test_replay/data/keys.tsv"
+# Compares the hashes of keys, or saved streams, with those of a file: SOURCE FILE COMPILER ARGUMENT..
+has_those_of() {
+  "${@:3}" -Wall -Wextra -Werror "-I$include" "$tests/$1" ${linked:+"$linked"} -o "$room/of_a_file" &&
+    ${under-} "$room/of_a_file" <"$top/crates/test_replay/data/$2.tsv"
 }
 
 # Compiles such a program with the archive, whose code it must contain: COMPILER ARGUMENT..
@@ -75,9 +75,52 @@ calls_from_c() {
 
 # Tests the whole C++ header with the vectors, in a program without exceptions: COMPILER STANDARD ARGUMENT..
 calls_from_cpp() {
-  "$1" "-std=$2" "${@:3}" -O2 -Wall -Wextra -Wpedantic -Werror -fno-exceptions "-I$include" "$tests/cpp_header.cpp" \
-    "$tests/cpp_types.cpp" -o "$room/cpp_header" && "$room/cpp_header" "$room/rapidhash_vectors.tsv"
+  "$1" "-std=$2" "${@:3}" -O2 -Wall -Wextra -Wpedantic -Werror -fno-exceptions "-I$include" "$tests"/cpp_*.cpp \
+    -o "$room/cpp_header" && "$room/cpp_header" "$room/rapidhash_vectors.tsv"
 }
+
+# Checks the names that a shared library of the header exports: all with -fvisibility=hidden, and none of them with a
+# RAPIDHASH_API that hides them. No inlined function is an external symbol. Of a DLL, a definition exports the names and a declaration imports them: COMPILER
+is_as_visible_as_asked() {
+  local build=("$1" -std=c99 -O2 -fPIC -shared "-I$include" "$top/packages/c/rapidhash_c.c" -o "$room/visible.so")
+  "${build[@]}" -fvisibility=hidden && defines_the_header '' -D "$room/visible.so" &&
+    "${build[@]}" '-DRAPIDHASH_API=__attribute__((visibility("hidden")))' &&
+    ! nm -D --defined-only "$room/visible.so" | grep rapidhash &&
+    "$1" -std=c99 -O0 "-I$include" -c "$tests/keys.c" -o "$room/inlined.o" && nm "$room/inlined.o" | grep ' t rapidhash_' &&
+    ! nm --extern-only --defined-only "$room/inlined.o" | grep rapidhash_ &&
+    [ "$("$1" -E -P -DRAPIDHASH_DLL -DRAPIDHASH_LINK "$header" | grep -c '__declspec(dllimport).* rapidhash_')" -gt 20 ] &&
+    [ "$("$1" -E -P -DRAPIDHASH_DLL -DRAPIDHASH_IMPLEMENTATION "$header" | grep -c '__declspec(dllexport).* rapidhash_')" -gt 20 ]
+}
+
+# Compiles the headers with all warnings of clang but these: the header joins expressions by commas and has structs with
+# padding, its callers use functions that may be unused, and for C++ it has casts of C and needs C++11.
+has_no_warning() {
+  local allowed=(-Wno-comma -Wno-padded -Wno-used-but-marked-unused)
+  clang -std=c99 -Weverything -Werror "${allowed[@]}" "-I$include" -c "$top/packages/c/rapidhash_c.c" -o /dev/null &&
+    clang++ -std=c++17 -Weverything -Werror "${allowed[@]}" -Wno-old-style-cast -Wno-c++98-compat-pedantic \
+      -Wno-pre-c++17-compat "-I$include" -x c++ -c -o /dev/null - <<'CPP'
+#include <rapidhash.hpp>
+int main()
+{
+    const rapidhash::hasher hasher;
+    const rapidhash::seeded_hasher seeded(rapidhash::seed(7));
+    const auto value = std::make_tuple(1, std::make_pair("a", 'b'), std::optional<int>(), std::filesystem::path("a/b"));
+    return hasher(value) == seeded(value) && rapidhash::micro_stream().update("a").finish() == rapidhash::hash("a");
+}
+CPP
+}
+
+# Checks that no C++ file of a program has a function or a table of its own, which its inline functions would share by
+# name only, and that each is hidden in a shared library: COMPILER
+shares_its_definitions() {
+  "$1" -std=c++17 -O0 "-I$include" -c "$tests/cpp_keys.cpp" -o "$room/shared.o" && nm -C "$room/shared.o" >"$room/nm" &&
+    [ "$(grep -c ' [WVu] rapidhash_' "$room/nm")" -gt 20 ] && ! grep ' [trdb] rapidhash_' "$room/nm" &&
+    "$1" -std=c++17 -O0 -fPIC -shared "-I$include" -x c++ - -o "$room/shared.so" &&
+    ! nm -DC --defined-only "$room/shared.so" | grep ' rapidhash_'
+} <<'CPP'
+#include <rapidhash_c.h>
+uint64_t hash(const void *bytes, size_t length) { return rapidhash_v3(bytes, length); }
+CPP
 
 # Compiles a stream of one piece without a warning: its length is constant, so that a compiler follows each copy.
 compiles_a_constant_piece() {
@@ -98,7 +141,7 @@ C
 
 # Prints the public functions in a text without comments: the return type, name, and parameters of each.
 signatures() {
-  tr -s ' \n' ' ' | grep -oE '(void|uint64_t|uint32_t) rapidhash_[a-z0-9_]*[a-z0-9]\([^()]*\)' | sed 's/( /(/' | sort
+  tr -s ' \n' ' ' | sed 's/_Bool/bool/g' | grep -oE '(void|bool|uint64_t|uint32_t) rapidhash_[a-z0-9_]*[a-z0-9]\([^()]*\)' | sed 's/( /(/' | sort
 }
 
 # Checks that the manual page has each function of the header with the same signature, and no other.
@@ -266,7 +309,11 @@ first_program_runs() {
     [ "$(bash -e "$room/commands")" = 3327445792987248966 ] &&
     c++ -O2 -Ipackages/c/include hello.cpp -o hello_cpp && [ "$(./hello_cpp)" = 3327445792987248966 ] &&
     blocks "$top/docs/C.md" c assert >seeds.c && cc -std=c99 -Ipackages/c/include seeds.c -o seeds && ./seeds &&
-    blocks "$top/docs/CPP.md" cpp assert >seeds.cpp && c++ -std=c++11 -Ipackages/c/include seeds.cpp -o seeds && ./seeds
+    blocks "$top/docs/C.md" c stream_save >saved.c && cc -std=c99 -Ipackages/c/include saved.c -o saved &&
+    [ "$(./saved)" = 3327445792987248966 ] &&
+    blocks "$top/docs/CPP.md" cpp '<cassert>' >seeds.cpp && c++ -std=c++11 -Ipackages/c/include seeds.cpp -o seeds &&
+    ./seeds && blocks "$top/docs/CPP.md" cpp static_assert >known.cpp &&
+    c++ -std=c++17 -Ipackages/c/include known.cpp -o known && ./known
 }
 
 # Tests the names of the two files of a library, and its calls. Its builder is rt or cc: PREFIX-OF-THE-CASES BUILDER
@@ -277,6 +324,7 @@ test_library() {
   try_with "$1names_of_the_shared_library" "$2" defines_the_header @@RAPIDHASH_1 -D "$shared"
   try_with "$1archive" "$2" calls_from_c cc -std=c99
   try_with "$1cpp_archive" "$2 c++" calls_from_c c++ -x c++ -DIS_FAST=0
+  linked=$archive try_with "$1saved_streams" "$2" has_those_of saved.c saved cc -DRAPIDHASH_LINK -O2
   try_with "$1random_messages" "$2 cargo rustc" random_messages
 }
 
@@ -307,6 +355,9 @@ for standard in c++11 c++17 c++20; do
   try_with "cpp_header_$standard" g++ calls_from_cpp g++ "$standard"
   try_with "cpp_header_${standard}_clang" clang++ calls_from_cpp clang++ "$standard"
 done
+for compiler in g++ clang++; do try_with "cpp_definitions_$compiler" "$compiler" shares_its_definitions "$compiler"; done
+for compiler in gcc clang; do try_with "visibility_$compiler" "$compiler" is_as_visible_as_asked "$compiler"; done
+try_with all_warnings_of_clang 'clang clang++' has_no_warning
 try_with cpp_header_32_bits "g++ $multilib/libstdc++.a" calls_from_cpp g++ c++11 -m32 \
   -idirafter /usr/include/x86_64-linux-gnu
 
@@ -326,9 +377,13 @@ done
 s390x='clang s390x-linux-gnu-ld /usr/lib/gcc-cross/s390x-linux-gnu/*/libgcc.a /usr/s390x-linux-gnu/include/stdio.h'
 under=qemu-s390x try_with properties_s390x "$s390x qemu-s390x" \
   has_the_properties "$both" clang --target=s390x-linux-gnu -static -O2
-try keys has_the_keys cc -std=c99 -O2
-try_with keys_32_bits "gcc $multilib/libgcc.a" has_the_keys gcc -m32 -O2
-under=qemu-s390x try_with keys_s390x "$s390x qemu-s390x" has_the_keys clang --target=s390x-linux-gnu -static -O2
+for name in keys saved; do
+  try "$name" has_those_of "$name.c" "$name" cc -std=c99 -O2
+  try_with "${name}_32_bits" "gcc $multilib/libgcc.a" has_those_of "$name.c" "$name" gcc -m32 -O2
+  under=qemu-s390x try_with "${name}_s390x" "$s390x qemu-s390x" has_those_of "$name.c" "$name" \
+    clang --target=s390x-linux-gnu -static -O2
+done
+try_with cpp_saved c++ has_those_of saved.cpp saved c++ -std=c++11 -fno-exceptions -O2
 under='valgrind -q --error-exitcode=9' try_with content 'valgrind /usr/include/valgrind/memcheck.h' \
   has_the_properties content cc -O2 -DTEST_CONTENT
 # Without optimization each branch of the source is one, also where the compiler would have found code without it.

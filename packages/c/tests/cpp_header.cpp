@@ -21,9 +21,15 @@
 #include <span>
 #endif
 
+/* The other files of the program: cpp_constants.cpp and cpp_keys.cpp. */
+int differing_constants();
+int number_of(const std::string &word);
+void check_keys();
+
 static int passed, failed;
 
-static void compare(const std::string &name, std::uint64_t value, std::uint64_t known)
+void compare(const std::string &name, std::uint64_t value, std::uint64_t known);
+void compare(const std::string &name, std::uint64_t value, std::uint64_t known)
 {
     if (value == known) {
         passed++;
@@ -79,30 +85,32 @@ static void check_texts()
 #endif
 }
 
-/* Checks keys of crates/test_replay/data/keys.tsv, by fields of each type. */
-static void check_keys()
+static void check_constants()
 {
-    const std::string user = "user";
-    const std::uint64_t hash_of_user = 14742763072502883419U;
+    compare("constants that differ", static_cast<std::uint64_t>(differing_constants()), 0);
+    compare("words by a switch", static_cast<std::uint64_t>(100 * number_of("one") + 10 * number_of("two")
+                                                            + number_of("three")), 120);
+}
 
-    compare("no field", rapidhash::key(), 232177599295442350U);
-    compare("a key", rapidhash::key(user, 4711, nullptr), hash_of_user);
-    compare("a key of other types", rapidhash::key("user", std::uint64_t(4711), nullptr), hash_of_user);
-    compare("a key with a seed", rapidhash::key(rapidhash::seed(7), user, short(4711), nullptr), 4558979304646042975U);
-    compare("a key with secrets", rapidhash::key(rapidhash::make_secrets(42), user, 4711L, nullptr),
-            889031379977575174U);
-    compare("a negative integer", rapidhash::key(-1), 8262727485331911684U);
-    compare("an integer of 64 bits", rapidhash::key(std::uint64_t(1) << 63), 5746365357831264740U);
-#if __cplusplus >= 201703L
-    const std::optional<std::string> name = user;
-    compare("optional fields", rapidhash::key(name, std::optional<int>(4711), std::optional<long>()), hash_of_user);
-#endif
+/* Returns the hash of the bytes 0 to 119 and hello by a function of C. */
+static std::uint64_t of_counted_and_hello(
+    std::uint64_t (*function)(const void *, std::size_t, const rapidhash::secrets *))
+{
+    std::vector<unsigned char> message = counted();
+
+    for (const char letter : std::string("hello"))
+        message.push_back(static_cast<unsigned char>(letter));
+    return function(message.data(), message.size(), &own);
 }
 
 static void check_defaults()
 {
     compare("a hasher", rapidhash::hasher()("hello"), static_cast<std::size_t>(hash_of_hello));
     compare("a stream", rapidhash::stream().update("hel").update("lo!", 2).finish(), hash_of_hello);
+    compare("a stream of micro", rapidhash::micro_stream(own).update(counted()).update("hel").update("lo").finish(),
+            of_counted_and_hello(rapidhash_v3_micro_with_secrets));
+    compare("a stream of nano", rapidhash::nano_stream(own).update(counted()).update("hello").finish(),
+            of_counted_and_hello(rapidhash_v3_nano_with_secrets));
 }
 
 /* Checks that a copy has its own secrets: the first stream gets other secrets and is then destroyed. */
@@ -164,6 +172,20 @@ static void check_stored()
             0xabcdef0123456789U);
 }
 
+#if __cplusplus >= 201703L
+/* Compute a hash at run time by the code of constants. */
+static std::uint64_t by_constants(const std::string &message, const rapidhash::secrets &start)
+{
+    return rapidhash::constant::v3(message.data(), message.size(), start.seed, start.secrets);
+}
+
+static std::uint64_t by_constants(const std::string &message, rapidhash::seed start)
+{
+    return rapidhash::constant::v3(message.data(), message.size(), rapidhash::constant::seed_of(start.word),
+                                   rapidhash::constant::default_secrets);
+}
+#endif
+
 /* Checks a case of the file with secrets in each way: whole, with a hasher, and in pieces of 1, 2, 3 bytes, and so on.
  * The two last may have a seed. */
 template <class Start>
@@ -172,6 +194,9 @@ static void check_case(const std::string &name, const Start &start, const std::s
     rapidhash::stream pieces(start);
 
     compare(name, rapidhash::hash(message, start), known);
+#if __cplusplus >= 201703L
+    compare(name + ", by the code of constants", by_constants(message, start), known);
+#endif
     compare(name + ", by a hasher", rapidhash::seeded_hasher(start)(message), static_cast<std::size_t>(known));
     for (std::size_t at = 0, size = 1; at < message.size(); at += size, size++) {
         if (size > message.size() - at)
@@ -257,6 +282,7 @@ int main(int count, char **words)
         return 2;
     check_texts();
     check_keys();
+    check_constants();
     check_defaults();
     check_copies();
     check_tables();
