@@ -1,10 +1,16 @@
-# The jar.
+# The jar. If the JDK is 18 or later, the jar also has the class of src/java18, for these JDKs.
 jar = build/yervound-rapidhash-1.0.0.jar
+later = 18
+javac = javac -Xlint:all -Xdoclint:all,-missing -Werror
 jar: $(jar)
 
-$(jar): LICENSE-MIT LICENSE-APACHE NOTICE packages/java/pom.xml packages/java/make.mk $(shell find packages/java/src/main -name '*.java' 2>/dev/null)
+$(jar): LICENSE-MIT LICENSE-APACHE NOTICE packages/java/pom.xml packages/java/make.mk $(shell find packages/java/src/main packages/java/src/java18 -name '*.java' 2>/dev/null)
 	@command -v javac >/dev/null || { echo 'make: javac, of a JDK, is not on PATH' >&2; exit 2; }
-	@rm -rf build/java && mkdir -p build/java/META-INF/maven
-	@javac --release 11 -Xlint:all -Xdoclint:all,-missing -Werror -d build/java $(filter %.java,$^)
+	@rm -rf build/java build/java18 && mkdir -p build/java/META-INF/maven
+	@$(javac) --release 11 -d build/java $(filter packages/java/src/main/%.java,$^)
 	@cp LICENSE-MIT LICENSE-APACHE NOTICE build/java/META-INF && cp packages/java/pom.xml build/java/META-INF/maven
 	@jar --create --file $@ --module-version 1.0.0 -C build/java .
+	@if [ "$$(javac -version | sed 's/[^0-9]*\([0-9]*\).*/\1/')" -ge $(later) ]; then \
+	    $(javac) --release $(later) -d build/java18 $(filter packages/java/src/java18/%.java,$^) && \
+	    jar --update --file $@ --release $(later) -C build/java18 .; \
+	else echo 'make: the jar has no class for JDK $(later) and later, which needs such a javac' >&2; fi

@@ -7,12 +7,28 @@ jar=$top/build/yervound-rapidhash-1.0.0.jar
 junit=/usr/share/java/junit4.jar:/usr/share/java/hamcrest.jar
 package=example.yervound.rapidhash
 export RAPIDHASH_VECTORS=$room/rapidhash_vectors.tsv RAPIDHASH_SECRETS=$top/crates/test_replay/data/secrets.tsv
-export RAPIDHASH_KEYS=$top/crates/test_replay/data/keys.tsv
+export RAPIDHASH_KEYS=$top/crates/test_replay/data/keys.tsv RAPIDHASH_SAVED=$top/crates/test_replay/data/saved.tsv
 
 # Compiles all sources in directories, without a warning: OUTPUT CLASSPATH DIRECTORY..
 compile() {
   find "${@:3}" -name '*.java' >"$room/sources" && [ -s "$room/sources" ] &&
     javac --release 11 -Xlint:all -Xdoclint:all,-missing -Werror -d "$1" -cp "$2" "@$room/sources"
+}
+
+# Checks that the secrets of V1 and those of the other versions are two types, which a call cannot confuse.
+tells_secrets_apart() {
+  cat >"$room/Call.java" <<JAVA
+import $package.*;
+class Call {
+    long first = Rapidhash.V1.hash(new byte[1], SecretsV1.ofSeed(7)), other = Rapidhash.V3.hash("a", Secrets.make(7));
+    long wrong = Rapidhash.V1.hash(new byte[1], Secrets.ofSeed(7));
+    long wrongToo = Rapidhash.V3.hash(new byte[1], SecretsV1.ofSeed(7));
+    long unknown = Rapidhash.ALL.get(0).hash(new byte[1], Secrets.ofSeed(7));
+    Object stream = Rapidhash.V3.stream(SecretsV1.ofSeed(7));
+}
+JAVA
+  ! javac -cp "$jar" -d "$room" "$room/Call.java" 2>"$room/said" &&
+    diff <(grep -o 'java:[0-9]*: error: no suitable method' "$room/said" | grep -o '[0-9]*') <(seq 4 7)
 }
 
 # Compiles the package with the random functions in place of its loads and its product.
@@ -41,7 +57,7 @@ JAVA
 
 # Tests the classes in the jar. Without the variables, tests would skip their files: TEST
 passes() {
-  [ "$(env | grep -c '^RAPIDHASH_')" -eq 3 ] &&
+  [ "$(env | grep -c '^RAPIDHASH_')" -eq 4 ] &&
     java -ea -cp "$jar:$room/tests:$junit" org.junit.runner.JUnitCore "$package.$1"
 }
 
@@ -56,22 +72,122 @@ pom_is_current() {
     [ "$(grep -c '<dependency>' "$folder/pom.xml")" -eq "$(grep -cx ' *<scope>test</scope>' "$folder/pom.xml")" ]
 }
 
-# Builds and tests the package by Maven with Debian's plugins, offline and without the files of vectors: the three tests
-# that read one are skipped. The jar must have the values.
-builds_by_maven() {
-  cp -rs /usr/share/maven-repo "$room/maven-repo" && cp -r "$folder" "$room/maven" && cd "$room/maven" &&
-    env -u RAPIDHASH_VECTORS -u RAPIDHASH_SECRETS -u RAPIDHASH_KEYS mvn -o -B -Dmaven.repo.local="$room/maven-repo" package &&
-    [ "$(cat target/surefire-reports/*.xml | grep -c '<testcase ')" -eq "$(grep -rhE '^ *@Test' src/test | wc -l)" ] &&
-    [ "$(cat target/surefire-reports/*.xml | grep -c '<skipped')" -eq 3 ] &&
-    jar=$room/maven/target/yervound-rapidhash-1.0.0.jar runs_as_a_module
+# Adds to a copy of the package a stub of Math, whose name hides that of the JDK in its package, for the class of later
+# JDKs. No later JDK is at hand, so the class is compiled for JDK 17 instead, which then runs it: DIRECTORY
+stub_later_product() {
+  cat >"$1/src/java18/example/yervound/rapidhash/Math.java" <<JAVA
+package $package;
+
+class Math {
+    static long unsignedMultiplyHigh(long a, long b) {
+        long half = 0xffffffffL;
+        long cross = (a >>> 32) * (b & half);
+        long middle = (a & half) * (b >>> 32) + ((a & half) * (b & half) >>> 32) + (cross & half);
+        return (a >>> 32) * (b >>> 32) + (cross >>> 32) + (middle >>> 32);
+    }
+}
+JAVA
 }
 
-# Checks that a test makes each call of the page, with HELLO as the bytes.
+# Checks that JDK 17 loads that stub from a jar and has the right product, and that JDK 11 would load neither: JAR
+has_the_later_product() {
+  local test=(-verbose:class -cp "$1:$room/tests:$junit" org.junit.runner.JUnitCore "$package.PrimitivesTest")
+  java "${test[@]}" >"$room/loaded" && grep " $package.Math source: file:$1" "$room/loaded" &&
+    java -Djdk.util.jar.version=11 "${test[@]}" >"$room/loaded" && ! grep " $package.Math " "$room/loaded"
+}
+
+# Checks that make adds the class of later JDKs, with which the jar has all values, and that it says so if it cannot.
+adds_the_later_product() {
+  local jar=$room/later/build/yervound-rapidhash-1.0.0.jar
+  local said='make: the jar has no class for JDK 99 and later, which needs such a javac'
+  copy_sources "$room/later" && stub_later_product "$room/later/packages/java" &&
+    make -s -C "$room/later" later=99 jar 2>&1 | diff - <(echo "$said") &&
+    ! jar -tf "$jar" | grep versions &&
+    touch "$room/later/packages/java/pom.xml" && make -s -C "$room/later" later=17 jar &&
+    has_the_later_product "$jar" && passes VectorsTest
+}
+
+# Builds and tests the package by Maven with Debian's plugins, offline and without the files of vectors: the four tests
+# that read one are skipped. The jar must have the values, and with the profile of later JDKs their class.
+builds_by_maven() {
+  cp -rs /usr/share/maven-repo "$room/maven-repo" && cp -r "$folder" "$room/maven" && cd "$room/maven" &&
+    env -u RAPIDHASH_VECTORS -u RAPIDHASH_SECRETS -u RAPIDHASH_KEYS -u RAPIDHASH_SAVED \
+      mvn -o -B -Dmaven.repo.local="$room/maven-repo" package &&
+    [ "$(cat target/surefire-reports/*.xml | grep -c '<testcase ')" -eq "$(grep -rhE '^ *@Test' src/test | wc -l)" ] &&
+    [ "$(cat target/surefire-reports/*.xml | grep -c '<skipped')" -eq 4 ] &&
+    jar=$room/maven/target/yervound-rapidhash-1.0.0.jar runs_as_a_module && stub_later_product "$room/maven" &&
+    mvn -o -B -Dmaven.repo.local="$room/maven-repo" -P later -Dlater=17 -Dmaven.test.skip=true package &&
+    has_the_later_product "$room/maven/target/yervound-rapidhash-1.0.0.jar"
+}
+
+# Checks that a test makes each call of the page in the block with a word, with HELLO as the bytes: WORD TEST
 runs_the_page() {
-  blocks "$folder/README.md" java Rapidhash | sed 's/;.*//; s/\bbytes\b/HELLO/g' >"$room/calls" && [ -s "$room/calls" ] &&
+  blocks "$folder/README.md" java "$1" | sed 's/;.*//; s/\bbytes\b/HELLO/g' >"$room/calls" && [ -s "$room/calls" ] &&
     while read -r call; do
-      grep -F "$call" "$folder/src/test/java/example/yervound/rapidhash/RapidhashTest.java" || return 1
+      grep -F "$call" "$(find "$folder/src" -name "$2.java")" || return 1
     done <"$room/calls"
+}
+
+# Compiles the function for Guava, which is not in the jar, and runs its test and the calls on its page.
+works_with_guava() {
+  local guava=$junit:/usr/share/java/guava.jar:/usr/share/java/error_prone_annotations.jar
+  compile "$room/guava" "$jar:$guava" "$folder/src/guava" && ! jar -tf "$jar" | grep -i guava &&
+    java -ea -cp "$jar:$room/guava:$guava" org.junit.runner.JUnitCore "$package.guava.RapidhashFunctionTest" &&
+    runs_the_page RapidhashFunction RapidhashFunctionTest
+}
+
+# Writes a public type, with a part of what the program of its package has there: PACKAGE DECLARATION
+stub() {
+  local name=${2#* } folder=$room/stubs/${1//.//}
+  mkdir -p "$folder" && echo "package $1; public $2" >"$folder/${name%%[<> {(]*}.java"
+}
+
+# Compiles the classes and calls of the page for Kafka and Spark with stubs of their interfaces, and calls them.
+works_in_other_programs() {
+  stub org.apache.kafka.common 'class Cluster { public Integer partitionCountForTopic(String topic) { return 10; } }' &&
+    stub org.apache.kafka.common 'interface Configurable { void configure(java.util.Map<String, ?> configs); }' &&
+    stub org.apache.kafka.clients.producer 'interface Partitioner extends org.apache.kafka.common.Configurable,
+      java.io.Closeable { void close(); int partition(String topic, Object key, byte[] keyBytes, Object value,
+      byte[] valueBytes, org.apache.kafka.common.Cluster cluster); }' &&
+    stub org.apache.spark.sql.api.java \
+      'interface UDF1<A, R> extends java.io.Serializable { R call(A a) throws Exception; }' &&
+    stub org.apache.spark.sql.api.java \
+      'interface UDF2<A, B, R> extends java.io.Serializable { R call(A a, B b) throws Exception; }' &&
+    mkdir "$room/stubs/test" && cat >"$room/stubs/test/KeyPartitioner.java" <<JAVA &&
+package test;
+import $package.Rapidhash;
+import org.apache.kafka.common.Cluster;
+$(blocks "$folder/README.md" java KeyPartitioner)
+JAVA
+    cat >"$room/stubs/test/Main.java" <<JAVA && compile "$room/hosts" "$jar" "$room/stubs" &&
+package test;
+import $package.*;
+import org.apache.spark.sql.api.java.*;
+class Main {
+    enum DataTypes { LongType }
+    static class Registry {
+        void register(String name, UDF1<byte[], Long> f, DataTypes type) throws Exception {
+            assert f.call("hello".getBytes()) == 3327445792987248966L && f.call(null) == null;
+        }
+        void register(String name, UDF2<String, Long, Long> f, DataTypes type) throws Exception {
+            assert f.call("user", 4711L) == Long.parseUnsignedLong("16744121781784268497");
+            assert f.call(null, null) != null;
+        }
+        Registry udf() { return this; }
+    }
+    public static void main(String[] words) throws Exception {
+        Registry spark = new Registry();
+        $(blocks "$folder/README.md" java udf)
+        byte[] five = {5, 0, 0, 0, 0, 0, 0, 0};
+        KeyPartitioner partitioner = new KeyPartitioner();
+        int found = partitioner.partition("", null, five, null, null, new org.apache.kafka.common.Cluster());
+        assert found == 4 : "16027968813187602694 is in partition 4, not " + found;
+        partitioner.partition("", null, null, null, null, new org.apache.kafka.common.Cluster());
+        partitioner.close();
+    }
+}
+JAVA
+    java -ea -cp "$jar:$room/hosts" test.Main
 }
 
 contains_the_licences() {
@@ -81,22 +197,22 @@ contains_the_licences() {
 # Checks that the classes have the number of public types and members that the package had at its release.
 has_its_names() {
   jar -tf "$jar" | sed -n 's|^\(example/.*\)\.class$|\1|p' | xargs javap -cp "$jar" -public >"$room/names" &&
-    cat "$room/names" && [ "$(grep -c '\bpublic ' "$room/names")" -eq 46 ]
+    cat "$room/names" && [ "$(grep -c '\bpublic ' "$room/names")" -eq 67 ]
 }
 
-# Checks that all classes are for the oldest JDK that docs/BINDINGS.md names: JDK 11 reads major version 55.
+# Checks that all classes but those for later JDKs are for the oldest JDK that docs/BINDINGS.md names: JDK 11 reads major version 55.
 is_for_the_jdk_of_the_page() {
   local jdk
   jdk=$(sed -n 's/^The package is plain Java for JDK \([0-9]*\) and later.*/\1/p' "$top/docs/BINDINGS.md") &&
     mkdir "$room/unpacked" && (cd "$room/unpacked" && jar -xf "$jar") &&
-    find "$room/unpacked" -name '*.class' -exec javap -v {} + | grep 'major version' | sort -u |
+    find "$room/unpacked" -name versions -prune -o -name '*.class' -exec javap -v {} + | grep 'major version' | sort -u |
     diff - <(echo "  major version: $((jdk + 44))")
 }
 
 # Checks by the calls in its code that a stream copies whole arrays: byte by byte, short pieces would take twice as long.
 copies_whole_arrays() {
   [ "$(javap -c -p -cp "$jar" "$package.RapidhashStream" |
-    grep -cE 'Method (java/lang/System.arraycopy|java/nio/ByteBuffer.get:\(\[B|append):?')" -eq 8 ]
+    grep -cE 'Method (java/lang/System.arraycopy|java/nio/ByteBuffer.get:\(\[B|append):?')" -eq 11 ]
 }
 
 needs javac java jar /usr/share/java/junit4.jar
@@ -108,15 +224,20 @@ try java_licences contains_the_licences
 try java_module runs_as_a_module
 try java_pom pom_is_current
 try java_names has_its_names
+try java_secrets tells_secrets_apart
 try java_version is_for_the_jdk_of_the_page
 try java_copies copies_whole_arrays
+try java_buffers "$top/scripts/java_buffers" --check
 # No machine here has the other byte order: no source may ask for that of the machine.
 try java_byte_order bash -c '! grep -rnE "nativeOrder|Unsafe" "$1"' - "$folder/src/main"
 for test in "$folder"/src/test/java/example/yervound/rapidhash/*Test.java; do
   try "java_$(basename "$test" .java)" passes "$(basename "$test" .java)"
 done
+try java_later_product adds_the_later_product
 try java_formulas compiles_formulas
-try java_calls_of_the_page runs_the_page
+try java_calls_of_the_page runs_the_page toDecimal RapidhashTest
+try_with java_guava /usr/share/java/guava.jar works_with_guava
+try java_other_programs works_in_other_programs
 plugins=/usr/share/maven-repo/org/apache/maven/plugins/maven
 try_with java_maven "mvn $plugins-compiler-plugin/3.10.1 $plugins-resources-plugin $plugins-jar-plugin \
   $plugins-surefire-plugin" builds_by_maven

@@ -7,6 +7,8 @@ import java.io.IOException;
 import java.io.InputStream;
 import java.nio.ByteBuffer;
 import java.nio.ByteOrder;
+import java.util.Arrays;
+import java.util.List;
 
 /**
  * Computes hashes with random functions instead of the loads and the product, for the comparison with the definition.
@@ -19,6 +21,8 @@ import java.nio.ByteOrder;
  */
 public final class Formulas {
     private static final int ROOM = 32768;
+    private static final List<Rapidhash<Secrets>> OTHERS = List.of(Rapidhash.V2_0, Rapidhash.V2_1, Rapidhash.V2_2,
+        Rapidhash.V3, Rapidhash.V3_MICRO, Rapidhash.V3_NANO);
     private static final ByteBuffer HEAP = ByteBuffer.allocate(64 + ROOM);
     private static final ByteBuffer DIRECT = ByteBuffer.allocateDirect(64 + ROOM);
 
@@ -55,8 +59,13 @@ public final class Formulas {
         if (record[0] < 0 || record[0] > 6 || isProtected && record[0] != 4) {
             throw new IllegalArgumentException("formulas: no form " + record[0] + " with options " + record[1]);
         }
-        Rapidhash form = isProtected ? Rapidhash.V3_PROTECTED : Rapidhash.values()[(int) record[0]];
-        Secrets secrets = Secrets.of(record[3], java.util.Arrays.copyOfRange(record, 4, 11));
+        return record[0] == 0
+            ? hash(Rapidhash.V1, SecretsV1.of(record[3], Arrays.copyOfRange(record, 4, 7)), record, room)
+            : hash(isProtected ? Rapidhash.V3_PROTECTED : OTHERS.get((int) record[0] - 1),
+                Secrets.of(record[3], Arrays.copyOfRange(record, 4, 11)), record, room);
+    }
+
+    private static <S extends SecretWords> long hash(Rapidhash<S> form, S secrets, long[] record, ByteBuffer room) {
         int offset = (int) record[11];
         int end = offset + (int) record[12];
         if (record[13] == 0) {

@@ -1,6 +1,7 @@
 package example.yervound.rapidhash;
 
 import java.nio.ByteBuffer;
+import java.nio.ByteOrder;
 
 /**
  * Loads and a product that are random functions of a key. Two programs that then return the same hash of a random
@@ -21,6 +22,10 @@ final class Primitives {
         x = (x ^ x >>> 32) * 0xd6e8feb86659fd93L;
         x = (x ^ x >>> 32) * 0xd6e8feb86659fd93L;
         return x ^ x >>> 32;
+    }
+
+    static byte[] bytes(long number) {
+        return ByteBuffer.allocate(8).order(ByteOrder.LITTLE_ENDIAN).putLong(number).array();
     }
 
     private static long bytes(Object data, int at, int count) {

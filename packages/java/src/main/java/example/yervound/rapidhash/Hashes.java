@@ -7,7 +7,7 @@ import static example.yervound.rapidhash.Primitives.read32;
 import static example.yervound.rapidhash.Primitives.read64;
 import static example.yervound.rapidhash.Primitives.read8;
 
-/** The hashes of n bytes at an index of a byte array or a buffer, which the callers have checked. */
+/** The hashes of n bytes at an index of a byte array, which the callers have checked. */
 final class Hashes {
     /** Every second bit. */
     static final long ALTERNATING = 0xaaaaaaaaaaaaaaaaL;
@@ -19,7 +19,7 @@ final class Hashes {
         return mix(low(a, b) ^ lowMask, high(a, b) ^ highMask);
     }
 
-    static long v1(Object data, int at, int n, long seed, Secrets s) {
+    static long v1(byte[] data, int at, int n, long seed, SecretWords s) {
         long a = 0, b = 0;
         int last = at + n - 4;
         if (n > 16) {
@@ -36,13 +36,13 @@ final class Hashes {
         return mixTwice(a ^ s.s1, b ^ seed ^ n, s.s0 ^ n, s.s1);
     }
 
-    private static long v1Long(Object data, int at, int n, long start, Secrets s) {
+    private static long v1Long(byte[] data, int at, int n, long start, SecretWords s) {
         int end = at + n;
         int tail = at;
         long seed = start;
         if (n > 48) {
             Lanes lanes = new Lanes(seed);
-            tail = lanes.fold(data, at, end, 0, 3, s);
+            tail = fold(lanes, data, at, end, 0, 3, s);
             seed = lanes.joined();
         }
         if (end - tail > 16) {
@@ -52,7 +52,7 @@ final class Hashes {
         return mixTwice(read64(data, end - 16) ^ s.s1, read64(data, end - 8) ^ seed, s.s0 ^ n, s.s1);
     }
 
-    static long v2(Object data, int at, int n, int minor, long seed, Secrets s) {
+    static long v2(byte[] data, int at, int n, int minor, long seed, SecretWords s) {
         long a = 0, b = 0;
         if (n > 16) {
             return v2Long(data, at, n, minor, seed ^ n, s);
@@ -71,13 +71,13 @@ final class Hashes {
         return mixTwice(a ^ s.s1, b ^ seed ^ n, ALTERNATING ^ n, s.s1);
     }
 
-    private static long v2Long(Object data, int at, int n, int minor, long start, Secrets s) {
+    private static long v2Long(byte[] data, int at, int n, int minor, long start, SecretWords s) {
         int end = at + n;
         long seed = start;
         if (n > (minor == 0 ? 56 : 64)) {
             Lanes lanes = new Lanes(seed);
-            int tail = lanes.fold(data, at, end, 0, 7, s);
-            tail = lanes.fold(data, tail, end, 0, 3, s);
+            int tail = fold(lanes, data, at, end, 0, 7, s);
+            tail = fold(lanes, data, tail, end, 0, 3, s);
             seed = foldTwo(data, tail, end, lanes.joined(), s.s2);
         } else {
             seed = mix(read64(data, at) ^ s.s0, read64(data, at + 8) ^ seed);
@@ -92,7 +92,7 @@ final class Hashes {
     }
 
     /** Returns the hash of V3, micro or nano, which have 7, 5 or 3 lanes. */
-    static long v3(Object data, int at, int n, int count, long start, Secrets s) {
+    static long v3(byte[] data, int at, int n, int count, long start, SecretWords s) {
         long a = 0, b = 0;
         long seed = start;
         if (n > 16) {
@@ -112,17 +112,17 @@ final class Hashes {
         return mixTwice(a ^ s.s1, b ^ seed, ALTERNATING, s.s1 ^ n);
     }
 
-    private static long v3Long(Object data, int at, int n, int count, long seed, Secrets s) {
+    private static long v3Long(byte[] data, int at, int n, int count, long seed, SecretWords s) {
         if (n <= 16 * count) {
             return v3Close(data, at, at + n, seed, s);
         }
         Lanes lanes = new Lanes(seed);
-        int tail = lanes.fold(data, at, at + n, 1, count, s);
+        int tail = fold(lanes, data, at, at + n, 1, count, s);
         return v3Close(data, tail, at + n, lanes.joined(), s);
     }
 
     /** Returns the hash from the joined lanes and the tail, before whose end are the message's last 16 bytes. */
-    static long v3Close(Object data, int at, int end, long joined, Secrets s) {
+    static long v3Close(byte[] data, int at, int end, long joined, SecretWords s) {
         int t = end - at;
         long seed = foldTwo(data, at, end, joined, s.s2);
         if (t > 48) {
@@ -138,7 +138,7 @@ final class Hashes {
     }
 
     /** Returns the seed after up to two pairs, which the last 1 to 16 bytes before the end are no part of. */
-    private static long foldTwo(Object data, int at, int end, long start, long secret) {
+    private static long foldTwo(byte[] data, int at, int end, long start, long secret) {
         long seed = start;
         if (end - at > 16) {
             seed = mix(read64(data, at) ^ secret, read64(data, at + 8) ^ seed);
@@ -149,7 +149,69 @@ final class Hashes {
         return seed;
     }
 
-    private static long threeBytes(Object data, int at, int n) {
+    private static long threeBytes(byte[] data, int at, int n) {
         return read8(data, at) << 56 | read8(data, at + n / 2) << 32 | read8(data, at + n - 1);
+    }
+
+    /** Folds rows of one pair for each of count lanes. Returns the index after them, which leaves the least bytes. */
+    static int fold(Lanes lanes, byte[] data, int at, int end, int least, int count, SecretWords s) {
+        int row = 16 * count;
+        int stop = at + (end - at - least) / row * row;
+        if (count == 7) {
+            fold7(lanes, data, at, stop, s);
+        } else if (count == 5) {
+            fold5(lanes, data, at, stop, s);
+        } else {
+            fold3(lanes, data, at, stop, s);
+        }
+        return stop;
+    }
+
+    private static void fold7(Lanes lanes, byte[] data, int start, int stop, SecretWords s) {
+        long a = lanes.l0, b = lanes.l1, c = lanes.l2, d = lanes.l3, e = lanes.l4, f = lanes.l5, g = lanes.l6;
+        for (int at = start; at < stop; at += 112) {
+            a = mix(read64(data, at) ^ s.s0, read64(data, at + 8) ^ a);
+            b = mix(read64(data, at + 16) ^ s.s1, read64(data, at + 24) ^ b);
+            c = mix(read64(data, at + 32) ^ s.s2, read64(data, at + 40) ^ c);
+            d = mix(read64(data, at + 48) ^ s.s3, read64(data, at + 56) ^ d);
+            e = mix(read64(data, at + 64) ^ s.s4, read64(data, at + 72) ^ e);
+            f = mix(read64(data, at + 80) ^ s.s5, read64(data, at + 88) ^ f);
+            g = mix(read64(data, at + 96) ^ s.s6, read64(data, at + 104) ^ g);
+        }
+        lanes.l0 = a;
+        lanes.l1 = b;
+        lanes.l2 = c;
+        lanes.l3 = d;
+        lanes.l4 = e;
+        lanes.l5 = f;
+        lanes.l6 = g;
+    }
+
+    private static void fold5(Lanes lanes, byte[] data, int start, int stop, SecretWords s) {
+        long a = lanes.l0, b = lanes.l1, c = lanes.l2, d = lanes.l3, e = lanes.l4;
+        for (int at = start; at < stop; at += 80) {
+            a = mix(read64(data, at) ^ s.s0, read64(data, at + 8) ^ a);
+            b = mix(read64(data, at + 16) ^ s.s1, read64(data, at + 24) ^ b);
+            c = mix(read64(data, at + 32) ^ s.s2, read64(data, at + 40) ^ c);
+            d = mix(read64(data, at + 48) ^ s.s3, read64(data, at + 56) ^ d);
+            e = mix(read64(data, at + 64) ^ s.s4, read64(data, at + 72) ^ e);
+        }
+        lanes.l0 = a;
+        lanes.l1 = b;
+        lanes.l2 = c;
+        lanes.l3 = d;
+        lanes.l4 = e;
+    }
+
+    private static void fold3(Lanes lanes, byte[] data, int start, int stop, SecretWords s) {
+        long a = lanes.l0, b = lanes.l1, c = lanes.l2;
+        for (int at = start; at < stop; at += 48) {
+            a = mix(read64(data, at) ^ s.s0, read64(data, at + 8) ^ a);
+            b = mix(read64(data, at + 16) ^ s.s1, read64(data, at + 24) ^ b);
+            c = mix(read64(data, at + 32) ^ s.s2, read64(data, at + 40) ^ c);
+        }
+        lanes.l0 = a;
+        lanes.l1 = b;
+        lanes.l2 = c;
     }
 }

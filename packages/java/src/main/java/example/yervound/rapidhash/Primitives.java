@@ -16,21 +16,37 @@ final class Primitives {
     private Primitives() {}
 
     /** Returns the little-endian number in the 8 bytes at an index. */
-    static long read64(Object data, int at) {
-        return data instanceof byte[]
-            ? (long) LONGS.get((byte[]) data, at) : (long) BUFFER_LONGS.get((ByteBuffer) data, at);
+    static long read64(byte[] data, int at) {
+        return (long) LONGS.get(data, at);
+    }
+
+    static long read64(ByteBuffer data, int at) {
+        return (long) BUFFER_LONGS.get(data, at);
     }
 
     /** Returns the little-endian number in the 4 bytes at an index. */
-    static long read32(Object data, int at) {
-        int word = data instanceof byte[]
-            ? (int) INTS.get((byte[]) data, at) : (int) BUFFER_INTS.get((ByteBuffer) data, at);
-        return word & 0xffffffffL;
+    static long read32(byte[] data, int at) {
+        return (int) INTS.get(data, at) & 0xffffffffL;
+    }
+
+    static long read32(ByteBuffer data, int at) {
+        return (int) BUFFER_INTS.get(data, at) & 0xffffffffL;
     }
 
     /** Returns the byte at an index, from 0 to 255. */
-    static long read8(Object data, int at) {
-        return (data instanceof byte[] ? ((byte[]) data)[at] : ((ByteBuffer) data).get(at)) & 0xffL;
+    static long read8(byte[] data, int at) {
+        return data[at] & 0xffL;
+    }
+
+    static long read8(ByteBuffer data, int at) {
+        return data.get(at) & 0xffL;
+    }
+
+    /** Returns the 8 bytes of a number, least significant first. */
+    static byte[] bytes(long number) {
+        byte[] bytes = new byte[8];
+        LONGS.set(bytes, 0, number);
+        return bytes;
     }
 
     /** Returns the low half of the product of two words. */
@@ -40,7 +56,7 @@ final class Primitives {
 
     /** Returns the high half of the product of two unsigned words. */
     static long high(long a, long b) {
-        return Math.multiplyHigh(a, b) + ((a >> 63) & b) + ((b >> 63) & a);
+        return Product.high(a, b);
     }
 
     /** Returns the XOR of the halves of a product. */

@@ -10,7 +10,7 @@ import static example.yervound.rapidhash.Primitives.read8;
 final class ProtectedHash {
     private ProtectedHash() {}
 
-    static long v3(Object data, int at, int n, long start, Secrets s) {
+    static long v3(byte[] data, int at, int n, long start, SecretWords s) {
         long a = 0, b = 0;
         long seed = start;
         long t = n;
@@ -41,7 +41,7 @@ final class ProtectedHash {
     }
 
     /** Returns the seed after all pairs but the last words: the rows' pairs, and then the tail's. */
-    private static long afterTail(Object data, int start, int n, long seed, Secrets s) {
+    private static long afterTail(byte[] data, int start, int n, long seed, SecretWords s) {
         long[] lanes = {seed, seed, seed, seed, seed, seed, seed};
         long[] secrets = s.secrets();
         long[] order = {s.s2, s.s2, s.s1, s.s1, s.s2, s.s1};
@@ -57,7 +57,7 @@ final class ProtectedHash {
         return joined;
     }
 
-    private static long fold(Object data, int at, long lane, long secret) {
+    private static long fold(byte[] data, int at, long lane, long secret) {
         return mix(read64(data, at) ^ secret, read64(data, at + 8) ^ lane);
     }
 }

@@ -1,6 +1,7 @@
 package example.yervound.rapidhash;
 
 import java.nio.ByteBuffer;
+import java.util.List;
 import java.util.Objects;
 
 /**
@@ -11,98 +12,141 @@ import java.util.Objects;
  * thread-safe.
  *
  * <p>A method throws NullPointerException, naming the argument, if an argument is null. A hash of a buffer covers the
- * bytes from its position to its limit and changes neither, as {@link ByteBuffer#hashCode()} does.
+ * bytes from its position to its limit and changes neither, as {@link ByteBuffer#hashCode()} does. V3, micro and nano
+ * have streams: to start one of another version throws UnsupportedOperationException.
+ *
+ * @param <S> the secrets of the version: {@link SecretsV1} or {@link Secrets}
  */
-public enum Rapidhash {
+public abstract class Rapidhash<S extends SecretWords> implements Values<S> {
     /** V1. */
-    V1(Secrets.DEFAULT_V1) {
+    public static final Rapidhash<SecretsV1> V1 = new Rapidhash<>("V1", SecretsV1.DEFAULT) {
         @Override
-        long of(Object data, int at, int n, long seed, Secrets s) {
+        long of(byte[] data, int at, int n, long seed, SecretWords s) {
             return Hashes.v1(data, at, n, seed, s);
         }
 
         @Override
-        long seedOf(long word) {
-            return Secrets.seedOfV1(word);
+        long of(ByteBuffer data, int at, int n, long seed, SecretWords s) {
+            return BufferHashes.v1(data, at, n, seed, s);
         }
-    },
+    };
     /** V2.0. */
-    V2_0(Secrets.DEFAULT) {
+    public static final Rapidhash<Secrets> V2_0 = new Rapidhash<>("V2_0", Secrets.DEFAULT) {
         @Override
-        long of(Object data, int at, int n, long seed, Secrets s) {
+        long of(byte[] data, int at, int n, long seed, SecretWords s) {
             return Hashes.v2(data, at, n, 0, seed, s);
         }
-    },
-    /** V2.1. */
-    V2_1(Secrets.DEFAULT) {
+
         @Override
-        long of(Object data, int at, int n, long seed, Secrets s) {
+        long of(ByteBuffer data, int at, int n, long seed, SecretWords s) {
+            return BufferHashes.v2(data, at, n, 0, seed, s);
+        }
+    };
+    /** V2.1. */
+    public static final Rapidhash<Secrets> V2_1 = new Rapidhash<>("V2_1", Secrets.DEFAULT) {
+        @Override
+        long of(byte[] data, int at, int n, long seed, SecretWords s) {
             return Hashes.v2(data, at, n, 1, seed, s);
         }
-    },
-    /** V2.2. */
-    V2_2(Secrets.DEFAULT) {
+
         @Override
-        long of(Object data, int at, int n, long seed, Secrets s) {
+        long of(ByteBuffer data, int at, int n, long seed, SecretWords s) {
+            return BufferHashes.v2(data, at, n, 1, seed, s);
+        }
+    };
+    /** V2.2. */
+    public static final Rapidhash<Secrets> V2_2 = new Rapidhash<>("V2_2", Secrets.DEFAULT) {
+        @Override
+        long of(byte[] data, int at, int n, long seed, SecretWords s) {
             return Hashes.v2(data, at, n, 2, seed, s);
         }
-    },
-    /** V3, the recommended version. */
-    V3(Secrets.DEFAULT) {
+
         @Override
-        long of(Object data, int at, int n, long seed, Secrets s) {
+        long of(ByteBuffer data, int at, int n, long seed, SecretWords s) {
+            return BufferHashes.v2(data, at, n, 2, seed, s);
+        }
+    };
+    /** V3, the recommended version. */
+    public static final Rapidhash<Secrets> V3 = new Rapidhash<>("V3", Secrets.DEFAULT) {
+        @Override
+        long of(byte[] data, int at, int n, long seed, SecretWords s) {
             return Hashes.v3(data, at, n, 7, seed, s);
         }
-    },
-    /** V3 micro, with five lanes. */
-    V3_MICRO(Secrets.DEFAULT) {
+
         @Override
-        long of(Object data, int at, int n, long seed, Secrets s) {
+        long of(ByteBuffer data, int at, int n, long seed, SecretWords s) {
+            return BufferHashes.v3(data, at, n, 7, seed, s);
+        }
+    };
+    /** V3 micro, with five lanes. */
+    public static final Rapidhash<Secrets> V3_MICRO = new Rapidhash<>("V3_MICRO", Secrets.DEFAULT) {
+        @Override
+        long of(byte[] data, int at, int n, long seed, SecretWords s) {
             return Hashes.v3(data, at, n, 5, seed, s);
         }
-    },
-    /** V3 nano, with three lanes. */
-    V3_NANO(Secrets.DEFAULT) {
+
         @Override
-        long of(Object data, int at, int n, long seed, Secrets s) {
+        long of(ByteBuffer data, int at, int n, long seed, SecretWords s) {
+            return BufferHashes.v3(data, at, n, 5, seed, s);
+        }
+    };
+    /** V3 nano, with three lanes. */
+    public static final Rapidhash<Secrets> V3_NANO = new Rapidhash<>("V3_NANO", Secrets.DEFAULT) {
+        @Override
+        long of(byte[] data, int at, int n, long seed, SecretWords s) {
             return Hashes.v3(data, at, n, 3, seed, s);
         }
-    },
-    /** V3 with protected products: a factor of 0 does not erase the other. */
-    V3_PROTECTED(Secrets.DEFAULT) {
+
         @Override
-        long of(Object data, int at, int n, long seed, Secrets s) {
+        long of(ByteBuffer data, int at, int n, long seed, SecretWords s) {
+            return BufferHashes.v3(data, at, n, 3, seed, s);
+        }
+    };
+    /** V3 with protected products: a factor of 0 does not erase the other. */
+    public static final Rapidhash<Secrets> V3_PROTECTED = new Rapidhash<>("V3_PROTECTED", Secrets.DEFAULT) {
+        @Override
+        long of(byte[] data, int at, int n, long seed, SecretWords s) {
             return ProtectedHash.v3(data, at, n, seed, s);
+        }
+
+        @Override
+        long of(ByteBuffer data, int at, int n, long seed, SecretWords s) {
+            return BufferProtectedHash.v3(data, at, n, seed, s);
         }
     };
 
-    private final Secrets defaults;
+    /** All versions, from V1 to V3_PROTECTED. */
+    public static final List<Rapidhash<?>> ALL = List.of(V1, V2_0, V2_1, V2_2, V3, V3_MICRO, V3_NANO, V3_PROTECTED);
 
-    Rapidhash(Secrets defaults) {
+    private final String name;
+    private final S defaults;
+
+    private Rapidhash(String name, S defaults) {
+        this.name = name;
         this.defaults = defaults;
     }
 
-    abstract long of(Object data, int at, int n, long seed, Secrets s);
+    abstract long of(byte[] data, int at, int n, long seed, SecretWords s);
 
-    /** Returns the seed of a seed word. */
-    long seedOf(long word) {
-        return Secrets.seedOf(word);
-    }
+    abstract long of(ByteBuffer data, int at, int n, long seed, SecretWords s);
 
     /** Returns the hash of all bytes with the default seed and secrets. */
+    @Override
     public long hash(byte[] bytes) {
         Objects.requireNonNull(bytes, "bytes");
         return of(bytes, 0, bytes.length, defaults.seed, defaults);
     }
 
     /** Returns the hash of all bytes with the default secrets and a seed word. */
+    @Override
     public long hash(byte[] bytes, long seed) {
         Objects.requireNonNull(bytes, "bytes");
-        return of(bytes, 0, bytes.length, seedOf(seed), defaults);
+        return of(bytes, 0, bytes.length, SecretWords.seedOf(seed, this == V1), defaults);
     }
 
     /** Returns the hash of all bytes with a seed and secrets. */
-    public long hash(byte[] bytes, Secrets secrets) {
+    @Override
+    public long hash(byte[] bytes, S secrets) {
         Objects.requireNonNull(bytes, "bytes");
         return of(bytes, 0, bytes.length, Objects.requireNonNull(secrets, "secrets").seed, secrets);
     }
@@ -113,7 +157,7 @@ public enum Rapidhash {
      * @throws IndexOutOfBoundsException if the range is not within the array
      */
     public long hash(byte[] bytes, int offset, int length) {
-        check(bytes, offset, length);
+        Objects.checkFromIndexSize(offset, length, Objects.requireNonNull(bytes, "bytes").length);
         return of(bytes, offset, length, defaults.seed, defaults);
     }
 
@@ -123,8 +167,8 @@ public enum Rapidhash {
      * @throws IndexOutOfBoundsException if the range is not within the array
      */
     public long hash(byte[] bytes, int offset, int length, long seed) {
-        check(bytes, offset, length);
-        return of(bytes, offset, length, seedOf(seed), defaults);
+        Objects.checkFromIndexSize(offset, length, Objects.requireNonNull(bytes, "bytes").length);
+        return of(bytes, offset, length, SecretWords.seedOf(seed, this == V1), defaults);
     }
 
     /**
@@ -132,8 +176,8 @@ public enum Rapidhash {
      *
      * @throws IndexOutOfBoundsException if the range is not within the array
      */
-    public long hash(byte[] bytes, int offset, int length, Secrets secrets) {
-        check(bytes, offset, length);
+    public long hash(byte[] bytes, int offset, int length, S secrets) {
+        Objects.checkFromIndexSize(offset, length, Objects.requireNonNull(bytes, "bytes").length);
         return of(bytes, offset, length, Objects.requireNonNull(secrets, "secrets").seed, secrets);
     }
 
@@ -144,38 +188,27 @@ public enum Rapidhash {
 
     /** Returns the hash of a buffer's remaining bytes with the default secrets and a seed word. */
     public long hash(ByteBuffer buffer, long seed) {
-        return ofBuffer(buffer, seedOf(seed), defaults);
+        return ofBuffer(buffer, SecretWords.seedOf(seed, this == V1), defaults);
     }
 
     /** Returns the hash of a buffer's remaining bytes with a seed and secrets. */
-    public long hash(ByteBuffer buffer, Secrets secrets) {
+    public long hash(ByteBuffer buffer, S secrets) {
         return ofBuffer(buffer, Objects.requireNonNull(secrets, "secrets").seed, secrets);
     }
 
-    /**
-     * Starts a stream with the default seed and secrets.
-     *
-     * @throws UnsupportedOperationException if this is not V3, micro or nano
-     */
+    /** Starts a stream with the default seed and secrets. */
+    @Override
     public RapidhashStream stream() {
         return new RapidhashStream(lanes(), defaults);
     }
 
-    /**
-     * Starts a stream with the default secrets and a seed word.
-     *
-     * @throws UnsupportedOperationException if this is not V3, micro or nano
-     */
+    /** Starts a stream with the default secrets and a seed word. */
     public RapidhashStream stream(long seed) {
         return new RapidhashStream(lanes(), Secrets.ofSeed(seed));
     }
 
-    /**
-     * Starts a stream with a seed and secrets.
-     *
-     * @throws UnsupportedOperationException if this is not V3, micro or nano
-     */
-    public RapidhashStream stream(Secrets secrets) {
+    /** Starts a stream with a seed and secrets. */
+    public RapidhashStream stream(S secrets) {
         return new RapidhashStream(lanes(), Objects.requireNonNull(secrets, "secrets"));
     }
 
@@ -190,6 +223,12 @@ public enum Rapidhash {
         return "0".repeat(16 - digits.length()) + digits;
     }
 
+    /** Returns the name of the version's constant. */
+    @Override
+    public String toString() {
+        return name;
+    }
+
     private int lanes() {
         if (this != V3 && this != V3_MICRO && this != V3_NANO) {
             throw new UnsupportedOperationException(this + " has no stream");
@@ -197,15 +236,9 @@ public enum Rapidhash {
         return this == V3 ? 7 : this == V3_MICRO ? 5 : 3;
     }
 
-    private long ofBuffer(ByteBuffer buffer, long seed, Secrets secrets) {
-        Objects.requireNonNull(buffer, "buffer");
-        int at = buffer.position();
-        int n = buffer.remaining();
-        return buffer.hasArray() ? of(buffer.array(), buffer.arrayOffset() + at, n, seed, secrets)
-            : of(buffer, at, n, seed, secrets);
-    }
-
-    private static void check(byte[] bytes, int offset, int length) {
-        Objects.checkFromIndexSize(offset, length, Objects.requireNonNull(bytes, "bytes").length);
+    private long ofBuffer(ByteBuffer buffer, long seed, SecretWords secrets) {
+        int at = Objects.requireNonNull(buffer, "buffer").position();
+        return buffer.hasArray() ? of(buffer.array(), buffer.arrayOffset() + at, buffer.remaining(), seed, secrets)
+            : of(buffer, at, buffer.remaining(), seed, secrets);
     }
 }

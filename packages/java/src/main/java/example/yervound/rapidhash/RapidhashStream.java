@@ -1,6 +1,11 @@
 package example.yervound.rapidhash;
 
+import java.io.IOException;
+import java.io.InputStream;
 import java.nio.ByteBuffer;
+import java.nio.ByteOrder;
+import java.nio.charset.StandardCharsets;
+import java.util.Arrays;
 import java.util.Objects;
 import java.util.zip.Checksum;
 
@@ -11,15 +16,19 @@ import java.util.zip.Checksum;
 public final class RapidhashStream implements Checksum {
     /** The folded bytes that are kept, because the last words of the message may begin in them. */
     private static final int FOLDED = 16;
+    /** The size of a saved stream. docs/BINDINGS.md has the format. */
+    private static final int SAVED = 208;
+    /** The name and the version of the format. */
+    private static final byte[] NAME = "rapidV3\1".getBytes(StandardCharsets.US_ASCII);
 
-    private final Secrets secrets;
+    private final SecretWords secrets;
     private final int count;
     private final Lanes lanes;
     private final byte[] kept;
     private int end;
     private boolean isFolded;
 
-    RapidhashStream(int count, Secrets secrets) {
+    RapidhashStream(int count, SecretWords secrets) {
         this.count = count;
         this.secrets = secrets;
         lanes = new Lanes(secrets.seed);
@@ -66,6 +75,19 @@ public final class RapidhashStream implements Checksum {
         buffer.position(buffer.limit());
     }
 
+    /**
+     * Appends all bytes that an input still has, and does not close it.
+     *
+     * @throws IOException if a read fails. The bytes before it are appended
+     */
+    public void update(InputStream input) throws IOException {
+        byte[] room = new byte[8192];
+        Objects.requireNonNull(input, "input");
+        for (int n = input.read(room); n >= 0; n = input.read(room)) {
+            append(room, 0, n);
+        }
+    }
+
     /** Returns the hash of the message so far. More pieces may follow. */
     @Override
     public long getValue() {
@@ -83,6 +105,75 @@ public final class RapidhashStream implements Checksum {
         isFolded = false;
     }
 
+    /** Returns an independent stream with the same version, secrets and message so far. */
+    public RapidhashStream copy() {
+        return new RapidhashStream(count, secrets).become(this);
+    }
+
+    /**
+     * Returns the saved stream: 208 bytes, the same on every machine and in every language. They contain bytes of the
+     * message, but no secrets.
+     */
+    public byte[] save() {
+        ByteBuffer saved = ByteBuffer.allocate(SAVED).order(ByteOrder.LITTLE_ENDIAN);
+        int start = isFolded ? 0 : FOLDED;
+        saved.put(NAME).put((byte) count).put((byte) 1).put((byte) (isFolded ? 1 : 0)).put((byte) (end - FOLDED));
+        saved.position(16);
+        for (long lane : lanes.words()) {
+            saved.putLong(lane ^ secrets.seed);
+        }
+        saved.position(72 + start).put(kept, start, end - start);
+        return saved.putLong(200, Hashes.v3(saved.array(), 0, 200, 7, secrets.seed, secrets)).array();
+    }
+
+    /**
+     * Replaces the message by that of a saved stream of the same version, seed and secrets.
+     *
+     * @throws IllegalArgumentException if the bytes are changed, or another stream saved them. It names the reason, and
+     *     this stream does not change
+     */
+    public void restore(byte[] saved) {
+        ByteBuffer fields = ByteBuffer.wrap(Objects.requireNonNull(saved, "saved")).order(ByteOrder.LITTLE_ENDIAN);
+        check(saved.length == SAVED, "a saved stream has 208 bytes, not " + saved.length);
+        check(Arrays.equals(saved, 0, NAME.length, NAME, 0, NAME.length),
+            "saved is not a saved stream, or one of another version of the format");
+        check(saved[8] == count && saved[9] == 1, "the stream was saved with " + saved[8] + " lanes and options "
+            + saved[9] + ", not " + count + " and 1");
+        RapidhashStream restored = new RapidhashStream(count, secrets);
+        check(restored.load(fields) && Arrays.equals(restored.save(), saved),
+            "the saved stream was changed, or has another seed or other secrets");
+        become(restored);
+    }
+
+    private static void check(boolean holds, String reason) {
+        if (!holds) {
+            throw new IllegalArgumentException(reason);
+        }
+    }
+
+    /** Sets the state of a started stream. Returns whether the number of bytes that are not folded is in its range. */
+    private boolean load(ByteBuffer saved) {
+        int size = Byte.toUnsignedInt(saved.get(11));
+        long[] words = lanes.words();
+        isFolded = saved.get(10) == 1;
+        end = FOLDED + size;
+        for (int lane = 0; isFolded && lane < count; lane++) {
+            words[lane] ^= saved.getLong(16 + 8 * lane);
+        }
+        lanes.set(words);
+        saved.position(72).get(kept);
+        return size <= 16 * count && (size > 0 || !isFolded);
+    }
+
+    /** Copies the state of another stream of the same version and secrets. Returns this stream. */
+    private RapidhashStream become(RapidhashStream other) {
+        lanes.set(other.lanes.words());
+        System.arraycopy(other.kept, 0, kept, 0, kept.length);
+        end = other.end;
+        isFolded = other.isFolded;
+        return this;
+    }
+
     private void append(Object data, int at, int n) {
         if (n > kept.length - end) {
             fold(data, at, n);
@@ -96,8 +187,10 @@ public final class RapidhashStream implements Checksum {
     private void fold(Object data, int at, int n) {
         int room = kept.length - end;
         copy(data, at, end, room);
-        lanes.fold(kept, FOLDED, kept.length, 0, count, secrets);
-        int rest = lanes.fold(data, at + room, at + n, 1, count, secrets);
+        Hashes.fold(lanes, kept, FOLDED, kept.length, 0, count, secrets);
+        int rest = data instanceof byte[]
+            ? Hashes.fold(lanes, (byte[]) data, at + room, at + n, 1, count, secrets)
+            : BufferHashes.fold(lanes, (ByteBuffer) data, at + room, at + n, 1, count, secrets);
         if (rest - at >= FOLDED) {
             copy(data, rest - FOLDED, 0, FOLDED);
         } else {

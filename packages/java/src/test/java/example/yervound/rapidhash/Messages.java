@@ -8,6 +8,7 @@ import java.util.TreeMap;
 /** The messages of the tests, and a message in each kind of buffer. */
 final class Messages {
     static final Secrets OWN = Secrets.of(1, 2, 3, 5, 7, 11, 13, 17);
+    static final SecretsV1 OWN_V1 = SecretsV1.of(1, 2, 3, 5);
     static final long[] SEEDS = {0, 1, 1L << 32, 1L << 63, -1};
 
     private Messages() {}
@@ -38,16 +39,22 @@ final class Messages {
     }
 
     /** Returns the versions by their names in the files of vectors. */
-    static TreeMap<String, Rapidhash> versions() {
-        TreeMap<String, Rapidhash> versions = new TreeMap<>();
-        for (Rapidhash version : Rapidhash.values()) {
-            versions.put(version.name().toLowerCase(java.util.Locale.ROOT), version);
+    static TreeMap<String, Rapidhash<?>> versions() {
+        TreeMap<String, Rapidhash<?>> versions = new TreeMap<>();
+        for (Rapidhash<?> version : Rapidhash.ALL) {
+            versions.put(version.toString().toLowerCase(java.util.Locale.ROOT), version);
         }
         return versions;
     }
 
-    /** Returns the version's secrets for a seed word. */
-    static Secrets ofSeed(Rapidhash version, long seed) {
-        return version == Rapidhash.V1 ? Secrets.ofSeedV1(seed) : Secrets.ofSeed(seed);
+    /** Returns the secrets that belong to the version. */
+    @SuppressWarnings("unchecked")
+    static <S extends SecretWords> S select(Rapidhash<S> version, SecretsV1 ofV1, Secrets others) {
+        return (S) (version == Rapidhash.V1 ? ofV1 : others);
+    }
+
+    /** Returns secrets of the test's own. */
+    static <S extends SecretWords> S own(Rapidhash<S> version) {
+        return select(version, OWN_V1, OWN);
     }
 }

@@ -58,7 +58,11 @@ public class PrimitivesTest {
     public void loads() {
         byte[] stored = {-1, 0x01, (byte) 0x82, 0x03, (byte) 0x84, 0x05, (byte) 0x86, 0x07, (byte) 0x88, -1};
         ByteBuffer direct = ByteBuffer.allocateDirect(stored.length).put(stored);
-        for (Object data : new Object[] {stored, direct, ByteBuffer.wrap(stored).asReadOnlyBuffer()}) {
+        assertEquals(0x8807860584038201L, Primitives.read64(stored, 1));
+        assertEquals(0x84038201L, Primitives.read32(stored, 1));
+        assertEquals(0x05840382L, Primitives.read32(stored, 2));
+        assertEquals(0x82, Primitives.read8(stored, 2));
+        for (ByteBuffer data : new ByteBuffer[] {direct, ByteBuffer.wrap(stored).asReadOnlyBuffer()}) {
             assertEquals(0x8807860584038201L, Primitives.read64(data, 1));
             assertEquals(0x84038201L, Primitives.read32(data, 1));
             assertEquals(0x05840382L, Primitives.read32(data, 2));

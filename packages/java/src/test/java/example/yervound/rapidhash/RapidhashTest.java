@@ -1,6 +1,7 @@
 package example.yervound.rapidhash;
 
 import static example.yervound.rapidhash.Messages.OWN;
+import static example.yervound.rapidhash.Messages.OWN_V1;
 import static org.junit.Assert.assertArrayEquals;
 import static org.junit.Assert.assertEquals;
 import static org.junit.Assert.assertNotEquals;
@@ -29,9 +30,11 @@ public class RapidhashTest {
     public void readme() {
         assertEquals("3327445792987248966", Rapidhash.toDecimal(Rapidhash.V3.hash(HELLO, 0L)));
         assertNotEquals(Rapidhash.V3.hash(HELLO), Rapidhash.V3.hash(HELLO, Secrets.make(42)));
+        assertEquals("14742763072502883419", Rapidhash.toDecimal(RapidhashKey.hash("user", 4711, null)));
         RapidhashStream stream = Rapidhash.V3.stream();
         stream.update(HELLO);
         assertEquals("2e2d7651b45f7946", Rapidhash.toHex(stream.getValue()));
+        Rapidhash.V3.stream().restore(stream.save());
         assertThrows(IndexOutOfBoundsException.class, () -> Rapidhash.V3.hash(HELLO, 3, HELLO.length));
     }
 
@@ -53,28 +56,32 @@ public class RapidhashTest {
     /** Checks that calls allocate at most 512 bytes at any length, as they do for lanes until the code is compiled. */
     @Test
     public void nothingIsCopied() {
-        for (Rapidhash version : Rapidhash.values()) {
+        for (Rapidhash<?> version : Rapidhash.ALL) {
             for (int length : new int[] {0, 3, 16, 100, 1 << 20}) {
-                byte[] bytes = new byte[length];
-                allocatesLittle(version, () -> version.hash(bytes));
-                allocatesLittle(version, () -> version.hash(bytes, 0, length, 7L));
-                allocatesLittle(version, () -> version.hash(bytes, OWN));
-                for (ByteBuffer buffer : Messages.buffers(bytes)) {
-                    allocatesLittle(version, () -> version.hash(buffer, OWN));
-                    if (RapidhashStreamTest.STREAMED.contains(version)) {
-                        RapidhashStream stream = version.stream();
-                        allocatesLittle(version, () -> stream.update(buffer.rewind()));
-                        allocatesLittle(version, () -> stream.update(bytes));
-                        allocatesLittle(version, () -> stream.update(7));
-                        allocatesLittle(version, stream::getValue);
-                        allocatesLittle(version, stream::reset);
-                    }
-                }
+                allocatesLittle(version, new byte[length]);
             }
         }
     }
 
-    private static void allocatesLittle(Rapidhash version, Runnable call) {
+    private static <S extends SecretWords> void allocatesLittle(Rapidhash<S> version, byte[] bytes) {
+        S own = Messages.own(version);
+        allocatesLittle(version, () -> version.hash(bytes));
+        allocatesLittle(version, () -> version.hash(bytes, 0, bytes.length, 7L));
+        allocatesLittle(version, () -> version.hash(bytes, own));
+        for (ByteBuffer buffer : Messages.buffers(bytes)) {
+            allocatesLittle(version, () -> version.hash(buffer, own));
+            if (RapidhashStreamTest.STREAMED.contains(version)) {
+                RapidhashStream stream = version.stream();
+                allocatesLittle(version, () -> stream.update(buffer.rewind()));
+                allocatesLittle(version, () -> stream.update(bytes));
+                allocatesLittle(version, () -> stream.update(7));
+                allocatesLittle(version, stream::getValue);
+                allocatesLittle(version, stream::reset);
+            }
+        }
+    }
+
+    private static void allocatesLittle(Rapidhash<?> version, Runnable call) {
         ThreadMXBean counter = (ThreadMXBean) ManagementFactory.getThreadMXBean();
         long thread = Thread.currentThread().getId();
         call.run();
@@ -88,10 +95,8 @@ public class RapidhashTest {
     public void rangesWithinTheArray() {
         int[][] ranges = {{-1, 2}, {0, 6}, {6, 0}, {3, 3}, {0, -1}, {Integer.MAX_VALUE, 1}, {1, Integer.MAX_VALUE}};
         for (int[] range : ranges) {
-            for (Rapidhash version : Rapidhash.values()) {
-                refuses(() -> version.hash(HELLO, range[0], range[1]));
-                refuses(() -> version.hash(HELLO, range[0], range[1], 1L));
-                refuses(() -> version.hash(HELLO, range[0], range[1], OWN));
+            for (Rapidhash<?> version : Rapidhash.ALL) {
+                refuses(version, range[0], range[1]);
             }
             refuses(() -> Rapidhash.V3.stream().update(HELLO, range[0], range[1]));
         }
@@ -102,13 +107,19 @@ public class RapidhashTest {
         assertEquals(Rapidhash.V3.hash(Messages.bytes(300)), stream.getValue());
     }
 
+    private static <S extends SecretWords> void refuses(Rapidhash<S> version, int offset, int length) {
+        refuses(() -> version.hash(HELLO, offset, length));
+        refuses(() -> version.hash(HELLO, offset, length, 1L));
+        refuses(() -> version.hash(HELLO, offset, length, Messages.own(version)));
+    }
+
     private static void refuses(org.junit.function.ThrowingRunnable call) {
         assertThrows(IndexOutOfBoundsException.class, call);
     }
 
     @Test
     public void nullsAreNamed() {
-        Rapidhash v3 = Rapidhash.V3;
+        Rapidhash<Secrets> v3 = Rapidhash.V3;
         names("bytes", () -> v3.hash((byte[]) null));
         names("bytes", () -> v3.hash((byte[]) null, 1L));
         names("bytes", () -> v3.hash((byte[]) null, OWN));
@@ -120,12 +131,13 @@ public class RapidhashTest {
         names("secrets", () -> v3.hash(ByteBuffer.wrap(HELLO), null));
         names("secrets", () -> v3.stream(null));
         names("secrets", () -> Secrets.of(1, (long[]) null));
+        names("secrets", () -> SecretsV1.of(1, (long[]) null));
         names("bytes", () -> v3.stream().update((byte[]) null));
         names("bytes", () -> v3.stream().update(null, 0, 0));
         names("buffer", () -> v3.stream().update((ByteBuffer) null));
     }
 
-    private static void names(String argument, org.junit.function.ThrowingRunnable call) {
+    static void names(String argument, org.junit.function.ThrowingRunnable call) {
         assertEquals(argument, assertThrows(NullPointerException.class, call).getMessage());
     }
 
@@ -142,10 +154,25 @@ public class RapidhashTest {
         OWN.secrets()[0] = 9;
         assertArrayEquals(new long[] {2, 3, 5, 7, 11, 13, 17}, OWN.secrets());
         assertEquals("Secrets[hidden]", OWN.toString());
-        for (int count : new int[] {0, 6, 8}) {
+        for (int count : new int[] {0, 2, 4, 6, 8}) {
             Exception refused = assertThrows(IllegalArgumentException.class, () -> Secrets.of(1, new long[count]));
-            assertEquals("seven secrets are needed, not " + count, refused.getMessage());
+            assertEquals("7 secrets are needed, not " + count, refused.getMessage());
+            refused = assertThrows(IllegalArgumentException.class, () -> SecretsV1.of(1, new long[count]));
+            assertEquals("3 secrets are needed, not " + count, refused.getMessage());
         }
+    }
+
+    @Test
+    public void secretsOfV1AreValues() {
+        assertEquals(SecretsV1.of(1, 2, 3, 5), OWN_V1);
+        assertEquals(SecretsV1.of(1, 2, 3, 5).hashCode(), OWN_V1.hashCode());
+        assertNotEquals(SecretsV1.of(1, 2, 3, 7), OWN_V1);
+        assertNotEquals(SecretsV1.of(2, 2, 3, 5), OWN_V1);
+        assertNotEquals(Secrets.of(1, 2, 3, 5, 0, 0, 0, 0), OWN_V1);
+        OWN_V1.secrets()[0] = 9;
+        assertArrayEquals(new long[] {2, 3, 5}, OWN_V1.secrets());
+        assertEquals(1, OWN_V1.seed());
+        assertEquals("SecretsV1[hidden]", OWN_V1.toString());
     }
 
     @Test
@@ -167,19 +194,26 @@ public class RapidhashTest {
     /** Returns a number that depends on all hashes of a message, also in two pieces, and of buffers. */
     private static long sumOfAll(byte[] message, List<ByteBuffer> buffers) {
         long sum = Arrays.hashCode(Secrets.make(7).secrets());
-        for (Rapidhash version : Rapidhash.values()) {
-            for (int n = 0; n <= message.length; n += 50) {
-                sum += version.hash(message, 0, n) + version.hash(message, 0, n, 7L) + version.hash(message, 0, n, OWN);
-                if (RapidhashStreamTest.STREAMED.contains(version)) {
-                    RapidhashStream stream = version.stream(OWN);
-                    stream.update(message, 0, n);
-                    stream.update(buffers.get(n % buffers.size()).duplicate());
-                    sum += stream.getValue();
-                }
+        for (Rapidhash<?> version : Rapidhash.ALL) {
+            sum += sumOf(version, message, buffers);
+        }
+        return sum;
+    }
+
+    private static <S extends SecretWords> long sumOf(Rapidhash<S> version, byte[] message, List<ByteBuffer> buffers) {
+        S own = Messages.own(version);
+        long sum = 0;
+        for (int n = 0; n <= message.length; n += 50) {
+            sum += version.hash(message, 0, n) + version.hash(message, 0, n, 7L) + version.hash(message, 0, n, own);
+            if (RapidhashStreamTest.STREAMED.contains(version)) {
+                RapidhashStream stream = version.stream(own);
+                stream.update(message, 0, n);
+                stream.update(buffers.get(n % buffers.size()).duplicate());
+                sum += stream.getValue();
             }
-            for (ByteBuffer buffer : buffers) {
-                sum += version.hash(buffer) + version.hash(buffer, 7L) + version.hash(buffer, OWN);
-            }
+        }
+        for (ByteBuffer buffer : buffers) {
+            sum += version.hash(buffer) + version.hash(buffer, 7L) + version.hash(buffer, own);
         }
         return sum;
     }

@@ -1,5 +1,7 @@
 package example.yervound.rapidhash;
 
+import static example.yervound.rapidhash.Messages.select;
+import static org.junit.Assert.assertArrayEquals;
 import static org.junit.Assert.assertEquals;
 import static org.junit.Assert.assertTrue;
 import static org.junit.Assume.assumeTrue;
@@ -37,12 +39,12 @@ public class VectorsTest {
     /** Compares the hashes of the file that scripts/vectors.py writes, from each kind of memory and in pieces. */
     @Test
     public void hashes() throws IOException {
-        Map<String, Rapidhash> versions = Messages.versions();
+        Map<String, Rapidhash<?>> versions = Messages.versions();
         Set<String> found = new HashSet<>();
         int count = 0;
         for (String[] words : lines("RAPIDHASH_VECTORS")) {
             found.add(words[0]);
-            Rapidhash version = versions.get(words[0]);
+            Rapidhash<?> version = versions.get(words[0]);
             long known = Long.parseUnsignedLong(words[3]);
             if (words[2].startsWith("zeros:") && RapidhashStreamTest.STREAMED.contains(version)) {
                 assertEquals(known, ofZeros(version.stream(), Long.parseLong(words[2].substring(6))));
@@ -57,13 +59,14 @@ public class VectorsTest {
         assertEquals(versions.keySet(), found);
     }
 
-    private static void compare(Rapidhash version, byte[] message, String rule, long known) {
+    private static <S extends SecretWords> void compare(Rapidhash<S> version, byte[] message, String rule, long known) {
         String[] parts = rule.replace("default", "default:0").split(":");
         long[] words = Arrays.stream(parts[1].split(",")).mapToLong(Long::parseUnsignedLong).toArray();
         if (parts[0].equals("make")) {
-            compare(version, message, Secrets.make(words[0]), known);
+            compare(version, message, select(version, SecretsV1.make(words[0]), Secrets.make(words[0])), known);
         } else if (parts[0].equals("own")) {
-            compare(version, message, Secrets.of(words[0], Arrays.copyOfRange(words, 1, 8)), known);
+            compare(version, message, select(version, SecretsV1.of(words[0], Arrays.copyOfRange(words, 1, 4)),
+                Secrets.of(words[0], Arrays.copyOfRange(words, 1, 8))), known);
         } else if (parts[0].equals("word")) {
             compareSeed(version, message, words[0], known);
         } else {
@@ -76,7 +79,8 @@ public class VectorsTest {
         }
     }
 
-    private static void compareSeed(Rapidhash version, byte[] message, long seed, long known) {
+    private static <S extends SecretWords> void compareSeed(Rapidhash<S> version, byte[] message, long seed,
+            long known) {
         assertEquals(known, version.hash(message, seed));
         assertEquals(known, version.hash(Messages.padded(message), 3, message.length, seed));
         for (ByteBuffer buffer : Messages.buffers(message)) {
@@ -85,10 +89,10 @@ public class VectorsTest {
         if (RapidhashStreamTest.STREAMED.contains(version)) {
             assertEquals(known, inPieces(version.stream(seed), message));
         }
-        compare(version, message, Messages.ofSeed(version, seed), known);
+        compare(version, message, select(version, SecretsV1.ofSeed(seed), Secrets.ofSeed(seed)), known);
     }
 
-    private static void compare(Rapidhash version, byte[] message, Secrets secrets, long known) {
+    private static <S extends SecretWords> void compare(Rapidhash<S> version, byte[] message, S secrets, long known) {
         assertEquals(known, version.hash(message, secrets));
         assertEquals(known, version.hash(Messages.padded(message), 3, message.length, secrets));
         for (ByteBuffer buffer : Messages.buffers(message)) {
@@ -122,13 +126,13 @@ public class VectorsTest {
         try (FileChannel channel = FileChannel.open(file, StandardOpenOption.READ, StandardOpenOption.WRITE)) {
             channel.write(ByteBuffer.allocate(1), Integer.MAX_VALUE - 1L);
             ByteBuffer zeros = channel.map(FileChannel.MapMode.READ_ONLY, 0, Integer.MAX_VALUE);
-            for (Rapidhash version : Rapidhash.values()) {
-                assertEquals(version.name(), known[version.ordinal()], version.hash(zeros));
+            for (Rapidhash<?> version : Rapidhash.ALL) {
+                assertEquals(version.toString(), known[Rapidhash.ALL.indexOf(version)], version.hash(zeros));
             }
-            for (Rapidhash version : RapidhashStreamTest.STREAMED) {
+            for (Rapidhash<Secrets> version : RapidhashStreamTest.STREAMED) {
                 RapidhashStream stream = version.stream();
                 stream.update(zeros.rewind());
-                assertEquals(version.name(), known[version.ordinal()], stream.getValue());
+                assertEquals(version.toString(), known[Rapidhash.ALL.indexOf(version)], stream.getValue());
             }
         } finally {
             Files.delete(file);
@@ -146,12 +150,12 @@ public class VectorsTest {
             0x08a72dc4eb85b035L, 0xf04f76df232bd2ffL, 0xc91dee672263320fL, 0xf7de02e6b49b85a6L
         };
         byte[] message = Messages.bytes(1_000_000);
-        for (Rapidhash version : Rapidhash.values()) {
+        for (Rapidhash<?> version : Rapidhash.ALL) {
             long sum = 0;
             for (int n = 5000; n < 1_000_000; n += n < 16384 ? 11 : 300_000) {
                 sum = 31 * sum + version.hash(message, 0, n, n);
             }
-            assertEquals(version.name(), known[version.ordinal()], sum);
+            assertEquals(version.toString(), known[Rapidhash.ALL.indexOf(version)], sum);
         }
     }
 
@@ -169,16 +173,16 @@ public class VectorsTest {
         int count = 0;
         for (String[] words : lines("RAPIDHASH_SECRETS")) {
             long number = Long.parseUnsignedLong(words[2]);
-            Secrets found = words[0].equals("v1") ? Secrets.ofSeedV1(number) : Secrets.ofSeed(number);
-            if (words[1].equals("seed")) {
-                found = Secrets.make(number);
-            } else if (!words[1].equals("seed_cpp")) {
+            boolean isMade = words[1].equals("seed");
+            if (!isMade && !words[1].equals("seed_cpp")) {
                 continue;
             }
+            SecretWords found = words[0].equals("v1")
+                ? (isMade ? SecretsV1.make(number) : SecretsV1.ofSeed(number))
+                : (isMade ? Secrets.make(number) : Secrets.ofSeed(number));
             long[] known = Arrays.stream(words[3].split(" ")).mapToLong(Long::parseUnsignedLong).toArray();
             assertEquals(known[0], found.seed());
-            long[] first = Arrays.copyOf(found.secrets(), known.length - 1);
-            assertEquals(Arrays.toString(Arrays.copyOfRange(known, 1, known.length)), Arrays.toString(first));
+            assertArrayEquals(Arrays.copyOfRange(known, 1, known.length), found.secrets());
             count++;
         }
         assertTrue(count + " lines, and 360 are known", count >= 360);

@@ -1,0 +1,129 @@
+package example.yervound.rapidhash;
+
+import static example.yervound.rapidhash.Messages.OWN;
+import static org.junit.Assert.assertEquals;
+import static org.junit.Assert.assertThrows;
+import static org.junit.Assert.assertTrue;
+
+import java.io.ByteArrayInputStream;
+import java.io.IOException;
+import java.io.InputStream;
+import java.nio.CharBuffer;
+import java.util.Arrays;
+import java.util.List;
+import org.junit.Test;
+
+/** Tests the hashes of numbers, texts and inputs. The known values are those of tests/model.py. */
+public class ValuesTest {
+    private static final byte[] OF_NUMBER = {8, 7, 6, 5, 4, 3, 2, (byte) 0x81};
+    private static final long NUMBER = 0x8102030405060708L;
+    /** The bytes of the text, whose last letter is half of a surrogate pair. */
+    private static final byte[] OF_TEXT = {
+        'n', 'a', (byte) 0xc3, (byte) 0xaf, ' ', (byte) 0xe4, (byte) 0xb8, (byte) 0xad, ' ',
+        (byte) 0xf0, (byte) 0x9f, (byte) 0x98, (byte) 0x80, '?'
+    };
+    private static final String TEXT = "na\u00ef \u4e2d \ud83d\ude00\ud83d";
+
+    @Test
+    public void numbers() {
+        assertEquals(Long.parseUnsignedLong("16027968813187602694"), Rapidhash.V3.hash(5));
+        Rapidhash.ALL.forEach(ValuesTest::compareNumbers);
+    }
+
+    private static <S extends SecretWords> void compareNumbers(Rapidhash<S> version) {
+        S own = Messages.own(version);
+        assertEquals(version.hash(OF_NUMBER), version.hash(NUMBER));
+        assertEquals(version.hash(OF_NUMBER, 7L), version.hash(NUMBER, 7L));
+        assertEquals(version.hash(OF_NUMBER, own), version.hash(NUMBER, own));
+    }
+
+    @Test
+    public void texts() {
+        assertEquals(3327445792987248966L, Rapidhash.V3.hash("hello"));
+        Rapidhash.ALL.forEach(ValuesTest::compareTexts);
+    }
+
+    private static <S extends SecretWords> void compareTexts(Rapidhash<S> version) {
+        S own = Messages.own(version);
+        for (CharSequence text : List.of(TEXT, new StringBuilder(TEXT), CharBuffer.wrap("<" + TEXT + ">", 1, 10))) {
+            assertEquals(version.hash(OF_TEXT), version.hash(text));
+            assertEquals(version.hash(OF_TEXT, 7L), version.hash(text, 7L));
+            assertEquals(version.hash(OF_TEXT, own), version.hash(text, own));
+        }
+    }
+
+    /** Reads a message in pieces of 1, 2, 3 bytes, and so on. */
+    private static final class Pieces extends ByteArrayInputStream {
+        private int size;
+        private boolean isClosed;
+
+        Pieces(byte[] bytes) {
+            super(bytes);
+        }
+
+        @Override
+        public synchronized int read(byte[] room, int at, int n) {
+            size++;
+            return super.read(room, at, Math.min(n, size));
+        }
+
+        @Override
+        public void close() {
+            isClosed = true;
+        }
+    }
+
+    @Test
+    public void inputs() throws IOException {
+        for (int length : new int[] {0, 1, 16, 113, 8192, 8193, 100_000}) {
+            byte[] message = Messages.bytes(length);
+            for (Rapidhash<Secrets> version : RapidhashStreamTest.STREAMED) {
+                Pieces input = new Pieces(message);
+                assertEquals(version.hash(message), version.hash(input));
+                assertTrue(!input.isClosed);
+                RapidhashStream stream = version.stream(OWN);
+                stream.update(new Pieces(Arrays.copyOf(message, length / 2)));
+                stream.update(new ByteArrayInputStream(message, length / 2, length));
+                assertEquals(version.hash(message, OWN), stream.getValue());
+            }
+        }
+        assertThrows(UnsupportedOperationException.class, () -> Rapidhash.V1.hash(InputStream.nullInputStream()));
+    }
+
+    @Test
+    public void failingReads() {
+        RapidhashStream stream = Rapidhash.V3.stream();
+        InputStream input = new InputStream() {
+            private boolean isRead;
+
+            @Override
+            public int read() throws IOException {
+                if (isRead) {
+                    throw new IOException("no more");
+                }
+                isRead = true;
+                return 'h';
+            }
+
+            @Override
+            public int read(byte[] room, int at, int n) throws IOException {
+                room[at] = (byte) read();
+                return 1;
+            }
+        };
+        assertEquals("no more", assertThrows(IOException.class, () -> stream.update(input)).getMessage());
+        stream.update(new byte[] {'e', 'l', 'l', 'o'});
+        assertEquals(3327445792987248966L, stream.getValue());
+    }
+
+    @Test
+    public void nullsAreNamed() {
+        Rapidhash<Secrets> v3 = Rapidhash.V3;
+        RapidhashTest.names("text", () -> v3.hash((String) null));
+        RapidhashTest.names("text", () -> v3.hash((String) null, 1L));
+        RapidhashTest.names("input", () -> v3.hash((InputStream) null));
+        RapidhashTest.names("input", () -> v3.stream().update((InputStream) null));
+        RapidhashTest.names("secrets", () -> v3.hash(5, null));
+        RapidhashTest.names("secrets", () -> v3.hash("hello", null));
+    }
+}
