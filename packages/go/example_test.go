@@ -29,13 +29,15 @@ func ExampleV3WithSeed() {
 func Example_readme() {
 	fmt.Println(rapidhash.V3WithSeed([]byte("hello"), 1) == rapidhash.V3WithSecrets([]byte("hello"), rapidhash.SeedSecrets(1)))
 	fmt.Println(rapidhash.V3WithSecrets([]byte("hello"), rapidhash.MakeSecrets(42)) == rapidhash.V3([]byte("hello")))
+	fmt.Println(rapidhash.V3Key(rapidhash.Text("user"), rapidhash.Integer(4711), rapidhash.Nothing()))
 	stream := rapidhash.NewV3WithSeed(0)
 	fmt.Fprint(stream, "hello")
 	fmt.Println(stream.Sum64(), stream.UnmarshalBinary([]byte("other")))
 	// Output:
 	// true
 	// false
-	// 3327445792987248966 rapidhash: not a saved Stream, or one of another version
+	// 14742763072502883419
+	// 3327445792987248966 rapidhash: a saved Stream has 208 bytes, not 5
 }
 
 func ExampleStream() {

@@ -1,9 +1,6 @@
 package rapidhash
 
-import (
-	"encoding/binary"
-	"unsafe"
-)
+import "encoding/binary"
 
 // The tags of the encoding.
 const (
@@ -30,7 +27,7 @@ func Integer(value int64) Field { return Field{tag: integerTag, value: value} }
 func Text(text string) Field { return Field{tag: bytesTag, text: text} }
 
 // Bytes returns a field of bytes. It equals the Text of the same bytes.
-func Bytes(data []byte) Field { return Field{tag: bytesTag, text: *(*string)(unsafe.Pointer(&data))} }
+func Bytes(data []byte) Field { return Field{tag: bytesTag, text: textOf(data)} }
 
 // V3Key returns the hash of a key of several fields, with the default seed and secrets. It is the same in every language.
 // Different keys are hashed as different messages.

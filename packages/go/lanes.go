@@ -32,7 +32,7 @@ func (l *lanes) joined() uint64 {
 }
 
 // fold folds rows of one pair for each secret, and returns the bytes after them, which are at least so many.
-func (l *lanes) fold(data []byte, least int, s []uint64) []byte {
+func (l *lanes) fold(data string, least int, s []uint64) string {
 	end := uint(len(data) - least)
 	switch len(s) {
 	case 7:
@@ -49,7 +49,7 @@ func (l *lanes) fold(data []byte, least int, s []uint64) []byte {
 }
 
 // fold7 folds rows of 112 bytes into seven lanes.
-func (l *lanes) fold7(rows []byte, s *[7]uint64) {
+func (l *lanes) fold7(rows string, s *[7]uint64) {
 	for ; len(rows) >= 224; rows = rows[224:] {
 		r := rows[:224]
 		l[0] = mix(read64(r[112:])^s[0], read64(r[120:])^mix(read64(r)^s[0], read64(r[8:])^l[0]))
@@ -73,7 +73,7 @@ func (l *lanes) fold7(rows []byte, s *[7]uint64) {
 }
 
 // fold5 folds rows of 80 bytes into the first five lanes.
-func (l *lanes) fold5(rows []byte, s *[5]uint64) {
+func (l *lanes) fold5(rows string, s *[5]uint64) {
 	for ; len(rows) >= 160; rows = rows[160:] {
 		r := rows[:160]
 		l[0] = mix(read64(r[80:])^s[0], read64(r[88:])^mix(read64(r)^s[0], read64(r[8:])^l[0]))
@@ -93,7 +93,7 @@ func (l *lanes) fold5(rows []byte, s *[5]uint64) {
 }
 
 // fold3 folds rows of 48 bytes into the first three lanes.
-func (l *lanes) fold3(rows []byte, s *[3]uint64) {
+func (l *lanes) fold3(rows string, s *[3]uint64) {
 	for ; len(rows) >= 192; rows = rows[192:] {
 		r := rows[:192]
 		x := mix(read64(r[48:])^s[0], read64(r[56:])^mix(read64(r)^s[0], read64(r[8:])^l[0]))
@@ -107,7 +107,7 @@ func (l *lanes) fold3(rows []byte, s *[3]uint64) {
 }
 
 // fold3Rest folds up to three rows.
-func (l *lanes) fold3Rest(rows []byte, s *[3]uint64) {
+func (l *lanes) fold3Rest(rows string, s *[3]uint64) {
 	for ; len(rows) >= 48; rows = rows[48:] {
 		r := rows[:48]
 		l[0] = mix(read64(r)^s[0], read64(r[8:])^l[0])

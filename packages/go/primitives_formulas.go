@@ -22,10 +22,12 @@ func random(tag, a, b uint64) uint64 {
 	return x
 }
 
-func read64(data []byte) uint64 { return random(1, binary.LittleEndian.Uint64(data), 0) }
+func read64(data string) uint64 {
+	return random(1, binary.LittleEndian.Uint64([]byte(data[:8])), 0)
+}
 
-func read32(data []byte) uint64 {
-	return uint64(uint32(random(2, uint64(binary.LittleEndian.Uint32(data)), 0)))
+func read32(data string) uint64 {
+	return uint64(uint32(random(2, uint64(binary.LittleEndian.Uint32([]byte(data[:4]))), 0)))
 }
 
 // multiply returns the same halves for either order of the factors.

@@ -7,13 +7,13 @@ func multiplyProtected(a, b uint64) (low, high uint64) {
 }
 
 // foldPair returns a lane after it has folded 16 bytes.
-func foldPair(pair []byte, lane, secret uint64) uint64 {
+func foldPair(pair string, lane, secret uint64) uint64 {
 	low, high := multiplyProtected(read64(pair)^secret, read64(pair[8:])^lane)
 	return low ^ high
 }
 
 // protected returns the hash of V3 with protected products.
-func protected(data []byte, seed uint64, s *[7]uint64) uint64 {
+func protected(data string, seed uint64, s *[7]uint64) uint64 {
 	a, b, t := uint64(0), uint64(0), uint64(len(data))
 	switch n := len(data); {
 	case n > 16:
@@ -32,20 +32,20 @@ func protected(data []byte, seed uint64, s *[7]uint64) uint64 {
 }
 
 // protectedLanes returns the seed after the rows of more than 16 bytes and the tail's pairs, and the tail's length.
-func protectedLanes(data []byte, seed uint64, s *[7]uint64) (after, t uint64) {
+func protectedLanes(data string, seed uint64, s *[7]uint64) (after, t uint64) {
 	var folded lanes
 	folded.start(seed)
-	pairs := (len(data) - 1) / 112 * 7
-	for pair := 0; pair < pairs; pair++ {
-		lane := pair % 7
-		folded[lane] = foldPair(data[16*pair:], folded[lane], s[lane])
+	tail := data
+	for ; len(tail) > 112; tail = tail[112:] {
+		for lane := range folded {
+			folded[lane] = foldPair(tail[16*lane:], folded[lane], s[lane])
+		}
 	}
-	tail := data[16*pairs:]
 	return protectedTail(tail, folded.joined(), s), uint64(len(tail))
 }
 
 // protectedTail returns the seed after the tail's pairs.
-func protectedTail(tail []byte, seed uint64, s *[7]uint64) uint64 {
+func protectedTail(tail string, seed uint64, s *[7]uint64) uint64 {
 	for pair, secret := range [...]uint64{s[2], s[2], s[1], s[1], s[2], s[1]} {
 		if len(tail) > 16*pair+16 {
 			seed = foldPair(tail[16*pair:], seed, secret)

@@ -10,82 +10,74 @@ import (
 // foldedSize is the number of folded bytes that a stream keeps: the last words of its message may begin in them.
 const foldedSize = 16
 
-// state is a saved stream. Its numbers are stored most significant byte first.
-type state struct {
-	Magic    [10]byte
-	Count    uint8 // the number of lanes
-	IsFolded uint8 // 1 if the lanes have folded a row, or else 0
-	Size     uint8 // the number of bytes kept after the folded ones
-	Secrets  Secrets
-	Lanes    [7]uint64
-	Kept     [foldedSize + 112]byte
-}
+// savedSize is the length of a saved stream. docs/BINDINGS.md has the format.
+const savedSize = 208
 
-// magic begins every saved stream. Its last byte is the version of the format.
-var magic = [10]byte{'r', 'a', 'p', 'i', 'd', 'h', 'a', 's', 'h', 1}
+// savedName begins every saved stream. Its last byte is the version of the format.
+const savedName = "rapidV3\x01"
 
-// MarshalBinary returns the state of the stream, including its seed and secrets. The error is always nil.
+// MarshalBinary returns the saved stream: 208 bytes, the same on every machine and in every language. They contain bytes
+// of the message, but no secrets. The error is always nil.
 func (stream *Stream) MarshalBinary() ([]byte, error) {
-	return stream.AppendBinary(make([]byte, 0, binary.Size(state{})))
+	return stream.AppendBinary(make([]byte, 0, savedSize))
 }
 
-// AppendBinary appends the state of the stream, as MarshalBinary returns it. The error is always nil.
+// AppendBinary appends the saved stream, as MarshalBinary returns it. The error is always nil.
 func (stream *Stream) AppendBinary(out []byte) ([]byte, error) {
 	stream.ensureStarted()
-	out = append(append(out, magic[:]...), uint8(stream.count), 0, uint8(stream.size))
+	from, start, flag := len(out), foldedSize, uint8(0)
 	if stream.isFolded {
-		out[len(out)-2] = 1
+		start, flag = 0, 1
 	}
-	out = binary.BigEndian.AppendUint64(out, stream.secrets.Seed)
-	for _, secret := range stream.secrets.Secrets {
-		out = binary.BigEndian.AppendUint64(out, secret)
-	}
+	out = append(append(out, savedName...), uint8(stream.count), 1, flag, uint8(stream.size), 0, 0, 0, 0)
 	for _, lane := range stream.lanes {
-		out = binary.BigEndian.AppendUint64(out, lane)
+		out = binary.LittleEndian.AppendUint64(out, lane^stream.secrets.Seed)
 	}
-	kept := stream.kept
-	for at := foldedSize + stream.size; at < len(kept); at++ {
-		kept[at] = 0
-	}
-	return append(out, kept[:]...), nil
+	var kept [foldedSize + 112]byte
+	copy(kept[start:], stream.kept[start:foldedSize+stream.size])
+	out = append(out, kept[:]...)
+	return binary.LittleEndian.AppendUint64(out, V3WithSecrets(out[from:], &stream.secrets)), nil
 }
 
-// UnmarshalBinary restores a state that MarshalBinary returned. If the bytes are not such a state, it returns an error
-// and does not change the stream.
+// UnmarshalBinary replaces the message by that of a saved stream of the same version, seed and secrets. The zero Stream
+// has the default ones and the version of the saved stream. If the bytes are not such a stream, UnmarshalBinary returns
+// an error that names the reason, and does not change the stream.
 func (stream *Stream) UnmarshalBinary(data []byte) error {
-	var saved state
-	if !bytes.HasPrefix(data, magic[:]) {
-		return errors.New("rapidhash: not a saved Stream, or one of another version")
+	if len(data) != savedSize {
+		return fmt.Errorf("rapidhash: a saved Stream has %d bytes, not %d", savedSize, len(data))
 	}
-	if size := binary.Size(saved); len(data) != size {
-		return fmt.Errorf("rapidhash: a saved Stream has %d bytes, not %d", size, len(data))
+	if string(data[:len(savedName)]) != savedName {
+		return errors.New("rapidhash: not a saved Stream, or one of another version of the format")
 	}
-	if err := binary.Read(bytes.NewReader(data), binary.BigEndian, &saved); err != nil {
-		return fmt.Errorf("rapidhash: %w", err)
+	secrets, count := &stream.secrets, stream.count
+	if stream.count == 0 {
+		secrets, count = nil, int(data[8])
 	}
-	if err := saved.check(); err != nil {
-		return err
+	if int(data[8]) != count || data[9] != 1 {
+		return fmt.Errorf("rapidhash: the Stream was saved with %d lanes and options %d, not %d and 1", data[8], data[9], count)
 	}
-	stream.start(int(saved.Count), &saved.Secrets)
-	if stream.isFolded = saved.IsFolded == 1; stream.isFolded {
-		copy(stream.lanes[:saved.Count], saved.Lanes[:])
-		copy(stream.kept[:foldedSize], saved.Kept[:])
+	restored := *new(Stream).start(count, secrets)
+	if !restored.load(data) {
+		return errors.New("rapidhash: the saved Stream was changed, or has another seed or other secrets")
 	}
-	stream.size = copy(stream.kept[foldedSize:], saved.Kept[foldedSize:foldedSize+saved.Size])
+	*stream = restored
 	return nil
 }
 
-// check returns an error if no stream has the state. After a folded row, a stream keeps at least one byte. It never
-// keeps more than a row.
-func (saved *state) check() error {
-	if count := saved.Count; count != 7 && count != 5 && count != 3 {
-		return fmt.Errorf("rapidhash: a saved Stream has 7, 5 or 3 lanes, not %d", count)
+// load sets the state of a started stream. It returns whether the stream would be saved as the same bytes.
+func (stream *Stream) load(data []byte) bool {
+	count := stream.count
+	if count != 7 && count != 5 && count != 3 || int(data[11]) > 16*count || data[11] < data[10] {
+		return false
 	}
-	if saved.IsFolded > 1 {
-		return fmt.Errorf("rapidhash: a saved Stream has folded a row or not: 1 or 0, not %d", saved.IsFolded)
+	stream.size, stream.isFolded = int(data[11]), data[10] == 1
+	for at := range stream.lanes[:count] {
+		if stream.isFolded {
+			stream.lanes[at] ^= binary.LittleEndian.Uint64(data[16+8*at:])
+		}
 	}
-	if saved.Size > 16*saved.Count || saved.Size < saved.IsFolded {
-		return fmt.Errorf("rapidhash: a saved Stream keeps %d to %d bytes here, not %d", saved.IsFolded, 16*saved.Count, saved.Size)
-	}
-	return nil
+	copy(stream.kept[:], data[72:])
+	var room [savedSize]byte
+	again, _ := stream.AppendBinary(room[:0])
+	return bytes.Equal(again, data)
 }

@@ -10,7 +10,7 @@ import (
 // A Stream hashes a message in pieces, with V3, micro, or nano. NewV3, NewV3Micro, or NewV3Nano starts it; the zero
 // Stream behaves like that of NewV3(nil). It contains a copy of its secrets, and a copy made with = is independent.
 //
-// It is a hash.Hash64, so io.Copy can write to it. MarshalBinary can save its state in the middle of a message.
+// It is a hash.Hash64, so io.Copy can write to it. MarshalBinary saves it in the middle of a message.
 type Stream struct {
 	secrets  Secrets
 	lanes    lanes
@@ -66,46 +66,54 @@ func (stream *Stream) ensureStarted() {
 
 // Write appends a piece to the message. It never returns an error.
 func (stream *Stream) Write(data []byte) (int, error) {
+	stream.add(textOf(data))
+	return len(data), nil
+}
+
+// WriteString appends the bytes of a string, as Write does, without a copy.
+func (stream *Stream) WriteString(text string) (int, error) {
+	stream.add(text)
+	return len(text), nil
+}
+
+// add appends a piece to the message.
+func (stream *Stream) add(data string) {
 	if size := stream.size; len(data) <= 16*stream.count-size {
 		copy(stream.kept[foldedSize+size:], data)
 		stream.size = size + len(data)
 	} else {
 		stream.fold(data)
 	}
-	return len(data), nil
 }
 
 // fold appends a piece that exceeds the room left. It keeps the last 1 to 16 * count bytes, and the 16 before them.
-func (stream *Stream) fold(data []byte) {
+func (stream *Stream) fold(data string) {
 	if stream.count == 0 {
 		stream.start(7, nil)
-		stream.Write(data)
+		stream.add(data)
 		return
 	}
 	row := 16 * stream.count
 	kept, secrets := stream.kept[:foldedSize+row], stream.secrets.Secrets[:stream.count]
 	end := copy(kept[foldedSize+stream.size:], data)
-	stream.lanes.fold(kept[foldedSize:], 0, secrets)
+	stream.lanes.fold(textOf(kept[foldedSize:]), 0, secrets)
 	rest := data[end:]
 	if len(rest) > row {
 		rest = stream.lanes.fold(rest, 1, secrets)
 		end = len(data) - len(rest)
 	}
-	folded := kept[row:]
+	folded := textOf(kept[row:])
 	if end >= foldedSize {
 		folded = data[end-foldedSize:]
 	}
-	*(*[foldedSize]byte)(kept) = *(*[foldedSize]byte)(folded)
+	copy(kept[:foldedSize], folded[:foldedSize])
 	stream.size, stream.isFolded = copy(kept[foldedSize:], rest), true
 }
-
-// WriteString appends the bytes of a string, as Write does, without a copy.
-func (stream *Stream) WriteString(text string) (int, error) { return stream.Write(bytesOf(text)) }
 
 // Sum64 returns the hash of the message so far. More pieces may follow.
 func (stream *Stream) Sum64() uint64 {
 	stream.ensureStarted()
-	ending := stream.kept[:foldedSize+stream.size]
+	ending := textOf(stream.kept[:foldedSize+stream.size])
 	if !stream.isFolded {
 		return v3(ending[foldedSize:], stream.count, stream.secrets.Seed, &stream.secrets.Secrets)
 	}

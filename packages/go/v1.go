@@ -1,7 +1,7 @@
 package rapidhash
 
 // v1 returns the hash of V1.
-func v1(data []byte, seed uint64, s *[3]uint64) uint64 {
+func v1(data string, seed uint64, s *[3]uint64) uint64 {
 	var a, b uint64
 	n := uint64(len(data))
 	seed ^= n
@@ -21,7 +21,7 @@ func v1(data []byte, seed uint64, s *[3]uint64) uint64 {
 }
 
 // v1Lanes returns the seed after the rows of more than 16 bytes and the tail's pairs.
-func v1Lanes(data []byte, seed uint64, s *[3]uint64) uint64 {
+func v1Lanes(data string, seed uint64, s *[3]uint64) uint64 {
 	tail := data
 	if len(data) > 48 {
 		var folded lanes
@@ -36,7 +36,7 @@ func v1Lanes(data []byte, seed uint64, s *[3]uint64) uint64 {
 }
 
 // foldTwo returns the seed after it has folded up to two pairs, which the last 1 to 16 bytes of a tail are no part of.
-func foldTwo(tail []byte, seed, secret uint64) uint64 {
+func foldTwo(tail string, seed, secret uint64) uint64 {
 	if len(tail) > 16 {
 		seed = mix(read64(tail)^secret, read64(tail[8:])^seed)
 	}

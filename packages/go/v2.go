@@ -1,7 +1,7 @@
 package rapidhash
 
 // v2 returns the hash of V2.0, V2.1 or V2.2.
-func v2(data []byte, minor int, seed uint64, s *[7]uint64) uint64 {
+func v2(data string, minor int, seed uint64, s *[7]uint64) uint64 {
 	var a, b uint64
 	n := uint64(len(data))
 	seed ^= n
@@ -23,7 +23,7 @@ func v2(data []byte, minor int, seed uint64, s *[7]uint64) uint64 {
 
 // v2Lanes returns the seed after the rows of more than 16 bytes and the tail's pairs. Rows of three lanes follow the
 // rows of seven. Up to a limit a message has no rows.
-func v2Lanes(data []byte, minor int, seed uint64, s *[7]uint64) uint64 {
+func v2Lanes(data string, minor int, seed uint64, s *[7]uint64) uint64 {
 	if len(data) > 64 || len(data) > 56 && minor == 0 {
 		var folded lanes
 		folded.start(seed)

@@ -1,7 +1,7 @@
 package rapidhash
 
 // v3 returns the hash of V3, micro or nano, which have 7, 5 or 3 lanes.
-func v3(data []byte, count int, seed uint64, s *[7]uint64) uint64 {
+func v3(data string, count int, seed uint64, s *[7]uint64) uint64 {
 	if len(data) > 16 {
 		tail := data
 		if len(data) > 16*count {
@@ -27,7 +27,7 @@ func v3(data []byte, count int, seed uint64, s *[7]uint64) uint64 {
 }
 
 // v3Close returns the hash from the tail, the joined lanes, and bytes that end with the message's last 16.
-func v3Close(tail, ending []byte, seed uint64, s *[7]uint64) uint64 {
+func v3Close(tail, ending string, seed uint64, s *[7]uint64) uint64 {
 	last, t := ending[len(ending)-16:], uint64(len(tail))
 	if len(tail) > 16 {
 		seed = mix(read64(tail)^s[2], read64(tail[8:])^seed)

@@ -90,10 +90,11 @@ func inPieces(t *testing.T, stream *Stream, message []byte) uint64 {
 		stream.Write(message[:size])
 		message = message[size:]
 		saved, err := stream.MarshalBinary()
-		stream = new(Stream)
-		if err != nil || stream.UnmarshalBinary(saved) != nil {
-			t.Fatal(err, stream.UnmarshalBinary(saved))
+		restored := new(Stream).start(stream.count, &stream.secrets)
+		if err != nil || restored.UnmarshalBinary(saved) != nil {
+			t.Fatal(err, restored.UnmarshalBinary(saved))
 		}
+		stream = restored
 	}
 	if digits := hex.EncodeToString(stream.Sum(nil)); digits != fmt.Sprintf("%016x", stream.Sum64()) {
 		t.Errorf("%s are not the digits of %x", digits, stream.Sum64())
