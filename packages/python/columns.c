@@ -1,16 +1,5 @@
 /* The hashes of many messages in one call, written to an array of unsigned 64-bit integers. */
-#include "extension.h"
-
-/* The buffer of the hashes, and the secrets of all messages. `own` has the secrets of a seed. */
-struct column {
-    uint64_t (*hash)(const void *bytes, size_t len, const void *secrets);
-    const void *secrets;
-    union {
-        struct rapidhash_secrets others;
-        struct rapidhash_v1_secrets v1;
-    } own;
-    Py_buffer out;
-};
+#include "column.h"
 
 /* V1's default secrets are those of this seed word. */
 #define V1_WORD UINT64_C(0xbdd89aa982704029)
@@ -50,27 +39,20 @@ int open_out(PyObject *out, size_t count, Py_buffer *buffer)
     return -1;
 }
 
-/* Reads the arguments version, seed, secrets and out. Returns 0, or -1 with an error set. */
-static int open_column(PyObject *module, PyObject *const *args, size_t count, struct column *column)
+int open_column(PyObject *module, PyObject *const *args, size_t count, struct column *column)
 {
     const struct form *form = form_of(args[0]);
     struct start start;
+    column->has_missing = args[4] != Py_None;
     if (form == NULL || read_start(module, form, args[1], args[2], &start) < 0 ||
+        (column->has_missing && read_word(args[4], "missing", &column->missing) < 0) ||
         open_out(args[3], count, &column->out) < 0)
         return -1;
     read_secrets(form, &start, column);
     return 0;
 }
 
-/* Writes the hash of a message to `at`, which need not be aligned. */
-static void put(const struct column *column, Py_ssize_t at, const void *bytes, size_t len)
-{
-    const uint64_t hash = column->hash(bytes, len, column->secrets);
-    memcpy((char *)column->out.buf + 8 * at, &hash, sizeof hash);
-}
-
-/* Returns whether the hashes would overwrite a buffer that is read. If so, sets an error. */
-static int overlaps(const struct column *column, const Py_buffer *buffer, const char *name)
+int overlaps(const struct column *column, const Py_buffer *buffer, const char *name)
 {
     const char *out = column->out.buf, *bytes = buffer->buf;
     if (bytes >= out + column->out.len || out >= bytes + buffer->len)
@@ -82,7 +64,9 @@ static int overlaps(const struct column *column, const Py_buffer *buffer, const 
 /* Names the item of an error about its type. */
 static void name_item(Py_ssize_t at, PyObject *item)
 {
-    if (PyErr_ExceptionMatches(PyExc_TypeError))
+    if (item == Py_None)
+        PyErr_Format(PyExc_TypeError, "items[%zd] is None: pass `missing`, the hash of a missing item", at);
+    else if (PyErr_ExceptionMatches(PyExc_TypeError))
         PyErr_Format(PyExc_TypeError, "items[%zd] must be bytes, another buffer, or a str, not %R", at, Py_TYPE(item));
 }
 
@@ -105,6 +89,8 @@ static int hash_item(const struct column *column, Py_ssize_t at, PyObject *item)
     struct message message;
     if (item == NULL)
         return -1;
+    if (item == Py_None && column->has_missing)
+        return put_hash(column, at, column->missing), 0;
     if (read_message(item, "item", &message) < 0)
         return name_item(at, item), -1;
     if (message.len > LONG) {
@@ -118,12 +104,13 @@ static int hash_item(const struct column *column, Py_ssize_t at, PyObject *item)
     return 0;
 }
 
-/* each(list or tuple, version, seed, secrets, out). Other code may change a list meanwhile, so each item is held. */
+/* each(list or tuple, version, seed, secrets, out, missing). Other code may change a list meanwhile, so each item is
+ * held. */
 PyObject *each(PyObject *module, PyObject *const *args, Py_ssize_t count)
 {
     struct column column;
-    Py_ssize_t at, size = count == 5 ? PySequence_Size(args[0]) : -1;
-    int status = 0, is_list = count == 5 && PyList_Check(args[0]);
+    Py_ssize_t at, size = count == 6 ? PySequence_Size(args[0]) : -1;
+    int status = 0, is_list = count == 6 && PyList_Check(args[0]);
     if (size < 0 || open_column(module, args + 1, (size_t)size, &column) < 0)
         return NULL;
     for (at = 0; at < size && status == 0; at++) {
@@ -135,13 +122,14 @@ PyObject *each(PyObject *module, PyObject *const *args, Py_ssize_t count)
     return status == 0 ? PyLong_FromSsize_t(size) : NULL;
 }
 
-/* each_row(buffer, version, seed, secrets, out, width), in which the width is a positive divisor of the length. */
+/* each_row(buffer, version, seed, secrets, out, None, width), in which the width is a positive divisor of the
+ * length. */
 PyObject *each_row(PyObject *module, PyObject *const *args, Py_ssize_t count)
 {
     struct column column;
     Py_buffer data;
     PyObject *result = NULL;
-    const Py_ssize_t width = count == 6 ? PyLong_AsSsize_t(args[5]) : -1;
+    const Py_ssize_t width = count == 7 ? PyLong_AsSsize_t(args[6]) : -1;
     if (width <= 0 || PyObject_GetBuffer(args[0], &data, PyBUF_SIMPLE) < 0)
         return NULL;
     if (open_column(module, args + 1, (size_t)(data.len / width), &column) == 0) {
@@ -157,73 +145,5 @@ PyObject *each_row(PyObject *module, PyObject *const *args, Py_ssize_t count)
         PyBuffer_Release(&column.out);
     }
     PyBuffer_Release(&data);
-    return result;
-}
-
-/* Returns the offset `at` of a buffer of 32-bit or 64-bit integers. It is negative if it is above 2^63 - 1. */
-static int64_t offset_of(const Py_buffer *offsets, int is_signed, size_t at)
-{
-    const char *const place = (const char *)offsets->buf + at * (size_t)offsets->itemsize;
-    int64_t wide;
-    int32_t narrow;
-    if (offsets->itemsize == 8)
-        return memcpy(&wide, place, sizeof wide), wide;
-    memcpy(&narrow, place, sizeof narrow);
-    return is_signed ? narrow : (int64_t)(uint32_t)narrow;
-}
-
-/* Hashes the slice between each two offsets. Returns the number of hashed slices, less than `size` if the next one is
- * not inside the data. Each offset is read once, since another thread may write to them. */
-static size_t hash_slices(
-    const struct column *column, const struct message *data, const Py_buffer *offsets, int is_signed, size_t size)
-{
-    int64_t from = size > 0 ? offset_of(offsets, is_signed, 0) : 0;
-    size_t at;
-    for (at = 0; at < size; at++) {
-        const int64_t to = offset_of(offsets, is_signed, at + 1);
-        if (from < 0 || to < from || (uint64_t)to > data->len)
-            break;
-        put(column, (Py_ssize_t)at, (const char *)data->bytes + from, (size_t)(to - from));
-        from = to;
-    }
-    return at;
-}
-
-/* Hashes all slices into an open column. Returns their number, or NULL with an error set. */
-static PyObject *run_slices(
-    const struct column *column, const struct message *data, const Py_buffer *offsets, int is_signed, size_t size)
-{
-    size_t done;
-    if (overlaps(column, offsets, "offsets") || (data->buffer.obj != NULL && overlaps(column, &data->buffer, "data")))
-        return NULL;
-    Py_BEGIN_ALLOW_THREADS
-    done = hash_slices(column, data, offsets, is_signed, size);
-    Py_END_ALLOW_THREADS
-    if (done == size)
-        return PyLong_FromSize_t(size);
-    return PyErr_Format(PyExc_ValueError, "offsets[%zu] and offsets[%zu] must ascend from 0 to at most %zu, the bytes "
-                        "of data", done, done + 1, data->len);
-}
-
-/* each_slice(data, version, seed, secrets, out, offsets) */
-PyObject *each_slice(PyObject *module, PyObject *const *args, Py_ssize_t count)
-{
-    struct column column;
-    struct message data;
-    Py_buffer offsets;
-    PyObject *result = NULL;
-    if (count != 6 || PyObject_GetBuffer(args[5], &offsets, PyBUF_FORMAT | PyBUF_C_CONTIGUOUS) < 0)
-        return NULL;
-    if (strchr("ilqILQ", letter_of(&offsets)) == NULL || letter_of(&offsets) == 0 || offsets.ndim != 1) {
-        PyErr_SetString(PyExc_TypeError, "offsets must be a buffer of 32-bit or 64-bit integers");
-    } else if (read_message(args[0], "data", &data) == 0) {
-        const size_t all = (size_t)(offsets.len / offsets.itemsize), size = all > 0 ? all - 1 : 0;
-        if (open_column(module, args + 1, size, &column) == 0) {
-            result = run_slices(&column, &data, &offsets, strchr("ilq", letter_of(&offsets)) != NULL, size);
-            PyBuffer_Release(&column.out);
-        }
-        release_message(&data);
-    }
-    PyBuffer_Release(&offsets);
     return result;
 }

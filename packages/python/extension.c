@@ -137,7 +137,8 @@ static PyMethodDef calls[] = {
     {"made", made, METH_O, NULL}, {"made_v1", made_v1, METH_O, NULL}, {"seeded", seeded, METH_O, NULL},
     {"each", FAST(each), METH_FASTCALL, NULL}, {"each_row", FAST(each_row), METH_FASTCALL, NULL},
     {"each_slice", FAST(each_slice), METH_FASTCALL, NULL}, {"key", FAST(key_of), METH_FASTCALL, NULL},
-    {"each_key", FAST(each_key), METH_FASTCALL, NULL}, {NULL, NULL, 0, NULL}};
+    {"each_key", FAST(each_key), METH_FASTCALL, NULL}, {"arrow", FAST(arrow), METH_FASTCALL, NULL},
+    {"each_arrow", FAST(each_arrow), METH_FASTCALL, NULL}, {NULL, NULL, 0, NULL}};
 
 /* The module's state: the classes of secrets, that of V1 second. Each interpreter has its own. */
 static int fill(PyObject *module)

@@ -59,6 +59,8 @@ int open_out(PyObject *out, size_t count, Py_buffer *buffer);
 /* Returns a new reference to an item of a list or tuple, or NULL with an error set. */
 PyObject *item_of(PyObject *items, int is_list, Py_ssize_t at);
 
+PyObject *arrow(PyObject *module, PyObject *const *args, Py_ssize_t count);
+PyObject *each_arrow(PyObject *module, PyObject *const *args, Py_ssize_t count);
 PyObject *key_of(PyObject *module, PyObject *const *args, Py_ssize_t count);
 PyObject *each_key(PyObject *module, PyObject *const *args, Py_ssize_t count);
 PyObject *each(PyObject *module, PyObject *const *args, Py_ssize_t count);

@@ -1,10 +1,12 @@
 /* The hashes of keys of several fields: None, an integer of 64 bits, a str, or bytes. */
-#include "extension.h"
+#include "arrow.h"
 #include "key.h"
 
-/* A column of fields: the items of a list or a tuple, or the integers of a buffer. */
+/* A column of fields: the items of a list or a tuple, the integers of a buffer, or a column of Arrow, whose integers
+ * are in a buffer without an object. */
 struct fields {
     PyObject *items;
+    const struct arrow *arrow;
     Py_buffer buffer;
     char letter;
 };
@@ -115,9 +117,17 @@ static int open_fields(PyObject *column, Py_ssize_t at, Py_ssize_t rows, struct 
 {
     Py_ssize_t size;
     fields->items = NULL;
+    fields->arrow = NULL;
+    fields->buffer.obj = NULL;
     if (PyList_Check(column) || PyTuple_Check(column)) {
         fields->items = column;
         size = PySequence_Size(column);
+    } else if (PyCapsule_IsValid(column, ARROW)) {
+        fields->arrow = PyCapsule_GetPointer(column, ARROW);
+        fields->buffer.buf = (void *)fields->arrow->first;
+        fields->buffer.itemsize = fields->arrow->width;
+        fields->letter = fields->arrow->letter;
+        size = (Py_ssize_t)fields->arrow->array.length;
     } else {
         if (PyObject_GetBuffer(column, &fields->buffer, PyBUF_FORMAT | PyBUF_C_CONTIGUOUS) < 0)
             return -1;
@@ -133,7 +143,7 @@ static int open_fields(PyObject *column, Py_ssize_t at, Py_ssize_t rows, struct 
     if (size == rows)
         return 0;
     PyErr_Format(PyExc_ValueError, "columns[%zd] has %zd rows, and columns[0] has %zd", at, size, rows);
-    if (fields->items == NULL)
+    if (fields->buffer.obj != NULL)
         PyBuffer_Release(&fields->buffer);
     return -1;
 }
@@ -160,8 +170,19 @@ static int open_fields(PyObject *column, Py_ssize_t at, Py_ssize_t rows, struct 
 static int add_row(const struct fields *fields, Py_ssize_t at, Py_ssize_t row, struct key *key)
 {
     const char *place;
+    struct message message;
     PyObject *item;
     int status;
+    if (fields->arrow != NULL && is_null(fields->arrow, row))
+        return append(key, "", 1), 0;
+    if (fields->arrow != NULL && fields->letter == 0) {
+        if (find_bytes(fields->arrow, row, &message) < 0) {
+            PyErr_Format(PyExc_ValueError, "columns[%zd][%zd] has offsets that do not ascend from 0", at, row);
+            return -1;
+        }
+        append_number(key, 2, message.len);
+        return append(key, message.bytes, message.len), 0;
+    }
     if (fields->items == NULL) {
         place = (const char *)fields->buffer.buf + row * fields->buffer.itemsize;
         switch (fields->letter) {
@@ -224,7 +245,7 @@ PyObject *each_key(PyObject *module, PyObject *const *args, Py_ssize_t count)
         PyBuffer_Release(&out);
     }
     while (opened-- > 0)
-        if (fields[opened].items == NULL)
+        if (fields[opened].buffer.obj != NULL)
             PyBuffer_Release(&fields[opened].buffer);
     PyMem_Free(fields);
     return status == 0 ? PyLong_FromSsize_t(rows) : NULL;

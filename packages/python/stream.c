@@ -145,6 +145,71 @@ static PyObject *copy(PyObject *object, PyObject *none)
     return (PyObject *)other;
 }
 
+static PyObject *save(PyObject *object, PyObject *none)
+{
+    struct hasher *self = (struct hasher *)object;
+    unsigned char saved[RAPIDHASH_STREAM_SAVED];
+    (void)none;
+    if (enter(self) < 0)
+        return NULL;
+    rapidhash_stream_save(&self->stream, saved);
+    leave(self);
+    return PyBytes_FromStringAndSize((const char *)saved, sizeof saved);
+}
+
+/* Sets the error of a saved hasher that a hasher with so many lanes does not accept. */
+static void refuse_saved(const Py_buffer *buffer, size_t lanes)
+{
+    const unsigned char *const saved = buffer->buf;
+    if (buffer->len != RAPIDHASH_STREAM_SAVED)
+        PyErr_Format(PyExc_ValueError, "a saved hasher has %d bytes, not %zd", RAPIDHASH_STREAM_SAVED, buffer->len);
+    else if (memcmp(saved, "rapidV3\1", 8) != 0)
+        PyErr_SetString(PyExc_ValueError, "saved is no saved hasher, or one of another version of the format");
+    else if (saved[8] != lanes || saved[9] != 1)
+        PyErr_Format(PyExc_ValueError, "the hasher was saved with %d lanes and options %d, not %zu and 1", saved[8],
+                     saved[9], lanes);
+    else
+        PyErr_SetString(PyExc_ValueError, "the saved hasher was changed, or has another seed or other secrets");
+}
+
+static PyObject *restore(PyObject *object, PyObject *data)
+{
+    struct hasher *self = (struct hasher *)object;
+    Py_buffer saved;
+    size_t lanes;
+    bool is_restored;
+    if (!PyObject_CheckBuffer(data))
+        return PyErr_Format(PyExc_TypeError, "saved must be bytes or another buffer, not %R", Py_TYPE(data));
+    if (PyObject_GetBuffer(data, &saved, PyBUF_SIMPLE) < 0)
+        return NULL;
+    if (enter(self) < 0) {
+        PyBuffer_Release(&saved);
+        return NULL;
+    }
+    is_restored = rapidhash_stream_restore(&self->stream, saved.buf, (size_t)saved.len);
+    lanes = self->stream.lanes;
+    leave(self);
+    if (!is_restored)
+        refuse_saved(&saved, lanes);
+    PyBuffer_Release(&saved);
+    if (!is_restored)
+        return NULL;
+    Py_RETURN_NONE;
+}
+
+/* Returns the words of the secrets. */
+static PyObject *words(PyObject *object, PyObject *none)
+{
+    struct hasher *self = (struct hasher *)object;
+    struct rapidhash_secrets secrets;
+    (void)none;
+    if (enter(self) < 0)
+        return NULL;
+    secrets = self->secrets;
+    leave(self);
+    return PyBytes_FromStringAndSize((const char *)&secrets, sizeof secrets);
+}
+
 static PyMethodDef methods[] = {
     {"_start", start, METH_VARARGS, NULL},
     {"update", update, METH_O,
@@ -152,6 +217,12 @@ static PyMethodDef methods[] = {
     {"intdigest", intdigest, METH_NOARGS,
      PyDoc_STR("intdigest($self)\n--\n\nReturns the hash of the message so far as an integer.")},
     {"reset", reset, METH_NOARGS, PyDoc_STR("reset($self)\n--\n\nEmpties the message but keeps the secrets.")},
+    {"save", save, METH_NOARGS,
+     PyDoc_STR("save($self)\n--\n\n"
+               "Returns the saved hasher: 208 bytes, the same on every machine and in every language.\n\n"
+               "They contain bytes of the message, but no secrets.")},
+    {"_restore", restore, METH_O, NULL},
+    {"_words", words, METH_NOARGS, NULL},
     {"_copy", copy, METH_NOARGS, NULL},
     {NULL, NULL, 0, NULL}};
 

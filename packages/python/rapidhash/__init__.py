@@ -15,6 +15,7 @@ memoryview, array.array or mmap, or a str, which is hashed as its UTF-8. It is n
 Other threads run while more than 64 KiB are hashed.
 """
 
+import copyreg
 import operator
 from array import array
 
@@ -55,16 +56,31 @@ def _room(count):
     return array("Q", (0,)) * count
 
 
-def each(items, version="v3", seed=None, secrets=None, out=None):
-    """Returns the hash of each item of an iterable, as an array.array of type 'Q'.
+def _listed(column):
+    """Returns a Series or an Index of pandas as a list, with None for its missing values."""
+    return [None if missing else item for item, missing in zip(column.tolist(), column.isna())]
+
+
+def each(items, version="v3", seed=None, secrets=None, out=None, missing=None):
+    """Returns the hash of each item of an iterable, or of an Arrow array of strings or bytes, as an array.array of type
+    'Q'.
 
     `version` is the name of a hash in this module. With `out`, writes to this buffer of unsigned 64-bit integers and
-    returns it. If a call raises an error, the contents of `out` are unspecified."""
+    returns it. If a call raises an error, the contents of `out` are unspecified. `missing`, an integer, is the hash of
+    an item that is None, null in Arrow, or a missing value of a Series of pandas. Without it, such an item raises
+    TypeError."""
     if isinstance(items, (str, bytes, bytearray)) or hasattr(items, "columns"):
         raise TypeError(f"items must be an iterable of messages, not {type(items)!r}")
+    if hasattr(items, "__arrow_c_array__"):
+        column, rows = _extension.arrow(items, "items")
+        out = _room(rows) if out is None else out
+        _extension.each_arrow(column, version, seed, secrets, out, missing)
+        return out
+    if hasattr(items, "isna"):
+        items = _listed(items)
     items = items if type(items) in (list, tuple) else tuple(items)
     out = _room(len(items)) if out is None else out
-    _extension.each(items, version, seed, secrets, out)
+    _extension.each(items, version, seed, secrets, out, missing)
     return out
 
 
@@ -81,19 +97,20 @@ def each_row(data, width, version="v3", seed=None, secrets=None, out=None):
     if rest:
         raise ValueError(f"data has {view.nbytes} bytes, which is no multiple of the width {width}")
     out = _room(count) if out is None else out
-    _extension.each_row(view, version, seed, secrets, out, width)
+    _extension.each_row(view, version, seed, secrets, out, None, width)
     return out
 
 
-def each_slice(data, offsets, version="v3", seed=None, secrets=None, out=None):
+def each_slice(data, offsets, version="v3", seed=None, secrets=None, out=None, validity=None, missing=None):
     """Returns the hash of data[offsets[i]:offsets[i + 1]] for each i, in the same way as `each`: the columns of strings
     and of bytes in Apache Arrow's layout.
 
-    `offsets` is a buffer of 32-bit or 64-bit integers. Raises ValueError if they do not ascend within `data`, or if
-    `out` overlaps another argument."""
+    `offsets` is a buffer of 32-bit or 64-bit integers. `validity` is a buffer with a bit for each slice, the lowest of a
+    byte first: `missing` is the hash of a slice whose bit is 0. Raises ValueError if the offsets do not ascend within
+    `data`, if there are too few bits, or if `out` overlaps another argument."""
     view = memoryview(offsets)
     out = _room(max(view.nbytes // view.itemsize - 1, 0)) if out is None else out
-    _extension.each_slice(data, version, seed, secrets, out, view)
+    _extension.each_slice(data, version, seed, secrets, out, missing, view, validity)
     return out
 
 
@@ -109,30 +126,38 @@ def v3_key(*fields, seed=None, secrets=None):
 
 
 def _fields(at, column):
-    """Returns a column as a list, a tuple, or a buffer of integers."""
+    """Returns a column as a list, a tuple, a buffer of integers, or a capsule of Arrow's, and the number of rows, if it is
+    the first."""
     if isinstance(column, (str, bytes, bytearray)) or hasattr(column, "columns"):
         raise TypeError(f"columns[{at}] must be a column of fields, not {type(column)!r}")
+    if hasattr(column, "__arrow_c_array__"):
+        return _extension.arrow(column, f"columns[{at}]")
     if hasattr(column, "isna"):  # a Series or an Index of pandas
-        if getattr(column.dtype, "kind", "O") in "iu" and not hasattr(column.dtype, "na_value"):
-            return column.to_numpy()
-        return [None if missing else field for field, missing in zip(column.tolist(), column.isna())]
-    try:
-        return column if isinstance(column, (list, tuple)) else memoryview(column)
-    except TypeError:
-        return tuple(column)
+        whole = getattr(column.dtype, "kind", "O") in "iu" and not hasattr(column.dtype, "na_value")
+        column = column.to_numpy() if whole else _listed(column)
+    elif not isinstance(column, (list, tuple)):
+        try:
+            column = memoryview(column)
+        except TypeError:
+            column = tuple(column)
+    return column, len(column) if at == 0 else None
 
 
 def each_key(*columns, seed=None, secrets=None, out=None):
     """Returns the hash of each row of one or more columns, as v3_key returns it, in the same way as `each`.
 
-    A column is a list, a tuple or another iterable of fields, a contiguous buffer of integers, such as a NumPy array, or
-    a Series of pandas, whose missing values are None. Raises TypeError for any other column, such as a str, a DataFrame
-    or an array of objects, and ValueError if the columns have different numbers of rows."""
+    A column is a list, a tuple or another iterable of fields, a contiguous buffer of integers, such as a NumPy array, a
+    Series of pandas, whose missing values are None, or an Arrow array of strings, bytes or integers. Raises TypeError
+    for any other column, such as a str, a DataFrame or an array of objects, and ValueError if the columns have different
+    numbers of rows."""
     if not columns:
         raise TypeError("each_key() needs at least one column")
-    columns = tuple(_fields(at, column) for at, column in enumerate(columns))
-    out = _room(len(columns[0])) if out is None else out
-    _extension.each_key(columns, seed, secrets, out, len(columns[0]))
+    opened = []
+    for at, column in enumerate(columns):  # A generator would release columns of Arrow while an error is set.
+        opened.append(_fields(at, column))
+    columns, rows = zip(*opened)
+    out = _room(rows[0]) if out is None else out
+    _extension.each_key(columns, seed, secrets, out, rows[0])
     return out
 
 
@@ -173,11 +198,30 @@ class _Hasher(_extension.Stream):
 
     __copy__ = copy
 
+    @classmethod
+    def restore(cls, saved, seed=None, secrets=None):
+        """Returns a hasher of the message whose hasher `save` returned as bytes, with the same seed or secrets.
+
+        Raises ValueError, which names the reason, if the bytes are changed or of another class, seed or secrets."""
+        hasher = cls(seed=seed, secrets=secrets)
+        hasher._restore(saved)
+        return hasher
+
+    def __reduce__(self):
+        return copyreg.__newobj__, (type(self),), (self.save(), Secrets(self._words()), self.__dict__)
+
+    def __setstate__(self, state):
+        saved, secrets, attributes = state
+        self._start(self._lanes, secrets)
+        self._restore(saved)
+        self.__dict__.update(attributes)
+
 
 class V3(_Hasher):
     """Hashes a message in pieces, with the methods of hashlib's objects. Threads can share a hasher.
 
-    Raises TypeError if both `seed` and `secrets` are passed."""
+    A pickle of a hasher contains its secrets, and what `save` returns does not. Raises TypeError if both `seed` and
+    `secrets` are passed."""
 
     name = "rapidhash_v3"
     block_size = 112

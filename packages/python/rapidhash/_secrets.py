@@ -4,6 +4,7 @@ from __future__ import annotations
 
 import struct
 import sys
+from typing import Any
 
 
 class _Words(bytes):
@@ -27,10 +28,18 @@ class _Words(bytes):
         """The secrets, as a tuple of integers."""
         return struct.unpack(f"={self._count - 1}Q", self[8:])
 
+    def __reduce__(self) -> tuple[Any, ...]:
+        return _made, (type(self), struct.pack(f"<{self._count}Q", self.seed, *self.secrets))
+
     def __repr__(self) -> str:
         return f"<{type(self).__name__}, whose words are not shown>"
 
     __str__ = __repr__
+
+
+def _made(kind: type[_Words], little: bytes) -> _Words:
+    """Returns the words of a pickle, whose bytes have the same order on every machine."""
+    return kind(struct.pack(f"={kind._count}Q", *struct.unpack(f"<{kind._count}Q", little)))
 
 
 class Secrets(_Words):

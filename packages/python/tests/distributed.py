@@ -1,6 +1,6 @@
 #!/usr/bin/python3
 """Runs the example over worker processes on 300,000 rows in six parts, and compares its shards and duplicates with
-those of GROUP BY in SQLite over the same rows."""
+those of GROUP BY in SQLite and PostgreSQL over the same rows, and the shard of each key with Java's and Go's."""
 
 import csv
 import random
@@ -9,10 +9,50 @@ import sys
 from pathlib import Path
 
 sys.path.append(str(Path(__file__).parents[3] / "tests"))
-from cases import ROOM, TOP, compare, finish, needs, shell, tell  # noqa: E402
+from cases import ROOM, TOP, compare, finish, lacks, needs, shell, skip, tell  # noqa: E402
+from sql import SERVER, ask, start_server  # noqa: E402
 
 SHARDS, WORKERS, PARTS, ROWS = 8, 3, 6, 300_000
 WORDS = "user", "naïve", "中文", "мир", "😀", "a,b", 'quote"d', " ", "x" * 300
+
+# A line for each shard, as the example prints it.
+GROUPED = f"""SELECT rapidhash_v3_key(name, number) & {SHARDS - 1} AS shard, sum(times), count(*)
+    FROM (SELECT name, number, count(*) AS times FROM rows GROUP BY name, number) AS keys GROUP BY shard ORDER BY shard"""
+# Programs that print the shard of each key in a table: a name as hexadecimal digits or -, and a number or -.
+PYTHON = """import sys, rapidhash
+names, numbers = zip(*(line.split() for line in open(sys.argv[1])))
+print(*(key % SHARDS for key in rapidhash.each_key([None if it == "-" else bytes.fromhex(it).decode() for it in names],
+                                                   [None if it == "-" else int(it) for it in numbers])))"""
+JAVA = """import example.yervound.rapidhash.RapidhashKey;
+class Shards {
+    public static void main(String[] words) throws Exception {
+        for (String line : java.nio.file.Files.readAllLines(java.nio.file.Path.of(words[0]))) {
+            String[] key = line.split("\t");
+            byte[] name = key[0].equals("-") ? null : new java.math.BigInteger("1" + key[0], 16).toByteArray();
+            Object text = name == null ? null : new String(name, 1, name.length - 1, "UTF-8");
+            Long number = key[1].equals("-") ? null : Long.valueOf(key[1]);
+            System.out.println(Long.remainderUnsigned(RapidhashKey.hash(text, number), SHARDS));
+        }
+    }
+}"""
+GO = """package main
+
+import ("bufio"; "encoding/hex"; "fmt"; "os"; "strconv"; "strings"; h "yervound.example/rapidhash")
+
+func main() {
+	lines := bufio.NewScanner(os.Stdin)
+	for lines.Scan() {
+		name, number, _ := strings.Cut(lines.Text(), "\t")
+		key := []h.Field{h.Nothing(), h.Nothing()}
+		if text, err := hex.DecodeString(name); err == nil {
+			key[0] = h.Text(string(text))
+		}
+		if value, err := strconv.ParseInt(number, 10, 64); err == nil {
+			key[1] = h.Integer(value)
+		}
+		fmt.Println(h.V3Key(key...) % SHARDS)
+	}
+}"""
 
 
 def row(draw):
@@ -33,14 +73,32 @@ def write_parts(rows):
 
 
 def grouped(rows):
-    """Returns the lines of the example as SQL computes them."""
+    """Returns the lines of the example as SQLite computes them."""
     database = sqlite3.connect(":memory:")
     database.enable_load_extension(True)
     database.load_extension(str(TOP / "build/rapidhash"))
     database.execute("CREATE TABLE rows (name TEXT, number INTEGER)")
     database.executemany("INSERT INTO rows VALUES (?, ?)", rows)
-    return database.execute(f"""SELECT rapidhash_v3_key(name, number) & {SHARDS - 1} AS shard, sum(times), count(*)
-        FROM (SELECT name, number, count(*) AS times FROM rows GROUP BY name, number) GROUP BY shard""").fetchall()
+    return database.execute(GROUPED).fetchall()
+
+
+def grouped_by_server(parts):
+    """Returns the lines of the example as a copy of the PostgreSQL server computes them."""
+    stop = start_server()
+    try:
+        shell("make -s postgresql && make -s -C build/postgresql install", DESTDIR=str(ROOM))
+        ask("CREATE EXTENSION rapidhash; CREATE TABLE rows (name text, number bigint)")
+        for part in parts.split():
+            ask(f"\\copy rows FROM {part} WITH (FORMAT csv)")
+        return [tuple(map(int, line.split("|"))) for line in ask(GROUPED)]
+    finally:
+        shell(stop, "/")
+
+
+def shards_by(program, name, command):
+    """Returns the shards that a program prints for the table of keys, or what it printed instead."""
+    (ROOM / name).write_text(program.replace("SHARDS", str(SHARDS)))
+    return shell(command, ROOM, PYTHONPATH=str(ROOM / "wheel"), GOPROXY="off", GOCACHE=str(ROOM / "go"))[1].split()
 
 
 needs("make", "cc", "/usr/include/sqlite3.h", "/usr/lib/python3/dist-packages/distributed",
@@ -57,4 +115,23 @@ compare("status", (status, len(found)), (0, SHARDS))
 compare("shards_of_sql", found, grouped(rows))
 compare("rows", sum(count for _, count, _ in found), ROWS)
 tell("duplicates", *["no row is there twice"] * (sum(distinct for _, _, distinct in found) >= ROWS))
+if reason := lacks(*SERVER):
+    skip("shards_of_postgresql", reason)
+else:
+    compare("shards_of_postgresql", grouped_by_server(parts), found)
+with open(ROOM / "keys", "w", encoding="ascii") as file:
+    file.writelines(f"{'-' if name is None else name.encode().hex()}\t{'-' if number is None else number}\n"
+                    for name, number in list(dict.fromkeys(rows))[:20_000])
+known = shards_by(PYTHON, "shards.py", "/usr/bin/python3 -B shards.py keys")
+compare("keys", (len(known), len(set(known))), (20_000, SHARDS))
+for name, tools, program, command in (
+        ("Shards.java", ("javac", "java"), JAVA,
+         "make -s -C $YERVOUND jar && java -cp $YERVOUND/build/*rapidhash*.jar Shards.java keys"),
+        ("shards.go", ("go",), GO, "go mod init shards && go mod edit -replace"
+         " yervound.example/rapidhash=$YERVOUND/packages/go && go mod tidy && go run . <keys")):
+    if reason := lacks(*tools):
+        skip(name, reason)
+    else:
+        printed = shards_by(program, name, command)
+        tell(name, *[(printed[:20], known[:20])] * (printed[-len(known):] != known))
 finish()

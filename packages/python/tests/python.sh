@@ -14,7 +14,7 @@ installs_as_the_page_says() {
   "$python" -m venv "$room/fresh" && PATH=$room/fresh/bin:$PATH works_as_its_page_says "$page" &&
     echo hello >data.bin && blocks "$page" python import | sed -E '1s/^/from array import array; /
       s/^(rapidhash.*\)) +# ([0-9]{16,}|".*"|array.*)/assert \1 == \2/' >page.py &&
-    [ "$(grep -c '^assert' page.py)" = 4 ] && "$room/fresh/bin/python" page.py
+    [ "$(grep -c '^assert' page.py)" = 5 ] && "$room/fresh/bin/python" page.py
 }
 
 # Checks that the wheel has its files, the licences of the repository, and no other files.
@@ -37,7 +37,7 @@ lay_out() {
   mkdir -p "$room/source" "$room/tests" && cd "$top" && cp LICENSE-* NOTICE "$room/source" &&
     git ls-files packages/python packages/c/include | xargs cp --parents -t "$room/source" &&
     (cd "$room/source" && find . | sort) >"$room/listed" && cp packages/python/tests/test_*.py "$room/tests" &&
-    cp crates/test_replay/data/keys.tsv "$room/tests" && write_vectors "$room/tests"
+    cp crates/test_replay/data/{keys,saved}.tsv "$room/tests" && write_vectors "$room/tests"
 }
 
 leaves_nothing() {
@@ -74,7 +74,7 @@ works_with() {
   folder=$(mktemp -d -p "$room") &&
     "$1" -m pip wheel --no-deps --no-build-isolation -w "$folder" "$top"/build/wheels/*.tar.gz &&
     "$1" -m zipfile -e "$folder"/yervound_rapidhash-*.whl "$folder" && cd "$room/tests" &&
-    for name in test_{rapidhash,package,buffers,columns,keys,vectors}.py; do
+    for name in test_{rapidhash,package,buffers,columns,keys,missing,arrow,saved,vectors}.py; do
       PYTHONPATH=$folder "$1" -B "$name" || return 1
     done
 }
@@ -99,7 +99,7 @@ try install installs_as_the_page_says
 try files has_its_files
 try exports exports_its_start_alone
 try lay_out lay_out
-for name in rapidhash package buffers columns keys vectors; do
+for name in rapidhash package buffers columns keys missing arrow saved vectors; do
   try "$name" runs_installed "test_$name"
 done
 try_with types mypy accepts_the_types

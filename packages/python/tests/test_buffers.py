@@ -15,6 +15,7 @@ import unittest
 import rapidhash
 
 DATA = bytes(range(120))
+LARGE = bytes(range(128)) * 2048  # All of it fits in a processor's own cache.
 KNOWN = 7088138960297660729  # The V3 hash of DATA by the Rust crate, as in test_rapidhash.py
 
 
@@ -99,30 +100,33 @@ class Buffers(unittest.TestCase):
 
         self.assertEqual((rapidhash.v3(Other(b"a")), rapidhash.V3(Other(b"a")).intdigest()), (KNOWN, KNOWN))
 
-    def test_a_piece_is_hashed_at_once(self):
-        def time_of(call):
+    def assert_alike(self, limit, calls):
+        """Fails if the least time of a call over its data is above so many times that of another. The data is in the cache
+        after a first call. On a busy machine the rounds go on until the times are alike: those of a slow call never are."""
+        def time_of(call, data):
+            call(data)
             start = time.thread_time()
             call(data)
             return time.thread_time() - start
 
-        data, hasher = bytes(1 << 22), rapidhash.V3()
-        alone = min(time_of(rapidhash.v3) for _ in range(9))
-        self.assertLess(min(time_of(hasher.update) for _ in range(9)), 8 * alone)  # Byte by byte it is 30 or more.
+        least = [min(time_of(*call) for _ in range(9)) for call in calls]
+        for _ in range(3000):
+            if max(least) < limit * min(least):
+                break
+            least = [min(known, time_of(*call)) for known, call in zip(least, calls)]
+        self.assertLess(max(least), limit * min(least), least)
+
+    def test_a_piece_is_hashed_at_once(self):
+        self.assert_alike(8, [(rapidhash.v3, LARGE), (rapidhash.V3().update, LARGE)])  # Byte by byte it is 30 or more.
 
     def test_no_kind_of_message_takes_longer(self):
-        def time_of(call, data):
-            start = time.thread_time()
-            call(data)
-            return time.thread_time() - start
-
-        size = 1 << 22
-        offsets, text = array.array("i", [0, size]), "a" * size
-        calls = [(rapidhash.v3, kind) for kind in (bytes(size), bytearray(size), memoryview(bytes(size)), text)]
-        calls += [(lambda kind: rapidhash.each([kind]), kind) for kind in (bytes(size), bytearray(size), text)]
-        calls += [(lambda data: rapidhash.each_row(data, size), bytes(size)),
-                  (lambda data: rapidhash.each_slice(data, offsets), bytes(size))]
-        least = [min(time_of(*call) for _ in range(15)) for call in calls]
-        self.assertLess(max(least), 2.5 * min(least), least)  # A loop over the bytes, or a copy, takes three times as long.
+        size = len(LARGE)
+        offsets, text = array.array("i", [0, size]), LARGE.decode()
+        calls = [(rapidhash.v3, kind) for kind in (LARGE, bytearray(LARGE), memoryview(LARGE), text)]
+        calls += [(lambda kind: rapidhash.each([kind]), kind) for kind in (LARGE, bytearray(LARGE), text)]
+        calls += [(lambda data: rapidhash.each_row(data, size), LARGE),
+                  (lambda data: rapidhash.each_slice(data, offsets), LARGE)]
+        self.assert_alike(1.5, calls)  # With a copy, a call takes twice as long.
 
     def test_other_threads_run_meanwhile(self):
         data, short, hasher = bytes(65_537), bytes(65_536), rapidhash.V3()

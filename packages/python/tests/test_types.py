@@ -23,12 +23,25 @@ hasher: V3Micro = V3Micro(b"", seed=1).update(b"").copy()
 column: array[int] = rapidhash.each(["text", b""], "v1", seed=7)
 column = rapidhash.each_row(b"", 8, out=column)
 room: bytearray = rapidhash.each_slice(b"", array("i"), secrets=made, out=bytearray())
+column = rapidhash.each(["text", None], missing=0)
+column = rapidhash.each_slice(b"", array("i"), validity=b"", missing=0)
+
+
+class Lent:
+    def __arrow_c_array__(self, requested_schema: object | None = None) -> tuple[object, object]:
+        raise NotImplementedError
+
+
+column = rapidhash.each(Lent(), missing=0)
+column = rapidhash.each_key(Lent(), [1])
 rapidhash.each([7])  # type: ignore[list-item]
 rapidhash.each([], "v99")  # type: ignore[call-overload]
 digits: str = rapidhash.v3_hexdigest("text", seed=1) + rapidhash.v1_hexdigest(b"", secrets=made_v1)
 
 text: str = hasher.hexdigest() + hasher.name + rapidhash.__version__
 size: int = hasher.intdigest() + hasher.block_size + V3.digest_size
+restored: V3Micro = V3Micro.restore(bytearray(hasher.save()), secrets=made)
+V3.restore("text")  # type: ignore[arg-type]
 V3(secrets=made_v1)  # type: ignore[arg-type]
 
 with open("file", "rb") as file:
