@@ -39,16 +39,25 @@ function viewOf(data) {
   return isBuffer(data) ? new Uint8Array(data) : undefined;
 }
 
-/** Returns the UTF-8 of a string, or the bytes of an ArrayBuffer or of a view of one. */
-export function bytesOf(data) {
+/** Returns the name of the call over an export of the module. */
+export const callOf = (name) => name.replace(/_([a-z])/g, (_, letter) => letter.toUpperCase());
+
+/** Returns what a value is, for the text of an error. */
+export function whatIs(value) {
+  if (typeof value !== "object" || value === null) return value === null ? "null" : typeof value;
+  return Object.prototype.toString.call(value).slice(8, -1);
+}
+
+/** Returns the UTF-8 of a string, or the bytes of an ArrayBuffer or of a view of one. An error names the call. */
+export function bytesOf(data, call, wanted = "data must be a string, an ArrayBuffer or a view of one") {
   if (typeof data === "string") return encoder.encode(data);
   let bytes;
   try {
     bytes = viewOf(data);
   } catch {
-    throw new TypeError("the buffer is detached, or too short for its view");
+    throw new TypeError(`${call}: the buffer is detached, or too short for its view`);
   }
-  if (bytes === undefined) throw new TypeError("expected a string, an ArrayBuffer or a view of one");
+  if (bytes === undefined) throw new TypeError(`${call}: ${wanted}, not ${whatIs(data)}`);
   return bytes;
 }
 
@@ -65,11 +74,11 @@ export function encodeInto(text, array) {
 /** Returns the argument `name` as a BigInt from 0 to 2^64 - 1. A Number from 2^53 on may be rounded. */
 export function word(name, number) {
   if (typeof number !== "bigint" && typeof number !== "number")
-    throw new TypeError(`${name} must be a BigInt or a Number`);
+    throw new TypeError(`${name} must be a BigInt or a Number, not ${whatIs(number)}`);
   if (typeof number === "number" && !Number.isSafeInteger(number))
-    throw new RangeError(`${name} must be an integer, and a BigInt from 2n ** 53n on`);
+    throw new RangeError(`${name} must be an integer, and a BigInt from 2n ** 53n on, not ${number}`);
   if (BigInt.asUintN(64, BigInt(number)) !== BigInt(number))
-    throw new RangeError(`${name} must be from 0 to 2n ** 64n - 1n`);
+    throw new RangeError(`${name} must be from 0 to 2n ** 64n - 1n, not ${number}`);
   return BigInt(number);
 }
 
@@ -81,27 +90,28 @@ function isPlain(value) {
 }
 
 /** Returns the seed or the secrets of a call, if any. Reads own properties alone, and refuses unknown ones. */
-export function choose(options) {
+export function choose(options, call) {
   if (options === undefined) return { seed: undefined, secrets: undefined };
-  if (!isPlain(options)) throw new TypeError("options must be an object: { seed } or { secrets }");
+  if (!isPlain(options))
+    throw new TypeError(`${call}: options must be an object: { seed } or { secrets }, not ${whatIs(options)}`);
   const own = { __proto__: null, seed: undefined, secrets: undefined };
   for (const name of Reflect.ownKeys(options)) {
     if (name !== "seed" && name !== "secrets")
-      throw new TypeError(`unknown option '${String(name)}': expected seed or secrets`);
+      throw new TypeError(`${call}: unknown option '${String(name)}': expected seed or secrets`);
     own[name] = options[name];
   }
   const { seed, secrets } = own;
   if (seed !== undefined && secrets !== undefined)
-    throw new TypeError("pass either seed or secrets, not both");
+    throw new TypeError(`${call}: pass either seed or secrets, not both`);
   if (secrets !== undefined && kindOf(secrets) !== "BigUint64Array")
-    throw new TypeError("secrets must be a BigUint64Array, the seed first");
-  return { seed: seed === undefined ? undefined : word("seed", seed), secrets };
+    throw new TypeError(`${call}: secrets must be a BigUint64Array, the seed first, not ${whatIs(secrets)}`);
+  return { seed: seed === undefined ? undefined : word(`${call}: seed`, seed), secrets };
 }
 
 /** Returns whether a digest must be hexadecimal digits. */
 export function isHex(encoding) {
   if (encoding !== undefined && encoding !== "hex")
-    throw new TypeError("the encoding of a digest must be 'hex', or undefined for a BigInt");
+    throw new TypeError("digest: the encoding must be 'hex', or undefined for a BigInt");
   return encoding === "hex";
 }
 
@@ -113,7 +123,8 @@ export function piecesOf(source) {
   if (typeof source?.stream === "function") return piecesOf(source.stream());
   if (typeof source?.arrayBuffer === "function" && source.body !== undefined)
     return source.body === null ? [] : piecesOf(source.body);
-  throw new TypeError("expected a stream, a Blob, a Response, or another async iterable");
+  throw new TypeError(`updateFrom: source must be a stream, a Blob, a Response, or another async iterable, not ${
+    whatIs(source)}`);
 }
 
 async function* readAll(reader) {

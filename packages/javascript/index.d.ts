@@ -34,9 +34,10 @@ export interface Hasher {
   reset(): this;
   /** Returns an independent hasher with the same message so far. */
   clone(): this;
-  /** Returns the state as bytes, which `load` of a hasher of this class accepts. They include the secrets. */
+  /** Returns the saved hasher: 208 bytes, the same in every language. They have bytes of the message but no secrets. */
   save(): Uint8Array;
-  /** Replaces the state, with its secrets, by a saved one. Returns the hasher. */
+  /** Replaces the message by that of a saved hasher of the same class, seed and secrets. Returns the hasher. Throws a
+   * TypeError that names the reason if the bytes are changed or of another hasher, and then changes nothing. */
   load(saved: ArrayBuffer | ArrayBufferView): this;
 }
 
@@ -89,3 +90,33 @@ export function loadSync(source?: Source): Rapidhash;
 
 /** Returns a hash as 16 lower-case hexadecimal digits. */
 export function hex(hash: bigint): string;
+
+/** Loads the module for the calls below. Without it, the first of them loads the module synchronously, which some
+ * browsers refuse outside of a worker. */
+export function ready(): Promise<void>;
+
+export const v1: Rapidhash["v1"];
+export const v2_0: Rapidhash["v2_0"];
+export const v2_1: Rapidhash["v2_1"];
+export const v2_2: Rapidhash["v2_2"];
+export const v3: Rapidhash["v3"];
+export const v3Micro: Rapidhash["v3Micro"];
+export const v3Nano: Rapidhash["v3Nano"];
+export const v3Protected: Rapidhash["v3Protected"];
+export const v1Hex: Rapidhash["v1Hex"];
+export const v2_0Hex: Rapidhash["v2_0Hex"];
+export const v2_1Hex: Rapidhash["v2_1Hex"];
+export const v2_2Hex: Rapidhash["v2_2Hex"];
+export const v3Hex: Rapidhash["v3Hex"];
+export const v3MicroHex: Rapidhash["v3MicroHex"];
+export const v3NanoHex: Rapidhash["v3NanoHex"];
+export const v3ProtectedHex: Rapidhash["v3ProtectedHex"];
+export const v3Key: Rapidhash["v3Key"];
+export const v3KeyWith: Rapidhash["v3KeyWith"];
+export const makeSecrets: Rapidhash["makeSecrets"];
+export const seedSecrets: Rapidhash["seedSecrets"];
+export const makeSecretsV1: Rapidhash["makeSecretsV1"];
+export const seedSecretsV1: Rapidhash["seedSecretsV1"];
+export const V3: Rapidhash["V3"];
+export const V3Micro: Rapidhash["V3Micro"];
+export const V3Nano: Rapidhash["V3Nano"];

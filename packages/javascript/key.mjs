@@ -1,6 +1,6 @@
 // The encoding of a key of several fields, which is the same in every language: for each field a tag, and then nothing,
 // the integer as 8 bytes, or the number of bytes as 8 bytes and the bytes. All numbers are little-endian.
-import { bytesOf, kindOf, sizeOf } from "./arguments.mjs";
+import { bytesOf, kindOf, sizeOf, whatIs } from "./arguments.mjs";
 
 const [nothing, integer, bytes] = [0, 1, 2];
 
@@ -9,7 +9,7 @@ function textOf(field) {
   const kind = kindOf(field);
   if (kind !== undefined && kind !== "Uint8Array") return undefined;
   try {
-    return bytesOf(field);
+    return bytesOf(field, "v3Key");
   } catch (error) {
     if (ArrayBuffer.isView(field)) throw error; // a detached one
     return undefined;
@@ -34,8 +34,7 @@ function partsOf(field, at) {
     throw new TypeError(`fields[${at}] has half of a surrogate pair`);
   const text = textOf(field);
   if (text !== undefined) return [bytes, BigInt(sizeOf(text)), text];
-  const kind = typeof field === "object" ? Object.prototype.toString.call(field).slice(8, -1) : typeof field;
-  throw new TypeError(`fields[${at}] must be null, an integer, a string or a Uint8Array, not ${kind}`);
+  throw new TypeError(`fields[${at}] must be null, an integer, a string or a Uint8Array, not ${whatIs(field)}`);
 }
 
 /** Returns the encoding of a key as a Uint8Array. */

@@ -1,7 +1,7 @@
 // The module's exports and its memory. After the module's own part, the memory has the default secrets, the secrets of
 // a call, the state of a stream after its secrets, and the bytes of a single call. It grows to the longest message of
 // V1, V2, or protected V3 and keeps that size.
-import { bytesOf, encodeInto, kindOf, sizeOf, word } from "./arguments.mjs";
+import { bytesOf, callOf, encodeInto, kindOf, sizeOf, word } from "./arguments.mjs";
 
 const page = 65536;
 /** The maximum size in bytes of a memory with 32-bit addresses. */
@@ -10,6 +10,8 @@ const most = 2 ** 32;
 export const piece = 2 * page;
 /** The secrets of a stream and the stream. */
 export const stateSize = 64 + 208;
+/** The states outside of the memory that share an array. The engine takes long to create an array for each. */
+const statesPerArray = 64;
 /** Up to this many bytes, a loop is faster than set(), and up to this many letters faster than encodeInto(). */
 const few = 8;
 const fewLetters = 20;
@@ -17,8 +19,8 @@ const fewLetters = 20;
 const version = 100;
 /** The default secrets of V1 are those of this seed word, and the others those of 0. */
 const wordOfV1 = 0xbdd89aa982704029n;
-const needed = ["memory", "__heap_base", "version", "high", "start", "write", "reset", "finish", "finish_low",
-  "make_secrets", "seed_secrets", "make_secrets_v1", "seed_secrets_v1"];
+const needed = ["memory", "__heap_base", "version", "high", "start", "write", "reset", "finish", "finish_low", "save",
+  "restore", "make_secrets", "seed_secrets", "make_secrets_v1", "seed_secrets_v1"];
 
 /** The codes of the hexadecimal digits. toString(16) is slow above 31 bits. */
 const codes = Array.from("0123456789abcdef", (digit) => digit.charCodeAt(0));
@@ -31,6 +33,9 @@ export function checkModule(isOurs) {
 export class Library {
   /** The stream whose state is in the memory, if any. */
   owner;
+  /** The array for states outside of the memory, and the end of its unused part. */
+  #states;
+  #unused = 0;
 
   constructor({ exports }) {
     checkModule(needed.every((name) => name in exports) && exports.version() === version);
@@ -51,6 +56,7 @@ export class Library {
   look() {
     const { buffer } = this.exports.memory;
     this.secrets = new BigUint64Array(buffer, this.atSecrets, 8);
+    this.secretsOfState = new BigUint64Array(buffer, this.atState, 8);
     this.state = new Uint8Array(buffer, this.atState, stateSize);
     this.bytes = new Uint8Array(buffer, this.atBytes);
     this.words = new Int32Array(buffer, this.atBytes, fewLetters / 4);
@@ -102,23 +108,35 @@ export class Library {
     return typeof message === "string" ? this.putText(message) : this.putBytes(message, sizeOf(message));
   }
 
-  /** Writes the secrets of a call, those of a seed or the caller's own, to the memory. */
-  give({ seed, secrets }, count) {
-    const { exports, atSecrets } = this;
+  /** Returns room for a state outside of the memory: an array and an index. */
+  reserve() {
+    if (this.#unused === 0) {
+      this.#states = new Uint8Array(statesPerArray * stateSize);
+      this.#unused = this.#states.length;
+    }
+    this.#unused -= stateSize;
+    return [this.#states, this.#unused];
+  }
+
+  /** Writes the secrets of a call, those of a seed or the caller's own, to the memory: of a call or, at atState, of a
+   * stream. Returns their offset. */
+  give({ seed, secrets }, count, at = this.atSecrets) {
+    const { exports } = this;
     if (secrets === undefined) {
-      if (count === 4) exports.seed_secrets_v1(seed ?? wordOfV1, atSecrets);
-      else exports.seed_secrets(seed ?? 0n, atSecrets);
-      return atSecrets;
+      if (count === 4) exports.seed_secrets_v1(seed ?? wordOfV1, at);
+      else exports.seed_secrets(seed ?? 0n, at);
+      return at;
     }
     if (sizeOf(secrets) !== 8 * count)
-      throw new TypeError(`secrets must have ${count} words for this version, the seed first`);
-    this.secrets.set(secrets);
-    return atSecrets;
+      throw new TypeError(`secrets must have ${count} words for this version, the seed first, not ${
+        sizeOf(secrets) / 8}`);
+    (at === this.atState ? this.secretsOfState : this.secrets).set(secrets);
+    return at;
   }
 
   /** Returns the secrets that the export `name` makes from a number. */
   take(name, count, number) {
-    this.exports[name](word("number", number), this.atSecrets);
+    this.exports[name](word(`${callOf(name)}: number`, number), this.atSecrets);
     return this.secrets.slice(0, count);
   }
 
@@ -134,9 +152,9 @@ export class Library {
 }
 
 /** Returns a message for `put`: a short string unchanged, and anything else as bytes. */
-export function messageOf(data) {
+export function messageOf(data, call) {
   if (typeof data === "string" && 3 * data.length <= piece) return data;
-  return kindOf(data) === "Uint8Array" && sizeOf(data) > 0 ? data : bytesOf(data);
+  return kindOf(data) === "Uint8Array" && sizeOf(data) > 0 ? data : bytesOf(data, call);
 }
 
 /** Returns whether a message must be hashed in pieces. */

@@ -7,10 +7,6 @@
 /* library.mjs relies on this size, on the offset of the secrets, and on the version. */
 _Static_assert(sizeof(struct rapidhash_stream) == 208 && offsetof(struct rapidhash_stream, secrets) == 0, "layout");
 
-/* The fields of a stream that its saved state must keep within bounds. */
-_Static_assert(offsetof(struct rapidhash_stream, has_rows) == 64 && offsetof(struct rapidhash_stream, len) == 196 &&
-               offsetof(struct rapidhash_stream, lanes) == 200, "layout");
-
 EXPORT(version) uint32_t version(void)
 { return RAPIDHASH_C_VERSION_NUMBER; }
 
@@ -49,6 +45,10 @@ EXPORT(write) void write(struct rapidhash_stream *stream, const void *bytes, siz
 { rapidhash_stream_write(stream, bytes, len); }
 EXPORT(reset) void reset(struct rapidhash_stream *stream)
 { rapidhash_stream_reset(stream); }
+EXPORT(save) void save(const struct rapidhash_stream *stream, unsigned char *saved)
+{ rapidhash_stream_save(stream, saved); }
+EXPORT(restore) uint32_t restore(struct rapidhash_stream *stream, const unsigned char *saved, size_t len)
+{ return rapidhash_stream_restore(stream, saved, len); }
 EXPORT(finish) uint64_t finish(const struct rapidhash_stream *stream)
 { return rapidhash_stream_finish(stream); }
 EXPORT(finish_low) uint32_t finish_low(const struct rapidhash_stream *stream)

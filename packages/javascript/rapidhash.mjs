@@ -1,10 +1,10 @@
 // The rapidhash family of hashes, over the C header compiled for WebAssembly:
 //
-//     import { loadSync } from "yervound-rapidhash";
-//     const hash = loadSync().v3("hello");
+//     import { v3 } from "yervound-rapidhash";
+//     const hash = v3("hello");
 //
 // A hash is a BigInt below 2n ** 64n, the same on every machine. README.md describes every call.
-import { bytesOf, choose, kindOf, sizeOf, word } from "./arguments.mjs";
+import { bytesOf, callOf, choose, kindOf, sizeOf, word } from "./arguments.mjs";
 import { encodeKey } from "./key.mjs";
 import { checkModule, isLong, Library, messageOf, piece } from "./library.mjs";
 import { Stream } from "./stream.mjs";
@@ -26,8 +26,9 @@ function isModule(source) {
 
 /** Refuses a string, which is a message for other calls. */
 function codeOf(source) {
-  if (typeof source === "string") throw new TypeError("expected the bytes of a module, or a WebAssembly.Module");
-  return bytesOf(source);
+  const wanted = "source must be the bytes of a module, or a WebAssembly.Module";
+  if (typeof source === "string") throw new TypeError(`load: ${wanted}, not string`);
+  return bytesOf(source, "load", wanted);
 }
 
 /** Refuses a module that needs imports, which that of the package does not. */
@@ -36,21 +37,29 @@ function checked(module) {
   return module;
 }
 
+async function libraryOf(source) {
+  const module = isModule(source) ? source : await WebAssembly.compile(codeOf(source));
+  return new Library(await WebAssembly.instantiate(checked(module)));
+}
+
+function libraryNow(source) {
+  const module = isModule(source) ? source : new WebAssembly.Module(codeOf(source));
+  return new Library(new WebAssembly.Instance(checked(module)));
+}
+
 /** Resolves to the calls, over the module inside the package, the bytes of another, or a WebAssembly.Module. */
 export async function load(source = inside()) {
-  const module = isModule(source) ? source : await WebAssembly.compile(codeOf(source));
-  return calls(new Library(await WebAssembly.instantiate(checked(module))));
+  return calls(await libraryOf(source));
 }
 
 /** Returns the calls synchronously, over the module inside the package or another. */
 export function loadSync(source = inside()) {
-  const module = isModule(source) ? source : new WebAssembly.Module(codeOf(source));
-  return calls(new Library(new WebAssembly.Instance(checked(module))));
+  return calls(libraryNow(source));
 }
 
 /** Returns a hash as 16 lower-case hexadecimal digits. */
 export function hex(hash) {
-  return word("hash", hash).toString(16).padStart(16, "0");
+  return word("hex: hash", hash).toString(16).padStart(16, "0");
 }
 
 /** Returns the two calls of a version with `count` words of secrets: for a BigInt and for hexadecimal digits. They hash
@@ -59,12 +68,14 @@ function form(library, name, count, lanes) {
   const { atBytes } = library;
   const { [name]: whole, [`${name}_low`]: low } = library.exports;
   checkModule(whole && low);
+  const [ofHash, ofDigits] = [callOf(name), `${callOf(name)}Hex`];
   const standard = count === 4 ? library.atDefaultV1 : library.atDefault;
   const general = (data, options, encoding) => {
     if (options === undefined && typeof data === "string" && 3 * data.length <= piece && !encoding)
       return BigInt.asUintN(64, whole(atBytes, library.putText(data), standard));
-    const choice = options === undefined ? undefined : choose(options);
-    const message = messageOf(data);
+    const call = encoding ? ofDigits : ofHash;
+    const choice = options === undefined ? undefined : choose(options, call);
+    const message = messageOf(data, call);
     if (lanes && isLong(message)) return new Stream(library, lanes, choice).update(message).digest(encoding);
     const secrets = choice === undefined ? standard : library.give(choice, count);
     const length = library.put(message);
@@ -83,11 +94,11 @@ function form(library, name, count, lanes) {
   return [hash, (data, options) => general(data, options, "hex")];
 }
 
-/** Returns the class of the hashers with `lanes` lanes. */
-function hashers(library, lanes) {
+/** Returns the class of the hashers with `lanes` lanes, over the library that a function returns. */
+function hashers(libraryNeeded, lanes) {
   return class extends Stream {
     constructor(options) {
-      super(library, lanes, options);
+      super(libraryNeeded(), lanes, options);
     }
   };
 }
@@ -108,14 +119,59 @@ function calls(library) {
     v1, v2_0, v2_1, v2_2, v3, v3Micro, v3Nano, v3Protected,
     v1Hex, v2_0Hex, v2_1Hex, v2_2Hex, v3Hex, v3MicroHex, v3NanoHex, v3ProtectedHex,
     v3Key: (...fields) => v3(encodeKey(fields)),
-    v3KeyWith: (options, ...fields) => v3(encodeKey(fields), options),
+    v3KeyWith: (options, ...fields) => v3(encodeKey(fields), choose(options, "v3KeyWith")),
     makeSecrets: secrets("make_secrets", 8),
     seedSecrets: secrets("seed_secrets", 8),
     makeSecretsV1: secrets("make_secrets_v1", 4),
     seedSecretsV1: secrets("seed_secrets_v1", 4),
-    V3: hashers(library, 7),
-    V3Micro: hashers(library, 5),
-    V3Nano: hashers(library, 3),
+    V3: hashers(() => library, 7),
+    V3Micro: hashers(() => library, 5),
+    V3Nano: hashers(() => library, 3),
     room: library.room,
   };
 }
+
+/** The library of the exported calls, and these calls over it: `ready` or the first call loads them. */
+let shared;
+let own;
+
+function share(library) {
+  if (own === undefined) [shared, own] = [library, calls(library)];
+  return own;
+}
+
+const ours = () => own ?? share(libraryNow(inside()));
+const ourLibrary = () => ours() && shared;
+const hash = (name) => (data, options) => ours()[name](data, options);
+const call = (name) => (...words) => ours()[name](...words);
+
+/** Loads the module for the exported calls. Without it, the first call loads the module synchronously. */
+export async function ready() {
+  if (own === undefined) share(await libraryOf(inside()));
+}
+
+export const v1 = hash("v1");
+export const v2_0 = hash("v2_0");
+export const v2_1 = hash("v2_1");
+export const v2_2 = hash("v2_2");
+export const v3 = hash("v3");
+export const v3Micro = hash("v3Micro");
+export const v3Nano = hash("v3Nano");
+export const v3Protected = hash("v3Protected");
+export const v1Hex = hash("v1Hex");
+export const v2_0Hex = hash("v2_0Hex");
+export const v2_1Hex = hash("v2_1Hex");
+export const v2_2Hex = hash("v2_2Hex");
+export const v3Hex = hash("v3Hex");
+export const v3MicroHex = hash("v3MicroHex");
+export const v3NanoHex = hash("v3NanoHex");
+export const v3ProtectedHex = hash("v3ProtectedHex");
+export const v3Key = call("v3Key");
+export const v3KeyWith = call("v3KeyWith");
+export const makeSecrets = call("makeSecrets");
+export const seedSecrets = call("seedSecrets");
+export const makeSecretsV1 = call("makeSecretsV1");
+export const seedSecretsV1 = call("seedSecretsV1");
+export const V3 = hashers(ourLibrary, 7);
+export const V3Micro = hashers(ourLibrary, 5);
+export const V3Nano = hashers(ourLibrary, 3);

@@ -2,46 +2,70 @@
 import { bytesOf, choose, isHex, part, piecesOf, sizeOf } from "./arguments.mjs";
 import { isLong, messageOf, piece, stateSize } from "./library.mjs";
 
-/** The offsets of the fields in a state: the secrets come first, then the stream of the C header. */
-const [atPointer, atAny, atLength, atLanes] = [64, 64 + 64, 64 + 196, 64 + 200];
-/** A saved state: the name and version of its format, the lanes, the state, and the hash of all that. */
-const format = [0x79, 0x72, 0x68, 1];
-const head = 8;
-const savedSize = head + stateSize + 8;
+/** The offset of the stream of the C header in a state: the secrets come first. */
+const atPointer = 64;
+/** The size of a saved hasher, which begins with the name and the version of its format. */
+const savedSize = 208;
+/** The classes with these numbers of lanes, for the text of an error. */
+const names = { 7: "V3", 5: "V3Micro", 3: "V3Nano" };
+const format = Array.from("rapidV3\x01", (letter) => letter.charCodeAt(0));
+
+/** Returns why a hasher with `lanes` lanes does not accept a saved one. */
+function reasonOf(saved, lanes) {
+  if (sizeOf(saved) !== savedSize) return `a saved hasher has ${savedSize} bytes, not ${sizeOf(saved)}`;
+  if (format.some((byte, at) => saved[at] !== byte))
+    return "expected a saved hasher, and of this version of the format";
+  if (saved[8] !== lanes || saved[9] !== 1)
+    return `the hasher was saved with ${saved[8]} lanes and options ${saved[9]}, not ${lanes} and 1`;
+  return "the saved hasher was changed, or has another seed or other secrets";
+}
 
 /** Hashes a message in pieces. The state stays in the memory until another stream needs the space. */
 export class Stream {
   #library;
   #lanes;
-  #state = new Uint8Array(stateSize);
+  /** The room of the state outside of the memory, if it has left that: an array and an index. */
+  #room;
+  #at;
 
   constructor(library, lanes, options) {
-    const choice = choose(options);
+    const { exports, atState, atDefault } = library;
     this.#library = library;
     this.#lanes = lanes;
-    const { exports, secrets, atSecrets, atState } = library;
-    library.give(choice, 8);
-    this.#enter();
-    library.state.set(new Uint8Array(secrets.buffer, atSecrets, 64));
-    exports.start(atState + atPointer, lanes, atState);
+    library.owner?.#leave();
+    const secrets = options === undefined ? atDefault : library.give(choose(options, names[lanes]), 8, atState);
+    exports.start(atState + atPointer, lanes, secrets);
+    library.owner = this;
   }
 
   /** Brings the state into the memory. Returns the offset of the stream. */
   #enter() {
     const library = this.#library;
     if (library.owner !== this) {
-      if (library.owner !== undefined) library.owner.#state.set(library.state);
-      library.state.set(this.#state);
+      library.owner?.#leave();
+      this.#fill();
       library.owner = this;
     }
     return library.atState + atPointer;
+  }
+
+  /** Copies the state out of the memory, in which another stream needs the space. */
+  #leave() {
+    const library = this.#library;
+    if (this.#room === undefined) [this.#room, this.#at] = library.reserve();
+    this.#room.set(library.state, this.#at);
+  }
+
+  /** Copies the state, which has left the memory before, into it. */
+  #fill() {
+    this.#library.state.set(this.#room.subarray(this.#at, this.#at + stateSize));
   }
 
   /** Appends a piece to the message. Returns the hasher. */
   update(data, ...others) {
     if (others.length > 0) throw new TypeError("update takes one piece: an encoding or an option has no effect");
     const library = this.#library;
-    const message = messageOf(data);
+    const message = messageOf(data, "update");
     const stream = this.#enter();
     if (!isLong(message)) {
       library.exports.write(stream, library.atBytes, library.put(message));
@@ -74,49 +98,24 @@ export class Stream {
   /** Returns an independent hasher with the same message so far. */
   clone() {
     this.#enter();
-    const state = this.#library.state.slice();
-    return new this.constructor().#restore(state);
+    const other = new this.constructor(); // It is in the memory, which this one has left.
+    this.#fill();
+    return other;
   }
 
-  #restore(state) {
-    this.#enter();
-    this.#library.state.set(state);
-    return this;
-  }
-
-  /** Returns the hash of a saved state without its end. */
-  #check(saved) {
-    const { exports, atBytes, atDefault } = this.#library;
-    return exports.v3(atBytes, this.#library.put(part(saved, 0, savedSize - 8)), atDefault);
-  }
-
-  /** Returns the state as bytes, which `load` of a hasher of this class accepts. They include the secrets. */
+  /** Returns the saved hasher: bytes of the message, but no secrets. They are the same in every language. */
   save() {
-    this.#enter();
-    const saved = new Uint8Array(savedSize);
-    saved.set(format);
-    saved[format.length] = this.#lanes;
-    saved.set(this.#library.state, head);
-    saved.fill(0, head + atPointer, head + atPointer + 4);
-    new DataView(saved.buffer).setBigInt64(savedSize - 8, this.#check(saved), true);
-    return saved;
+    const { exports, atBytes } = this.#library;
+    exports.save(this.#enter(), atBytes);
+    return this.#library.bytes.slice(0, savedSize);
   }
 
-  /** Returns whether bytes are what `save` of a hasher with as many lanes returned. */
-  #isSaved(saved) {
-    if (saved.length !== savedSize) return false;
-    const lanes = this.#lanes;
-    const fields = new DataView(saved.buffer, head);
-    return [...format, lanes, 0, 0, 0].every((byte, at) => saved[at] === byte) &&
-      fields.getBigInt64(stateSize, true) === this.#check(saved) && fields.getUint8(atAny) <= 1 &&
-      fields.getUint32(atLanes, true) === lanes && fields.getUint32(atLength, true) <= 16 * lanes;
-  }
-
-  /** Replaces the state by a saved one. Returns the hasher. */
+  /** Replaces the message by that of a saved hasher of the same class, seed and secrets. Returns the hasher. */
   load(data) {
-    const saved = new Uint8Array(bytesOf(data));
-    if (!this.#isSaved(saved)) throw new TypeError("expected the bytes that save() of a hasher of this class returned");
-    new DataView(saved.buffer).setUint32(head + atPointer, this.#library.atState, true);
-    return this.#restore(saved.subarray(head, head + stateSize));
+    const saved = bytesOf(data, "load");
+    const { exports, atBytes } = this.#library;
+    if (sizeOf(saved) !== savedSize || !exports.restore(this.#enter(), atBytes, this.#library.put(saved)))
+      throw new TypeError(reasonOf(saved, this.#lanes));
+    return this;
   }
 }

@@ -19,14 +19,14 @@ has_its_files() {
 # Lays out the tests beside the installed package, with the files that they read.
 lay_out() {
   cp "$top"/packages/javascript/tests/*.m* "$top/build/rapidhash.wasm" "$room/first" &&
-    cp "$top/crates/test_replay/data/keys.tsv" "$room/first" && write_vectors "$room/first" &&
+    cp "$top"/crates/test_replay/data/{keys,saved}.tsv "$room/first" && write_vectors "$room/first" &&
     seq 1 20000000 | head -c 100000000 >"$room/first/large"
 }
 
 # Runs the page's program over a file. A comment that begins with a hash is its wanted value.
 runs_the_page() {
   cd "$room/first" && { echo 'import { equal } from "node:assert"; const file = new Blob(["hello"]);' &&
-    blocks "$top/packages/javascript/README.md" js loadSync; } |
+    blocks "$top/packages/javascript/README.md" js ready; } |
     sed -E 's,^([a-z].*\)); *// ([0-9]+n|"[0-9a-f]+").*,equal(\1\, \2);,' >page.mjs &&
     [ "$(grep -c '^equal' page.mjs)" = 4 ] && node page.mjs
 }
@@ -45,7 +45,8 @@ runs_in_node() {
 runs_required() {
   cp -r "$room/first" "$room/required" && cd "$room/required" &&
     sed -i 's|"./rapidhash.mjs"|"./rapidhash.cjs"|' node_modules/yervound-rapidhash/package.json &&
-    rm node_modules/yervound-rapidhash/*.mjs && node --test known.mjs && node --test refused.mjs
+    rm node_modules/yervound-rapidhash/*.mjs && node --test known.mjs && node --test refused.mjs &&
+    node --test shared.mjs
 }
 
 # Bundles a program without a rule and runs the result, a script for browsers: COMMAND.., which writes bundle/main.js
@@ -90,7 +91,7 @@ try install works_as_its_page_says "$top/packages/javascript/README.md"
 try files has_its_files
 try lay_out lay_out
 try page runs_the_page
-for name in known refused keys vectors node; do
+for name in known refused keys saved shared vectors node; do
   try "node_$name" runs_in_node "$name"
 done
 try changed_files refuses_changed_files

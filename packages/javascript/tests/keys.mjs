@@ -58,5 +58,6 @@ test("what is no field", () => {
   }
   for (const half of ["a\ud800", "\udc00", "\ud800a"])
     assert.throws(() => v3Key(half), { name: "TypeError", message: "fields[0] has half of a surrogate pair" });
-  assert.throws(() => v3KeyWith({ sed: 1 }, 1), { message: "unknown option 'sed': expected seed or secrets" });
+  assert.throws(() => v3KeyWith({ sed: 1 }, 1),
+    { message: "v3KeyWith: unknown option 'sed': expected seed or secrets" });
 });

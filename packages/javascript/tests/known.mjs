@@ -94,6 +94,19 @@ test("hashers do not disturb each other", () => {
   assert.equal(right.digest(), 13105958653737073913n);
 });
 
+test("many hashers in turn, of which some end", () => {
+  const texts = Array.from({ length: 300 }, (_, at) => `text ${at}`);
+  const hashers = texts.map((text, at) => {
+    assert.equal(new V3Nano({ seed: at }).update(text).digest(), v3Nano(text, { seed: at }));
+    return new V3({ seed: at }).update(text);
+  });
+  for (let round = 2; round < 5; round++)
+    hashers.forEach((hasher, at) => {
+      assert.equal(hasher.update(texts[at]).digest(), v3(texts[at].repeat(round), { seed: at }));
+      assert.equal(hasher.clone().update("!").digest(), v3(`${texts[at].repeat(round)}!`, { seed: at }));
+    });
+});
+
 test("calls of a hasher after those of another", () => {
   const saved = new V3().update("hello").save();
   const calls = [(hasher) => hasher.update("lo"), (hasher) => hasher.clone().update("lo"),
@@ -158,7 +171,7 @@ test("hexadecimal digits", () => {
   assert.equal(hex(2n ** 64n - 1n), "ffffffffffffffff");
   assert.equal(hex(v3("hello")), "2e2d7651b45f7946");
   for (const [hash, name] of [[-1n, "RangeError"], [2n ** 64n, "RangeError"], ["1", "TypeError"]])
-    assert.throws(() => hex(hash), { name, message: /^hash must be/ });
+    assert.throws(() => hex(hash), { name, message: /^hex: hash must be/ });
 });
 
 test("a hash as digits, without a BigInt", () => {
@@ -175,7 +188,7 @@ test("a hash as digits, without a BigInt", () => {
   }
 });
 
-test("a saved state", async () => {
+test("a saved hasher", async () => {
   const other = await load();
   for (const name of ["V3", "V3Micro", "V3Nano"])
     for (const length of [0, 1, 48, 49, 120]) {
@@ -183,26 +196,11 @@ test("a saved state", async () => {
       const saved = first.save();
       const rest = data.subarray(length);
       const hash = new library[name]({ secrets: own }).update(data).digest();
-      for (const loaded of [new library[name]().load(saved), new other[name]({ seed: 9 }).load(saved.slice().buffer)])
-        assert.equal(loaded.update(rest).digest(), hash);
+      const loaded = [new library[name]({ secrets: own }).update("other").load(saved),
+        new other[name]({ secrets: own }).load(saved.slice().buffer), new library[name]({ secrets: own }).load(saved)];
+      for (const hasher of loaded) assert.equal(hasher.update(rest).digest(), hash);
       assert.equal(first.update(rest).digest(), hash);
-      assert.deepEqual(new library[name]({ secrets: own }).update(data.subarray(0, length)).save(), saved);
     }
-});
-
-// The state is that of the C header in memory with 32-bit addresses, least significant byte first, after its secrets.
-test("each byte of a saved state", () => {
-  const known = new DataView(new ArrayBuffer(288));
-  const bytes = new Uint8Array(known.buffer);
-  bytes.set([0x79, 0x72, 0x68, 1, 7]);
-  // After the secrets, the lanes are still the seed. No row is folded, so the first 16 kept bytes are 0.
-  own.forEach((word, at) => known.setBigUint64(8 + 8 * at, word, true));
-  for (let lane = 0; lane < 7; lane++) known.setBigUint64(80 + 8 * lane, own[0], true);
-  bytes.set(data.subarray(0, 20), 137 + 16);
-  known.setUint32(268, 20, true);
-  known.setUint32(272, 7, true);
-  known.setBigUint64(280, v3(bytes.subarray(0, 280)), true);
-  assert.deepEqual(new V3({ secrets: own }).update(data.subarray(0, 20)).save(), bytes);
 });
 
 test("streams of the web", async () => {

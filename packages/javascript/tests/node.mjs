@@ -24,7 +24,7 @@ test("streams of Node", async () => {
     assert.equal((await new Stream().updateFrom(text)).digest(), value);
   }
   const odd = Readable.from([{ a: 7 }]);
-  await assert.rejects(new V3().updateFrom(odd), { name: "TypeError", message: /^expected a string/ });
+  await assert.rejects(new V3().updateFrom(odd), { name: "TypeError", message: /^update: data must be a string/ });
   const missing = createReadStream(new URL("missing", import.meta.url));
   await assert.rejects(new V3().updateFrom(missing), { code: "ENOENT" });
 });
@@ -39,7 +39,7 @@ test("each version of a large file", async () => {
 
 test("a module by its bytes, and compiled", async () => {
   const bytes = await readFile(new URL("rapidhash.wasm", import.meta.url));
-  assert.ok(bytes.length <= 40000);
+  assert.ok(bytes.length <= 41000);
   const module = new WebAssembly.Module(bytes);
   const foreign = runInNewContext("new WebAssembly.Module(bytes)", { bytes });
   for (const other of [await load(bytes), await load(module), loadSync(bytes), loadSync(module), loadSync(foreign)])
@@ -95,6 +95,8 @@ test("a message too large for the memory", () => {
   for (const call of [v1, v3Protected])
     assert.throws(() => call(long), { name: "RangeError", message });
   const hasher = new V3();
+  const saved = "a saved hasher has 208 bytes, not 4294967296";
+  assert.throws(() => hasher.load(whole), { name: "TypeError", message: saved });
   for (let at = 0; at < whole.length; at += 2 ** 24) hasher.update(whole.subarray(at, at + 2 ** 24));
   assert.equal(v3(whole), hasher.digest());
   assert.equal(v3("hello"), 3327445792987248966n);

@@ -1,5 +1,6 @@
 // Code that the types accept or refuse. tsc compiles it, and nothing runs it.
-import { hex, load, loadSync, type Hasher, type Message, type Options, type Rapidhash } from "yervound-rapidhash";
+import { hex, load, loadSync, ready, v3, v3Hex, V3, type Hasher, type Message, type Options, type Rapidhash }
+  from "yervound-rapidhash";
 
 const library: Rapidhash = loadSync();
 const later: Promise<Rapidhash> = load(new WebAssembly.Module(new Uint8Array(8)));
@@ -22,6 +23,7 @@ async function pieces(): Promise<bigint> {
   return (await new V3Nano().updateFrom(parts())).digest() ^ hasher.digest();
 }
 
+const shared: Promise<string> = ready().then(() => v3Hex("text") + v3("text", { seed: 1 }) + new V3().digest("hex"));
 const key: bigint = library.v3Key("text", 1, 2n, null, undefined, data, data.buffer);
 const seeded: bigint = library.v3KeyWith({ seed: 1 }, key, new DataView(data.buffer));
 
@@ -54,4 +56,4 @@ loadSync("rapidhash.wasm");
 // @ts-expect-error The properties are read-only.
 library.room = 7;
 
-export { digits, pieces, rounded, text };
+export { digits, pieces, rounded, shared, text };

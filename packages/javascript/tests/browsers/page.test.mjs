@@ -1,4 +1,4 @@
-// Runs known.mjs, refused.mjs, and vectors.mjs in the browser that BROWSER names, and uses the page
+// Runs the tests that suite.html lists in the browser that BROWSER names, and uses the page
 // packages/javascript/page there. SERVER has both, as `first/suite.html` and `browser`. The files are in FILES. Their
 // hashes by each version of the package come from TOOL, the program rapidhash.
 import assert from "node:assert/strict";
