@@ -1,8 +1,12 @@
 """The common part of the tests of both SQL databases: known values, the vectors, and the examples on their pages."""
 
+import os
 import re
+import shutil
+import subprocess
+from pathlib import Path
 
-from cases import TOP, blocks, compare, shell
+from cases import ROOM, TOP, blocks, compare, shell, tell
 
 HELLO = 3327445792987248966
 NOTHING = 232177599295442350
@@ -12,6 +16,11 @@ HEADER = (TOP / "packages/c/include/rapidhash_c.h").read_text()
 STREAMS = re.findall(r"X\((\w+)", re.search(r"define RAPIDHASH_C_STREAMS\(X\) (.*)", HEADER)[1])
 # The digits of a hash as an SQL integer: those of HELLO, and of words with leading zeros and with the highest bit.
 DIGITS = {HELLO: "2e2d7651b45f7946", 0: "0" * 16, 2**32: "0000000100000000", -1: "f" * 16, -2**62: "c" + "0" * 15}
+# The tools of a copy of the PostgreSQL server, the directory of its databases, which also contains its socket, and the
+# start of its commands, which root may not run.
+SERVER = "pg_config psql setpriv /usr/lib/postgresql/*/bin/initdb /usr/include/postgresql/*/server/postgres.h".split()
+DATA = ROOM / "data"
+NOBODY = "setpriv --reuid=65534 --regid=65534 --clear-groups " if os.geteuid() == 0 else ""
 # The page of all packages, which also shows the commands on each package's page.
 BINDINGS = (TOP / "docs/BINDINGS.md").read_text()
 
@@ -82,3 +91,27 @@ def key_queries(literal, integer):
 def lines_with_results(page):
     """Returns the queries of a page that state their results, with these results."""
     return re.findall(r"^(SELECT .*?); *-- (-?\w+)$", "".join(blocks(page, "sql")), re.M)
+
+
+def start_server():
+    """Starts a copy of the machine's PostgreSQL server and returns the command that stops it."""
+    binaries, shared = (Path(shell(f"pg_config --{name}")[1].strip()) for name in ("bindir", "sharedir"))
+    ROOM.chmod(0o755)
+    for folder in (binaries.parent, shared):
+        shutil.copytree(folder, ROOM / folder.relative_to("/"))
+    DATA.mkdir()
+    if NOBODY:
+        shutil.chown(DATA, 65534, 65534)
+    run = f"{NOBODY}env -i LC_ALL=C.UTF-8 {ROOM / binaries.relative_to('/')}"
+    options = f"-c listen_addresses= -c unix_socket_directories={DATA} -c fsync=off"
+    status, printed = shell(f"{run}/initdb -D {DATA} --no-sync --auth=trust -E UTF8 -U test && "
+                            f"{run}/pg_ctl -D {DATA} -w -l {DATA}/log -o '{options}' start", "/")
+    tell("server", *printed.splitlines()[-5:] * (status != 0))
+    return f"{run}/pg_ctl -D {DATA} -m fast stop"
+
+
+def ask(query):
+    """Returns the resulting lines of a query to it, or its error."""
+    words = ["psql", "-XAtq", "-h", DATA, "-U", "test", "-d", "postgres", "-v", "ON_ERROR_STOP=1", "-f", "-"]
+    done = subprocess.run(words, input=query, stdout=subprocess.PIPE, stderr=subprocess.STDOUT, text=True)
+    return done.stdout.splitlines()

@@ -14,6 +14,20 @@ CREATE FUNCTION rapidhash_v3_key_with_seed(seed bigint, VARIADIC fields "any") R
 CREATE FUNCTION rapidhash_v3_key_with_secrets(number bigint, VARIADIC fields "any") RETURNS bigint
     AS 'MODULE_PATHNAME', 'sql_v3_key_with_secrets' LANGUAGE C IMMUTABLE PARALLEL SAFE;
 
+-- For partitions by hash, and hash indexes.
+CREATE FUNCTION rapidhash_v3_ops(text) RETURNS integer
+    AS 'MODULE_PATHNAME', 'sql_v3_ops' LANGUAGE C IMMUTABLE STRICT PARALLEL SAFE;
+CREATE FUNCTION rapidhash_v3_ops(text, seed bigint) RETURNS bigint
+    AS 'MODULE_PATHNAME', 'sql_v3_ops_with_seed' LANGUAGE C IMMUTABLE STRICT PARALLEL SAFE;
+CREATE OPERATOR CLASS rapidhash_v3_text_ops FOR TYPE text USING hash AS
+    OPERATOR 1 =, FUNCTION 1 rapidhash_v3_ops(text), FUNCTION 2 rapidhash_v3_ops(text, bigint);
+CREATE FUNCTION rapidhash_v3_ops(bytea) RETURNS integer
+    AS 'MODULE_PATHNAME', 'sql_v3_ops' LANGUAGE C IMMUTABLE STRICT PARALLEL SAFE;
+CREATE FUNCTION rapidhash_v3_ops(bytea, seed bigint) RETURNS bigint
+    AS 'MODULE_PATHNAME', 'sql_v3_ops_with_seed' LANGUAGE C IMMUTABLE STRICT PARALLEL SAFE;
+CREATE OPERATOR CLASS rapidhash_v3_bytea_ops FOR TYPE bytea USING hash AS
+    OPERATOR 1 =, FUNCTION 1 rapidhash_v3_ops(bytea), FUNCTION 2 rapidhash_v3_ops(bytea, bigint);
+
 -- Creates each version for bytea, text, and bigint: by default, with a seed, and with secrets made from a number. Those
 -- that can be streamed are also aggregates.
 DO $body$

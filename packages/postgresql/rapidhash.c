@@ -73,6 +73,30 @@ static Datum hash_integer(FunctionCallInfo fcinfo, hash_by_word *hash)
 
 RAPIDHASH_C_VERSIONS(VERSION)
 
+/* Refuses a collation in which texts of different bytes can be equal. */
+static void require_bytewise(FunctionCallInfo fcinfo)
+{
+    if (OidIsValid(PG_GET_COLLATION()) && !get_collation_isdeterministic(PG_GET_COLLATION()))
+        ereport(ERROR, (errcode(ERRCODE_FEATURE_NOT_SUPPORTED),
+                        errmsg("rapidhash_v3_text_ops does not support nondeterministic collations")));
+}
+
+PG_FUNCTION_INFO_V1(sql_v3_ops);
+PG_FUNCTION_INFO_V1(sql_v3_ops_with_seed);
+
+/* The support functions of the operator classes: the hash with a seed, and with seed 0 its lower half. */
+Datum sql_v3_ops(PG_FUNCTION_ARGS)
+{
+    require_bytewise(fcinfo);
+    PG_RETURN_INT32((int32)DatumGetInt64(hash_bytes(fcinfo, default_v3)));
+}
+
+Datum sql_v3_ops_with_seed(PG_FUNCTION_ARGS)
+{
+    require_bytewise(fcinfo);
+    return hash_bytes(fcinfo, rapidhash_v3_with_seed);
+}
+
 PG_FUNCTION_INFO_V1(sql_hex);
 
 /* Returns a hash as 16 hexadecimal digits. */

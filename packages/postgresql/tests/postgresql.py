@@ -3,22 +3,17 @@
 copy as a user without rights and tests each function. The machine's own server is not affected. The values are those of
 the Rust crate."""
 
-import os
 import re
-import shutil
-import subprocess
 import sys
 from itertools import zip_longest
 from pathlib import Path
 
 sys.path.append(str(Path(__file__).parents[3] / "tests"))
 from cases import ROOM, TOP, blocks, compare, finish, needs, shell, tell  # noqa: E402
-from sql import BINDINGS, HELLO, STREAMS, key_queries, lines_with_results, signed, unpack, vector_queries  # noqa: E402
+from sql import (BINDINGS, DATA, HELLO, SERVER, STREAMS, ask, key_queries, lines_with_results, signed,  # noqa: E402
+                 start_server, unpack, vector_queries)
 
 PAGE = "packages/postgresql/README.md"
-# The directory of its databases, which also contains its socket.
-DATA = ROOM / "data"
-NOBODY = "setpriv --reuid=65534 --regid=65534 --clear-groups " if os.geteuid() == 0 else ""
 FUNCTIONS = """SELECT prokind, proisstrict, count(*), count(*) FILTER (WHERE proargnames && '{seed,number}'), bool_and(provolatile = 'i' AND proparallel = 's')
     FROM pg_proc WHERE proname LIKE 'rapidhash%' GROUP BY 1, 2 ORDER BY 1, 2"""
 STORED = """CREATE TABLE stored (word text); ALTER TABLE stored ALTER word SET STORAGE {0};
@@ -27,18 +22,6 @@ STORED = """CREATE TABLE stored (word text); ALTER TABLE stored ALTER word SET S
     pg_column_size(word) < octet_length(word) FROM stored; DROP TABLE stored"""
 # The server stores a value compressed, in pieces, or with a shorter header.
 STORAGES = (("EXTENDED", 220000, "t"), ("EXTERNAL", 220000, "f"), ("PLAIN", 1, "f"))
-
-
-def folders_of_the_server():
-    """Returns the directories of the machine's server."""
-    return [Path(shell(f"pg_config --{name}")[1].strip()) for name in ("bindir", "sharedir")]
-
-
-def ask(query):
-    """Returns the resulting lines of a query, or its error."""
-    words = ["psql", "-XAtq", "-h", DATA, "-U", "test", "-d", "postgres", "-v", "ON_ERROR_STOP=1", "-f", "-"]
-    done = subprocess.run(words, input=query, stdout=subprocess.PIPE, stderr=subprocess.STDOUT, text=True)
-    return done.stdout.splitlines()
 
 
 def install():
@@ -118,9 +101,66 @@ def aggregates():
     ask("DROP TABLE many")
 
 
+def partitions():
+    """Tests the table of the page on 300,000 rows, and a sum over them by parallel workers."""
+    [commands] = [block for block in blocks(PAGE, "sql") if "BY LIST" in block]
+    ask(commands + """INSERT INTO visits SELECT nullif('user:' || place % 1000, 'user:7'), nullif(place % 50000, 7)
+        FROM generate_series(1, 300000) place; INSERT INTO visits VALUES (NULL, NULL)""")
+    compare("partitions", ask("""SELECT tableoid::regclass, count(*) > 60000, bool_and(tableoid::regclass::text =
+        'visits' || (rapidhash_v3_key(name, number) & 3)) FROM visits GROUP BY 1 ORDER BY 1"""),
+            [f"visits{shard}|t|t" for shard in range(4)])
+    compare("shard_of_nulls", ask("SELECT count(*) FROM visits WHERE name IS NULL AND number IS NULL"), ["7"])
+    query = "SELECT count(*), sum(rapidhash_v3_key(name, number)::numeric) FROM visits"
+    workers = ("SET max_parallel_workers_per_gather = {}; SET parallel_setup_cost = 0; SET parallel_tuple_cost = 0; "
+               "SET min_parallel_table_scan_size = 0; {}")
+    plan = "".join(ask(workers.format(3, f"EXPLAIN ANALYZE {query}")))
+    tell("parallel_plan", *[plan] * ("Partial Aggregate" not in plan or not re.search("Workers Launched: [1-9]", plan)))
+    compare("parallel_query", ask(workers.format(3, query)), ask(workers.format(0, query)))
+    plan = ask("EXPLAIN " + re.search("^SELECT.*?;", commands, re.M | re.S)[0])
+    compare("single_partition", re.findall(r"visits\d", "".join(plan)), [f"visits{16744121781784268497 & 3}"])
+    ask("DROP TABLE visits")
+
+
+def hash_partitions():
+    """Tests the operator classes: the partitions of the page by its rule and by the server's own check, also after a
+    restored dump, and a plan, a join, an index and a collation that is refused."""
+    [commands] = [block for block in blocks(PAGE, "sql") if "BY HASH" in block]
+    seed, added = re.search(r"seed=(\d+)\) \+ (\d+) & 2\*\*64 - 1\) % 4`", (TOP / PAGE).read_text()).groups()
+    rule = f"((rapidhash_v3(name, {seed})::numeric + {2**64 + int(added)}) % {2**64} % 4)::int"
+    shards = f"""SELECT tableoid::regclass, count(*) > 20000, bool_and(tableoid::regclass::text = 'users' || {rule}), bool_and(
+        satisfies_hash_partition('users'::regclass, 4, {rule}, name)) FROM users WHERE name <> '' GROUP BY 1 ORDER BY 1"""
+    wanted = [f"users{shard}|t|t|t" for shard in range(4)]
+    for type, text in (("bytea", "sha256(place::text::bytea)"), ("text", "'user:' || place")):
+        ask(f"DROP TABLE IF EXISTS users; {commands.replace('text', type)} INSERT INTO users SELECT {text} "
+            "FROM generate_series(1, 100000) place; INSERT INTO users VALUES (NULL)")
+        compare(f"hash_partitions of {type}", ask(shards), wanted)
+    status, printed = shell("psql -qc 'CREATE DATABASE restored' && pg_dump | psql -qv ON_ERROR_STOP=1 -o /dev/null restored",
+                            PGHOST=str(DATA), PGUSER="test", PGDATABASE="postgres")
+    compare("restored", (status, printed, ask(f"\\c restored \n {shards}")), (0, "", wanted))
+    compare("partition_of_null", ask("SELECT tableoid::regclass FROM users WHERE name IS NULL"), ["users0"])
+    compare("classes", ask("SELECT amvalidate(oid) FROM pg_opclass WHERE opcname LIKE 'rapidhash%'"), ["t", "t"])
+    halves = "SELECT bool_and(rapidhash_v3_ops(name) = rapidhash_v3_ops(name, 0) << 32 >> 32) FROM users"
+    compare("lower_half", ask(halves), ["t"])
+    plan = "".join(ask("EXPLAIN SELECT * FROM users WHERE name = 'user:7'"))
+    compare("pruned_partitions", len(set(re.findall(r"users\d", plan))), 1)
+    join = "SET enable_nestloop = off; SET enable_mergejoin = off; {} SELECT count(*) FROM {} a JOIN {} b ON a.name = b.name"
+    compare("join", ("Hash Join" in "".join(ask(join.format("EXPLAIN", "users", "users0"))),
+                     *ask(join.format("", "users", "users0"))), (True, *ask("SELECT count(name) FROM users0")))
+    find = "SET enable_seqscan = off; {} SELECT count(*) FROM users WHERE name IN ('user:1', 'user:100000', 'user:0')"
+    ask("CREATE INDEX ON users USING hash (name rapidhash_v3_text_ops)")
+    compare("index", ("Index Cond" in "".join(ask(find.format("EXPLAIN"))), ask(find.format(""))), (True, ["2"]))
+    ask("""CREATE COLLATION ci (provider = icu, locale = 'und-u-ks-level2', deterministic = false);
+        CREATE TABLE loose AS SELECT word COLLATE ci AS name FROM (VALUES ('a'), ('A')) v(word)""")
+    compare("join_of_equal_texts", ask(join.format("", "loose", "loose")), ["4"])
+    found = ask("CREATE INDEX ON loose USING hash (name rapidhash_v3_text_ops)")
+    compare("collation", [line.rpartition("ERROR:  ")[2] for line in found], [
+        "rapidhash_v3_text_ops does not support nondeterministic collations"])
+    ask("DROP TABLE loose, users; DROP COLLATION ci; DROP DATABASE restored")
+
+
 def rest():
     # The calls and rapidhash_hex, the aggregates, and the functions that these are made of.
-    compare("functions", ask(FUNCTIONS), ["a|f|18|9|t", "f|f|22|11|t", "f|t|73|48|t"])
+    compare("functions", ask(FUNCTIONS), ["a|f|18|9|t", "f|f|22|11|t", "f|t|77|50|t"])
     exports = shell("nm -D --defined-only build/postgresql/rapidhash.so | cut -d ' ' -f 3 | grep -v '^pg_finfo_'")[1].split()
     called = ask("SELECT DISTINCT prosrc FROM pg_proc WHERE probin LIKE '%rapidhash'")
     compare("exports", sorted(exports), sorted(["Pg_magic_func", *called]))
@@ -135,26 +175,11 @@ def rest():
     compare("dropped", ask(f"DROP EXTENSION rapidhash; {FUNCTIONS}"), [])
 
 
-def start(binaries, shared):
-    """Starts a copy of the server and returns the command that stops it."""
-    ROOM.chmod(0o755)
-    for folder in (binaries.parent, shared):
-        shutil.copytree(folder, ROOM / folder.relative_to("/"))
-    DATA.mkdir()
-    if NOBODY:
-        shutil.chown(DATA, 65534, 65534)
-    run = f"{NOBODY}env -i LC_ALL=C.UTF-8 {ROOM / binaries.relative_to('/')}"
-    options = f"-c listen_addresses= -c unix_socket_directories={DATA} -c fsync=off"
-    status, printed = shell(f"{run}/initdb -D {DATA} --no-sync --auth=trust -E UTF8 -U test && "
-                            f"{run}/pg_ctl -D {DATA} -w -l {DATA}/log -o '{options}' start", "/")
-    tell("server", *printed.splitlines()[-5:] * (status != 0))
-    return f"{run}/pg_ctl -D {DATA} -m fast stop"
-
-
-needs("cc", "pg_config", "psql", "setpriv", "/usr/lib/postgresql/*/bin/initdb", "/usr/include/postgresql/*/server/postgres.h")
-stop = start(*folders_of_the_server())
+needs("cc", *SERVER)
+stop = start_server()
 try:
-    for step in (install, installcheck, unpacked_archive, vectors, keys, storages, aggregates, rest):
+    for step in (install, installcheck, unpacked_archive, vectors, keys, storages, aggregates, partitions,
+                 hash_partitions, rest):
         step()
 finally:
     shell(stop, "/")
