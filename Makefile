@@ -45,8 +45,8 @@ endif
 name = yervound-1.0-x86_64-linux
 
 .PHONY: all built tool sums library wasm npm page wheel jar sqlite postgresql deb check check-source quick test fmt bench \
-  install uninstall clean dist vendor release products test-edits test-machines test-windows test-vendor rapidhash_c \
-  rapidhash_cli rapidsum example_bloom example_perfect example_shards example_dedupe
+  install uninstall clean dist vendor release products test-edits test-machines test-windows test-debian test-dieharder \
+  test-vendor rapidhash_c rapidhash_cli rapidsum example_bloom example_perfect example_shards example_dedupe
 .DELETE_ON_ERROR:
 MAKEFLAGS += --no-builtin-rules
 
@@ -127,12 +127,14 @@ test:
 	@prove --exec "" packages/tools/tests tests/examples
 
 # Each file of figures has a bench with its name. A bench that fails leaves the figures unchanged.
-bench: $(patsubst %,bench/%.tsv,slices rust c java memory tool packages size xxh3 quality)
+bench: $(patsubst %,bench/%.tsv,slices rust c hand java memory tool sums packages size xxh3 quality growth)
 	@bench/figures --write
 
 .PHONY: always
 bench/%.tsv: always
-	@mkdir -p build && bench/$* >build/$*.tsv && mv build/$*.tsv $@
+	@mkdir -p build && bench/$(or $(words_of_$*),$*) >build/$*.tsv && mv build/$*.tsv $@
+words_of_hand = c hand
+words_of_sums = tool sums
 
 # scripts/install reads the directories from variables, so that the shell interprets none of their characters.
 folders = PREFIX BINDIR LIBDIR INCLUDEDIR DATADIR DESTDIR
@@ -156,21 +158,20 @@ clean:
 release:
 	@$(call needs_the_kit,release)
 	@[ -z "$$(git status --porcelain)" ] || { echo 'make release: the tree has changes: commit them first' >&2; exit 2; }
+	@{ grep -qxF "| commit | $$(git rev-parse HEAD) |" build/gate.md && grep -q '^| result | .*, 0 failed |$$' build/gate.md; } 2>&- || \
+	  { echo 'make release: build/gate.md has no gate of this commit that passed: run make check first' >&2; exit 2; }
 	@$(MAKE) -s dist deb
 	@rm -rf build/release && mkdir build/release && git rev-parse HEAD >build/release/COMMIT
-	@cp build/*.t*gz build/*.jar build/wheels/*.* build/debian/*.deb build/debian/*.dsc build/debian/*.tar.xz build/release
+	@cp build/gate.md build/*.t*gz build/*.jar build/wheels/*.* build/debian/*.deb build/debian/*.dsc build/debian/*.tar.xz build/release
 	@cd build/release && sha256sum -- * >SHA256SUMS
 
-# The next four are not part of the gate, because they take some additional minutes.
+# The next six are not part of the gate, because they take some additional minutes.
 test-edits:
 	@tests/release/must_fail.py
 	@tests/release/failing_tests.py
 
-test-machines:
-	@prove --verbose --exec '' tests/release/machines.sh
-
-test-windows:
-	@prove --verbose --exec '' tests/release/windows.sh
+test-machines test-windows test-debian test-dieharder: test-%:
+	@prove --verbose --exec '' tests/release/$*.sh
 
 test-vendor:
 	@tests/vendor.sh ci

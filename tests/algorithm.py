@@ -7,7 +7,10 @@ import re
 
 from cases import ROOM, TOP, compare, finish, lacks, shell, skip, tell
 from model import (LANES, PAGE, S, drawn, drawn_by_time, field_bytes, hash_of, hashed_items, hashed_pieces,
-                   hashed_slice, made_secrets, message, secrets_of, seed_source)
+                   hashed_slice, made_secrets, message, saved, secrets_of, seed_source)
+
+
+HEADER = (TOP / "packages" / "c" / "include" / "rapidhash_c.h").read_text()
 
 
 def computed(case):
@@ -21,6 +24,10 @@ def computed(case):
         return [hashed_slice("V3", {**case, "protected": "0"}, b"".join(map(field_bytes, case["key"].split())))]
     if "items" in case:
         return [hashed_items(case, case["items"].split() if case["items"] != "(none)" else [])]
+    if "lanes" in case:
+        rule, _, number = case["secrets"].partition(":")
+        seed, *secrets = secrets_of(rule, number, False)
+        return [saved(int(case["lanes"]), message(case["message"], int(case["length"])), seed, secrets).hex()]
     if "length" in case:
         content = message(case["message"], int(case["length"]))
         return [hashed_slice(version, case, content) if version else hashed_items(case, ["bytes:" + content.hex()])]
@@ -64,19 +71,20 @@ uint64_t in_pieces(const uint8_t *bytes, size_t len, const struct rapidhash_secr
 def differences_in_c(length):
     """Yields the hashes of the C header that differ for a message of a length, whole and in growing pieces."""
     content = message("rng:1", length)
-    for version in ("V1", "V2.0", "V2.1", "V2.2", "V3", "micro", "nano", "V3 protected"):
-        form, _, protected = version.partition(" ")
+    lanes = dict(re.findall(r" X\((\w+), (\d)\)", HEADER))
+    for name in re.findall(r" X\((\w+), rapidhash", HEADER):
+        form = name.removesuffix("_protected").removeprefix("v3_")
+        form = form if form in LANES else form.upper().replace("_", ".")
         numbers = secrets_of("seed", length, form == "V1")
         arguments = content, ctypes.c_size_t(length), (ctypes.c_uint64 * 8)(*numbers)
-        wanted = hash_of(form, content, numbers[0], numbers[1:], protected=bool(protected))
-        name = version.lower().replace("micro", "v3_micro").replace("nano", "v3_nano")
-        calls = [(f"rapidhash_{re.sub('[. ]', '_', name)}_with_secrets", *arguments)]
-        calls += [("in_pieces", *arguments, ctypes.c_size_t(LANES[version]))] if version in LANES else []
-        for name, *arguments in calls:
-            call = ctypes.CDLL(ROOM / "header.so")[name]
+        wanted = hash_of(form, content, numbers[0], numbers[1:], protected=name.endswith("_protected"))
+        calls = [(f"rapidhash_{name}_with_secrets", *arguments)]
+        calls += [("in_pieces", *arguments, ctypes.c_size_t(int(lanes[name])))] if name in lanes else []
+        for call_name, *arguments in calls:
+            call = ctypes.CDLL(ROOM / "header.so")[call_name]
             call.restype = ctypes.c_uint64
             if (found := call(*arguments)) != wanted:
-                yield f"{name} of {length} bytes, {version}: {found}, and not {wanted}"
+                yield f"{call_name} of {length} bytes, {name}: {found}, and not {wanted}"
 
 
 DATA = TOP / "crates" / "test_replay" / "data"

@@ -1,4 +1,5 @@
-"""Implements the hashes from docs/ALGORITHM.md alone, with the secrets of that page."""
+"""Implements the hashes from docs/ALGORITHM.md alone, with the secrets of that page, and saved streams from
+docs/BINDINGS.md."""
 
 import re
 
@@ -50,17 +51,23 @@ def last_words(version, m, n):
     return m[0] << (56 if version == "V2.2" else 45) | m[-1], m[n // 2]
 
 
+def lanes_after(order, words, seed, s, protected=False):
+    """Returns the lanes after they have folded the pairs of a message in this order."""
+    lanes = [seed] * 7
+    for pair, lane in enumerate(order):
+        lanes[lane] = mix(words[2 * pair] ^ s[lane], words[2 * pair + 1] ^ lanes[lane], protected)
+    return lanes
+
+
 def hash_of(version, m, seed, s, avalanche=True, protected=False, bug=False):
     n = len(m)
     words = [int.from_bytes(m[k : k + 8], "little") for k in range(0, n, 8)]
     seed ^= n if version[:2] in ("V1", "V2") or version in LANES and 4 <= n <= 16 else 0
     count, rows, rows_of_three, tail = shape(version, n, bug)
-    lanes, at = [seed] * count, 0
-    for lane in [*range(count)] * rows + [0, 1, 2] * rows_of_three:
-        lanes[lane] = mix(words[at] ^ s[lane], words[at + 1] ^ lanes[lane], protected)
-        at += 2
+    order = [*range(count)] * rows + [0, 1, 2] * rows_of_three
+    lanes, at = lanes_after(order, words, seed, s, protected), 2 * len(order)
     seed, t = 0, n - 8 * at
-    for lane in lanes:
+    for lane in lanes[:count]:
         seed ^= lane
     seed ^= s[1] if version == "V1" and t > 16 else 0
     for pair in range(max(0, t - 1) // 16):
@@ -76,6 +83,18 @@ def hash_of(version, m, seed, s, avalanche=True, protected=False, bug=False):
         secret, mixed_in = s[0], (AA ^ seed, s[1])
     low, high = product(first ^ secret, second ^ seed, protected)
     return mix(low ^ mixed_in[0], high ^ mixed_in[1], protected) if avalanche else low ^ high
+
+
+def saved(count, m, seed, s):
+    """Returns the 208 bytes of a stream with so many lanes after a message."""
+    rows = max(0, len(m) - 1) // (16 * count)
+    end = 16 * count * rows
+    words = [int.from_bytes(m[k : k + 8], "little") for k in range(0, end, 8)]
+    lanes = [lane ^ seed for lane in lanes_after([*range(count)] * rows, words, seed, s)]
+    kept = m[end - 16 : end] if rows else bytes(16)
+    state = b"rapidV3" + bytes([1, count, 1, rows > 0, len(m) - end, 0, 0, 0, 0])
+    state += b"".join(lane.to_bytes(8, "little") for lane in lanes) + (kept + m[end:]).ljust(128, b"\0")
+    return state + hash_of("V3", state, seed, s).to_bytes(8, "little")
 
 
 def repaired(x):

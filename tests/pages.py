@@ -233,6 +233,41 @@ def means():
             yield f"README.md has the means {told}"
 
 
+# The files of figures that have the numbers of a text of bench/figures, as they are or as the ratio of two in a row.
+SOURCES = {"v3": "c rust", "slower": "rust", "languages": "rust c packages java", "sizes": "size",
+           "machines": "machines", "quality": "quality", "maps": "growth", "tools": "tool", "sums": "sums",
+           "java": "java", **dict.fromkeys(("go", "python", "javascript"), "packages")}
+FIGURE = re.compile(r"(?<![\w.])(\d[\d,]*\.\d+)(?![\w.])|^(\d+,\d+)(?= \()|^(\d[\d,]*)$")
+# A measurement in a sentence, or a number with a point in a cell of its own.
+MEASURED = re.compile(r"(?<![\w.])\d[\d.,]* ?(?:ns|ms|µs|s|GB/s|MB/s|%)(?!\w)|(?<=\| )\d[\d,]*\.\d+(?= \|)|"
+                      r"\b(?:[\d.]+|two|three) times as (?:long|fast)|\ba (?:quarter|third|half) (?:longer|slower)")
+
+
+def numbers_in(files):
+    """Returns the numbers in files of figures, ratios of two in a row and rates in GB/s, as the pages write them."""
+    sys.path.insert(0, str(TOP / "bench"))
+    from harness import read_figures
+    rows = [[abs(it) for it in times.values()] for file in files.split() for times in read_figures(file)[1].values()]
+    numbers = {one / other for row in rows for one in row for other in (*row, 1) if other}
+    numbers |= {size / it for row in rows for it in row for size in (1 << 16, 1 << 20) if it}
+    written = ((2, 0), (1, 10), (0, 100))
+    return {f"{it:,.{digits}f}" for it in numbers for digits, least in written if it >= least or it == int(it)} | {"0"}
+
+
+def measurements():
+    """Looks up the numbers of tables in the files of figures. Only texts of bench/figures have measurements."""
+    made = re.compile("<!-- (\\w+) -->(.*?)<!-- end -->", re.S)
+    for page in (page for page in PAGES if page.parent != MADE and page.parent.name != "bench"):
+        for name, text in made.findall(page.read_text()):
+            known = numbers_in(SOURCES[name]) if name in SOURCES else None
+            cells = [cell.strip() for line in text.splitlines() for cell in line.split("|")[2:] or [line]]
+            found = {"".join(it) for cell in cells for it in FIGURE.findall(cell)}
+            yield from (f"{page.name}: no row of {name} has {it}" for it in found if known and it not in known)
+        rest = made.sub(lambda it: "\n" * it[0].count("\n"), page.read_text())
+        yield from (f"{page.name}:{number} has a measurement that is not of bench/figures: {it}" for number, line in
+                    enumerate(rest.splitlines(), 1) for it in MEASURED.findall(line))
+
+
 def commits():
     """Checks that the heads of the files of figures name commits that this branch has. A shallow clone has too few."""
     heads = {file.name: " ".join(re.findall("^# (.*)", file.read_text(), re.M)) for file in TOP.glob("bench/*.tsv")}
@@ -242,8 +277,8 @@ def commits():
                     if shell(f"git merge-base --is-ancestor {commit} HEAD")[0] != 0)
 
 
-for check in (links, paths, variables, limits, names, layers, edits, vectors, statements, sizes, clauses, benches, pictures,
-              means, commits):
+for check in (links, paths, variables, limits, names, layers, edits, vectors, statements, sizes, clauses, benches,
+              pictures, means, measurements, commits):
     tell(check.__name__, *check())
 for made, maker in (("calls", "scripts/api"), ("version", "scripts/version"), ("figures", "bench/figures")):
     tell(made, *made_by(maker))

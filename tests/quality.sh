@@ -1,5 +1,5 @@
 #!/usr/bin/env bash
-# Checks the statistics of all seven hashes with small samples (bench/quality.c; docs/QUALITY.md has large ones): the
+# Checks the statistics of all portable hashes with small samples (bench/quality.c; docs/QUALITY.md has large ones): the
 # avalanche of messages and seeds, collisions and buckets. The same limits must refuse FNV-1a, by each kind of measure.
 . "$(dirname "$0")/cases.sh"
 needs cc git
@@ -28,7 +28,7 @@ like_chance() {
 refuses() { ! like_chance "$@" && [ -s "$room/log" ]; }
 
 prepare_by measure
-for hash in v1 v2.0 v2.1 v2.2 v3 micro nano; do
+for hash in $(sed -n '1 { s/\tfnv1a.*//; s/^what\tunit//; p; }' "$room/table"); do
   try "$hash" like_chance "$hash" .
 done
 for rows in 'avalanche of the message' 'avalanche of the seed' '(high|low) 32 bits' 'high bits' 'low bits' '65521'; do

@@ -121,7 +121,9 @@ try an_edit_that_no_test_sees test_ends 1 ok ok
 try a_test_that_fails_without_the_edit test_ends 1 FAILED FAILED
 two_cases='printf "ok - a\nok - b\n1..2\n"'
 try a_gate gate_ends '6 passed, 0 failed' "$two_cases"
+try the_page_of_a_gate grep -qxF '| result | 6 passed, 0 failed |' "$room/gate/build/gate.md"
 try a_gate_with_a_failure gate_ends '5 passed, 1 failed' 'printf "ok - a\nnot ok - b\n1..2\n"'
+try the_page_of_a_failure grep -qxF '| result | 5 passed, 1 failed |' "$room/gate/build/gate.md"
 two=1 try a_gate_with_a_bad_status gate_ends '5 passed, 1 failed' 'printf "ok - a\n1..1\n"; exit 1'
 two=1 try a_gate_with_a_script_that_dies gate_ends '5 passed, 1 failed' 'echo ok - a; kill $$'
 two=1 try a_gate_with_a_plan_of_more_cases gate_ends '5 passed, 1 failed' 'printf "ok - a\n1..2\n"'

@@ -16,6 +16,7 @@ from eraser import erase  # noqa: E402
 FOLDER = TOP / "tests" / "formulas"
 C = ("-std=c99 -Wall -Wextra -Werror -Wno-unused-function '-DRAPIDHASH_PRIMITIVES=\"primitives.h\"' -include assert.h"
      " -DRAPIDHASH_ASSERT=assert -I$YERVOUND/packages/c/include -I$YERVOUND/tests/formulas $YERVOUND/tests/formulas/subject.c")
+CPP = "-x c++ " + C.replace("c99", "c++17")
 RUST = "rustc -O --edition 2021 --extern rapidhash=librapidhash.rlib $YERVOUND/tests/formulas/subject.rs"
 JAVA = ("mkdir java && cp -r $YERVOUND/packages/java/src/main/java/. $YERVOUND/packages/java/src/formulas/java/. java &&"
         " rm java/module-info.java && javac --release 11 -d classes $(find java -name '*.java')")
@@ -26,6 +27,7 @@ SUBJECTS = [
     ("c_gcc", "native", "gcc", f"gcc -O2 {C} -o c_gcc", "./c_gcc"),
     ("c_clang", "native", f"clang {SANITIZERS}", f"clang -O1 -fsanitize=address,undefined {C} -o c_clang", "./c_clang"),
     ("c_tcc", "native", "tcc", f"tcc {C} -o c_tcc", "./c_tcc"),
+    ("cpp_constexpr", "v3", "g++", f"g++ -O2 {CPP} -o cpp_constexpr", "./cpp_constexpr"),
     ("rust", "kernels", "rustc", f"{RUST} -o rust", "./rust"),
     ("go", "native", "go", GO, "./go"),
     ("java", "native", "javac java", JAVA, "java -cp classes example.yervound.rapidhash.Formulas"),
@@ -34,7 +36,7 @@ SUBJECTS = [
 # The formulas up to 4,096 bytes, up to 16,384, and of streams, for a form with its options. Those up to 16 bytes are
 # compared 64 times each. Then, how often a subject of each kind has these.
 SLICES, LONG, STREAMS = 17 * 64 + 4080, 17 * 64 + 16368, 301 * 302 // 2 + 4097
-COUNTS = {"native": 8 * LONG + 3 * STREAMS, "kernels": 46 * SLICES + 10 * LONG + 12 * STREAMS}
+COUNTS = {"native": 8 * LONG + 3 * STREAMS, "v3": LONG, "kernels": 46 * SLICES + 10 * LONG + 12 * STREAMS}
 
 
 def build_definition():

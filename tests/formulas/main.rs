@@ -1,5 +1,6 @@
 //! Compares a subject with the definition as formulas: `main KIND COMMAND..`, where the kind is `native` for a package
-//! that has the C library's calls, or `kernels` for one that has every option.
+//! that has the C library's calls, `v3` for one that has V3 of whole messages alone, or `kernels` for one that has every
+//! option.
 //!
 //! All control flow of a hash depends on the length alone, so the hash of n bytes is a formula over loads, products,
 //! XOR, OR, and shifts. The definition and the subject are built with the same random functions as loads and product.
@@ -89,10 +90,15 @@ fn plan(kind: &str) -> Vec<Record> {
         for options in 0..16 {
             let native = options == AVALANCHE || form == 4 && options == AVALANCHE | PROTECTED;
             let has = (options & V1_BUG == 0 || form == 0) && (options & COMPACT == 0 || form < 5);
-            if if kind == "native" { native } else { has } {
+            let (in_slices, in_streams) = match kind {
+                "v3" => (form == 4 && options == AVALANCHE, false),
+                "native" => (native, options == AVALANCHE),
+                _ => (has, has && options & COMPACT == 0),
+            };
+            if in_slices {
                 plan.slices(form, options);
             }
-            if form >= 4 && if kind == "native" { options == AVALANCHE } else { has && options & COMPACT == 0 } {
+            if form >= 4 && in_streams {
                 plan.streams(form, options);
             }
         }

@@ -1,8 +1,25 @@
-/* Computes the hashes that tests/formulas/main.rs requests, by the C header over random loads and a random product. */
+/* Computes the hashes that tests/formulas/main.rs requests, by the C header over random loads and a random product. In
+ * C++, these are the hashes of constant expressions, computed at run time. */
 #include <stdio.h>
 #include <stdlib.h>
 
 #include "rapidhash_c.h"
+#ifdef __cplusplus
+#include "rapidhash_constexpr.hpp"
+
+struct random_primitives {
+    struct halves { uint64_t low, high; };
+
+    static uint64_t load4(const char *p) { return rapidhash_load4_((const uint8_t *)p); }
+    static uint64_t load8(const char *p) { return rapidhash_load8_((const uint8_t *)p); }
+    static halves multiply(uint64_t a, uint64_t b)
+    {
+        halves product;
+        rapidhash_multiply_(a, b, &product.low, &product.high);
+        return product;
+    }
+};
+#endif
 
 enum { ROOM = 32768 };
 
@@ -38,6 +55,11 @@ static uint64_t hash(const struct record *asked, const uint8_t *bytes)
 {
     uint64_t before = asked->form;
 
+#ifdef __cplusplus
+    if (asked->form == 4 && asked->options == 1)
+        return rapidhash::constant::v3<random_primitives>((const char *)bytes, asked->length, asked->own.seed,
+                                                          asked->own.secrets);
+#endif
     if (asked->options & 2)
         return rapidhash_v3_protected_with_secrets(bytes, asked->length, &asked->own);
     /* V1 has the first of the secrets. */

@@ -1,6 +1,7 @@
 #!/usr/bin/env python3
 """Applies each edit of crates/CRATE/must-fail/ to a copy, and tests that the checker refuses the edited function at the
-goal that the edit names. The arguments are crates; without any, it tries all. `rt ci` tries each edit too, but only
+goal that the edit names. The arguments are crates, or CRATE/EDIT; without any, it
+tries all. `rt ci` tries each edit too, but only
 looks whether it is refused. With the variable VERBOSE, also prints the checker's messages.
 
 The first line of an edit is `# refused: FUNCTION, GOAL`, a comment for `rt`. An edit may have a twin in
@@ -78,7 +79,9 @@ def finding(edit):
     return "" if f"`{goal}`" in said else f"{function} is refused, but not at {goal}: {said}"
 
 
-edits = [edit for crate in sys.argv[1:] or ["*"] for edit in sorted(TOP.glob(f"crates/{crate}/must-fail/*.edit"))]
+edits = []
+for crate, _, edit in (argument.partition("/") for argument in sys.argv[1:] or ["*"]):
+    edits += sorted(TOP.glob(f"crates/{crate}/must-fail/{edit or '*'}.edit"))
 with ThreadPoolExecutor(os.cpu_count()) as pool:
     for edit, found in zip(edits, pool.map(finding, edits)):
         tell(f"{edit.parent.parent.name}/{edit.stem}", *[found] * bool(found))

@@ -7,6 +7,7 @@
 tests=$top/packages/c/tests
 secrets=$top/crates/test_replay/data/secrets.tsv
 keys=$top/crates/test_replay/data/keys.tsv
+saved=$top/crates/test_replay/data/saved.tsv
 rust=$room/rust/x86_64-pc-windows-gnu/release
 wine=/usr/lib/wine/wine64
 export WINEPREFIX=$room/prefix WINEDEBUG=-all LC_ALL=C.UTF-8
@@ -40,8 +41,8 @@ has_the_values() {
     "$wine" "$room/values.exe" "$room/rapidhash_vectors.tsv" "$secrets" &&
     build "$@" "$tests/properties.c" -o "$room/properties.exe" &&
     "$wine" "$room/properties.exe" product && "$wine" "$room/properties.exe" streams &&
-    build "$@" "$tests/keys.c" -o "$room/keys.exe" &&
-    "$wine" "$room/keys.exe" <"$keys"
+    build "$@" "$tests/keys.c" -o "$room/keys.exe" && "$wine" "$room/keys.exe" <"$keys" &&
+    build "$@" "$tests/saved.c" -o "$room/saved.exe" && "$wine" "$room/saved.exe" <"$saved"
 }
 
 # The same with the object that clang compiled, whose loads and product have other names.
@@ -61,6 +62,7 @@ passes_go() {
   cd "$top/packages/go" &&
     GOOS=windows GOARCH=amd64 CGO_ENABLED=0 GOCACHE=$room/go GOPROXY=off go test -c -o "$room/go.exe" . &&
     RAPIDHASH_VECTORS=$room/rapidhash_vectors.tsv RAPIDHASH_SECRETS=$secrets RAPIDHASH_KEYS=$keys \
+      RAPIDHASH_SAVED=$saved \
       "$wine" "$room/go.exe" -test.v -test.timeout 0 >"$room/go.log" &&
     grep '^PASS' "$room/go.log" && ! grep -e '--- SKIP' "$room/go.log"
 }

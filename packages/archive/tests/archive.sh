@@ -78,11 +78,18 @@ refuses_changes() {
     grep -x 'make release: the tree has changes: commit them first' "$room/said" && [ ! -e "$room/changed/build" ]
 }
 
-# Checks that a release has each product of make, for which empty files stand in, its commit and all checksums.
+# Checks that a release has the page of its gate, each product of make, for which empty files stand in, its commit and
+# all checksums. A gate of another commit, or one that failed, is none.
 releases_a_commit() {
-  local file files=(a.tar.gz a.tgz a.jar wheels/a.whl wheels/b.tar.gz debian/a.deb debian/b.deb debian/a.dsc debian/a.tar.xz)
+  local gate file files=(gate.md a.tar.gz a.tgz a.jar wheels/a.whl wheels/b.tar.gz debian/a.deb debian/b.deb debian/a.dsc debian/a.tar.xz)
   git clone -q -s "$top" "$room/released" && cd "$room/released" || return
   for file in "${files[@]}" wheels/made debian/log; do install -D /dev/null "build/$file" || return; done
+  for gate in 'HEAD 1' 'HEAD~1 0'; do
+    printf '| %s |\n' "commit | $(git rev-parse "${gate% *}")" "result | 9 passed, ${gate#* } failed" >build/gate.md
+    ! make -s MAKE=true kit=yes release 2>"$room/said" && [ ! -e build/release ] &&
+      grep -qx 'make release: build/gate.md has no gate of this commit that passed: run make check first' "$room/said" || return
+  done
+  printf '| %s |\n' "commit | $(git rev-parse HEAD)" 'result | 9 passed, 0 failed' >build/gate.md
   make -s MAKE=true kit=yes release && cd build/release && git rev-parse HEAD | diff - COMMIT &&
     diff <(printf '%s\n' COMMIT SHA256SUMS "${files[@]##*/}" | sort) <(printf '%s\n' * | sort) &&
     sha256sum --check SHA256SUMS | grep -c ': OK$' | grep -x "$((${#files[@]} + 1))"
