@@ -1,21 +1,26 @@
 import com.google.common.hash.Hashing;
 import example.yervound.rapidhash.Rapidhash;
 import java.util.zip.CRC32C;
+import net.jpountz.xxhash.XXHash64;
+import net.jpountz.xxhash.XXHashFactory;
 
-/** Times the hash of a library, {@code rapidhash}, {@code murmur3} or {@code crc32c}, at several lengths, each at eight
- * places. The sum of the hashes is stored, so that no call is left out. */
+/** Times the hash of a library, {@code rapidhash}, {@code xxh64}, {@code farmhash} or {@code crc32c}, at several
+ * lengths, each at eight places. The sum of the hashes is stored, so that no call is left out. */
 public class Hashes {
     private static final int[] LENGTHS = {0, 3, 4, 8, 11, 16, 17, 32, 48, 64, 100, 112, 200, 300, 1024, 65536, 1 << 20};
     private static final byte[] BYTES = new byte[(1 << 20) + 8];
     private static final CRC32C CRC = new CRC32C();
+    private static final XXHash64 XXH64 = XXHashFactory.fastestJavaInstance().hash64();
     private static volatile long stored;
 
     private static long hash(String library, int at, int length) {
         switch (library) {
             case "rapidhash":
                 return Rapidhash.V3.hash(BYTES, at, length);
-            case "murmur3":
-                return Hashing.murmur3_128().hashBytes(BYTES, at, length).asLong();
+            case "xxh64":
+                return XXH64.hash(BYTES, at, length, 0);
+            case "farmhash":
+                return Hashing.farmHashFingerprint64().hashBytes(BYTES, at, length).asLong();
             default:
                 CRC.reset();
                 CRC.update(BYTES, at, length);

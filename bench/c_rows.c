@@ -1,12 +1,17 @@
-/* Times the hashes of the C header, or with XXH3 those of XXH3, on the messages of bench/rust.rs and in the same loops.
- * It prints a row per line: the form, the row and the nanoseconds, the minimum of its repeats. */
+/* Times the hashes of the C header, with XXH3 those of XXH3, or with HAND those of hand.h, on the messages of
+ * bench/rust.rs and in the same loops. It prints a row per line: the form, the row and the nanoseconds, the minimum of
+ * its repeats. With the word hand, it times the forms that the header and a rival have, and streams of 1,024 bytes. */
 #define _POSIX_C_SOURCE 200809L
+#include <stdbool.h>
 #include <stdint.h>
 #include <stdio.h>
+#include <string.h>
 #include <time.h>
 #ifdef XXH3
 #define XXH_INLINE_ALL
 #include <xxhash.h>
+#elif defined(HAND)
+#include "hand.h"
 #else
 #include <rapidhash_c.h>
 #endif
@@ -26,20 +31,45 @@ uint64_t stored[MOST];
 static volatile uint64_t sink;
 
 /* The forms: X(name, title, the hash of `length` bytes at `text`) for each. */
+#define STREAMS(X) \
+    X(stream, "stream of 16", in_pieces(text, length, 16)) \
+    X(stream1, "stream of 1", in_pieces(text, length, 1)) \
+    X(stream4, "stream of 4", in_pieces(text, length, 4)) \
+    X(stream32, "stream of 32", in_pieces(text, length, 32)) \
+    X(stream64, "stream of 64", in_pieces(text, length, 64)) \
+    X(stream128, "stream of 128", in_pieces(text, length, 128))
+static uint64_t word;
 #ifdef XXH3
-#define FORMS(X) X(xxh3, "v3", XXH3_64bits(text, length))
+static XXH3_state_t xxh3_state;
+
+static uint64_t in_pieces(const uint8_t *text, size_t length, size_t size)
+{
+    XXH3_64bits_reset(&xxh3_state);
+    for (; length > size; text += size, length -= size)
+        XXH3_64bits_update(&xxh3_state, text, size);
+    XXH3_64bits_update(&xxh3_state, text, length);
+    return XXH3_64bits_digest(&xxh3_state);
+}
+
+#define FORMS(X) \
+    X(xxh3, "v3", XXH3_64bits(text, length)) \
+    X(xxh3_word, "v3 seed word", XXH3_64bits_withSeed(text, length, word)) \
+    STREAMS(X)
+#elif defined(HAND)
+#define FORMS(X) \
+    X(hand, "v3", hand_v3(text, length, 0)) \
+    X(hand_word, "v3 seed word", hand_v3(text, length, word))
 #else
 static struct rapidhash_v1_secrets three;
 static struct rapidhash_secrets seven;
-static uint64_t word;
 
-/* V3 of a message in pieces of 16 bytes. */
-static uint64_t in_pieces(const uint8_t *text, size_t length)
+/* V3 of a message in pieces. */
+static uint64_t in_pieces(const uint8_t *text, size_t length, size_t size)
 {
     struct rapidhash_stream stream;
     rapidhash_v3_start(&stream, &seven);
-    for (; length > 16; text += 16, length -= 16)
-        rapidhash_stream_write(&stream, text, 16);
+    for (; length > size; text += size, length -= size)
+        rapidhash_stream_write(&stream, text, size);
     rapidhash_stream_write(&stream, text, length);
     return rapidhash_stream_finish(&stream);
 }
@@ -53,7 +83,7 @@ static uint64_t in_pieces(const uint8_t *text, size_t length)
     X(v3_word, "v3 seed word", rapidhash_v3_with_seed(text, length, word)) \
     X(micro, "micro", rapidhash_v3_micro(text, length)) \
     X(nano, "nano", rapidhash_v3_nano(text, length)) \
-    X(stream, "stream of 16", in_pieces(text, length))
+    STREAMS(X)
 #endif
 
 /* The four loops of a form, which the compiler may inline the hash into. */
@@ -109,12 +139,15 @@ static double least(uint64_t (*work)(size_t count), size_t count)
     return (double)least / (double)count;
 }
 
-/* Prints the rows of a form: its loops over the messages of each range. */
-static void rows(const struct form *form)
+/* Prints the rows of a form: its loops over the messages of each range, from a first to a last length. Ranges of mixed
+ * lengths are for forms from 0 bytes on. */
+static void rows(const struct form *form, size_t first, size_t last)
 {
     uint64_t state = 9;
 
     for (int i = 0; i < EQUAL + MIXED; i++) {
+        if (i < EQUAL ? equal[i] < first || equal[i] > last : first > 0)
+            continue;
         const size_t low = i < EQUAL ? equal[i] : mixed[i - EQUAL][0], high = i < EQUAL ? low : mixed[i - EQUAL][1];
         const size_t count = i < EQUAL ? 500 : MOST;
 
@@ -131,18 +164,26 @@ static void rows(const struct form *form)
     }
 }
 
-int main(void)
+int main(int argc, char **argv)
 {
+    const bool is_hand = argc > 1 && strcmp(argv[1], "hand") == 0;
     uint64_t state = 7;
 
     for (size_t at = 0; at < BYTES; at++)
         bytes[at] = (uint8_t)next_word(&state);
-#ifndef XXH3
     word = next_word(&state);
+#if !defined(XXH3) && !defined(HAND)
     rapidhash_v1_make_secrets(7, &three);
     rapidhash_make_secrets(7, &seven);
 #endif
-    for (size_t at = 0; at < sizeof forms / sizeof *forms; at++)
-        rows(&forms[at]);
+    for (size_t at = 0; at < sizeof forms / sizeof *forms; at++) {
+        const bool is_stream = strncmp(forms[at].title, "stream", 6) == 0;
+        if (!is_hand && (!is_stream || strcmp(forms[at].title, "stream of 16") == 0))
+            rows(&forms[at], 0, SIZE_MAX);
+        else if (is_hand && is_stream)
+            rows(&forms[at], 1024, 1024);
+        else if (is_hand && (strcmp(forms[at].title, "v3") == 0 || strcmp(forms[at].title, "v3 seed word") == 0))
+            rows(&forms[at], 0, 256);
+    }
     return 0;
 }

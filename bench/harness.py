@@ -12,8 +12,8 @@ from statistics import geometric_mean
 
 TOP = Path(__file__).resolve().parent.parent
 ROOM = TOP / "build" / "bench"
-# This library in Rattle, its Rust crate, the crate rapidhash if RAPIDHASH_CRATE names its directory, and xxHash.
-LIBRARIES = "ours rust crate xxh3".split()
+# This library in Rattle, its Rust crate, the crate rapidhash if RAPIDHASH_CRATE names its directory, xxHash, SHA-256.
+LIBRARIES = "ours rust crate xxh3 sha256".split()
 CRATES = {"rust": TOP / "packages" / "rust"}
 if "RAPIDHASH_CRATE" in os.environ:
     CRATES["crate"] = Path(os.environ["RAPIDHASH_CRATE"]).resolve()

@@ -1,8 +1,9 @@
 /* Prints statistics of 64-bit hashes: a row for each measure, a column for each hash. FNV-1a is the control, which must
- * fail. With WITH_XXHASH it measures XXH3 and XXH64 too. Its arguments are the messages per length, the most keys per
- * set, and the seed; standard input has the words of a dictionary, one per line. */
+ * fail. With WITH_OTHERS it also measures XXH3, XXH64, and what bench/quality.rs exports. Its arguments are the
+ * messages per length, the most keys per set, and the seed; standard input has the words of a dictionary, one per
+ * line. */
 #include "rapidhash_c.h"
-#ifdef WITH_XXHASH
+#ifdef WITH_OTHERS
 #define XXH_INLINE_ALL
 #include <xxhash.h>
 #endif
@@ -17,6 +18,11 @@ static const char *const measures[MEASURES] = {"equal", "high 32 bits", "low 32 
                                                "2^16 buckets, low bits", "65521 buckets"};
 typedef uint64_t hash(const void *bytes, size_t len, uint64_t seed);
 static char dictionary[1 << 22];
+#ifdef WITH_OTHERS
+hash in_memory_fast, in_memory_quality, generator;
+#else
+static hash *const generator = NULL;
+#endif
 
 static uint64_t fnv1a(const void *bytes, size_t len, uint64_t seed)
 {
@@ -27,11 +33,11 @@ static uint64_t fnv1a(const void *bytes, size_t len, uint64_t seed)
     return h;
 }
 
+#define SUBJECT(version, secrets) {#version, rapidhash_##version##_with_seed},
 static const struct { const char *name; hash *call; } subjects[] = {
-    {"v1", rapidhash_v1_with_seed}, {"v2.0", rapidhash_v2_0_with_seed}, {"v2.1", rapidhash_v2_1_with_seed},
-    {"v2.2", rapidhash_v2_2_with_seed}, {"v3", rapidhash_v3_with_seed}, {"micro", rapidhash_v3_micro_with_seed},
-    {"nano", rapidhash_v3_nano_with_seed},
-#ifdef WITH_XXHASH
+    RAPIDHASH_C_VERSIONS(SUBJECT)
+#ifdef WITH_OTHERS
+    {"fast", in_memory_fast}, {"quality", in_memory_quality}, {"generator", generator},
     {"xxh3", XXH3_64bits_withSeed}, {"xxh64", XXH64},
 #endif
     {"fnv1a", fnv1a},
@@ -196,7 +202,10 @@ static void print_row(const char *what, const char *unit, const double *results)
 {
     printf("%s\t%s", what, unit);
     for (int i = 0; i < SUBJECTS; i++)
-        printf(*unit == 'k' ? "\t%.0f" : "\t%.2f", results[i]);
+        if (isnan(results[i]))
+            printf("\t");
+        else
+            printf(*unit == 'k' ? "\t%.0f" : "\t%.2f", results[i]);
     puts("");
 }
 
@@ -204,8 +213,9 @@ static void print_avalanche(size_t len, int flips_seed, int messages, uint64_t s
 {
     double results[SUBJECTS];
     for (int i = 0; i < SUBJECTS; i++) {
+        int is_left_out = subjects[i].call == generator && (flips_seed || len != 8);
         random_state = seed;
-        results[i] = avalanche(subjects[i].call, len, flips_seed, messages);
+        results[i] = is_left_out ? NAN : avalanche(subjects[i].call, len, flips_seed, messages);
     }
     printf("avalanche of %s, ", flips_seed ? "the seed" : "the message");
     printf("%lu ", (unsigned long)len);
@@ -218,9 +228,11 @@ static void print_sets(size_t count, uint64_t seed)
     for (int s = 0; s < SETS; s++) {
         double results[MEASURES][SUBJECTS], of_subject[MEASURES];
         for (int i = 0; i < SUBJECTS; i++) {
-            judge(hashes, room, hash_set(s, subjects[i].call, seed, hashes, count), of_subject);
+            int is_left_out = subjects[i].call == generator && s > 1 && s < SETS - 1;
+            if (!is_left_out)
+                judge(hashes, room, hash_set(s, subjects[i].call, seed, hashes, count), of_subject);
             for (int m = 0; m < MEASURES; m++)
-                results[m][i] = of_subject[m];
+                results[m][i] = is_left_out ? NAN : of_subject[m];
         }
         for (int m = 0; m < MEASURES; m++) {
             printf("%s: ", sets[s]);
