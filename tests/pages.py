@@ -91,12 +91,19 @@ def layers():
 
 
 def edits():
-    """Checks that the function in the first line of each must-fail edit is in the sources of its crate."""
+    """Checks that the function in the first line of each must-fail edit is in the sources of its crate. If it has a
+    stored answer, which fits a single text, the edit has a twin or a failing test in tests/release."""
+    release = TOP / "tests" / "release"
+    shown = set(re.findall(r"^([^\t]+)", (release / "failing_tests.tsv").read_text(), re.M))
+    shown |= {f"{twin.parent.name}/{twin.stem}" for twin in release.glob("twins/*/*.twin")}
     for edit in TOP.glob("crates/*/must-fail/*.edit"):
-        function = re.match(r"# refused: (?:[^ ]*::)?(\w+), ", edit.read_text())
-        sources = "".join(file.read_text() for file in (edit.parent.parent / "src").rglob("*.rt"))
-        if not function or not re.search(rf"\b{function[1]}\b", sources):
+        crate, function = edit.parent.parent, re.match(r"# refused: (?:([^ ]*)::)?(\w+), ", edit.read_text())
+        sources = "".join(file.read_text() for file in (crate / "src").rglob("*.rt"))
+        if not function or not re.search(rf"\b{function[2]}\b", sources):
             yield f"{edit.relative_to(TOP)}: no such function"
+        elif (crate / "proofs" / (function[1] or "").replace("::", "/") / function[2] / "Answers.antt").exists() \
+                and f"{crate.name}/{edit.stem}" not in shown:
+            yield f"{edit.relative_to(TOP)}: no twin and no failing test"
 
 
 def vectors():

@@ -1,9 +1,9 @@
 #!/usr/bin/env python3
 """Applies edits of crates/CRATE/must-fail/ to a copy, and tests that a test fails with each edit and none without. So an
 edit is wrong by its values, also if its goal has a stored answer, which fits a single text. Each such edit has a twin,
-or a row in failing_tests.tsv: the edit, where its test runs, and a test that fails. It runs in packages/rust, after
-scripts/rust_crate, or unproved in a crate of tests or a program, whose `stdout` differs. The arguments are words of
-edits; without any, it tries all. With the variable VERBOSE, also prints the tests that fail."""
+or a row in failing_tests.tsv (tests/pages.py): the edit, where its test runs, and a test that fails. It runs in
+packages/rust, after scripts/rust_crate, or unproved in a crate of tests or a program, whose `stdout` differs. The
+arguments are words of edits; without any, it tries all. With the variable VERBOSE, also prints the tests that fail."""
 
 import os
 import re
@@ -62,17 +62,8 @@ def finding(edit, place, test):
     return "" if test in found else f"{test} does not fail in {place}, but {found}"
 
 
-def has_an_answer(edit):
-    """Returns whether the edit's function has a stored answer."""
-    function = edit.read_text().split("\n")[0].split(": ")[1].split(", ")[0]
-    return (edit.parents[1] / "proofs" / function.replace("::", "/") / "Answers.antt").exists()
-
-
 rows = [line.split("\t") for line in (HERE / "failing_tests.tsv").read_text().splitlines()[1:]]
-shown = {name for name, *_ in rows} | {f"{crate_of(twin)}/{twin.stem}" for twin in HERE.glob("twins/*/*.twin")}
 edits = {f"{crate_of(edit)}/{edit.stem}": edit for edit in sorted(TOP.glob("crates/*/must-fail/*.edit"))}
-tell("each edit at a stored answer has a twin or a failing test",
-     *[name for name, edit in edits.items() if has_an_answer(edit) and name not in shown])
 rows = [row for row in rows if not sys.argv[1:] or any(word in row[0] for word in sys.argv[1:])]
 copy_tree()
 for place in dict.fromkeys(place for _, place, _ in rows):
