@@ -12,7 +12,7 @@ import (
 )
 
 // call has the functions of a version: those with the default seed and secrets, with a seed word, and with secrets. The
-// known hash is that of the first bytes of data(), as many as the size.
+// known hash is that of the first bytes of data(), as many as the size. TestLengthsBetween compares the sum.
 type call struct {
 	plain     func([]byte) uint64
 	word      func([]byte, uint64) uint64
@@ -22,20 +22,21 @@ type call struct {
 	startWord func(uint64) *Stream
 	size      int
 	known     uint64
+	sum       uint64
 }
 
 var calls = map[string]call{
-	"v1":   {V1, V1WithSeed, V1String, nil, nil, nil, 60, 13504714392771582078},
-	"v2_0": {V2_0, V2_0WithSeed, V2_0String, V2_0WithSecrets, nil, nil, 60, 13186137053657766175},
-	"v2_1": {V2_1, V2_1WithSeed, V2_1String, V2_1WithSecrets, nil, nil, 60, 13012060828128651499},
-	"v2_2": {V2_2, V2_2WithSeed, V2_2String, V2_2WithSecrets, nil, nil, 60, 6181707366222537282},
-	"v3":   {V3, V3WithSeed, V3String, V3WithSecrets, NewV3, NewV3WithSeed, 120, 7088138960297660729},
+	"v1":   {V1, V1WithSeed, V1String, nil, nil, nil, 60, 13504714392771582078, 11757234185863877016},
+	"v2_0": {V2_0, V2_0WithSeed, V2_0String, V2_0WithSecrets, nil, nil, 60, 13186137053657766175, 18115706928600855272},
+	"v2_1": {V2_1, V2_1WithSeed, V2_1String, V2_1WithSecrets, nil, nil, 60, 13012060828128651499, 18115706928600855272},
+	"v2_2": {V2_2, V2_2WithSeed, V2_2String, V2_2WithSecrets, nil, nil, 60, 6181707366222537282, 18115706928600855272},
+	"v3":   {V3, V3WithSeed, V3String, V3WithSecrets, NewV3, NewV3WithSeed, 120, 7088138960297660729, 623517397202350133},
 	"v3_micro": {V3Micro, V3MicroWithSeed, V3MicroString, V3MicroWithSecrets, NewV3Micro, NewV3MicroWithSeed,
-		120, 3055975138125564292},
+		120, 3055975138125564292, 17316189793002705663},
 	"v3_nano": {V3Nano, V3NanoWithSeed, V3NanoString, V3NanoWithSecrets, NewV3Nano, NewV3NanoWithSeed,
-		120, 3778853990780631382},
+		120, 3778853990780631382, 14492001302674092559},
 	"v3_protected": {V3Protected, V3ProtectedWithSeed, V3ProtectedString, V3ProtectedWithSecrets, nil, nil,
-		120, 4753706306364957255},
+		120, 4753706306364957255, 17860716362093790630},
 }
 
 // check compares the hashes of a message with the secrets of a rule, and of streams that write it, with a known hash.
@@ -124,16 +125,6 @@ func (call call) checkZeros(t *testing.T, name, digits string, known uint64) {
 // TestLengthsBetween compares sums of hashes at lengths that the vectors leave out. The known ones are those of the C
 // header with gcc, by rapidhash_v3_with_seed(message, n, n) and so on in the same loop.
 func TestLengthsBetween(t *testing.T) {
-	sums := map[string]uint64{
-		"v1":           11757234185863877016,
-		"v2_0":         18115706928600855272,
-		"v2_1":         18115706928600855272,
-		"v2_2":         18115706928600855272,
-		"v3":           623517397202350133,
-		"v3_micro":     17316189793002705663,
-		"v3_nano":      14492001302674092559,
-		"v3_protected": 17860716362093790630,
-	}
 	message := long()
 	for name, call := range calls {
 		sum := uint64(0)
@@ -145,7 +136,7 @@ func TestLengthsBetween(t *testing.T) {
 				n += 300000
 			}
 		}
-		compare(t, name+" of 5,000 bytes and more", sum, sums[name])
+		compare(t, name+" of 5,000 bytes and more", sum, call.sum)
 	}
 }
 
