@@ -29,15 +29,12 @@ struct record {
     uint64_t offset, length, streamed, cuts[4], unused[2];
 };
 
-typedef void start(struct rapidhash_stream *, const struct rapidhash_secrets *);
-
 static uint64_t in_pieces(const struct record *asked, const uint8_t *bytes)
 {
-    static start *const starts[] = {rapidhash_v3_start, rapidhash_v3_micro_start, rapidhash_v3_nano_start};
     struct rapidhash_stream stream;
     size_t at = 0;
 
-    starts[asked->form - 4](&stream, &asked->own);
+    rapidhash_stream_start(&stream, 15 - 2 * asked->form, &asked->own);
     for (int i = 0; i < 5; i++) {
         const size_t end = i < 4 ? (size_t)asked->cuts[i] : (size_t)asked->length, len = end - at;
         /* The pieces lie apart, so that a stream finds no earlier bytes in front of one. */

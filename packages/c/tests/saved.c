@@ -19,8 +19,7 @@ static void expect(const char *what, const char *row, bool holds)
 /* Starts a stream of a number of lanes that has had another message. */
 static void start(struct rapidhash_stream *stream, size_t lanes, const struct rapidhash_secrets *secrets)
 {
-    (lanes == 7 ? rapidhash_v3_start : lanes == 5 ? rapidhash_v3_micro_start : rapidhash_v3_nano_start)(
-        stream, secrets);
+    rapidhash_stream_start(stream, lanes, secrets);
     rapidhash_stream_write(stream, message + 1000, 555);
     rapidhash_stream_reset(stream);
 }
