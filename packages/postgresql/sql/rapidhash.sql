@@ -1,10 +1,11 @@
 -- Tests the installed extension: make installcheck. The hashes are those of the Rust crate.
 CREATE EXTENSION rapidhash;
--- Each function and aggregate, with the types and names of its arguments.
+-- The functions and aggregates, by the types and names of their arguments.
 \a
-SELECT proname, string_agg(arguments, '; ' ORDER BY arguments COLLATE "C") AS arguments
-  FROM (SELECT proname, pg_get_function_arguments(oid) AS arguments FROM pg_proc WHERE proname LIKE 'rapidhash%') AS all_of_them
-  GROUP BY proname ORDER BY proname COLLATE "C";
+SELECT arguments, string_agg(proname, ' ' ORDER BY proname COLLATE "C") AS names
+  FROM (SELECT proname, string_agg(pg_get_function_arguments(oid), '; ' ORDER BY pg_get_function_arguments(oid) COLLATE "C") AS arguments
+    FROM pg_proc WHERE proname LIKE 'rapidhash%' GROUP BY proname) AS all_of_them
+  GROUP BY arguments ORDER BY arguments COLLATE "C";
 \a
 -- Each type, and no other.
 SELECT rapidhash_v3('hello') AS literal, rapidhash_v3('hello'::text) AS text, rapidhash_v3('\x68656c6c6f'::bytea) AS bytea;
