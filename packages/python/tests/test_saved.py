@@ -8,11 +8,10 @@ import unittest
 from pathlib import Path
 
 import rapidhash
-from test_rapidhash import DATA
+from test_rapidhash import DATA, STREAMS
 
 TABLE = Path(__file__).with_name("saved.tsv")
-KINDS = {"7": rapidhash.V3, "5": rapidhash.V3Micro, "3": rapidhash.V3Nano}
-HASHES = {rapidhash.V3: rapidhash.v3, rapidhash.V3Micro: rapidhash.v3_micro, rapidhash.V3Nano: rapidhash.v3_nano}
+KINDS = dict(zip("753", STREAMS))
 FORMAT = "saved is no saved hasher, or one of another version of the format"
 CHANGED = "the saved hasher was changed, or has another seed or other secrets"
 
@@ -50,7 +49,7 @@ class SavedStreams(unittest.TestCase):
                 restored = kind.restore(saved, **start)
                 self.assertIs(type(restored), kind)
                 self.assertEqual(restored.save(), known)
-                self.assertEqual(restored.update(DATA).intdigest(), HASHES[kind](message + DATA, **start))
+                self.assertEqual(restored.update(DATA).intdigest(), STREAMS[kind](message + DATA, **start))
 
     def test_changed_bytes_and_other_secrets(self):
         for kind, start, _, known in rows():
@@ -113,7 +112,7 @@ class Named(rapidhash.V3Nano):
 class Pickles(unittest.TestCase):
     def test_pickles_and_copies_go_on(self):
         named = Named(["a", "title"])
-        for hasher in (*(kind(**start) for kind in HASHES for start in (
+        for hasher in (*(kind(**start) for kind in STREAMS for start in (
                 {}, {"seed": 2**64 - 1}, {"secrets": rapidhash.make_secrets(5)})), named):
             for part in (b"", DATA, DATA):
                 hasher.update(part)

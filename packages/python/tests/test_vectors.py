@@ -6,10 +6,10 @@ import struct
 import unittest
 
 import rapidhash
-from test_rapidhash import VERSIONS
+from test_rapidhash import STREAMS, VERSIONS
 
 FILE = pathlib.Path(__file__).with_name("rapidhash_vectors.tsv")
-STREAMS = {"v3": rapidhash.V3, "v3_micro": rapidhash.V3Micro, "v3_nano": rapidhash.V3Nano}
+KINDS = {kind.name[10:]: kind for kind in STREAMS}
 
 
 def in_pieces(hasher, message):
@@ -41,8 +41,8 @@ def answers(version, options, message):
     yield f"{getattr(rapidhash, version)(message, **options):016x}"
     yield getattr(rapidhash, version + "_hexdigest")(message, **options)
     yield f"{rapidhash.each([message], version, **options)[0]:016x}"
-    if version in STREAMS:
-        yield in_pieces(STREAMS[version](**options), message)
+    if version in KINDS:
+        yield in_pieces(KINDS[version](**options), message)
 
 
 class Vectors(unittest.TestCase):
@@ -54,7 +54,7 @@ class Vectors(unittest.TestCase):
                 with mmap.mmap(-1, int(digits[6:]), mmap.MAP_PRIVATE | mmap.MAP_ANONYMOUS, mmap.PROT_READ) as zeros:
                     found = {f"{hash:016x}" for hash in rapidhash.each_row(zeros, len(zeros), version)}
                     found |= {getattr(rapidhash, version + "_hexdigest")(zeros)}
-                    found |= {STREAMS[version](zeros).hexdigest()} if version in STREAMS else set()
+                    found |= {KINDS[version](zeros).hexdigest()} if version in KINDS else set()
             else:
                 found = set(answers(version, options_of(version, rule), bytes.fromhex(digits.strip("-"))))
             self.assertEqual(found, {f"{int(value):016x}"}, (version, rule, digits[:20]))
