@@ -101,6 +101,7 @@ func TestConcurrentCalls(t *testing.T) {
 	all := func() (sum uint64) {
 		for n := 1; n <= len(bytes); n *= 2 {
 			sum += V1WithSecrets(bytes[:n], secretsV1) + V3StringWithSecrets(text[:n], secrets) + V3StringWithSeed(text[:n], 7)
+			sum += V3Key(Text(text[:n]), Integer(int64(n)))
 			for _, call := range calls {
 				sum += call.plain(bytes[:n]) + call.word(bytes[:n], 7) + call.text(text[:n])
 				if call.seeded != nil {

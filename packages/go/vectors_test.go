@@ -2,6 +2,7 @@ package rapidhash
 
 import (
 	"bufio"
+	"encoding/binary"
 	"encoding/hex"
 	"errors"
 	"fmt"
@@ -119,6 +120,12 @@ func (call call) checkZeros(t *testing.T, name, digits string, known uint64) {
 			t.Error(count, err)
 		}
 		compare(t, name+" of zeros in a stream", stream.Sum64(), known)
+	}
+	if name == "v3" {
+		stream := New()
+		stream.Write(binary.LittleEndian.AppendUint64([]byte{bytesTag}, uint64(size)))
+		stream.Write(zeros)
+		compare(t, "key of zeros", V3Key(Bytes(zeros)), stream.Sum64())
 	}
 }
 

@@ -5,13 +5,13 @@ import { bytesOf, kindOf, sizeOf, whatIs } from "./arguments.mjs";
 const [nothing, integer, bytes] = [0, 1, 2];
 
 /** Returns the bytes of a string, a Uint8Array, an ArrayBuffer or a DataView, or undefined for anything else. */
-function textOf(field) {
+function textOf(field, at) {
   const kind = kindOf(field);
   if (kind !== undefined && kind !== "Uint8Array") return undefined;
   try {
-    return bytesOf(field, "v3Key");
+    return bytesOf(field, `fields[${at}]`);
   } catch (error) {
-    if (ArrayBuffer.isView(field)) throw error; // a detached one
+    if (ArrayBuffer.isView(field) || whatIs(field) === "ArrayBuffer") throw error; // a detached one
     return undefined;
   }
 }
@@ -32,7 +32,7 @@ function partsOf(field, at) {
   if (number !== undefined) return [integer, number];
   if (typeof field === "string" && /\p{Surrogate}/u.test(field))
     throw new TypeError(`fields[${at}] has half of a surrogate pair`);
-  const text = textOf(field);
+  const text = textOf(field, at);
   if (text !== undefined) return [bytes, BigInt(sizeOf(text)), text];
   throw new TypeError(`fields[${at}] must be null, an integer, a string or a Uint8Array, not ${whatIs(field)}`);
 }

@@ -217,6 +217,24 @@ static int cases_of[FORMS + 1];
 #endif
 #endif
 
+/* Compares a key of bytes, in a stream, with its encoding: a tag, the length as 8 bytes, and the bytes. */
+static void check_key(const void *message, size_t len, struct rapidhash_stream *stream)
+{
+    unsigned char head[9] = {2};
+    uint64_t known;
+    int at;
+
+    for (at = 1; at < 9; at++)
+        head[at] = (unsigned char)((uint64_t)len >> (8 * at - 8) & 255);
+    rapidhash_stream_reset(stream);
+    rapidhash_stream_write(stream, head, sizeof head);
+    rapidhash_stream_write(stream, message, len);
+    known = rapidhash_stream_finish(stream);
+    rapidhash_stream_reset(stream);
+    rapidhash_key_bytes(stream, message, len);
+    compare("key", "of bytes", rapidhash_stream_finish(stream), known);
+}
+
 /* Compares the hash of a single piece that a stream of a version gets, if it has streams. */
 static void check_piece(const char *name, const void *message, size_t len, uint64_t known)
 {
@@ -231,6 +249,8 @@ static void check_piece(const char *name, const void *message, size_t len, uint6
         stream_forms[i].start(&stream, &secrets);
         rapidhash_stream_write(&stream, message, len);
         compare(name, "in one piece", rapidhash_stream_finish(&stream), known);
+        if (strcmp(name, "v3") == 0)
+            check_key(message, len, &stream);
     }
 }
 

@@ -35,6 +35,9 @@ static void check(const std::string &row, const rapidhash::secrets &own, const s
     expect("restored from a vector", row, stream.restore(known) && stream.finish() == rapidhash::hash(message, own));
     expect("other secrets", row, !other.restore(saved) && other.finish() == rapidhash::stream(other).finish());
     expect("a part", row, !stream.restore({known.data(), known.size() - 1}));
+    known.resize(known.size() + 256);
+    expect("a longer one", row, !stream.restore(known));
+    known.resize(saved.size());
     known[150] ^= 1;
     expect("a changed byte", row, !stream.restore(known));
     expect("unchanged", row, stream.finish() == rapidhash::hash(message, own));

@@ -55,10 +55,11 @@ JAVA
     [ "$(java -p "$jar:$room/module" -m first/first.First)" = 3327445792987248966 ]
 }
 
-# Tests the classes in the jar. Without the variables, tests would skip their files: TEST
+# Tests the classes in the jar, where the encoding of texts is not UTF-8. Without the variables, tests would skip their
+# files: TEST
 passes() {
   [ "$(env | grep -c '^RAPIDHASH_')" -eq 4 ] &&
-    java -ea -cp "$jar:$room/tests:$junit" org.junit.runner.JUnitCore "$package.$1"
+    java -ea -Dfile.encoding=US-ASCII -cp "$jar:$room/tests:$junit" org.junit.runner.JUnitCore "$package.$1"
 }
 
 # Checks that the module has the version of the pom, which has the licences and no package that its users need.

@@ -58,6 +58,11 @@ test("what is no field", () => {
   }
   for (const half of ["a\ud800", "\udc00", "\ud800a"])
     assert.throws(() => v3Key(half), { name: "TypeError", message: "fields[0] has half of a surrogate pair" });
+  const view = new Uint8Array(8);
+  structuredClone(view.buffer, { transfer: [view.buffer] });
+  for (const field of [view, view.buffer])
+    assert.throws(() => v3KeyWith({}, 1, field),
+      { name: "TypeError", message: "fields[1]: the buffer is detached, or too short for its view" });
   assert.throws(() => v3KeyWith({ sed: 1 }, 1),
     { message: "v3KeyWith: unknown option 'sed': expected seed or secrets" });
 });

@@ -53,7 +53,7 @@ def keys():
     found = ask("\n".join(queries))
     tell("keys", *[query[:200] for query, line in zip_longest(queries, found, fillvalue="") if line != "t"])
     user = signed(14742763072502883419)
-    for fields in ("'user', 4711, NULL", "'user'::text, 4711::smallint, NULL::text", "'user'::varchar, 4711::bigint, NULL"):
+    for fields in ("'user', 4711, NULL", "'user'::text, 4711::smallint, NULL::text", "'user'::varchar, 4711::information_schema.cardinal_number, NULL"):
         compare(f"key of {fields}", ask(f"SELECT rapidhash_v3_key({fields})"), [str(user)])
     for number in (-1, -2**15, 2**15 - 1, 2**31 - 1, -2**31):
         types = ["smallint"] * (-2**15 <= number < 2**15) + ["integer", "bigint"]
@@ -152,9 +152,10 @@ def hash_partitions():
     ask("""CREATE COLLATION ci (provider = icu, locale = 'und-u-ks-level2', deterministic = false);
         CREATE TABLE loose AS SELECT word COLLATE ci AS name FROM (VALUES ('a'), ('A')) v(word)""")
     compare("join_of_equal_texts", ask(join.format("", "loose", "loose")), ["4"])
-    found = ask("CREATE INDEX ON loose USING hash (name rapidhash_v3_text_ops)")
-    compare("collation", [line.rpartition("ERROR:  ")[2] for line in found], [
-        "rapidhash_v3_text_ops does not support nondeterministic collations"])
+    found = [ask("CREATE INDEX ON loose USING hash (name rapidhash_v3_text_ops)"),
+             ask("SELECT rapidhash_v3_ops(name, 7) FROM loose")]
+    compare("collation", [line.rpartition("ERROR:  ")[2] for lines in found for line in lines], [
+        "rapidhash_v3_text_ops does not support nondeterministic collations"] * 2)
     ask("DROP TABLE loose, users; DROP COLLATION ci; DROP DATABASE restored")
 
 

@@ -2,11 +2,16 @@
 interface has them, so that each release is counted."""
 
 import array
+import contextlib
 import ctypes
+import gc
+import operator
+import tracemalloc
 import unittest
 from ctypes import POINTER, Structure, c_char_p, c_int64, c_void_p
 
 import rapidhash
+from test_buffers import lets_others_run
 
 TEXTS = ["a", None, "", "b\0c", None, None, "c" * 300, "d", "é", None, "f"]
 NUMBERS = [7, None, 0, 100, None, None, 127, 2, 3, None, 4]
@@ -74,7 +79,7 @@ class Column:
 
     def release(self, held):
         self.released.append(type(held.contents).__name__)
-        ctypes.memset(ctypes.addressof(held.contents) + type(held.contents).release.offset, 0, ctypes.sizeof(c_void_p))
+        held.contents.release = RELEASES[type(held.contents)]()
 
 
 class Arrow(unittest.TestCase):
@@ -115,13 +120,17 @@ class Arrow(unittest.TestCase):
 
     def test_nulls(self):
         """A count of 0 hides the bits, of which there may be none, and -1 is an unknown count."""
-        some = rapidhash.each(self.column("u", ["a", None], nulls=-1), missing=3)
-        self.assertEqual(list(some), [rapidhash.v3("a"), 3])
+        for missing in (0, 3):
+            some = rapidhash.each(self.column("u", ["a", None], nulls=-1), missing=missing)
+            self.assertEqual(list(some), [rapidhash.v3("a"), missing])
         self.assertEqual(rapidhash.each(self.column("u", ["a", None], nulls=0)), rapidhash.each(["a", "null"]))
         for nulls in (0, -1):
             bare = [None, array.array("i", [0, 1, 3]).tobytes(), b"abc"]
             found = rapidhash.each(self.column("u", ["", ""], nulls=nulls, buffers=bare))
             self.assertEqual(found, rapidhash.each(["a", "bc"]))
+        text = ctypes.create_string_buffer(b"ab")
+        far = [None, array.array("q", [2**32, 2**32 + 2]).tobytes(), ctypes.addressof(text) - 2**32]
+        self.assertEqual(list(rapidhash.each(self.column("U", [""], buffers=far))), [rapidhash.v3("ab")])
         none, numbers, texts = (self.column(form, [], buffers=[None] * 3) for form in "ulZ")
         self.assertEqual([*rapidhash.each(none), *rapidhash.each_key(numbers, texts)], [])
 
@@ -129,7 +138,7 @@ class Arrow(unittest.TestCase):
         """Each column is released once, also if another one or an argument is refused."""
         other = Schema()
         kinds = "must be an Arrow array of strings, bytes or integers, "
-        short = [None, array.array("i", [0, 2, 1]).tobytes(), b"ab"]
+        short, below = ([None, array.array("i", places).tobytes(), b"ab"] for places in ([0, 2, 1], [-1, 1]))
         each, key = rapidhash.each, rapidhash.each_key
         for call, kind, error in (
                 (lambda: each(self.column("u", TEXTS)), TypeError, r"^items\[1\] is None: pass `missing`, the hash of a"),
@@ -147,6 +156,7 @@ class Arrow(unittest.TestCase):
                 (lambda: key(self.column("L", [1, 2**63])), OverflowError, r"^columns\[0\]\[1\] must be from "),
                 (lambda: each(self.column("u", ["", ""], buffers=short)), ValueError,
                  r"^items\[1\] has offsets that do not ascend from 0$"),
+                (lambda: each(self.column("u", [""], buffers=below)), ValueError, r"^items\[0\] has offsets that do not"),
                 (lambda: key(self.column("u", ["", ""], buffers=short)), ValueError, r"^columns\[0\]\[1\] has offsets"),
                 (lambda: each(self.column("u", ["a"]), out=array.array("Q")), ValueError, "^out must have room for exactly 1"),
                 (lambda: each(self.column("u", ["a"]), version="v99"), ValueError, "^version must be"),
@@ -161,6 +171,48 @@ class Arrow(unittest.TestCase):
         for call, place in ((rapidhash.each, "items"), (rapidhash.each_key, r"columns\[0\]")):
             with self.assertRaisesRegex(TypeError, f"^{place} must be an Arrow array of .*, not a released one$"):
                 call(lent)
+
+    def test_nothing_is_left(self):
+        """Each call holds new objects, and it succeeds or fails after it has opened some of them. Python itself keeps some
+        memory for later objects, but not after each round."""
+        class Index:
+            def __index__(self):
+                return 2**62 + len(objects)
+
+        def places(*offsets, kind="i"):
+            return array.array(kind, offsets)
+
+        objects, large, room = [], bytes(70_000), bytearray
+        each, key, one, part = rapidhash.each, rapidhash.each_key, rapidhash.v3_key, rapidhash.each_slice
+        for call in (
+                lambda: each(Column("u", ["a"])), lambda: each(Column("u", [None])), lambda: key(Column("l", [1]), [2]),
+                lambda: key(Column("l", [1]), Column("g", [1])), lambda: each(Column("u", ["a", None]), out=places(8, 9, kind="Q")),
+                lambda: each([bytearray(9), bytearray(large)]), lambda: each([bytes(room(9)), [7]]),
+                lambda: key([Index()], [bytes(room(9))], [bytearray(9)]), lambda: one(Index(), bytearray(9)),
+                lambda: one(places(1)), lambda: key([[7]]), lambda: key([[7]], [1, 2]), lambda: key(places(1), places(1, 2)),
+                lambda: key(places(1), [[7]]), lambda: key(places(1), out=places(1, 2, kind="Q")), lambda: key(places(1, kind="d")),
+                lambda: part(b"abc", places(0, 3)), lambda: part(room(3), places(0, 1, kind="d")), lambda: part(7, places(0, 1)),
+                lambda: part(room(3), places(0, 4)), lambda: part(room(3), places(0, 1), validity=bytearray(1)),
+                lambda: part(room(3), places(0, 1), validity=room(), missing=0),
+                lambda: part(room(3), places(0, 1), validity=room(1), missing=0),
+                lambda: part(room(3), places(0, 1), validity=room(1), missing=-1)):
+            def use():
+                for _ in range(200):
+                    with contextlib.suppress(TypeError, ValueError, OverflowError):
+                        call()
+                gc.collect()
+                return tracemalloc.get_traced_memory()[0]
+
+            tracemalloc.start()
+            try:
+                held = [use() for _ in range(7)]
+            finally:
+                tracemalloc.stop()
+            self.assertLess(min(map(operator.sub, held[1:], held)), 1 << 12, call.__code__.co_consts)
+
+    def test_other_threads_run_meanwhile(self):
+        column = Column("u", ["a" * 65_537])
+        self.assertTrue(lets_others_run(lambda: rapidhash.each(column), 20_000))
 
     def test_what_is_no_pair(self):
         for pair in (None, 7, (), (1, 2), (1, 2, 3)):

@@ -82,6 +82,8 @@ class Columns(unittest.TestCase):
             half, data[-1] = len(data) // 2, 1
             with memoryview(data) as view, view[:half] as left, view[half:] as right:
                 self.assertEqual(list(rapidhash.each_row(data, half)), [rapidhash.v3(left), rapidhash.v3(right)])
+            encoding = rapidhash.V3(b"\2" + len(data).to_bytes(8, "little")).update(data)
+            self.assertEqual(rapidhash.v3_key(data), encoding.intdigest())
         self.assertEqual(rapidhash.v3(bytes(2**32 + 5)), 8938949028826169308)  # As in scripts/vectors.py.
 
     def test_nothing_to_hash(self):

@@ -308,6 +308,8 @@ prints last_name_without_nul "$program" --files0-from short
 prints names_of_input "$program" --files0-from=- <names
 printf 'first\0-\0' >names
 answers input_in_a_list 'a1266b469390773a  first\nd961942577685053  -\n' 'else' "$program" --files0-from=names
+runs no_input_in_a_list_of_input 1 $'a1266b469390773a  first\n' \
+  $'rapidsum: when reading file names from stdin, no file name of \'-\' allowed\n' "$program" --files0-from=- <names
 answers empty_list '' 'else' "$program" --files0-from=/dev/null
 "$program" first >list && printf 'list\0list' >names
 answers lists_of_a_list 'first: OK\nfirst: OK\n' '' "$program" -c --files0-from=names
@@ -336,6 +338,14 @@ head -c 8000000 /dev/zero >empty && says memory_refused_to_names memory in_kibib
 yes 'a1266b469390773a  first' | head -n 20000 >entries
 try memory_of_a_list grows_by_a_factor "$program" -c --quiet entries
 try memory_of_input grows_by_a_factor "$program" -a v1 <large
+# The lines before a refusal are written, and those of a failed write are not written again.
+"$program" first >list && yes x | head -c 12000000 >short
+in_kibibytes 65536 "$program" -c list short >out 2>"$room/log"
+[ $? -eq 1 ] && grep -q memory "$room/log" && [ "$(cat out)" = 'first: OK' ]
+tell lines_before_a_refusal $?
+failing write:error=EIO:when=1 out "$program" first nothing >out 2>"$room/log"
+[ $? -eq 1 ] && [ ! -s out ]
+tell lines_of_a_failed_write $?
 
 # What cargo's build has in place of parts of the kit: reads to the end, lists, and arguments.
 if [ -n "${BUILT-}" ]; then

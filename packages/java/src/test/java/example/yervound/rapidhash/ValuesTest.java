@@ -6,6 +6,7 @@ import static org.junit.Assert.assertThrows;
 import static org.junit.Assert.assertTrue;
 
 import java.io.ByteArrayInputStream;
+import java.io.EOFException;
 import java.io.IOException;
 import java.io.InputStream;
 import java.nio.CharBuffer;
@@ -52,7 +53,7 @@ public class ValuesTest {
         }
     }
 
-    /** Reads a message in pieces of 1, 2, 3 bytes, and so on. */
+    /** Reads a message in pieces of 0, 1, 2 bytes, and so on. */
     private static final class Pieces extends ByteArrayInputStream {
         private int size;
         private boolean isClosed;
@@ -63,8 +64,7 @@ public class ValuesTest {
 
         @Override
         public synchronized int read(byte[] room, int at, int n) {
-            size++;
-            return super.read(room, at, Math.min(n, size));
+            return super.read(room, at, Math.min(n, size++));
         }
 
         @Override
@@ -99,7 +99,7 @@ public class ValuesTest {
             @Override
             public int read() throws IOException {
                 if (isRead) {
-                    throw new IOException("no more");
+                    throw new EOFException("no more");
                 }
                 isRead = true;
                 return 'h';
@@ -108,6 +108,7 @@ public class ValuesTest {
             @Override
             public int read(byte[] room, int at, int n) throws IOException {
                 room[at] = (byte) read();
+                Rapidhash.V3.hash(new ByteArrayInputStream(new byte[n])); // It has a room of its own.
                 return 1;
             }
         };
