@@ -344,7 +344,7 @@ in_kibibytes 65536 "$program" -c list short >out 2>"$room/log"
 [ $? -eq 1 ] && grep -q memory "$room/log" && [ "$(cat out)" = 'first: OK' ]
 tell lines_before_a_refusal $?
 failing write:error=EIO:when=1 out "$program" first nothing >out 2>"$room/log"
-[ $? -eq 1 ] && [ ! -s out ]
+[ $? -eq 1 ] && [ ! -s out ] && grep -q 'write error' "$room/log"
 tell lines_of_a_failed_write $?
 
 # What cargo's build has in place of parts of the kit: reads to the end, lists, and arguments.
