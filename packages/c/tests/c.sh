@@ -7,6 +7,23 @@ header=$include/rapidhash_c.h
 tests=$top/packages/c/tests
 vectors=("$room/rapidhash_vectors.tsv" "$top/crates/test_replay/data/secrets.tsv")
 
+# Begins a long command, which runs beside the cases, in a directory of its own with the files so far: NAME COMMAND..
+declare -A begun
+begin() {
+  mkdir "$room/$1" && ln -s "$room"/*.* "$room/$1" && {
+    (room=$room/$1 && "${@:2}" >"$room/said" 2>&1) &
+    begun[$1]=$!
+  }
+}
+
+# Waits for the end of such a command: NAME
+ended() {
+  wait "${begun[$1]}"
+  local status=$?
+  cat "$room/$1/said"
+  return "$status"
+}
+
 # Compiles a program of every call, with an archive if `linked` names one, and compares its values with the vectors. A
 # second file of the program includes the header too: COMPILER ARGUMENT..
 has_the_values() {
@@ -180,7 +197,7 @@ build_rust() {
 
 # Builds packages/c/tests/fuzz.c with the Rust crate: COMPILER ARGUMENT..
 beside_rust() {
-  "$@" -Wall -Wextra -Werror "-I$include" -x c "$tests/fuzz.c" -x none "$archive" "$room/librust.a" \
+  "$@" -Wall -Wextra -Werror "-I$include" -x c "$tests/fuzz.c" -x none ${archive:+"$archive"} "$room/librust.a" \
     -lpthread -ldl -lm -o "$room/beside_rust"
 }
 
@@ -248,7 +265,7 @@ folds_two_rows() {
 
 # Compares the header's hashes of a million inputs from libFuzzer.
 fuzz() {
-  beside_rust clang -O1 -fsanitize=fuzzer,address,undefined -fno-sanitize-recover=all &&
+  build_rust && beside_rust clang -O1 -fsanitize=fuzzer,address,undefined -fno-sanitize-recover=all &&
     (cd "$room" && ./beside_rust -max_len=1200 -len_control=0 -runs=1000000)
 }
 
@@ -333,6 +350,9 @@ echo '#include <rapidhash_c.h>' >"$room/second.c"
 multilib='/usr/lib/gcc/x86_64-linux-gnu/*/32'
 fuzzer='/usr/lib/llvm-*/lib/clang/*/lib/linux/libclang_rt.fuzzer-x86_64.a'
 
+begin sanitizers has_the_values clang -O1 -fsanitize=address,undefined -fno-sanitize-recover=all
+begin fuzz fuzz
+
 # Messages above 4 GiB take some seconds. The standard does not change their hashes, so the first one hashes them all.
 for compiler in gcc clang; do
   all=1
@@ -347,8 +367,7 @@ try header_c89 bash -c 'cc -std=c89 -fsyntax-only "$1" 2>&1 | grep -m 1 error: |
 try header_without_int128 has_the_values cc -O2 -DRAPIDHASH_NO_INT128
 try header_without_a_byte_order has_the_values cc -O2 -U__BYTE_ORDER__
 try header_with_assertions has_the_values cc -O3 -include assert.h -DRAPIDHASH_ASSERT=assert
-try_with header_with_sanitizers "clang $fuzzer" has_the_values clang -O1 -fsanitize=address,undefined \
-  -fno-sanitize-recover=all
+try_with header_with_sanitizers "clang $fuzzer" ended sanitizers
 try_with header_tcc tcc has_the_values tcc
 try_with header_32_bits "gcc $multilib/libgcc.a" has_the_values gcc -m32 -O2
 for standard in c++11 c++17 c++20; do
@@ -414,7 +433,7 @@ try_with header_first_program c++ first_program_runs
 test_library header_ cc "$room"/usr/lib/librapidhash_c.{a,so.1}
 try_with header_shared pkg-config builds_by_pkg_config "$room/usr/lib"
 try_with example_of_the_manual pkg-config manual_example_runs
-try_with fuzz "cargo rustc clang $fuzzer" fuzz
+try_with fuzz "cargo rustc clang $fuzzer" ended fuzz
 
 # The proved library.
 lacks rt >/dev/null || prepare_by make -s -C "$top" library
