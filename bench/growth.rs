@@ -9,7 +9,7 @@ use yervound::rng::RapidRng;
 
 type Work<'w> = (&'w str, &'w dyn Fn() -> Vec<(String, f64)>);
 
-/// Measures the libraries in turn, and prints the least time of each row.
+/// Measures the libraries in turn and prints the minimum time of each row.
 fn alternate(repeats: u64, works: &[Work]) {
     let mut least: Vec<Vec<(String, f64)>> = works.iter().map(|(_, work)| work()).collect();
     for _ in 1..repeats {

@@ -23,8 +23,8 @@ pub unsafe extern "C" fn in_memory_quality(bytes: *const u8, len: usize, seed: u
     hasher.finish()
 }
 
-/// Returns the next word of a generator. Its state is a message of 8 bytes XOR the seed, or for any other message the
-/// state `seed` steps after 0.
+/// Returns the next word of a generator. An 8-byte message XOR the seed is its state. With any other message, it starts
+/// at 0 and first takes `seed` steps.
 ///
 /// # Safety
 /// `bytes` has `len` bytes.

@@ -33,7 +33,7 @@ PROGRAM
     cc -std=c99 -O2 -DWITH_OTHERS -I "$top/packages/c/include" stream.c libquality.a -lm -o stream
 }
 
-# Fails if dieharder refuses a subject's words, or has no verdict, and prints its lines: NAME TESTS
+# Prints the tests of dieharder that a subject's words fail or that give no verdict. Fails if there are any: NAME TESTS
 passes() {
   local test words
   tr : '\n' <<<"$2" | while read -r test; do

@@ -66,7 +66,7 @@ fn word(bytes: &[u8], at: usize) -> u64
     u64::from_le_bytes(out)
 }
 
-/// Returns the byte that stands for the options.
+/// Returns the options as a byte: 1 for AVALANCHE, plus 2 for PROTECTED.
 pub(super) const fn option_byte<const AVALANCHE: bool, const PROTECTED: bool>() -> u8
     ensures { result ≡ option_byte AVALANCHE PROTECTED }
 {
@@ -147,6 +147,7 @@ impl<'a> Parts<'a> {
             len: bytes[11] as usize,
         }
     }
+
     /// Returns whether each lane that has folded nothing holds the seed.
     pub(super) fn unused_hold_seed<const LANES: usize>(&self) -> bool
         requires { LANES ≤ 7 }

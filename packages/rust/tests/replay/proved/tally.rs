@@ -47,7 +47,7 @@ impl Count {
         agreed: 0,
     };
 
-    /// Counts a value, and returns whether it differs.
+    /// Counts a value and returns whether it differs.
     fn differs(&mut self, agrees: Option<bool>) -> bool {
         let agrees = if let Some(agrees) = agrees {
             agrees
@@ -87,7 +87,7 @@ impl Tally {
         }
     }
 
-    /// Counts a case, and returns whether a value of it differs.
+    /// Counts a case and returns whether any of its values differs.
     pub fn differs(&mut self, case: Agreement) -> bool {
         self.cases = self.cases.saturating_add(1);
         let definition = self.definition.differs(case.definition);
