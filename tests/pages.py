@@ -5,10 +5,12 @@ those of the files. Pages and lines must keep their limits, and texts generated 
 import contextlib
 import io
 import math
+import os
 import re
 import runpy
 import sys
 import textwrap
+from pathlib import Path
 from xml.etree import ElementTree
 
 from cases import ROOM, TOP, blocks, finish, shell, tell
@@ -92,18 +94,23 @@ def layers():
 
 def edits():
     """Checks that the function in the first line of each must-fail edit is in the sources of its crate. If it has a
-    stored answer, which fits a single text, the edit has a twin or a failing test in tests/release."""
+    stored answer, which fits a single text, the edit has a twin or a failing test in tests/release. In the gate, rt ci
+    must have refused each edit, and those without either at the goal in their first lines."""
     release = TOP / "tests" / "release"
     shown = set(re.findall(r"^([^\t]+)", (release / "failing_tests.tsv").read_text(), re.M))
     shown |= {f"{twin.parent.name}/{twin.stem}" for twin in release.glob("twins/*/*.twin")}
+    proofs = Path(os.environ.get("PROOFS", os.devnull)).read_text()
+    refused = dict(re.findall(r"^rt: must-fail (\S+)\.edit: refused, as it must be(.*)", proofs, re.M))
     for edit in TOP.glob("crates/*/must-fail/*.edit"):
-        crate, function = edit.parent.parent, re.match(r"# refused: (?:([^ ]*)::)?(\w+), ", edit.read_text())
+        crate, head = edit.parent.parent, re.match(r"# refused: (?:([^ ]*)::)?(\w+), (\S+)", edit.read_text())
         sources = "".join(file.read_text() for file in (crate / "src").rglob("*.rt"))
-        if not function or not re.search(rf"\b{function[2]}\b", sources):
-            yield f"{edit.relative_to(TOP)}: no such function"
-        elif (crate / "proofs" / (function[1] or "").replace("::", "/") / function[2] / "Answers.antt").exists() \
-                and f"{crate.name}/{edit.stem}" not in shown:
-            yield f"{edit.relative_to(TOP)}: no twin and no failing test"
+        place, name = edit.relative_to(TOP), f"{crate.name}/{edit.stem}"
+        if not head or not re.search(rf"\b{head[2]}\b", sources):
+            yield f"{place}: no such function"
+        elif name not in shown and (crate / "proofs" / (head[1] or "").replace("::", "/") / head[2] / "Answers.antt").exists():
+            yield f"{place}: no twin and no failing test"
+        elif proofs and (name not in refused or name not in shown and f"`{head[3]}`" not in refused[name]):
+            yield f"{place}: rt ci did not refuse it at {head[3]}, but said{refused.get(name, ': nothing')}"
 
 
 def vectors():

@@ -190,6 +190,13 @@ names docs/C.md s|`rapidhash_v3_micro_inline`|`print_heading`|
 statements docs/PROVED.md s|`FlagsFailures result|`FlagsFailures answer|
 edits tests/release/failing_tests.tsv s|^rapidsum/a_list_loses|rapidsum/a_list_keeps|
 EDITS
+# What rt ci says if it refuses each edit at its goal, but one at another, or cannot read one.
+awk 'FNR == 1 { n = split(FILENAME, path, "/")
+  printf "rt: must-fail %s/%s: refused, as it must be: `%s`\n", path[n - 2], path[n], $NF }' \
+  "$top"/crates/*/must-fail/*.edit >"$room/proofs"
+for change in 'crates/rapidhash/must-fail/default_is_the_seed_1.edit 1s/, .*/, loop/' '../proofs 1s/refused.*/BAD EDIT/'; do
+  PROOFS=$room/proofs refuses tests/pages.py <<<"edits $change"
+done
 lints=$(command -v shellcheck && command -v pyflakes3)
 PATH=/usr/bin:/bin refuses tests/style.sh <<EDITS
 columns crates/rapidhash_portable/src/form.rt \$a //$(printf ' %.0s' {1..98})a
