@@ -20,7 +20,7 @@ ERRORS = {
     "rapidhash_v3_nano(1, x'00')": "rapidhash_v3_nano: the seed must be an INTEGER",
     "rapidhash_v3_with_secrets(1, 2.0)": "rapidhash_v3_with_secrets: the number must be an INTEGER",
     "rapidhash_hex('1')": "rapidhash_hex: the hash must be an INTEGER",
-    "rapidhash_v3_agg(1.5)": f"rapidhash_v3_agg: {REAL}",
+    "rapidhash_v3_agg(2.0)": f"rapidhash_v3_agg: {REAL}",
     "rapidhash_v3_micro_agg(NULL, '1')": "rapidhash_v3_micro_agg: the seed must be an INTEGER",
     "rapidhash_v3_nano_agg(1, place << 32) FROM many": "rapidhash_v3_nano_agg: the seed must be the same in every row",
     "rapidhash_v3_agg(1) OVER (ROWS 1 PRECEDING) FROM many":
@@ -28,7 +28,7 @@ ERRORS = {
     "rapidhash_v3()": "wrong number of arguments to function rapidhash_v3()",
     "rapidhash_v3_with_secrets(1)": "wrong number of arguments to function rapidhash_v3_with_secrets()",
     "rapidhash_v3_agg(1, 2, 3)": "wrong number of arguments to function rapidhash_v3_agg()",
-    "rapidhash_v3_key('a', 1.5)":
+    "rapidhash_v3_key('a', 2.0)":
         "rapidhash_v3_key: argument 2 is a REAL, and no field of a key: cast it to TEXT, BLOB or INTEGER",
     "rapidhash_v3_key_with_seed()": "rapidhash_v3_key_with_seed: the first argument is missing",
     "rapidhash_v3_key_with_secrets('1')": "rapidhash_v3_key_with_secrets: the number must be an INTEGER",
@@ -79,9 +79,11 @@ def types(database, name):
         rapidhash_v3(''), rapidhash_v3(x''), rapidhash_v3(zeroblob(3)) = rapidhash_v3(x'000000'),
         rapidhash_v3(?) = rapidhash_v3(x'610062'), rapidhash_v3(42), rapidhash_v3(-42),
         rapidhash_v3(CAST(42 AS TEXT)) = rapidhash_v3(x'3432'), rapidhash_v3(NULL), rapidhash_v3(NULL, 1),
-        rapidhash_v3('a', NULL), rapidhash_v1_with_secrets(1, NULL), rapidhash_hex(NULL)""", "a\0b")
+        rapidhash_v3('a', NULL), rapidhash_v1_with_secrets(1, NULL), rapidhash_hex(NULL),
+        rapidhash_v3_key('user', 4711, NULL), rapidhash_v3_agg(''), rapidhash_v3_agg(x'')""", "a\0b")
     compare(name, found, [(HELLO, TEXT_HASH, TEXT_HASH, NOTHING, NOTHING, 1, 1, 5044168950324010207,
-                           2463112363380910024, 1, None, None, None, None, None)])
+                           2463112363380910024, 1, None, None, None, None, None, signed(14742763072502883419), NOTHING,
+                           NOTHING)])
     found = [ask(database, "SELECT rapidhash_hex(?)", number) for number in DIGITS]
     compare(f"{name}_hex", found, [[(digits,)] for digits in DIGITS.values()])
 
@@ -122,9 +124,10 @@ def aggregates(database):
 def schema(database):
     """Checks that a call may be in an index, and in a view of an untrusted schema."""
     database.execute("PRAGMA trusted_schema = OFF")
-    database.execute("CREATE INDEX by_hash ON many (rapidhash_v3(word, 1))")
-    database.execute("CREATE VIEW hashes AS SELECT rapidhash_v3_agg(column1) FROM (VALUES ('hello'))")
-    compare("schema", ask(database, "SELECT * FROM hashes"), [(HELLO,)])
+    database.execute("CREATE INDEX by_hash ON many (rapidhash_v3(word, 1), rapidhash_v3_key(word, part), rapidhash_hex(part))")
+    database.execute("""CREATE VIEW hashes AS SELECT rapidhash_v3_agg(column1), rapidhash_v3_agg(column1, 0),
+        rapidhash_v3('hello', 0), rapidhash_v3_key(), rapidhash_hex(0) FROM (VALUES ('hello'))""")
+    compare("schema", ask(database, "SELECT * FROM hashes"), [(HELLO, HELLO, HELLO, NOTHING, "0" * 16)])
 
 
 def page(database):

@@ -16,6 +16,8 @@ static const char *const queries[] = {
     "SELECT rapidhash_v3_agg(column1) OVER (ORDER BY column2) FROM (VALUES ('lo', 2), ('hel', 1))",
     "SELECT rapidhash_v3_agg(column1, column2) FROM (VALUES ('lo', 2), ('hel', 1))",
     "SELECT rapidhash_v3(1.5)",
+    "SELECT rapidhash_v3_key('a', zeroblob(column1), column1) FROM (VALUES (3000), (4000))",
+    "SELECT rapidhash_v3_key('a', 1.5)",
     "SELECT rapidhash_hex(rapidhash_v3(column1)) FROM (VALUES ('hello'), (NULL))",
 };
 
