@@ -9,7 +9,7 @@ SELECT arguments, string_agg(proname, ' ' ORDER BY proname COLLATE "C") AS names
 \a
 -- Each type, and no other.
 SELECT rapidhash_v3('hello') AS literal, rapidhash_v3('hello'::text) AS text, rapidhash_v3('\x68656c6c6f'::bytea) AS bytea;
-SELECT rapidhash_v3('') AS text, rapidhash_v3(''::bytea) AS bytea;
+SELECT rapidhash_v3('') AS text, rapidhash_v3(''::bytea) AS bytea, rapidhash_v3_agg(''::text) AS rows;
 SELECT rapidhash_v3(42) AS integer, rapidhash_v3(42::bigint) AS bigint, rapidhash_v3((-42)::smallint) AS smallint;
 SELECT rapidhash_v3(E'h\u00e9llo \u20ac\U0001F600') AS text;
 SELECT rapidhash_v3(1.5);
@@ -19,7 +19,7 @@ SELECT rapidhash_v3_with_secrets('a');
 -- Fields of a key, and what is none.
 SELECT rapidhash_v3_key('user', 4711, NULL), rapidhash_v3_key_with_seed(7, 'user', 4711, NULL);
 SELECT rapidhash_v3_key('a', 1.5);
-SELECT rapidhash_v3_key('a', now());
+SELECT rapidhash_v3_key('a', 'b'::char(3));
 SELECT rapidhash_v3_key(VARIADIC ARRAY[1, 2]);
 -- NULL as any argument.
 SELECT rapidhash_v3(NULL::text), rapidhash_v3('a', NULL), rapidhash_v3(NULL::text, 1), rapidhash_v3_with_secrets(1, NULL),

@@ -19,6 +19,7 @@ FUNCTIONS = """SELECT prokind, proisstrict, count(*), count(*) FILTER (WHERE pro
 STORED = """CREATE TABLE stored (word text); ALTER TABLE stored ALTER word SET STORAGE {0};
     INSERT INTO stored SELECT repeat('hello', {1}); SELECT rapidhash_v3(word) = rapidhash_v3(repeat('hello', {1})),
     (SELECT rapidhash_v3_agg(word) FROM stored) = rapidhash_v3(repeat('hello', {1})),
+    rapidhash_v3_key(word) = rapidhash_v3_key(repeat('hello', {1})),
     pg_column_size(word) < octet_length(word) FROM stored; DROP TABLE stored"""
 # The server stores a value compressed, in pieces, or with a shorter header.
 STORAGES = (("EXTENDED", 220000, "t"), ("EXTERNAL", 220000, "f"), ("PLAIN", 1, "f"))
@@ -59,6 +60,8 @@ def keys():
         types = ["smallint"] * (-2**15 <= number < 2**15) + ["integer", "bigint"]
         keys = ", ".join(f"rapidhash_v3_key('{number}'::{type})" for type in types)
         compare(f"key of {number}", ask(f"SELECT count(DISTINCT key) FROM unnest(ARRAY[{keys}]) key"), ["1"])
+    label = "CREATE DOMAIN pg_temp.label AS text; SELECT rapidhash_v3_key('user'::pg_temp.label, 4711, NULL)"
+    compare("key of a domain of texts", ask(label), [str(user)])
     compare("key with no seed", ask("SELECT rapidhash_v3_key_with_seed(NULL, 1) IS NULL"), ["t"])
 
 
@@ -70,7 +73,7 @@ def installcheck():
 
 def storages():
     for storage, count, is_compressed in STORAGES:
-        compare(f"storage {storage}", ask(STORED.format(storage, count)), [f"t|t|{is_compressed}"])
+        compare(f"storage {storage}", ask(STORED.format(storage, count)), [f"t|t|t|{is_compressed}"])
 
 
 def aggregates():
@@ -174,6 +177,8 @@ def rest():
     query += "ALTER EXTENSION rapidhash SET SCHEMA two; SELECT two.rapidhash_v3('hello')"
     compare("owner_and_schema", ask(query), [str(HELLO)])
     compare("dropped", ask(f"DROP EXTENSION rapidhash; {FUNCTIONS}"), [])
+    compare("hint", ask(f"\\i '{TOP}/packages/postgresql/rapidhash--1.0.sql'"), [
+        'Use "CREATE EXTENSION rapidhash" to load this file.'])
 
 
 needs("cc", *SERVER)
