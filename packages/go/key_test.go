@@ -79,6 +79,8 @@ func TestFields(t *testing.T) {
 	name, data, secrets := strings.Repeat("n", 200), make([]byte, 300), MakeSecrets(1)
 	if allocations := testing.AllocsPerRun(100, func() {
 		V3KeyWithSecrets(secrets, Text(name), Integer(7), Bytes(data), Nothing())
+		V3KeyWithSeed(7, Text(name), Bytes(data))
+		V3Key(Text(name), Bytes(data))
 	}); allocations != 0 {
 		t.Errorf("a key allocates %v times", allocations)
 	}

@@ -13,8 +13,10 @@ func TestDefaultSeeds(t *testing.T) {
 		t.Error("a default seed is not that of its word")
 	}
 	compare(t, "v3", V3WithSeed([]byte("hello"), 0), 3327445792987248966)
-	if SeedSecrets(1) == SeedSecrets(1) || SeedSecretsV1(1) == SeedSecretsV1(1) || MakeSecrets(1) == MakeSecrets(1) {
-		t.Error("two calls share their secrets")
+	for _, word := range []uint64{0, 1, v1Word} {
+		if SeedSecrets(word) == SeedSecrets(word) || SeedSecretsV1(word) == SeedSecretsV1(word) || MakeSecrets(word) == MakeSecrets(word) {
+			t.Error("two calls share their secrets")
+		}
 	}
 }
 

@@ -99,9 +99,11 @@ func TestAllocatesNothing(t *testing.T) {
 	for _, size := range []int{0, 3, 16, 100, 5000} {
 		bytes, text := long()[:size], string(long()[:size])
 		runs := map[string]func(){
-			"v1 seeded": func() { V1WithSecrets(bytes, madeV1) },
-			"strings":   func() { V3StringWithSecrets(text, made); V3StringWithSeed(text, 1) },
-			"restart":   func() { *restarted = Stream{}; restarted.Write(bytes) },
+			"v1 seeded":           func() { V1WithSecrets(bytes, madeV1) },
+			"strings":             func() { V3StringWithSecrets(text, made); V3StringWithSeed(text, 1) },
+			"restart":             func() { *restarted = Stream{}; restarted.Write(bytes) },
+			"restart by a string": func() { *restarted = Stream{}; restarted.WriteString(text) },
+			"restart by a sum":    func() { *restarted = Stream{}; restarted.Sum(sum[:0]) },
 		}
 		for name, call := range calls {
 			call := call
