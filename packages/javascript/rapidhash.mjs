@@ -131,9 +131,11 @@ function calls(library) {
   };
 }
 
-/** The library of the exported calls, and these calls over it: `ready` or the first call loads them. */
+/** The library of the exported calls and these calls over it, which `ready` or the first call loads, and a load of
+ * `ready` that has not ended. */
 let shared;
 let own;
+let loading;
 
 function share(library) {
   if (own === undefined) [shared, own] = [library, calls(library)];
@@ -147,7 +149,7 @@ const call = (name) => (...words) => ours()[name](...words);
 
 /** Loads the module for the exported calls. Without it, the first call loads the module synchronously. */
 export async function ready() {
-  if (own === undefined) share(await libraryOf(inside()));
+  if (own === undefined) await (loading ??= libraryOf(inside()).then(share).finally(() => (loading = undefined)));
 }
 
 export const v1 = hash("v1");

@@ -5,11 +5,17 @@ import { test } from "node:test";
 import * as calls from "yervound-rapidhash";
 
 const { loadSync, ready, v3, v3Key, V3, V3Micro, V3Nano } = calls;
-const started = [ready(), ready()];
-const early = new V3().update("hel");
+const { instantiate } = WebAssembly;
 
-test("a call without a load", async () => {
+test("calls while `ready` loads the module once, after a load that failed", async () => {
+  let loads = 0;
+  WebAssembly.instantiate = (module) => (loads += 1) === 1 ? Promise.reject(Error("no memory")) : instantiate(module);
+  await assert.rejects(ready(), { message: "no memory" });
+  const started = [ready(), ready()];
+  const early = new V3().update("hel");
   await Promise.all(started);
+  WebAssembly.instantiate = instantiate;
+  assert.equal(loads, 2);
   assert.equal(early.clone().update("lo").digest(), 3327445792987248966n);
   assert.equal(v3("hello"), 3327445792987248966n);
   assert.equal(v3Key("user", 4711, null), 14742763072502883419n);
@@ -34,7 +40,6 @@ test("classes over a shared one", async () => {
     title = "a title";
   }
   const hasher = new Named().update("hel");
-  const { instantiate } = WebAssembly;
   WebAssembly.instantiate = () => assert.fail("a module was loaded again");
   await ready();
   WebAssembly.instantiate = instantiate;
