@@ -4,20 +4,29 @@ import { test } from "node:test";
 
 let listener;
 const posted = [];
+const encoder = new TextEncoder();
 globalThis.addEventListener = (_, called) => (listener = called);
 globalThis.postMessage = (message) => posted.push(message);
+performance.now = () => 1000;
 await import("./worker.mjs");
 
-/** Returns the messages of the worker for a file of five bytes whose stream has these bytes. */
-async function reported(bytes) {
-  const file = { size: 5, stream: () => new Blob([bytes]).stream() };
-  await listener({ data: { file, names: ["v3"] } });
+/** Returns the messages of the worker for a file of five bytes whose stream has these pieces. */
+async function reported(...pieces) {
+  const stream = () => new ReadableStream({
+    start(controller) {
+      for (const piece of pieces) controller.enqueue(encoder.encode(piece));
+      controller.close();
+    },
+  });
+  await listener({ data: { file: { size: 5, stream }, names: ["v3"] } });
   return posted.splice(0);
 }
 
 test("a file that does not change", async () => {
-  const wanted = [{ done: 5, hashes: { v3: 3327445792987248966n } }, { end: "done" }];
-  assert.deepEqual((await reported("hello")).slice(-2), wanted);
+  const messages = await reported("h", "e", "l", "l", "o");
+  // The pieces after the first come too soon after it.
+  assert.deepEqual(messages.map(({ done, end }) => done ?? end), [1, 5, "done"]);
+  assert.deepEqual(messages[1].hashes, { v3: 3327445792987248966n });
 });
 
 for (const bytes of ["hell", "hello!"]) {

@@ -49,6 +49,20 @@ runs_required() {
     node --test shared.mjs
 }
 
+# Checks that the types name each export of the package, and no other.
+names_each_export() {
+  cd "$room/first" &&
+    diff <(sed -nE "s/^export (const|function) (\w+).*/\2/p" node_modules/*/index.d.ts | LC_ALL=C sort) \
+      <(node --input-type=module -e 'import * as all from "yervound-rapidhash"; console.log(Object.keys(all).join("\n"))')
+}
+
+# Compiles a program whose `import` is a `require`.
+compiles_commonjs() {
+  cd "$room/first" &&
+    echo 'import { v3 } from "yervound-rapidhash"; export const hash: bigint = v3("text");' >common.cts &&
+    compiles --lib es2020 common.cts
+}
+
 # Bundles a program without a rule and runs the result, a script for browsers: COMMAND.., which writes bundle/main.js
 bundles() {
   cd "$room/first" && rm -rf bundle && mkdir -p src &&
@@ -98,10 +112,12 @@ try changed_files refuses_changed_files
 try node_require runs_required
 try_with esbuild esbuild bundles esbuild src/index.js --bundle --outfile=bundle/main.js
 try_with webpack webpack bundles webpack --mode production --output-path bundle
+try types_of_each_export names_each_export
 # A type that accepts anything would hide mistakes.
 try types_without_any [ "$(grep -cE '[^a-z ] any\b' "$top/packages/javascript/index.d.ts")" = 0 ]
 try_with types tsc compiles --lib es2020,dom types.mts
 try_with types_alone tsc compiles --lib es2020 node_modules/yervound-rapidhash/index.d.ts
+try_with types_of_commonjs tsc compiles_commonjs
 # Each browser, if the program that drives it is installed.
 tool=rt && has rt || tool=cargo
 try_with lay_out_for_browsers "$tool" lay_out_for_browsers

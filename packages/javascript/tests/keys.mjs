@@ -34,7 +34,7 @@ test("kinds of fields", () => {
   for (const text of ["user", bytes, bytes.buffer, new DataView(bytes.buffer)])
     for (const nothing of [null, undefined]) assert.equal(v3Key(text, 4711, nothing), user);
   assert.equal(v3Key("user", 4711n, null), user);
-  assert.equal(v3Key("中文"), v3Key(new TextEncoder().encode("中文")));
+  for (const text of ["中文", "\u{1f600}"]) assert.equal(v3Key(text), v3Key(new TextEncoder().encode(text)));
   assert.equal(v3Key(-0), v3Key(0));
   assert.equal(v3Key(), v3(""));
   const long = "x".repeat(300000);
