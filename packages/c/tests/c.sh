@@ -127,10 +127,22 @@ int main()
 CPP
 }
 
-# Checks that no C++ file of a program has a function or a table of its own, which its inline functions would share by
-# name only, and that each is hidden in a shared library: COMPILER
+# Checks that the library has the names of C if a C++ compiler builds it, and that at run time a hash of C++ calls the
+# code of the C header. No C++ file of a program may have a function or a table of its own, which its inline functions
+# would share by name only, and each is hidden in a shared library: COMPILER
 shares_its_definitions() {
-  "$1" -std=c++17 -O0 "-I$include" -c "$tests/cpp_keys.cpp" -o "$room/shared.o" && nm -C "$room/shared.o" >"$room/nm" &&
+  "$1" -x c++ -std=c++11 "-I$include" -c "$top/packages/c/rapidhash_c.c" -o "$room/as_cpp.o" &&
+    nm --format=posix "$room/as_cpp.o" | awk '$2 == "T" { print $1 }' | sort >"$room/names" &&
+    declared | diff - "$room/names" && "$1" -std=c++17 -O2 "-I$include" -x c++ -S -o "$room/run_time.s" - <<'CPP' &&
+#include <rapidhash.hpp>
+using namespace rapidhash;
+std::uint64_t of(const std::string &text) { return hash(text); }
+std::uint64_t of(const std::string &text, seed start) { return hash(text, start); }
+std::uint64_t of(const std::string &text, const secrets &own) { return hash(text, own); }
+CPP
+    [ "$(grep -cE '(call|jmp)q?\s.*rapidhash_v3_long_' "$room/run_time.s")" -eq 3 ] &&
+    "$1" -std=c++17 -O0 "-I$include" -c "$tests/cpp_keys.cpp" -o "$room/shared.o" &&
+    nm -C "$room/shared.o" >"$room/nm" &&
     [ "$(grep -c ' [WVu] rapidhash_' "$room/nm")" -gt 20 ] && ! grep ' [trdb] rapidhash_' "$room/nm" &&
     "$1" -std=c++17 -O0 -fPIC -shared "-I$include" -x c++ - -o "$room/shared.so" &&
     ! nm -DC --defined-only "$room/shared.so" | grep ' rapidhash_'
@@ -138,6 +150,23 @@ shares_its_definitions() {
 #include <rapidhash_c.h>
 uint64_t hash(const void *bytes, size_t length) { return rapidhash_v3(bytes, length); }
 CPP
+
+# Checks that values which are no field of a key do not compile, with the reason. A part of them would be lost: COMPILER
+refuses_what_is_no_field() {
+  local value why
+  while IFS='|' read -r value why; do
+    ! "$1" -std=gnu++17 "-I$include" -x c++ -fsyntax-only - 2>"$room/said" \
+      <<<"#include <rapidhash.hpp>
+std::uint64_t hash() { return rapidhash::key($value); }" && grep "$why" "$room/said" || { echo "$value" && return 1; }
+  done <<'VALUES'
+static_cast<__int128>(1)|an integer of a key has at most 64 bits
+1.5|a field is nullptr, an integer, an enumerator, a text, bytes, or a pair, tuple, optional or path
+std::wstring()|a field is nullptr, an integer,
+std::optional<std::optional<int>>()|an optional field is an integer, a text, bytes or a path
+std::optional<std::pair<int, int>>()|an optional field is an integer,
+std::optional<std::tuple<int>>()|an optional field is an integer,
+VALUES
+}
 
 # Compiles a stream of one piece without a warning: its length is constant, so that a compiler follows each copy.
 compiles_a_constant_piece() {
@@ -168,13 +197,21 @@ manual_has_the_header() {
     mandoc -Tascii "$top/packages/c/rapidhash_c.3" | sed 's|.\x08||g' | signatures | diff "$room/signatures" -
 }
 
-# Checks that the manual page has the preconditions of the header, word by word.
+# Checks that the manual page has the preconditions of the header, word by word, and its numbers.
 manual_has_the_preconditions() {
   local text
   sed -E 's|^ \* *(- )?||' "$header" | tr -d '`' | tr -s ' \n' ' ' |
     grep -oP 'bytes points to .*? during the call\.|It refers to its secrets.*? in use\.' >"$room/preconditions"
   mandoc -Tutf8 "$top/packages/c/rapidhash_c.3" | sed 's|.\x08||g' | tr -s ' \n' ' ' >"$room/page"
-  [ "$(wc -l <"$room/preconditions")" -eq 2 ] && while read -r text; do
+  cc "-I$include" -x c - -o "$room/numbers" <<<'#include <stdio.h>
+#include "rapidhash_c.h"
+int main(void)
+{
+    printf("A stream of %d bytes\n", (int)sizeof(struct rapidhash_stream));
+    printf("bytes, which are %d and\n", RAPIDHASH_STREAM_SAVED);
+    printf("runs with: %d for %s.\n", RAPIDHASH_C_VERSION_NUMBER, RAPIDHASH_C_VERSION_STRING);
+}' && "$room/numbers" >>"$room/preconditions"
+  [ "$(wc -l <"$room/preconditions")" -eq 5 ] && while read -r text; do
     grep -qF "$text" "$room/page" || { echo "not on the page: $text" && return 1; }
   done <"$room/preconditions"
 }
@@ -286,7 +323,8 @@ make_by_cc_alone() {
   make -s -C "$room/bare" kit= cargo= "$@"
 }
 
-# Checks that programs that link the library are told of NULL, and that a compiler calls a hash once for equal arguments:
+# Checks that programs that link the library are told of NULL, but for an empty message, and that a compiler calls a hash
+# once for equal arguments:
 # COMPILER
 has_attributes() {
   local call
@@ -297,9 +335,13 @@ has_attributes() {
 void call(void) { (void)$call; }" && echo "$call" && return 1
     grep nonnull "$room/said" || return 1
   done
-  "$1" -O1 -DRAPIDHASH_LINK "-I$include" -x c -S -o - - <<<'#include "rapidhash_c.h"
-uint64_t sum(const void *p, size_t n) { return rapidhash_v3(p, n) + 3 * rapidhash_v3(p, n); }' >"$room/sum.s" &&
-    [ "$(grep -c rapidhash_v3 "$room/sum.s")" -eq 1 ]
+  [ "$("$1" -E -P -DRAPIDHASH_LINK "$header" | grep -c "nonnull.* rapidhash_")" -eq 15 ] &&
+    "$1" -O1 -DRAPIDHASH_LINK -Werror=nonnull "-I$include" -x c -S -o "$room/sum.s" - <<<'#include "rapidhash_c.h"
+#define EMPTY(version, own) + rapidhash_##version(NULL, 0) + rapidhash_##version##_with_seed(NULL, 0, 1) \
+    + rapidhash_##version##_with_secrets(NULL, 0, (const struct own##_secrets *)secrets)
+uint64_t empty(const void *secrets) { return 0 RAPIDHASH_C_VERSIONS(EMPTY); }
+uint64_t sum(const void *p, size_t n) { return rapidhash_v3(p, n) + 3 * rapidhash_v3(p, n); }' &&
+    [ "$(grep -cE "rapidhash_v3(@PLT)?$" "$room/sum.s")" -eq 2 ]
 }
 
 # Checks that clang keeps the words of a call with the default seed out of vector registers, which would cost moves.
@@ -310,13 +352,16 @@ uint64_t hash(const void *p, size_t n) { return rapidhash_v3(p, n); }' &&
     ! grep xmm "$room/words"
 }
 
-# Builds the programs of docs/CPP.md with the header that FetchContent and add_subdirectory give.
+# Builds the programs of docs/CPP.md with the header that FetchContent and add_subdirectory give. They need the CMake of
+# the page and no compiler of C.
 fetches_by_cmake() {
-  mkdir -p "$room/fetch" && cd "$room/fetch" && blocks "$top/docs/CPP.md" cpp hello >hello.cpp &&
+  blocks "$top/docs/CPP.md" cmake find_package | cat - "$top/packages/c/CMakeLists.txt" >"$room/both" &&
+    [ "$(grep ^cmake_minimum "$room/both" | uniq | wc -l)" -eq 1 ] &&
+    mkdir -p "$room/fetch" && cd "$room/fetch" && blocks "$top/docs/CPP.md" cpp hello >hello.cpp &&
     blocks "$top/docs/CPP.md" cmake FetchContent >CMakeLists.txt && YERVOUND=$top cmake -B fetched &&
     cmake --build fetched && [ "$(fetched/hello)" = 3327445792987248966 ] && cp -r "$top/packages/c" copy &&
     sed -i 's/^FetchContent_Declare.*/add_subdirectory(copy)/; /FetchContent/d' CMakeLists.txt &&
-    cmake -B added && cmake --build added && [ "$(added/hello)" = 3327445792987248966 ]
+    cmake -D CMAKE_C_COMPILER=none -B added && cmake --build added && [ "$(added/hello)" = 3327445792987248966 ]
 }
 
 # Compiles and runs the programs of docs/C.md and docs/CPP.md with the headers alone, as the pages say.
@@ -343,6 +388,7 @@ test_library() {
   try_with "$1cpp_archive" "$2 c++" calls_from_c c++ -x c++ -DIS_FAST=0
   linked=$archive try_with "$1saved_streams" "$2" has_those_of saved.c saved cc -DRAPIDHASH_LINK -O2
   try_with "$1random_messages" "$2 cargo rustc" random_messages
+  try_with "$1code_and_data" "$2" keeps_code_and_data_apart
 }
 
 prepare_by write_vectors "$room"
@@ -375,6 +421,7 @@ for standard in c++11 c++17 c++20; do
   try_with "cpp_header_${standard}_clang" clang++ calls_from_cpp clang++ "$standard"
 done
 for compiler in g++ clang++; do try_with "cpp_definitions_$compiler" "$compiler" shares_its_definitions "$compiler"; done
+for compiler in g++ clang++; do try_with "cpp_fields_$compiler" "$compiler" refuses_what_is_no_field "$compiler"; done
 for compiler in gcc clang; do try_with "visibility_$compiler" "$compiler" is_as_visible_as_asked "$compiler"; done
 try_with all_warnings_of_clang 'clang clang++' has_no_warning
 try_with cpp_header_32_bits "g++ $multilib/libstdc++.a" calls_from_cpp g++ c++11 -m32 \
@@ -440,7 +487,6 @@ lacks rt >/dev/null || prepare_by make -s -C "$top" library
 test_library '' rt "$top"/{crates/rapidhash_c/out/librapidhash_c.a,build/librapidhash_c.so.1}
 try_with needed_library rt needs_the_c_library_alone
 try_with build_id rt bash -c 'readelf -n "$1" | grep -E "^ *Build ID: [0-9a-f]{40}\$"' - "$shared"
-try_with code_and_data rt keeps_code_and_data_apart
 try_with unwind_tables rt keeps_unwind_tables
 try_with instructions 'rt cargo rustc valgrind' counts_instructions
 

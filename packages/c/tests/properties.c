@@ -199,6 +199,8 @@ static void *hash_all(void *sum)
 {
     struct rapidhash_v1_secrets made_v1;
     struct rapidhash_secrets made;
+    struct rapidhash_stream stream;
+    unsigned char saved[RAPIDHASH_STREAM_SAVED];
     size_t n;
 
     for (n = 0; n < 2000; n += 7) {
@@ -206,6 +208,11 @@ static void *hash_all(void *sum)
         rapidhash_make_secrets(n, &made);
         rapidhash_v1_make_secrets(n, &made_v1);
         *(uint64_t *)sum += made.seed + made.secrets[6] + made_v1.seed + made_v1.secrets[2];
+        rapidhash_v3_start(&stream, &made);
+        rapidhash_key_integer(&stream, (int64_t)n);
+        rapidhash_key_bytes(&stream, message, n);
+        rapidhash_stream_save(&stream, saved);
+        *(uint64_t *)sum += rapidhash_stream_restore(&stream, saved, sizeof saved) + rapidhash_stream_finish(&stream);
     }
     return NULL;
 }

@@ -118,11 +118,13 @@ serves_a_moved_folder() {
   mv "$room/home/.local" "$place" && ! grep -rlF "$room/home" "$place" && builds_by_pkg_config "$place/lib"
 }
 
-links_both_by_cmake() {
+links_both_by_cmake() (
   builds_by_cmake "$room/sécond" &&
     readelf -d "$room/cmake/c_rapidhash_c" | grep -F '[librapidhash_c.so.1]' &&
-    ! readelf -d "$room/cmake/cpp_rapidhash_c_static" | grep -F librapidhash_c
-}
+    ! readelf -d "$room/cmake/cpp_rapidhash_c_static" | grep -F librapidhash_c &&
+    cd "$room/cmake" && nm -A c_rapidhash_c c_rapidhash_c_static c_header >"$room/nm" &&
+    [ "$(grep -oE "[UTt] rapidhash_v3(@|$)" "$room/nm" | cut -c 1 | xargs)" = "U T t" ]
+)
 
 # Nobody, not even root, can create a directory in /proc.
 fails_if_a_copy_fails() {
