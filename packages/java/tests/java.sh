@@ -62,15 +62,19 @@ passes() {
     java -ea -Dfile.encoding=US-ASCII -cp "$jar:$room/tests:$junit" org.junit.runner.JUnitCore "$package.$1"
 }
 
-# Checks that the module has the version of the pom, which has the licences and no package that its users need.
+# Checks that the module has the version of the pom, which has the licences. Users need no package, and the language's
+# module alone. Make and Maven add the class of later JDKs from the JDK of the page on.
 pom_is_current() {
-  local version
+  local version later
   version=$(jar -f "$jar" -d | sed -n "s/^$package@\\([0-9.]*\\) .*/\\1/p") && [[ $(<"$folder/pom.xml") == *"
   <groupId>example.yervound</groupId>
   <artifactId>yervound-rapidhash</artifactId>
   <version>$version</version>"* ]] &&
     grep -x ' *<name>MIT OR Apache-2.0</name>' "$folder/pom.xml" &&
-    [ "$(grep -c '<dependency>' "$folder/pom.xml")" -eq "$(grep -cx ' *<scope>test</scope>' "$folder/pom.xml")" ]
+    [ "$(grep -c '<dependency>' "$folder/pom.xml")" -eq "$(grep -cx ' *<scope>test</scope>' "$folder/pom.xml")" ] &&
+    [ "$(jar -f "$jar" -d | grep -c requires)" -eq 1 ] && later=$(sed -n "s/^later = //p" "$folder/make.mk") &&
+    grep "on JDK $later or later" "$folder/README.md" && grep -F "<later>$later<" "$folder/pom.xml" &&
+    grep -F "<jdk>[$later,)<" "$folder/pom.xml"
 }
 
 # Adds to a copy of the package a stub of Math, whose name hides that of the JDK in its package, for the class of later
@@ -111,14 +115,15 @@ adds_the_later_product() {
 # Builds and tests the package by Maven with Debian's plugins, offline and without the files of vectors: the four tests
 # that read one are skipped. The jar must have the values, and with the profile of later JDKs their class.
 builds_by_maven() {
+  local jar=$room/maven/target/yervound-rapidhash-1.0.0.jar
   cp -rs /usr/share/maven-repo "$room/maven-repo" && cp -r "$folder" "$room/maven" && cd "$room/maven" &&
     env -u RAPIDHASH_VECTORS -u RAPIDHASH_SECRETS -u RAPIDHASH_KEYS -u RAPIDHASH_SAVED \
       mvn -o -B -Dmaven.repo.local="$room/maven-repo" package &&
     [ "$(cat target/surefire-reports/*.xml | grep -c '<testcase ')" -eq "$(grep -rhE '^ *@Test' src/test | wc -l)" ] &&
     [ "$(cat target/surefire-reports/*.xml | grep -c '<skipped')" -eq 4 ] &&
-    jar=$room/maven/target/yervound-rapidhash-1.0.0.jar runs_as_a_module && stub_later_product "$room/maven" &&
+    runs_as_a_module && is_for_the_jdk_of_the_page && stub_later_product "$room/maven" &&
     mvn -o -B -Dmaven.repo.local="$room/maven-repo" -P later -Dlater=17 -Dmaven.test.skip=true package &&
-    has_the_later_product "$room/maven/target/yervound-rapidhash-1.0.0.jar"
+    has_the_later_product "$jar"
 }
 
 # Checks that a test makes each call of the page in the block with a word, with HELLO as the bytes: WORD TEST
@@ -205,7 +210,7 @@ has_its_names() {
 is_for_the_jdk_of_the_page() {
   local jdk
   jdk=$(sed -n 's/^The package is plain Java for JDK \([0-9]*\) and later.*/\1/p' "$top/docs/BINDINGS.md") &&
-    mkdir "$room/unpacked" && (cd "$room/unpacked" && jar -xf "$jar") &&
+    rm -rf "$room/unpacked" && mkdir "$room/unpacked" && (cd "$room/unpacked" && jar -xf "$jar") &&
     find "$room/unpacked" -name versions -prune -o -name '*.class' -exec javap -v {} + | grep 'major version' | sort -u |
     diff - <(echo "  major version: $((jdk + 44))")
 }

@@ -8,6 +8,7 @@ import static org.junit.Assume.assumeNotNull;
 import java.io.IOException;
 import java.math.BigInteger;
 import java.nio.ByteBuffer;
+import java.nio.CharBuffer;
 import java.nio.charset.StandardCharsets;
 import java.nio.file.Files;
 import java.nio.file.Path;
@@ -51,7 +52,10 @@ public class RapidhashKeyTest {
         byte[] user = "user".getBytes(StandardCharsets.UTF_8);
         ByteBuffer direct = ByteBuffer.allocateDirect(6).put((byte) 0).put(user).put((byte) 0);
         direct.position(1).limit(5);
-        for (Object text : new Object[] {"user", new StringBuilder("user"), user, ByteBuffer.wrap(user), direct}) {
+        Object[] texts = {
+            "user", new StringBuilder("user"), CharBuffer.wrap("user"), user, ByteBuffer.wrap(user), direct
+        };
+        for (Object text : texts) {
             for (Object number : new Object[] {4711, 4711L, (short) 4711}) {
                 assertEquals(USER, RapidhashKey.hash(text, number, null));
             }
@@ -73,6 +77,7 @@ public class RapidhashKeyTest {
         }
         IllegalArgumentException e = assertThrows(IllegalArgumentException.class, () -> RapidhashKey.hash("a\ud800"));
         assertEquals("fields[0] has half of a surrogate pair", e.getMessage());
-        assertThrows(NullPointerException.class, () -> RapidhashKey.hashWithSecrets(null, 1));
+        RapidhashTest.names("secrets", () -> RapidhashKey.hashWithSecrets(null, 1));
+        RapidhashTest.names("fields", () -> RapidhashKey.hash((Object[]) null));
     }
 }

@@ -148,9 +148,14 @@ public class RapidhashTest {
         assertNotEquals(Secrets.make(7), Secrets.make(8));
         assertNotEquals(Secrets.make(7).hashCode(), Secrets.make(8).hashCode());
         assertNotEquals(OWN, OWN.toString());
-        assertNotEquals(Secrets.of(1, 2, 3, 5, 7, 11, 13, 18), OWN);
-        assertNotEquals(Secrets.of(2, 2, 3, 5, 7, 11, 13, 17), OWN);
-        assertNotEquals(Secrets.of(1 | 1L << 32, 2, 3, 5, 7, 11, 13, 17), OWN);
+        for (int place = 0; place < 8; place++) {
+            long[] words = {1, 2, 3, 5, 7, 11, 13, 17};
+            words[place] ^= 1L << 32;
+            differ(Secrets.of(words[0], Arrays.copyOfRange(words, 1, 8)), OWN);
+            if (place < 4) {
+                differ(SecretsV1.of(words[0], Arrays.copyOfRange(words, 1, 4)), OWN_V1);
+            }
+        }
         OWN.secrets()[0] = 9;
         assertArrayEquals(new long[] {2, 3, 5, 7, 11, 13, 17}, OWN.secrets());
         assertEquals("Secrets[hidden]", OWN.toString());
@@ -162,12 +167,16 @@ public class RapidhashTest {
         }
     }
 
+    /** Checks that secrets are not equal and have different hash codes. */
+    private static void differ(SecretWords one, SecretWords other) {
+        assertNotEquals(one, other);
+        assertNotEquals(one.hashCode(), other.hashCode());
+    }
+
     @Test
     public void secretsOfV1AreValues() {
         assertEquals(SecretsV1.of(1, 2, 3, 5), OWN_V1);
         assertEquals(SecretsV1.of(1, 2, 3, 5).hashCode(), OWN_V1.hashCode());
-        assertNotEquals(SecretsV1.of(1, 2, 3, 7), OWN_V1);
-        assertNotEquals(SecretsV1.of(2, 2, 3, 5), OWN_V1);
         assertNotEquals(Secrets.of(1, 2, 3, 5, 0, 0, 0, 0), OWN_V1);
         OWN_V1.secrets()[0] = 9;
         assertArrayEquals(new long[] {2, 3, 5}, OWN_V1.secrets());
@@ -205,6 +214,7 @@ public class RapidhashTest {
         long sum = 0;
         for (int n = 0; n <= message.length; n += 50) {
             sum += version.hash(message, 0, n) + version.hash(message, 0, n, 7L) + version.hash(message, 0, n, own);
+            sum += version.hash(n) + version.hash("text") + RapidhashKey.hash("text", n, message);
             if (RapidhashStreamTest.STREAMED.contains(version)) {
                 RapidhashStream stream = version.stream(own);
                 stream.update(message, 0, n);
@@ -216,6 +226,11 @@ public class RapidhashTest {
             sum += version.hash(buffer) + version.hash(buffer, 7L) + version.hash(buffer, own);
         }
         return sum;
+    }
+
+    @Test
+    public void theListOfVersionsDoesNotChange() {
+        assertThrows(UnsupportedOperationException.class, () -> Rapidhash.ALL.sort(null));
     }
 
     @Test

@@ -21,6 +21,7 @@ import java.nio.file.Files;
 import java.nio.file.Path;
 import java.util.List;
 import java.util.function.Function;
+import java.util.stream.IntStream;
 import org.junit.Test;
 
 /** Tests the function with the vectors, by Guava's rules, and in Guava's own classes. */
@@ -116,6 +117,12 @@ public class RapidhashFunctionTest {
         assertEquals(known, input.hash());
         byte[] both = Hashing.concatenating(V3, Hashing.crc32()).hashBytes(HELLO).asBytes();
         assertEquals(3327445792987248966L, ByteBuffer.wrap(both).order(ByteOrder.LITTLE_ENDIAN).getLong());
+    }
+
+    @Test
+    public void threads() {
+        assertEquals(0, IntStream.range(0, 1_000_000).map(i -> i & 127).parallel()
+            .filter(i -> !V3.hashInt(i).equals(V3.hashBytes(new byte[] {(byte) i, 0, 0, 0}))).count());
     }
 
     /** The calls are those of README.md. */
