@@ -31,9 +31,6 @@ static inline void put_hash(const struct column *column, Py_ssize_t at, uint64_t
 static inline void put(const struct column *column, Py_ssize_t at, const void *bytes, size_t len)
 { put_hash(column, at, column->hash(bytes, len, column->secrets)); }
 
-/* Returns whether the hashes would overwrite a buffer that is read. If so, sets an error. */
-int overlaps(const struct column *column, const Py_buffer *buffer, const char *name);
-
 #ifdef __GNUC__
 #pragma GCC visibility pop
 #endif

@@ -52,10 +52,10 @@ int open_column(PyObject *module, PyObject *const *args, size_t count, struct co
     return 0;
 }
 
-int overlaps(const struct column *column, const Py_buffer *buffer, const char *name)
+int overlaps(const Py_buffer *out, const Py_buffer *buffer, const char *name)
 {
-    const char *out = column->out.buf, *bytes = buffer->buf;
-    if (bytes >= out + column->out.len || out >= bytes + buffer->len)
+    const char *const hashes = out->buf, *const bytes = buffer->buf;
+    if (bytes >= hashes + out->len || hashes >= bytes + buffer->len)
         return 0;
     PyErr_Format(PyExc_ValueError, "out must not overlap %s", name);
     return 1;
@@ -133,7 +133,7 @@ PyObject *each_row(PyObject *module, PyObject *const *args, Py_ssize_t count)
     if (width <= 0 || PyObject_GetBuffer(args[0], &data, PyBUF_SIMPLE) < 0)
         return NULL;
     if (open_column(module, args + 1, (size_t)(data.len / width), &column) == 0) {
-        if (!overlaps(&column, &data, "data")) {
+        if (!overlaps(&column.out, &data, "data")) {
             const char *bytes = data.buf;
             Py_ssize_t at, size = data.len / width;
             Py_BEGIN_ALLOW_THREADS

@@ -56,6 +56,9 @@ char letter_of(const Py_buffer *buffer);
 /* Opens the room for `count` hashes. Returns 0, or -1 with an error set. */
 int open_out(PyObject *out, size_t count, Py_buffer *buffer);
 
+/* Returns whether the hashes would overwrite a buffer that is read. If so, sets an error. */
+int overlaps(const Py_buffer *out, const Py_buffer *buffer, const char *name);
+
 /* Returns a new reference to an item of a list or tuple, or NULL with an error set. */
 PyObject *item_of(PyObject *items, int is_list, Py_ssize_t at);
 

@@ -225,6 +225,19 @@ static int hash_rows(const struct fields *fields, Py_ssize_t columns, Py_ssize_t
     return 0;
 }
 
+/* Returns whether the hashes would overwrite the fields of a column. If so, sets an error. */
+static int overwrites(const Py_buffer *out, const struct fields *fields, Py_ssize_t columns)
+{
+    char place[64];
+    Py_ssize_t at;
+    for (at = 0; at < columns; at++) {
+        PyOS_snprintf(place, sizeof place, "columns[%zd]", at);
+        if (fields[at].buffer.obj != NULL && overlaps(out, &fields[at].buffer, place))
+            return 1;
+    }
+    return 0;
+}
+
 /* each_key(columns, seed, secrets, out, rows), of a tuple of columns */
 PyObject *each_key(PyObject *module, PyObject *const *args, Py_ssize_t count)
 {
@@ -241,7 +254,8 @@ PyObject *each_key(PyObject *module, PyObject *const *args, Py_ssize_t count)
             break;
     if (opened == columns && read_own(module, args[1], args[2], &own) == 0 &&
         open_out(args[3], (size_t)rows, &out) == 0) {
-        status = hash_rows(fields, columns, rows, &own, out.buf);
+        if (!overwrites(&out, fields, columns))
+            status = hash_rows(fields, columns, rows, &own, out.buf);
         PyBuffer_Release(&out);
     }
     while (opened-- > 0)

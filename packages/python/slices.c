@@ -44,10 +44,10 @@ static size_t hash_slices(const struct column *column, const struct slices *slic
 /* Hashes all slices into an open column. Returns their number, or NULL with an error set. */
 static PyObject *run_slices(const struct column *column, const struct slices *slices)
 {
-    const Py_buffer *const data = &slices->data.buffer, *const validity = &slices->validity;
+    const Py_buffer *const out = &column->out, *const data = &slices->data.buffer, *const validity = &slices->validity;
     size_t done;
-    if (overlaps(column, &slices->offsets, "offsets") || (data->obj != NULL && overlaps(column, data, "data")) ||
-        (validity->buf != NULL && overlaps(column, validity, "validity")))
+    if (overlaps(out, &slices->offsets, "offsets") || (data->obj != NULL && overlaps(out, data, "data")) ||
+        (validity->buf != NULL && overlaps(out, validity, "validity")))
         return NULL;
     Py_BEGIN_ALLOW_THREADS
     done = hash_slices(column, slices);

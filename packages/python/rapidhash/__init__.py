@@ -149,7 +149,7 @@ def each_key(*columns, seed=None, secrets=None, out=None):
     A column is a list, a tuple or another iterable of fields, a contiguous buffer of integers, such as a NumPy array, a
     Series of pandas, whose missing values are None, or an Arrow array of strings, bytes or integers. Raises TypeError
     for any other column, such as a str, a DataFrame or an array of objects, and ValueError if the columns have different
-    numbers of rows."""
+    numbers of rows or `out` overlaps one."""
     if not columns:
         raise TypeError("each_key() needs at least one column")
     opened = []

@@ -69,9 +69,16 @@ class Keys(unittest.TestCase):
         self.assertEqual(list(rapidhash.each_key([])), [])
         with self.assertRaisesRegex(ValueError, "out must have room for exactly 1 hashes, and it has 2"):
             rapidhash.each_key([1], out=out)
+        words = memoryview(array.array("Q", [0, 0, 0]))
+        with self.assertRaisesRegex(ValueError, r"^out must not overlap columns\[1\]$"):
+            rapidhash.each_key([1, 2], words[:2], out=words[1:])
 
     def test_what_is_no_field(self):
-        for value in (1.5, True, [1], {}, object(), array.array("i", [1]), array.array("d", [1]), memoryview(b"").cast("b")):
+        class Date(bytearray):  # as a date of NumPy, which has a buffer
+            dtype = "M8[D]"
+
+        for value in (1.5, True, [1], {}, object(), Date(8), array.array("i", [1]), array.array("d", [1]),
+                      memoryview(b"").cast("b")):
             with self.assertRaisesRegex(TypeError, r"^fields\[1\] must be None, an int, a str or bytes, not <class '"):
                 rapidhash.v3_key(1, value)
             with self.assertRaisesRegex(TypeError, r"^columns\[1\]\[2\] must be None, an int, a str or bytes, not "):
