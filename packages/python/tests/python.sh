@@ -5,6 +5,7 @@
 . "$(dirname "$0")/../../../tests/cases.sh"
 # The Python for which Debian has the packages that build wheels.
 python=/usr/bin/python3
+names=(rapidhash package buffers columns keys missing arrow saved vectors)
 unset PYTHONPATH
 export PIP_NO_INDEX=1 PIP_DISABLE_PIP_VERSION_CHECK=1 CFLAGS='-Wall -Wextra -Werror'
 
@@ -74,9 +75,18 @@ works_with() {
   folder=$(mktemp -d -p "$room") &&
     "$1" -m pip wheel --no-deps --no-build-isolation -w "$folder" "$top"/build/wheels/*.tar.gz &&
     "$1" -m zipfile -e "$folder"/yervound_rapidhash-*.whl "$folder" && cd "$room/tests" &&
-    for name in test_{rapidhash,package,buffers,columns,keys,missing,arrow,saved,vectors}.py; do
-      PYTHONPATH=$folder "$1" -B "$name" || return 1
+    for name in "${names[@]}"; do
+      PYTHONPATH=$folder "$1" -B "test_$name.py" || return 1
     done
+}
+
+# Checks that an older setuptools, which would ignore pyproject.toml, is refused by its version.
+refuses_an_old_setuptools() {
+  mkdir -p "$room/old/setuptools" && cd "$room/source/packages/python" &&
+    echo "__version__, build_meta = '60.9', None" >"$room/old/setuptools/__init__.py" &&
+    ! PYTHONPATH=$room/old "$python" -Bc "import backend; backend.build_sdist('.')" 2>"$room/said" &&
+    grep -x "yervound-rapidhash: building it needs setuptools 61 or later, and this is 60.9" "$room/said" &&
+    leaves_nothing
 }
 
 # Runs a test file with the installed wheel, and stops it at a write outside of its memory: FILE
@@ -89,6 +99,18 @@ accepts_the_types() {
     --python-executable "$room/fresh/bin/python" test_types.py
 }
 
+# Checks that the code needs nothing of a Python above the oldest that pyproject.toml allows. mypy knows what each one
+# has, but for a function of copyreg.
+is_for_the_oldest_python() {
+  local oldest
+  oldest=$(sed -n "s/^requires-python = \">=\(.*\)\"/\1/p" "$top/packages/python/pyproject.toml") &&
+    mkdir -p "$room/oldest/rapidhash" && cp "$room"/files/rapidhash/*.py "$room/oldest/rapidhash" &&
+    cd "$room/oldest" &&
+    "$python" -m mypy --python-version "$oldest" --check-untyped-defs --ignore-missing-imports --no-error-summary \
+      --cache-dir "$room/mypy" -p rapidhash >"$room/said" 2>&1
+  ! grep -vF "\"__newobj__\"" "$room/said"
+}
+
 # Checks that the types match the package.
 types_are_those_of_the_package() {
   cd "$room/files" && MYPYPATH=$room/files PYTHONPATH=$room/files "$python" -m mypy.stubtest rapidhash
@@ -99,12 +121,14 @@ try install installs_as_the_page_says
 try files has_its_files
 try exports exports_its_start_alone
 try lay_out lay_out
-for name in rapidhash package buffers columns keys missing arrow saved vectors; do
+for name in "${names[@]}"; do
   try "$name" runs_installed "test_$name"
 done
 try_with types mypy accepts_the_types
 try_with types_of_the_package mypy types_are_those_of_the_package
+try_with oldest_python mypy is_for_the_oldest_python
 try from_source installs_from_source
+try old_setuptools refuses_an_old_setuptools
 try no_compiler without_a_compiler
 # Without a network, pip cannot get setuptools.
 try no_setuptools fails_and_leaves_nothing setuptools --symlinks

@@ -207,6 +207,13 @@ class Refused(unittest.TestCase):
         with self.assertRaisesRegex(TypeError, "^width must be an integer"):
             rapidhash.each_row(b"abc", 1.0)
 
+    def test_buffers_with_gaps(self):
+        gaps, whole, places = memoryview(bytes(8))[::2], b"abc", memoryview(array.array("i", [0, 1, 2, 3]))[::2]
+        for call in (lambda: rapidhash.each_row(gaps, 1), lambda: rapidhash.each_slice(whole, places),
+                     lambda: rapidhash.each_slice(whole, array.array("i", [0, 1]), validity=gaps, missing=0),
+                     lambda: rapidhash.each_key(places), lambda: rapidhash.each_key([gaps]), lambda: rapidhash.v3_key(gaps)):
+            self.assertRaises(BufferError, call)
+
     def test_the_rest(self):
         made, made_v1 = rapidhash.make_secrets(1), rapidhash.make_secrets(1, 1)
         for words, kind, error in (

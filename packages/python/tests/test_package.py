@@ -1,6 +1,7 @@
 """Tests calls and secrets with an installed copy of the package."""
 
 import copy
+import doctest
 import importlib.metadata
 import inspect
 import pickle
@@ -13,6 +14,9 @@ from test_rapidhash import DATA, KNOWN, VERSIONS, WITH_SEED_1, Power, run
 class Package(unittest.TestCase):
     def test_version(self):
         self.assertEqual(rapidhash.__version__, importlib.metadata.version("yervound-rapidhash"))
+
+    def test_examples_of_the_help(self):
+        self.assertEqual(doctest.testmod(rapidhash, extraglobs={"rapidhash": rapidhash}), (0, 6))
 
     def test_all_names_are_there(self):
         shown = {name for name in vars(rapidhash) if name[0] != "_" and name not in ("array", "copyreg", "operator")}

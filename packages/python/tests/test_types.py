@@ -35,6 +35,7 @@ class Lent:
 column = rapidhash.each(Lent(), missing=0)
 column = rapidhash.each_key(Lent(), [1])
 rapidhash.each([7])  # type: ignore[list-item]
+rapidhash.v3_key(1.5)  # type: ignore[arg-type]
 rapidhash.each([], "v99")  # type: ignore[call-overload]
 digits: str = rapidhash.v3_hexdigest("text", seed=1) + rapidhash.v1_hexdigest(b"", secrets=made_v1)
 
