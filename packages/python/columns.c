@@ -16,10 +16,13 @@ static void read_secrets(const struct form *form, const struct start *start, str
 
 char letter_of(const Py_buffer *buffer)
 {
-    const char *format = buffer->format == NULL ? "B" : buffer->format;
+    const char *format = buffer->format == NULL ? "B" : buffer->format, *letters;
     if (*format == '@' || *format == '=' || (PY_LITTLE_ENDIAN && *format == '<'))
         format++;
-    return *format != 0 && format[1] == 0 ? *format : 0;
+    if (*format == 0 || format[1] != 0 || strchr("bhilqBHILQ", *format) == NULL || buffer->itemsize > 8)
+        return 0;
+    letters = strchr("bhilq", *format) != NULL ? "\0bh\0i\0\0\0q" : "\0BH\0I\0\0\0Q";
+    return letters[buffer->itemsize];
 }
 
 int open_out(PyObject *out, size_t count, Py_buffer *buffer)
@@ -28,7 +31,7 @@ int open_out(PyObject *out, size_t count, Py_buffer *buffer)
     if (PyObject_GetBuffer(out, buffer, PyBUF_WRITABLE | PyBUF_FORMAT | PyBUF_C_CONTIGUOUS) < 0)
         return -1;
     letter = letter_of(buffer);
-    if (buffer->itemsize != 8 || (letter != 'Q' && letter != 'L'))
+    if (letter != 'Q')
         PyErr_SetString(PyExc_TypeError, "out must be a buffer of unsigned 64-bit integers, such as array('Q')");
     else if ((size_t)buffer->len != 8 * count)
         PyErr_Format(PyExc_ValueError, "out must have room for exactly %zu hashes, and it has %zd", count,

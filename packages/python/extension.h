@@ -50,7 +50,8 @@ const struct form *form_of(PyObject *version);
 /* V3. */
 extern const struct form *const form_v3;
 
-/* Returns the letter of a buffer's format if its items have the machine's byte order, or else 0. */
+/* Returns b, h, i or q for a buffer of integers of 1, 2, 4 or 8 bytes in the machine's byte order, in capitals if they
+ * are unsigned, and 0 for any other. A letter of a standard format, such as =l, has another size than its type in C. */
 char letter_of(const Py_buffer *buffer);
 
 /* Opens the room for `count` hashes. Returns 0, or -1 with an error set. */

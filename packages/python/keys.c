@@ -132,8 +132,8 @@ static int open_fields(PyObject *column, Py_ssize_t at, Py_ssize_t rows, struct 
         if (PyObject_GetBuffer(column, &fields->buffer, PyBUF_FORMAT | PyBUF_C_CONTIGUOUS) < 0)
             return -1;
         fields->letter = letter_of(&fields->buffer);
-        size = fields->buffer.ndim == 1 ? fields->buffer.len / fields->buffer.itemsize : -1;
-        if (fields->letter == 0 || strchr("bhilqBHILQ", fields->letter) == NULL || size < 0) {
+        size = fields->letter != 0 && fields->buffer.ndim == 1 ? fields->buffer.len / fields->buffer.itemsize : -1;
+        if (size < 0) {
             PyErr_Format(PyExc_TypeError, "columns[%zd] must be a list, a tuple, or a buffer of integers in a row, and "
                          "it is %R of the format '%s'", at, Py_TYPE(column), fields->buffer.format);
             PyBuffer_Release(&fields->buffer);
@@ -186,17 +186,15 @@ static int add_row(const struct fields *fields, Py_ssize_t at, Py_ssize_t row, s
     if (fields->items == NULL) {
         place = (const char *)fields->buffer.buf + row * fields->buffer.itemsize;
         switch (fields->letter) {
-            SIGNED('b', signed char)
-            SIGNED('h', short)
-            SIGNED('i', int)
-            SIGNED('l', long)
-            SIGNED('q', long long)
-            UNSIGNED('B', unsigned char)
-            UNSIGNED('H', unsigned short)
-            UNSIGNED('I', unsigned)
-            UNSIGNED('L', unsigned long)
+            SIGNED('b', int8_t)
+            SIGNED('h', int16_t)
+            SIGNED('i', int32_t)
+            SIGNED('q', int64_t)
+            UNSIGNED('B', uint8_t)
+            UNSIGNED('H', uint16_t)
+            UNSIGNED('I', uint32_t)
             default:
-            UNSIGNED('Q', unsigned long long)
+            UNSIGNED('Q', uint64_t)
         }
     }
     item = item_of(fields->items, PyList_Check(fields->items), row);

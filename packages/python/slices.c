@@ -66,12 +66,12 @@ static int open_offsets(PyObject *offsets, struct slices *slices)
     if (PyObject_GetBuffer(offsets, buffer, PyBUF_FORMAT | PyBUF_C_CONTIGUOUS) < 0)
         return -1;
     letter = letter_of(buffer);
-    if (letter == 0 || strchr("ilqILQ", letter) == NULL || buffer->ndim != 1) {
+    if (letter == 0 || strchr("iqIQ", letter) == NULL || buffer->ndim != 1) {
         PyErr_SetString(PyExc_TypeError, "offsets must be a buffer of 32-bit or 64-bit integers");
         PyBuffer_Release(buffer);
         return -1;
     }
-    slices->is_signed = strchr("ilq", letter) != NULL;
+    slices->is_signed = strchr("iq", letter) != NULL;
     slices->size = (size_t)(buffer->len / buffer->itemsize);
     slices->size -= slices->size > 0;
     return 0;

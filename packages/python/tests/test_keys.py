@@ -1,6 +1,7 @@
 """Tests keys of several fields with an installed copy of the package."""
 
 import array
+import ctypes
 import unittest
 from pathlib import Path
 
@@ -20,6 +21,14 @@ def words(rule):
     if name == "default":
         return {}
     return {"seed": int(number)} if name == "cpp" else {"secrets": rapidhash.make_secrets(int(number))}
+
+
+class Buffer(ctypes.Structure):
+    """The Py_buffer of CPython."""
+    sizes = [(name, ctypes.POINTER(ctypes.c_ssize_t)) for name in ("shape", "strides", "suboffsets")]
+    _fields_ = [("buf", ctypes.c_void_p), ("obj", ctypes.c_void_p), ("len", ctypes.c_ssize_t),
+                ("itemsize", ctypes.c_ssize_t), ("readonly", ctypes.c_int), ("ndim", ctypes.c_int),
+                ("format", ctypes.c_char_p), *sizes, ("internal", ctypes.c_void_p)]
 
 
 class Keys(unittest.TestCase):
@@ -50,6 +59,13 @@ class Keys(unittest.TestCase):
             self.assertEqual(list(rapidhash.each_key(names, column)), wanted)
         for kind in "BHILQ":
             self.assertEqual(rapidhash.each_key(array.array(kind, [7]))[0], rapidhash.v3_key(7))
+
+    def test_a_letter_of_another_size(self):
+        numbers, one = (ctypes.c_int32 * 2)(7, -1), lambda size: (ctypes.c_ssize_t * 1)(size)
+        buffer = Buffer(ctypes.addressof(numbers), None, 8, 4, 1, 1, b"=l", one(2), one(4))
+        view_of = ctypes.PYFUNCTYPE(ctypes.py_object, ctypes.POINTER(Buffer))(("PyMemoryView_FromBuffer", ctypes.pythonapi))
+        wanted = [rapidhash.v3_key(7), rapidhash.v3_key(-1)]
+        self.assertEqual(list(rapidhash.each_key(view_of(buffer))), wanted)
 
     def test_long_keys(self):
         for size in (*range(230, 280), 1000, 100_000):
@@ -97,10 +113,13 @@ class Keys(unittest.TestCase):
         class Frame:
             columns = ["a"]
 
+        class Nothing(ctypes.Structure):
+            pass  # whose items have no byte
+
         for column in ("text", b"bytes", Frame()):
             with self.assertRaisesRegex(TypeError, r"^columns\[1\] must be a column of fields, not <class '"):
                 rapidhash.each_key([1], column)
-        for column in (array.array("d", [1.5]), memoryview(bytes(4)).cast("B", (2, 2))):
+        for column in (array.array("d", [1.5]), memoryview(bytes(4)).cast("B", (2, 2)), (Nothing * 2)()):
             with self.assertRaisesRegex(TypeError, r"^columns\[0\] must be a list, a tuple, or a buffer of integers"):
                 rapidhash.each_key(column)
         with self.assertRaisesRegex(ValueError, r"^columns\[1\] has 1 rows, and columns\[0\] has 2$"):
