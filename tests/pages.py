@@ -2,18 +2,15 @@
 """Compares the pages with the repository. Links and paths must exist, names must occur in the code, and counts must be
 those of the files. Pages and lines must keep their limits, and texts generated from the sources must be current."""
 
-import contextlib
-import io
 import math
 import os
 import re
-import runpy
 import sys
 import textwrap
 from pathlib import Path
 from xml.etree import ElementTree
 
-from cases import ROOM, TOP, blocks, finish, shell, tell
+from cases import TOP, blocks, finish, shell, tell
 
 MADE = TOP / "docs" / "api"
 PAGES = sorted([*TOP.glob("*.md"), *TOP.glob("docs/*.md"), *MADE.glob("*.md"), *TOP.glob("*/NOTES.md"),
@@ -192,38 +189,6 @@ def pictures():
             yield f"{file.name}: {error}"
 
 
-def program(name, *lines):
-    """Writes a program that prints the next of these lines at each call, at last always the same, and returns its path."""
-    (ROOM / f"{name}.lines").write_text("\n".join(map(str, lines)) + "\n")
-    (ROOM / name).write_text('#!/bin/sh\nhead -n 1 "$0.lines"\n[ $(wc -l <"$0.lines") = 1 ] || sed -i 1d "$0.lines"\n')
-    (ROOM / name).chmod(0o755)
-    return ROOM / name
-
-
-def benches():
-    """Checks that the benches and the tables of figures have 1.50 if the crate takes 3 and ours takes 2 in its fastest
-    turn, and that they refuse programs with different values."""
-    sys.path.insert(0, str(TOP / "bench"))
-    import harness
-    made = runpy.run_path(str(TOP / "bench" / "figures"))
-    harness.print_heading = lambda _: None
-    times, rows = {"ours": 2, "rust": 4, "crate": 3}, ("v3 1", "v3 2")
-    programs = {row: {name: [program(name + row, *(f"7 {least + more}" for more in (1, 0, 2))), program("slow", "7 9")]
-                      for name, least in times.items()} for row in rows}
-    loops = {("lto", it): [program(it, *(f"v3\t1 sum\t{least + more}" for more in (0, 1)))]
-             for it, least in times.items()}
-    with contextlib.redirect_stdout(io.StringIO()) as printed:
-        harness.measure("T", "ms", [*zip(rows)], lambda row: (row, harness.take(programs[row], [], 1)), 3)
-        harness.print_rows("T", harness.alternate(loops, [], 2), "ours", ["crate"])
-        with contextlib.suppress(SystemExit):
-            print("different", harness.take({"ours": [program("a", "7 1")], "crate": [program("b", "8 1")]}, [], 1))
-    found = re.findall(r"\bcrate/.*|^v3.*|^diff.*", printed.getvalue(), re.M)
-    found += [made["cell"](3, 2), made["means"]({"v3 1": times}, r"\d", "ours")["v3"]]
-    if found != [*(f"{row}\tms\t2.00\t4.00\t3.00" for row in rows), "crate/ours 1.500", "crate/rust 0.750",
-                 "v3 1, lto\tns\t2.00\t3.00", "crate/ours 1.500", "3.00 (1.50)", 1.5]:
-        yield f"the benches print {found}"
-
-
 def means():
     """Computes the table of means from the files and columns that its rows name."""
     source = {"Rattle": ("slices", "ours"), "Rust": ("rust", "rust"), "C": ("c", "header")}
@@ -291,7 +256,7 @@ def commits():
                     if shell(f"git merge-base --is-ancestor {commit} HEAD")[0] != 0)
 
 
-for check in (links, paths, variables, limits, names, layers, edits, vectors, statements, sizes, clauses, benches,
+for check in (links, paths, variables, limits, names, layers, edits, vectors, statements, sizes, clauses,
               pictures, means, measurements, commits):
     tell(check.__name__, *check())
 for made, maker in (("calls", "scripts/api"), ("version", "scripts/version"), ("figures", "bench/figures")):
