@@ -72,7 +72,10 @@ def differences_in_c(length):
     """Yields the hashes of the C header that differ for a message of a length, whole and in growing pieces."""
     content = message("rng:1", length)
     lanes = dict(re.findall(r" X\((\w+), (\d)\)", HEADER))
-    for name in re.findall(r" X\((\w+), rapidhash", HEADER):
+    names = re.findall(r" X\((\w+), rapidhash", HEADER)
+    if (len(names), len(lanes)) != (8, 3):
+        yield f"the header has the versions {names} and the streams {lanes}"
+    for name in names:
         form = name.removesuffix("_protected").removeprefix("v3_")
         form = form if form in LANES else form.upper().replace("_", ".")
         numbers = secrets_of("seed", length, form == "V1")
@@ -96,6 +99,9 @@ for version, rule, size, value in rows:
     seed, *secrets = secrets_of("default", "", version == "V1")
     compare(f"{version} of {rule}{size}", hash_of(version, text, seed, secrets), int(value))
 compare("values_on_the_page", len(rows), 5)
+saved_rows = re.findall(r"^\| (\d+) \| (\d+) \| ", (TOP / "docs" / "BINDINGS.md").read_text(), re.M)
+ends = [int(offset) + int(size) for offset, size in saved_rows]
+compare("offsets of a saved stream on its page", [*map(int, dict(saved_rows)), 208], [0, *ends])
 if lacks("cc"):
     skip("long messages in C", lacks("cc"))
 else:

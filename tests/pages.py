@@ -2,6 +2,7 @@
 """Compares the pages with the repository. Links and paths must exist, names must occur in the code, and counts must be
 those of the files. Pages and lines must keep their limits, and texts generated from the sources must be current."""
 
+import functools
 import math
 import os
 import re
@@ -18,7 +19,7 @@ PAGES = sorted([*TOP.glob("*.md"), *TOP.glob("docs/*.md"), *MADE.glob("*.md"), *
 # Directories that builds create, and paths that exist only in an archive or in an installed copy.
 BUILT = ("build/", "crates/first")
 PATH = re.compile(r"`((?:crates|docs|tests|bench|bin|packages|scripts|\.ci)/[^` ]*)`")
-NAME = re.compile(r"`([A-Za-z]\w*(?:::\w+)*)`")
+NAME = re.compile(r"`([A-Za-z]\w*(?:(?:::|\.)\w+)*)(?:[(<][^`]*)?`")
 
 
 def prose(pages):
@@ -32,11 +33,20 @@ def prose(pages):
                 yield page, f"{page.relative_to(TOP)}:{number}", line
 
 
+@functools.lru_cache
+def anchors(page):
+    """Returns the anchors of a page's headings."""
+    return {re.sub(r"[^\w-]", "", heading.lower().replace(" ", "-")) for heading in
+            re.findall("^#+ (.*)", page.read_text(), re.M)}
+
+
 def links():
     for page, place, line in prose(PAGES):
-        targets = [page.parent / target for target in re.findall(r"\]\(([^)#]+)", line) if "://" not in target]
-        targets += [TOP / target for target in re.findall(r"\bdocs/[\w/]+\.md\b", line)]
-        yield from (f"{place}: no {target}" for target in targets if not target.exists())
+        targets = [(page.parent / target if target else page, anchor) for target, anchor in
+                   re.findall(r"\]\(([^)#]*)#?([^)]*)\)", line) if "://" not in target]
+        targets += [(TOP / target, "") for target in re.findall(r"\bdocs/[\w/]+\.md\b", line)]
+        yield from (f"{place}: no {target} {anchor}" for target, anchor in targets
+                    if not target.exists() or anchor and anchor not in anchors(target))
 
 
 def paths():
@@ -66,17 +76,29 @@ def limits():
 
 
 def names():
-    """Checks that each name on a page is that of a file, or in the code: not only in tests, benches, edits or compat."""
-    words = set()
+    """Checks that each name on a page is that of a file, or in the code: not only in tests, benches, edits or compat. On
+    pages that name what the tests have, or what programs call, it may be in any file."""
+    code, everywhere = set(), set()
     for name in shell("git ls-files")[1].splitlines():
         if not name.endswith((".md", ".tsv")):
-            words.update(re.findall(r"\w+", name))
-            if not re.search(r"(^|/)(tests|must-fail|compat|bench|crates/(test|bench)_\w+)/", name):
-                words.update(re.findall(r"\w+", (TOP / name).read_text(errors="replace")))
-    for _, place, line in prose(TOP / "docs" / f"{name}.md" for name in
-                                ("PROVED", "ARCHITECTURE", "C", "CPP", "DECISIONS", "PERFORMANCE")):
+            text = re.findall(r"\w+", f"{name} {(TOP / name).read_text(errors='replace')}")
+            is_code = not re.search(r"(^|/)(tests|must-fail|compat|bench|crates/(test|bench)_\w+)/", name)
+            code.update(text if is_code else re.findall(r"\w+", name))
+            everywhere.update(text)
+    pages = dict.fromkeys(("PROVED", "ARCHITECTURE", "C", "CPP", "DECISIONS", "PERFORMANCE"), code) | dict.fromkeys(
+        ("BINDINGS", "COMMANDS", "EXAMPLES", "GLOSSARY", "LAWS", "NEW_FORM", "QUESTIONS", "RATTLE"), everywhere)
+    for page, place, line in prose(TOP / "docs" / f"{name}.md" for name in pages):
         for name in NAME.findall(line):
-            yield from (f"{place}: no {part} of {name} in the code" for part in name.split("::") if part not in words)
+            yield from (f"{place}: no {part} of {name} in the code" for part in re.split(r"::|\.", name)
+                        if part not in pages[page.stem])
+
+
+def values():
+    """Checks that each hash on a page is in another file, such as a test. Tests of two packages read their pages."""
+    known = set(shell("git grep -hoE '\\b([0-9]{15,20}|[0-9a-f]{16})\\b' -- ':!*.md'")[1].split())
+    for page in (page for page in PAGES if page.parent.name not in ("sqlite", "postgresql")):
+        found = re.findall(r"\b(?:[0-9]{15,20}|[0-9a-f]{16})\b", page.read_text())
+        yield from (f"{page.relative_to(TOP)}: no {value} in a test" for value in found if value not in known)
 
 
 def layers():
@@ -122,8 +144,10 @@ def vectors():
     yield from (f"{name} has {count} cases in the folder or on the page alone" for name, count in differing)
     yield from (f"the cases above {table[0][0]} are not {count}" for count, table in zip(sums, tables)
                 if f"{sum(number for _, number in table):,}" != count)
-    if f"with {sums[0]} values of upstream" not in (TOP / "docs" / "PROVED.md").read_text():
-        yield f"docs/PROVED.md does not have {sums[0]} values"
+    told = re.search(r"with ([\d,]+) values of upstream.* ([\d,]+) values of an independent model, (\d+) cases .* (\d+) "
+                     "strings", (TOP / "docs" / "PROVED.md").read_text())
+    if not told or [*told.groups()[:2], str(int(told[3]) + int(told[4]))] != sums:
+        yield f"docs/PROVED.md does not have {sums} values"
 
 
 def statements():
@@ -176,6 +200,14 @@ def clauses():
             if entries and not any(list(map(len, parts)) == counts and all(clause in contract for clause in sum(parts, []))
                                    for parts in told):
                 yield f"{file.name}: the pages have {told} for {head}"
+    yield from (f"no method of {trait}" for trait in ("Hasher", "BuildHasher", "SeedableRng", "Rng")
+                if f"\nA method of `{trait}`.\n" not in shown)
+    specs = "".join(file.read_text() for file in TOP.glob("crates/rapidhash*/specs/*.antt"))
+    defined = set(re.findall(r"^-- .*\n.*\bpub (?:record )?(\w+)", specs, re.M))
+    for page in MADE.glob("*.md"):
+        needs = " ".join(re.findall("^Preconditions: (.*)", page.read_text(), re.M))
+        missing = defined & {*re.findall(r"\w+", needs)} - {*re.findall(r"^- `(\w+)`: ", page.read_text(), re.M)}
+        yield from (f"{page.name} does not define {name}" for name in missing)
 
 
 def pictures():
@@ -256,7 +288,7 @@ def commits():
                     if shell(f"git merge-base --is-ancestor {commit} HEAD")[0] != 0)
 
 
-for check in (links, paths, variables, limits, names, layers, edits, vectors, statements, sizes, clauses,
+for check in (links, paths, variables, limits, names, values, layers, edits, vectors, statements, sizes, clauses,
               pictures, means, measurements, commits):
     tell(check.__name__, *check())
 for made, maker in (("calls", "scripts/api"), ("version", "scripts/version"), ("figures", "bench/figures")):

@@ -33,10 +33,13 @@ SUBJECTS = [
     ("java", "native", "javac java", JAVA, "java -cp classes example.yervound.rapidhash.Formulas"),
     ("java_direct", "native", "javac java", "true", "java -cp classes example.yervound.rapidhash.Formulas direct"),
 ]
-# The formulas up to 4,096 bytes, up to 16,384, and of streams, for a form with its options. Those up to 16 bytes are
-# compared 64 times each. Then, how often a subject of each kind has these.
-SLICES, LONG, STREAMS = 17 * 64 + 4080, 17 * 64 + 16368, 301 * 302 // 2 + 4097
-COUNTS = {"native": 8 * LONG + 3 * STREAMS, "v3": LONG, "kernels": 46 * SLICES + 10 * LONG + 12 * STREAMS}
+# The lengths in docs/PROVED.md: of packages, of streams that are cut in two and at four offsets, and of the Rust crate.
+TOLD = (TOP / "docs" / "PROVED.md").read_text().partition("## Compared as formulas")[2].partition("Equal formulas")[0]
+NATIVE, CUT, CUTS, CRATE, CRATE_V3 = (int(it.replace(",", "")) for it in re.findall(r"\bup to ([\d,]+)", TOLD))
+# How often a subject of each kind has slices, of which those up to 16 bytes are compared 64 times each, and streams.
+STREAMS = (CUT + 1) * (CUT + 2) // 2 + CUTS + 1
+COUNTS = {"native": 8 * (17 * 64 + NATIVE - 16) + 3 * STREAMS, "v3": 17 * 64 + NATIVE - 16,
+          "kernels": 46 * (17 * 64 + CRATE - 16) + 10 * (17 * 64 + CRATE_V3 - 16) + 12 * STREAMS}
 
 
 def build_definition():
