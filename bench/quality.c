@@ -1,7 +1,7 @@
 /* Prints statistics of 64-bit hashes: a row for each measure, a column for each hash. FNV-1a is the control, which must
- * fail. With WITH_OTHERS it also measures XXH3, XXH64, and what bench/quality.rs exports. Its arguments are the
- * messages per length, the most keys per set, and the seed; standard input has the words of a dictionary, one per
- * line. */
+ * fail, and with WITH_CONTROLS others, whose faults are small. With WITH_OTHERS it also measures XXH3, XXH64, and what
+ * bench/quality.rs exports. Its arguments are the messages per length, the most keys per set, and the seed; standard
+ * input has the words of a dictionary, one per line. */
 #include "rapidhash_c.h"
 #ifdef WITH_OTHERS
 #define XXH_INLINE_ALL
@@ -33,6 +33,19 @@ static uint64_t fnv1a(const void *bytes, size_t len, uint64_t seed)
     return h;
 }
 
+#ifdef WITH_CONTROLS
+/* V3 with a fault in a few bits, which a measure must find. */
+#define CONTROL(name, value) \
+    static uint64_t name(const void *bytes, size_t len, uint64_t seed) \
+    { \
+        const uint64_t h = rapidhash_v3_with_seed(bytes, len, seed); \
+        return value; \
+    }
+CONTROL(first_bit_set, h | UINT64_C(1) << 63)
+CONTROL(last_bit_clear, h >> 1 << 1)
+CONTROL(equal_halves, h >> 32 << 32 | h >> 32)
+#endif
+
 #define SUBJECT(version, secrets) {#version, rapidhash_##version##_with_seed},
 static const struct { const char *name; hash *call; } subjects[] = {
     RAPIDHASH_C_VERSIONS(SUBJECT)
@@ -41,6 +54,9 @@ static const struct { const char *name; hash *call; } subjects[] = {
     {"xxh3", XXH3_64bits_withSeed}, {"xxh64", XXH64},
 #endif
     {"fnv1a", fnv1a},
+#ifdef WITH_CONTROLS
+    {"first_bit_set", first_bit_set}, {"last_bit_clear", last_bit_clear}, {"equal_halves", equal_halves},
+#endif
 };
 enum { SUBJECTS = sizeof subjects / sizeof *subjects };
 
