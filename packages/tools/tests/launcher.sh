@@ -173,4 +173,21 @@ calls edited_tool_by_cargo 0 'cargo two' 3 "$of_cargo"
 programs=$place/kit:$PATH
 calls the_kit_instead_of_cargo 7 $'first\ninput' 4 "$told"
 
+# Checks what make quick and make test run, by programs that say their directory, name and arguments.
+runs_its_rules() {
+  mkdir logged repo/scripts repo/tests &&
+    printf '#!/bin/sh\necho "${PWD##*/} ${0##*/}${*:+ $*}" >>"%s/log"\n' "$place" | tee logged/{rt,prove} repo/scripts/rust_crate >repo/tests/pages.py &&
+    chmod +x logged/* repo/scripts/* repo/tests/* && PATH=$place/logged:$PATH make -s -C repo quick test && diff log - <<'LOG'
+rapidhash_cli rt fmt
+rapidhash_portable rt fmt
+rapidhash_tool rt fmt
+repo rust_crate --write
+repo pages.py
+repo rt all check
+repo rt all test
+repo prove --exec  packages/tools/tests tests/examples
+LOG
+}
+try rules_that_no_other_case_runs runs_its_rules
+
 finish
