@@ -14,8 +14,8 @@ is_copy() {
   local crate
   for crate in rapidhash_portable rapidhash; do
     diff -r "$library/crates/$crate" "$1/crates/$crate" >"$room/other"
-    [ "$(sort "$room/other" | sed -E 's/.*: //' | tr '\n' ' ')" = 'LICENSE-APACHE LICENSE-MIT NOTICE VENDORED ' ] ||
-      return 1
+    [ "$(sort "$room/other" | sed -E 's/.*: //' | tr '\n' ' ')" = 'LICENSE-APACHE LICENSE-MIT NOTICE VENDORED ' ] &&
+      has_the_licences "$1/crates/$crate" || return 1
   done
   [ "$(ls -A "$1" "$1/crates" | tr '\n' ' ')" = "$1: crates  $1/crates: rapidhash rapidhash_portable " ]
 }
@@ -59,9 +59,12 @@ replaces_a_copy() {
 }
 
 refuses_a_crate_of_another() {
-  mkdir -p "$room/another/crates/rapidhash" && echo mine >"$room/another/crates/rapidhash/mine"
-  refused "$room/another/crates/rapidhash exists and is not a copy made by make vendor" "$vendor" "$room/another" &&
-    [ "$(cd "$room/another" && find . -type f)" = ./crates/rapidhash/mine ]
+  local crate
+  for crate in rapidhash_portable rapidhash; do
+    mkdir -p "$room/of_$crate/crates/$crate" && echo mine >"$room/of_$crate/crates/$crate/mine" &&
+      refused "$room/of_$crate/crates/$crate exists and is not a copy made by make vendor" "$vendor" "$room/of_$crate" &&
+      [ "$(cd "$room/of_$crate" && find . -type f)" = "./crates/$crate/mine" ] || return 1
+  done
 }
 
 # No file may have more than 4 KiB, so the copy fails halfway, as it does on a full disk. Then the previous copy must be
