@@ -69,15 +69,18 @@ gate_ends() {
 gate_says() { gate_ends "${@:2}"; ends=$? && cat "$room/said" && [ "$ends" -eq 0 ] && grep -qxF -e "$1" "$room/said"; }
 
 # Changes files in a copy of the repository. A script must then exit with status 1, and refuse the case of each change,
-# whose line has this case, the file, and the command for sed: SCRIPT ARGUMENT..
+# whose line has this case, the file, and the command for sed. With `names`, the reasons must name the file, and with
+# `subject`, the changes are a commit: SCRIPT ARGUMENT..
 refuses() {
   local case file edit
   grep . >"$room/changes" && cd "$room" && rm -rf copy && git clone -q -s "$top" copy && cd copy &&
     while read -r case file edit; do sed -i "$edit" "$file" || return 1; done <../changes
+  [ -z "${subject-}" ] || git -c user.name=a -c user.email=a commit -qam "$subject"
   "$@" >"$room/answers" 2>&1
   echo "its status is $?" >>"$room/answers"
-  while read -r case _; do
-    try "${*##*/} refuses $case" grep -Pzq "(?s)(^|\n)not ok - $case\n.*\nits status is 1\n\$" "$room/answers"
+  while read -r case file _; do
+    try "${*##*/} refuses $case${names:+ of $file}" grep -Pzq \
+      "(?s)(^|\n)not ok - $case\n${names:+(?:# [^\n]*\n)*# [^\n]*\Q$file\E}.*\nits status is 1\n\$" "$room/answers"
   done <"$room/changes"
 }
 
@@ -98,6 +101,21 @@ for bad in 'runs bad 0 "" "" echo more' 'runs bad 0 "" "" sh -c "exit 3"' 'runs 
   name=bad && [[ $bad != prepare* ]] || name=prepare
   try "a_failure_of $bad" ends 1 "not ok - $name"$'\n1..1' "$start; $bad; finish"
 done
+# The helpers of several scripts must refuse a folder without one licence, commands on a page that print another hash, call
+# the toolchain or are not those of docs/BINDINGS.md, and a build by CMake with a test less.
+page='mkdir -p "$top/docs"; printf "\140\140\140sh\n%s\n\140\140\140\n" "$commands" | tee page >"$top/docs/BINDINGS.md"'
+hello=3327445792987248966
+for bad in 'touch "$top"/{LICENSE-{MIT,APACHE},NOTICE} LICENSE-{MIT,APACHE}; try bad has_the_licences .' \
+  'touch "$top"/{LICENSE-{MIT,APACHE},NOTICE} LICENSE-MIT NOTICE; try bad has_the_licences .' \
+  "commands='echo 1 # YERVOUND'; $page; try bad works_as_its_page_says \$PWD/page" \
+  "commands='rt; echo $hello # YERVOUND'; $page; try bad works_as_its_page_says \$PWD/page" \
+  "commands='echo $hello # YERVOUND'; $page; echo >\$top/docs/BINDINGS.md; try bad works_as_its_page_says \$PWD/page" \
+  'write_vectors() { :; }; cmake() { mkdir -p "$room/cmake" && echo "rapidhash_c_DIR:PATH=a/" >"$room/cmake/CMakeCache.txt"; }
+  ctest() { echo "100% tests passed, 0 tests failed out of 5"; }; try bad builds_by_cmake a'; do
+  try "a_failure_of ${bad:0:60}" ends 1 $'not ok - bad\n1..1' "$start; $bad; finish"
+done
+try a_page_that_works ends 0 $'ok - good\n1..1' \
+  "$start; commands='echo $hello # YERVOUND'; $page; try good works_as_its_page_says \$PWD/page; finish"
 of_program='BUILT=$0; . "$(dirname "$0")/examples/room.sh"'
 for bad in 'answers bad a "" echo b' 'answers bad "" "" false' 'answers bad "" "" sh -c "echo more >&2"' \
   'fault bad 1 a sh -c "echo script: a >&2"' 'fault bad 1 a sh -c "echo script: b >&2; exit 1"' \
@@ -122,6 +140,7 @@ try a_test_that_fails_without_the_edit test_ends 1 FAILED FAILED
 two_cases='printf "ok - a\nok - b\n1..2\n"'
 try a_gate gate_ends '6 passed, 0 failed' "$two_cases"
 try the_page_of_a_gate grep -qxF '| result | 6 passed, 0 failed |' "$room/gate/build/gate.md"
+try the_page_of_a_gate_with_changes grep -qx '| commit | .*, with changes |' "$room/gate/build/gate.md"
 try a_gate_with_a_failure gate_ends '5 passed, 1 failed' 'printf "ok - a\nnot ok - b\n1..2\n"'
 try the_page_of_a_failure grep -qxF '| result | 5 passed, 1 failed |' "$room/gate/build/gate.md"
 two=1 try a_gate_with_a_bad_status gate_ends '5 passed, 1 failed' 'printf "ok - a\n1..1\n"; exit 1'
@@ -135,6 +154,8 @@ skips_go='printf "ok - a # SKIP no /no/go (golang-go)\n1..1\n"'
 two=1 try a_gate_with_a_missing_tool gate_says 'skipped: ok - a # SKIP no /no/go (golang-go)' '4 passed, 1 failed' "$skips_go"
 two=1 try a_gate_that_names_the_packages gate_says 'apt-get install golang-go' '4 passed, 1 failed' "$skips_go"
 two=0 try a_gate_with_a_skipped_script gate_ends '4 passed, 1 failed' 'echo "1..0 # SKIP no /no/go (golang-go)"'
+try the_page_of_a_skip grep -qxF '| scripts, and their cases that passed | 2, 1 |' "$room/gate/build/gate.md"
+try a_gate_with_a_changed_file gate_says 'left behind: tests/two.sh' '6 passed, 1 failed' "$two_cases; git add tests"
 try a_gate_with_a_file_left_behind gate_says 'left behind: a' '6 passed, 1 failed' "$two_cases; touch a"
 for file in bin/make kit/rt packages/one/tests/one.py; do
   try "a_gate_in_which $file fails" gate_ends '6 passed, 1 failed' "$two_cases" "$file"
@@ -197,16 +218,30 @@ awk 'FNR == 1 { n = split(FILENAME, path, "/")
 for change in 'crates/rapidhash/must-fail/default_is_the_seed_1.edit 1s/, .*/, loop/' '../proofs 1s/refused.*/BAD EDIT/'; do
   PROOFS=$room/proofs refuses tests/pages.py <<<"edits $change"
 done
-lints=$(command -v shellcheck && command -v pyflakes3)
+lints=$(command -v shellcheck && command -v pyflakes3) names=yes
+long=$(printf ' %.0s' {1..118})
 PATH=/usr/bin:/bin refuses tests/style.sh <<EDITS
-columns crates/rapidhash_portable/src/form.rt \$a //$(printf ' %.0s' {1..98})a
-even_lines packages/c/tests/fuzz.c s/^    /\t/
+columns crates/rapidhash_portable/src/form.rt \$a //${long:20}a
+even_lines packages/c/tests/fuzz.c 1s/^/\t/
+even_lines packages/c/include/rapidhash.hpp \$a //${long}a
+even_lines packages/java/src/main/java/module-info.java \$s/\$/ /
+even_lines packages/javascript/index.d.ts \$s/\$/ /
+even_lines packages/javascript/key.mjs \$s/\$/ /
+even_lines packages/javascript/page/index.html \$s/\$/ /
 executable_scripts .ci/skips 1i #!/bin/sh
+executable_scripts bench/hand.h 1i #!/bin/sh
+executable_scripts packages/rust/Cargo.toml 1i #!/bin/sh
 verbs crates/rapidhash_portable/src/util.rt 0,/^\/\/\/ Returns/s//\/\/\/ Lanes/
 ${lints:+shell_scripts scripts/install \$a cd \$nowhere/}
 ${lints:+python_scripts scripts/eraser.py \$a import os}
+${lints:+python_scripts scripts/rust_crate \$a import os}
 EDITS
-for change in 'packages/c/include/rapidhash_c.h /_micro_form_ /s/ 45,/ 44,/' 'tests/formulas/main.rs s/4096/4095/'; do
+names=
+subject="tests: a subject with $(printf 'more and %.0s' {1..6})more characters" PATH=/usr/bin:/bin refuses tests/style.sh <<EDITS
+commits README.md 1s/\$/ /
+${lints:+shell_scripts scripts/vendor \$a echo \$into}
+EDITS
+for change in 'packages/c/include/rapidhash_c.h /_micro_form_ /s/1, 2, 1}, 45/2, 2, 1}, 45/' 'tests/formulas/main.rs s/4096/4095/'; do
   ! has rustc || refuses tests/formulas/formulas.py c_gcc <<<"c_gcc $change"
 done
 

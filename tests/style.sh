@@ -14,7 +14,7 @@ narrow() {
 # Checks that C, C++, Java, JavaScript and the web page have lines of at most 120 columns, no tabs, and no space at the
 # end of a line.
 even() {
-  ! git ls-files -z '*.c' '*.h' '*.?pp' '*.java' '*.mjs' '*.?ts' '*.html' '*.css' |
+  ! git ls-files -z '*.c' '*.h' '*.?pp' '*.java' '*.mjs' '*.*ts' '*.html' '*.css' |
     LC_ALL=C.UTF-8 xargs -0 grep -nHE $'^.{121,}$|\t| $' --
 }
 
