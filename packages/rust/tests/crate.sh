@@ -20,7 +20,7 @@ tests_pass() {
 packages() {
   cargo package --allow-dirty && tar -tf "$CARGO_TARGET_DIR"/package/*.crate >"$room/list" &&
     grep -q '/LICENSE-MIT$' "$room/list" && grep -q '/LICENSE-APACHE$' "$room/list" &&
-    grep -q '/NOTICE$' "$room/list" && ! grep -q '/tests/' "$room/list" && ! grep -n '](\.*[a-zA-Z_/]*\.' README.md
+    grep -q '/NOTICE$' "$room/list" && grep -q '/build.rs$' "$room/list" && ! grep -q '/tests/' "$room/list" && ! grep -n '](\.*[a-zA-Z_/]*\.' README.md
 }
 
 # Runs the first program of the README in a new project, with the dependency that a page names: PAGE COMMAND..
@@ -58,15 +58,22 @@ folds_two_rows() {
     printf 'with_rows::<%strue, false, false%s>\n' '2, ' '' '3, ' '' '5, ' '' '7, ' '' '' ', false')
 }
 
-# Checks what the registry and lawyers read of the manifests: MANIFEST
+# Checks what the registry and lawyers read of the manifests, with the compiler of the page: MANIFEST
 has_the_metadata() {
-  grep -qx 'license = "MIT OR Apache-2.0"' "$1" && grep -qx 'rust-version = "1\.[0-9]*"' "$1" &&
+  grep -qx 'license = "MIT OR Apache-2.0"' "$1" &&
+    grep -qx "rust-version = \"$(sed -nE 's/^The crate needs Rust ([0-9.]*[0-9]).*/\1/p' README.md)\"" "$1" &&
     [ "$(sed -n 's/^categories = //p' Cargo.toml)" = '["algorithms", "data-structures", "no-std"]' ]
 }
 
 # Checks that build.rs finds what an old compiler lacks: constant functions before 1.83, and OnceLock before 1.70.
 finds_its_features() {
-  local minor
+  local minor lacking
+  rustc --edition 2021 build.rs -o "$room/build_script" || return
+  for minor in 63 69 70 82 83; do
+    printf '#!/bin/sh\necho "rustc 1.%s.0 (a 2023-01-01)"\n' "$minor" >"$room/rustc" && chmod +x "$room/rustc" || return
+    lacking=$([ "$minor" -ge 83 ] || echo rapidhash_old_const; [ "$minor" -ge 70 ] || echo rapidhash_no_once_lock)
+    [ "$(RUSTC=$room/rustc "$room/build_script" | sed -n 's/^cargo:rustc-cfg=//p')" = "$lacking" ] || return
+  done
   minor=$(rustc --version | cut -d . -f 2)
   [ "$(cargo rustc --lib -- --print cfg | grep -c '^rapidhash_')" -eq $(((minor < 83) + (minor < 70))) ]
 }
@@ -208,7 +215,7 @@ done
 try tests_in_release tests_pass cargo test --release --tests
 try core_alone needs_core_alone
 try rows_per_iteration folds_two_rows
-for manifest in Cargo.toml compat/Cargo.toml; do try "metadata_of_$manifest" has_the_metadata "$manifest"; done
+for manifest in Cargo.toml {compat,tools}/Cargo.toml; do try "metadata_of_$manifest" has_the_metadata "$manifest"; done
 try examples tests_pass cargo test --doc
 try_with pedantic cargo-clippy cargo clippy -- -D warnings -W clippy::pedantic
 crates=/usr/share/cargo/registry

@@ -19,6 +19,13 @@ fn types_of_fields() {
         key::hash(&(text.into_bytes(), 4711usize, None::<String>)),
         user
     );
+    macro_rules! as_64_bits {
+        ($($integer:ty)*) => { $(
+            let (least, most) = (<$integer>::MIN, <$integer>::MAX);
+            assert_eq!(key::hash(&(least, most)), key::hash(&(least as i64, most as u64)));
+        )* };
+    }
+    as_64_bits!(i8 i16 i32 i64 isize u8 u16 u32 u64 usize);
     assert_eq!(key::hash(&(-1i8,)), key::hash(&(u64::MAX,)));
     assert_ne!(key::hash(&(u32::MAX,)), key::hash(&(-1i32,)));
     assert_eq!(

@@ -174,6 +174,18 @@ fn hashes_with_every_option() {
     assert_eq!(mixed, v2::rapidhash_v2_2_seeded(&bytes, &own));
 }
 
+/// The types have the traits of the crate's.
+#[test]
+fn traits() {
+    fn of<T: Copy + std::fmt::Debug + Eq + std::hash::Hash>() {}
+    fn ordered<T: Ord>() {}
+    of::<v1::RapidSecrets>();
+    of::<v2::RapidSecrets>();
+    of::<v3::RapidSecrets>();
+    of::<RapidRng>();
+    ordered::<RapidRng>();
+}
+
 #[test]
 fn maps_by_the_names_of_fast() {
     let _: inner::SeedableState<true, true> = quality::SeedableState::fixed();
