@@ -71,6 +71,21 @@ has_what_make_builds() {
   done <"$room/targets"
 }
 
+# Checks that the archive has each path in the first column of its page, and each picture of a page, and runs the commands
+# for SQLite and Python.
+has_what_its_page_names() {
+  local path command
+  cd "$room/unpacked" && { sed -n 's/^| \(`[^|]*\) | .*/\1/p' README.md | grep -v '^`make' | grep -oE '`[^`]+`' | tr -d '`'
+    sed -nE 's/.*!\[.*\]\((.*)\).*/\1/p' ./*.md; } >"$room/paths" && [ "$(wc -l <"$room/paths")" -ge 20 ] || return
+  while read -r path; do [ -e "$path" ] || { echo "no $path" && return 1; }; done <"$room/paths"
+  for command in cc pip; do
+    sed -n "s/.*: \`\($command .*\)\` |\$/\1/p" README.md
+  done >"$room/commands" && [ "$(wc -l <"$room/commands")" -eq 2 ] &&
+    sed "s|^pip install|& --quiet --target '$room/pip'|; s|^pip|/usr/bin/python3 -m pip|" "$room/commands" | bash -e &&
+    sqlite3 :memory: '.load ./rapidhash' "SELECT rapidhash_v3('hello')" | grep -x 3327445792987248966 &&
+    rm rapidhash.so && PYTHONPATH=$room/pip /usr/bin/python3 -c 'import rapidhash; assert rapidhash.v3(b"hello") == 3327445792987248966'
+}
+
 # Checks that a tree with a new file is refused before anything is built.
 refuses_changes() {
   git clone -q -s "$top" "$room/changed" && touch "$room/changed/new" &&
@@ -109,7 +124,9 @@ carries_the_version() {
     sed -i '0,/^## \[/s//## [9.8.7] - 2027-01-01\n\n&/' CHANGELOG.md && sed -i "1s/($old)/(9.8.7)/" $history &&
     scripts/version --write &&
     ! git grep -nE "${old//./[.]}|(Yervound|rapidsum) ${old%.*}\b" -- . ':!CHANGELOG.md' ':!packages/debian/debian' \
-      ':!packages/rust/tools/src' ':!bench/*.tsv' ':!scripts/version'
+      ':!packages/rust/tools/src' ':!bench/*.tsv' ':!scripts/version' && grep -q '| 908 |$' docs/C.md &&
+    old=${old%.*} && ! git grep -nE "\b${old/./[.]}\b" -- Makefile '*.mk' '*.in' '*.cmake' '*.control' '*.h' '*.1' '*.3' \
+      ':(glob)packages/*/'{CMakeLists.txt,Makefile}
 }
 
 # Checks that make without the kit refuses before it builds anything: TARGET
@@ -137,6 +154,7 @@ try release_of_a_changed_tree refuses_changes
 try partial_archive packs_a_part
 try archive makes_the_archive
 try results_of_make has_what_make_builds
+try_with names_of_the_page 'sqlite3 /usr/include/sqlite3.h /usr/lib/python3/dist-packages/pip' has_what_its_page_names
 try program prints_the_known_hash "$room/unpacked"
 try vectors agrees_with_the_vectors
 try wrong_vector tells_a_wrong_vector
