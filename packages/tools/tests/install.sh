@@ -57,6 +57,24 @@ names_each_version() {
   done <"$room/versions"
 }
 
+# Checks that micro and nano equal V3 up to the bytes that the manual names, and no further.
+equals_v3_as_the_manual_says() {
+  local form most
+  sed -nE '/^\.B .*v3.-(micro|nano)$/ { s/.*-//; h; n; s/.* up to ([0-9]+) bytes/\1/; H; g; s/\n/ /; p; }' \
+    packages/tools/rapidhash.1 >"$room/limits"
+  [ "$(wc -l <"$room/limits")" -eq 2 ] && while read -r form most; do
+    seq 999 | head -c "$most" >"$room/at" && seq 999 | head -c $((most + 1)) >"$room/above" &&
+      [ "$("$prefix/bin/rapidhash" "--v3-$form" "$room/at")" = "$("$prefix/bin/rapidhash" "$room/at")" ] &&
+      [ "$("$prefix/bin/rapidhash" "--v3-$form" "$room/above")" != "$("$prefix/bin/rapidhash" "$room/above")" ] || return 1
+  done <"$room/limits"
+}
+
+# Checks that the messages of the manual of rapidhash are those of its source.
+has_the_messages() {
+  diff <(sed -n '/^\.SH DIAGNOSTICS/,/^\.SH EXAMPLES/ s/^\.B //p' packages/tools/rapidhash.1 | sed 's/\\//g' | sort) \
+    <(sed -n 's/^text_of .* = codes "\(.*\)"$/\1/p' crates/rapidhash_tool/specs/Faults.antt | sort)
+}
+
 # Checks that the completions of a program are those that completions.py tests: PROGRAM
 has_its_completions() {
   diff <(cat "$top/packages/tools/$1".{bash,fish,zsh}) <(cd "$prefix/share" &&
@@ -181,7 +199,8 @@ serves_without_the_kit() {
       'make: rt is not on PATH: building with cc and cargo, which is not the proved build' ] &&
     [ -z "$(make -s -C "$sources" 2>&1)" ] && make -s -C "$sources" install PREFIX="$place" &&
     diff <(listed "$prefix") <(listed "$place") && builds_by_pkg_config "$place/lib" &&
-    prefix=$place prints_and_checks_a_sum && prints_the_known_hash "$place" && prints_the_known_hash "$sources"
+    prefix=$place prints_and_checks_a_sum && prints_the_known_hash "$place" && prints_the_known_hash "$sources" &&
+    make -s -C "$sources" clean && [ ! -e "$sources/build" ]
 }
 
 # Checks that a second installation replaces each file, so that a running program keeps the one that it has mapped.
@@ -200,7 +219,7 @@ has_the_modes() {
 # Checks that a removal leaves a file of another alone, and no directory of its own.
 removes_its_files() {
   mkdir -p "$prefix/bin" && echo mine >"$prefix/bin/mine" && make -s -C "$top" uninstall PREFIX="$prefix" &&
-    [ "$(listed "$prefix")" = ./bin/mine ] && [ ! -e "$prefix/share/doc/rapidhash" ]
+    [ "$(listed "$prefix")" = ./bin/mine ] && [ -z "$(find "$prefix" -name 'rapidhash*')" ]
 }
 
 try build make -s -C "$top"
@@ -222,6 +241,8 @@ cd "$top" || exit 1
 try_with options_of_the_manual "$builder" names_every_option rapidhash 8
 try_with options_of_the_manual_of_sums "$builder" names_every_option rapidsum 15
 try_with versions_of_the_manual "$builder mandoc" names_each_version
+try_with limits_of_the_manual "$builder" equals_v3_as_the_manual_says
+try messages_of_the_manual has_the_messages
 try_with texts_of_the_manual_of_sums "$builder mandoc" has_the_texts_of_the_help
 for name in rapidhash rapidsum; do try_with "completions_of_$name" "$builder" has_its_completions "$name"; done
 for folder in PREFIX=usr BINDIR= LIBDIR='/a b' INCLUDEDIR="/a'b" DATADIR=$'/a\nb' \
