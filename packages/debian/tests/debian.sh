@@ -8,9 +8,10 @@ library=$root/usr/lib/x86_64-linux-gnu
 names='librapidhash-c-dev librapidhash-c1 postgresql-15-rapidhash rapidhash-tools sqlite3-rapidhash'
 
 # Checks that the source package, unpacked elsewhere, builds the same bytes with Debian's tools alone, and no other
-# files.
+# files. A build compares the vectors.
 packs_the_same_bytes() {
-  make -s -C "$top" deb && cd "$packages" && sha256sum ./*.deb >"$room/sums" && mkdir "$room/elsewhere" &&
+  make -s -C "$top" deb && cd "$packages" && grep -qxE '[1-9][0-9]* passed, 0 failed' log &&
+    sha256sum ./*.deb >"$room/sums" && mkdir "$room/elsewhere" &&
     cp ./*.dsc ./*.tar.xz "$room/elsewhere" && cd "$room/elsewhere" && dpkg-source -x ./*.dsc bare &&
     (cd bare && env -i PATH=/usr/bin:/bin dpkg-buildpackage -b -us -uc) && sha256sum --check "$room/sums" &&
     diff <(printf '%s_1.0.0_amd64.deb\n' $names) <(printf '%s\n' *.deb) &&
@@ -46,12 +47,15 @@ prints_the_known_hashes() {
     [ "$(chroot "$root" rapidsum /file)" = 'a1266b469390773a  /file' ]
 }
 
-# Checks that the machine code and the constants are those that make built, whatever was stripped.
+# Checks that the machine code and the constants are those that make built, whatever was stripped, and that the linker's
+# tables are read-only after the start.
 keeps_the_code() {
   local built packed
   code() { readelf -x .text -x .rodata "$1" | grep '^  0x'; }
   while read -r built packed; do
-    code "$packages/source/build/$built" >"$room/code" && code "$root/usr/$packed" | diff "$room/code" - || return 1
+    code "$packages/source/build/$built" >"$room/code" && code "$root/usr/$packed" | diff "$room/code" - &&
+      readelf -ldW "$root/usr/$packed" >"$room/linked" && grep -q GNU_RELRO "$room/linked" &&
+      grep -qE 'BIND_NOW|FLAGS_1.* NOW' "$room/linked" || return 1
   done <<'FILES'
 cargo/release/rapidhash bin/rapidhash
 cargo/release/rapidsum bin/rapidsum
@@ -80,14 +84,16 @@ loads_into_sqlite() {
     grep -x 3327445792987248966
 }
 
-# Checks that programs and exports have a manual page, and that completions are where Debian's shells search.
+# Checks that programs and functions have a manual page, and no other name, and that completions are where Debian's shells
+# search.
 has_manuals_and_completions() {
   cd "$root/usr/share" && ls man/man1/rapid{hash,sum}.1.gz bash-completion/completions/rapid{hash,sum} \
     zsh/vendor-completions/_rapid{hash,sum} fish/vendor_completions.d/rapid{hash,sum}.fish &&
-    nm -D --defined-only "$library/librapidhash_c.so.1" | sed -nE 's/.* T (.*)@@.*/\1/p' >"$room/exports" &&
-    [ "$(wc -l <"$room/exports")" -gt 20 ] && while read -r export; do
-    zcat "man/man3/$export.3.gz" | cmp - "$top/packages/c/rapidhash_c.3" || return 1
-  done <"$room/exports"
+    cc -E -P -DRAPIDHASH_LINK "$root/usr/include/rapidhash_c.h" | grep -oE '\brapidhash_[a-z0-9_]*[a-z0-9]\(' | tr -d '(' |
+    cat - <(echo rapidhash_c) | sort -u >"$room/functions" && [ "$(wc -l <"$room/functions")" -gt 40 ] &&
+    diff "$room/functions" <(printf '%s\n' man/man3/* | sed 's/.*\///; s/\.3\.gz$//' | sort) && while read -r function; do
+    zcat "man/man3/$function.3.gz" | cmp - "$top/packages/c/rapidhash_c.3" || return 1
+  done <"$room/functions"
 }
 
 # Checks that each package has the notice and the text of the licence of which Debian has no copy.
