@@ -24,8 +24,18 @@ CALLS = """    println!(rt; "{} {}", in_pieces(), of_reader(b"hello".as_slice())
 TUTORIAL = "3327445792987248966\n3327445792987248966 3327445792987248966\n14860858794976638546 2\n"
 
 
+def faults_of(line, folder, **variables):
+    """Runs a command and returns its output if it fails or prints another value than its comment says, if that says one."""
+    command, _, comment = line.partition(" #")
+    said = re.search(r"prints (\d+)", comment)
+    status, printed = shell(command, folder, **variables)
+    return [printed[-600:]] * (status != 0 or said is not None and printed.strip() != said[1])
+
+
 def run_shell_blocks():
     """Runs each command in its directory and compares its output with the value on the page."""
+    compare("commands that must be refused", [faults_of(line, ROOM) != [] for line in (
+        "echo 1 # prints 2", "echo 1; false # prints 1", "false", "echo 1 # prints 1")], [True, True, True, False])
     (ROOM / "files").mkdir()
     for name in ("Makefile", "README.md", "a.tar", "b.tar", "first.iso", "old.db"):
         shutil.copy(TOP / ("README.md" if name == "README.md" else "Makefile"), ROOM / "files" / name)
@@ -35,13 +45,11 @@ def run_shell_blocks():
     for path in shell("make -s --eval='show: ; @echo $(tools)' show")[1].split():
         os.symlink(TOP / path, programs / Path(path).name.removesuffix("_cli"))
     for line in "".join(blocks("README.md", "sh") + blocks("docs/COMMANDS.md", "sh")).splitlines():
-        command, _, comment = line.partition(" #")
-        command, said = command.strip(), re.search(r"prints (\d+)", comment)
+        command = line.partition(" #")[0].strip()
         if command not in ELSEWHERE:
             is_program = re.search(r"(?<![/\w])rapid(hash|sum)\b", command) is not None
-            status, printed = shell(command, ROOM / "files" if is_program else TOP,
-                                    PATH=f"{programs}:" * is_program + os.environ["PATH"])
-            tell(command, *[printed[-600:]] * (status != 0 or said is not None and printed.strip() != said[1]))
+            tell(command, *faults_of(line, ROOM / "files" if is_program else TOP,
+                                     PATH=f"{programs}:" * is_program + os.environ["PATH"]))
 
 
 def run_first_programs():
