@@ -150,11 +150,11 @@ two=3 try a_gate_with_a_lost_case gate_says 'cases: < tests/two.sh 3' '6 passed,
 two=$'2\ntests/three.sh 1' try a_gate_with_a_lost_script gate_says 'cases: < tests/three.sh 1' '6 passed, 1 failed' \
   "$two_cases"
 two=1 try a_gate_with_a_named_skip gate_ends '4 passed, 0 failed' 'printf "ok - a # SKIP strace cannot trace here\n1..1\n"'
+try the_page_of_a_skip grep -qxF '| scripts, and their cases that passed | 2, 1 |' "$room/gate/build/gate.md"
 skips_go='printf "ok - a # SKIP no /no/go (golang-go)\n1..1\n"'
 two=1 try a_gate_with_a_missing_tool gate_says 'skipped: ok - a # SKIP no /no/go (golang-go)' '4 passed, 1 failed' "$skips_go"
 two=1 try a_gate_that_names_the_packages gate_says 'apt-get install golang-go' '4 passed, 1 failed' "$skips_go"
 two=0 try a_gate_with_a_skipped_script gate_ends '4 passed, 1 failed' 'echo "1..0 # SKIP no /no/go (golang-go)"'
-try the_page_of_a_skip grep -qxF '| scripts, and their cases that passed | 2, 1 |' "$room/gate/build/gate.md"
 try a_gate_with_a_changed_file gate_says 'left behind: tests/two.sh' '6 passed, 1 failed' "$two_cases; git add tests"
 try a_gate_with_a_file_left_behind gate_says 'left behind: a' '6 passed, 1 failed' "$two_cases; touch a"
 for file in bin/make kit/rt packages/one/tests/one.py; do
