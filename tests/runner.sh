@@ -204,6 +204,7 @@ calls docs/api/v3.md $a one more
 version packages/c/rapidhash_c.3 s|Yervound 1.0|Yervound 0.9|
 figures README.md s|<!-- means -->|<!-- means -->9 |
 means docs/PERFORMANCE.md /^. C, clang/s/| 0[.]/| 1./
+measurements docs/PERFORMANCE.md /^<!-- sizes -->/,/^<!-- end -->/s/| 784 |/| 785 |/
 commits bench/size.tsv s/6f55f325/6f55f326/
 EDITS
 refuses tests/pages.py <<'EDITS'

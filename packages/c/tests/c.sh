@@ -197,7 +197,7 @@ manual_has_the_header() {
     mandoc -Tascii "$top/packages/c/rapidhash_c.3" | sed 's|.\x08||g' | signatures | diff "$room/signatures" -
 }
 
-# Checks that the manual page has the preconditions of the header, word by word, and its numbers.
+# Checks that the manual page has the preconditions of the header, word by word, and its numbers, and docs/C.md one.
 manual_has_the_preconditions() {
   local text
   sed -E 's|^ \* *(- )?||' "$header" | tr -d '`' | tr -s ' \n' ' ' |
@@ -210,10 +210,11 @@ int main(void)
     printf("A stream of %d bytes\n", (int)sizeof(struct rapidhash_stream));
     printf("bytes, which are %d and\n", RAPIDHASH_STREAM_SAVED);
     printf("runs with: %d for %s.\n", RAPIDHASH_C_VERSION_NUMBER, RAPIDHASH_C_VERSION_STRING);
-}' && "$room/numbers" >>"$room/preconditions"
-  [ "$(wc -l <"$room/preconditions")" -eq 5 ] && while read -r text; do
-    grep -qF "$text" "$room/page" || { echo "not on the page: $text" && return 1; }
-  done <"$room/preconditions"
+}' && "$room/numbers" >>"$room/preconditions" && text=$(grep -oP 'A stream of \K.*' "$room/preconditions") &&
+    grep -qF "start a stream ($text" "$top/docs/C.md" && [ "$(wc -l <"$room/preconditions")" -eq 5 ] &&
+    while read -r text; do
+      grep -qF "$text" "$room/page" || { echo "not on the page: $text" && return 1; }
+    done <"$room/preconditions"
 }
 
 # Runs the example on the manual page, built with the command on the page.
@@ -344,6 +345,22 @@ uint64_t sum(const void *p, size_t n) { return rapidhash_v3(p, n) + 3 * rapidhas
     [ "$(grep -cE "rapidhash_v3(@PLT)?$" "$room/sum.s")" -eq 2 ]
 }
 
+# Checks that a debug build stops at a stream whose length or number of lanes no call sets.
+stops_at_its_bounds() {
+  local call
+  for call in 'stream.lanes = 4; rapidhash_stream_write(&stream, "", 1);' \
+    'stream.len = 113; rapidhash_stream_finish(&stream);' 'stream.len = 113; rapidhash_stream_write(&stream, "a", 200);'; do
+    cc -include assert.h -DRAPIDHASH_ASSERT=assert "-I$include" -x c - -o "$room/stops" <<<'#include "rapidhash_c.h"
+int main(void)
+{
+    struct rapidhash_secrets secrets;
+    struct rapidhash_stream stream;
+    rapidhash_seed_secrets(0, &secrets);
+    rapidhash_v3_start(&stream, &secrets);
+    '"$call }" && ! "$room/stops" 2>"$room/said" && grep 'Assertion .* failed' "$room/said" || return 1
+  done
+}
+
 # Checks that clang keeps the words of a call with the default seed out of vector registers, which would cost moves.
 keeps_words_in_registers() {
   clang -O2 "-I$include" -x c -c -o "$room/words.o" - <<<'#include "rapidhash_c.h"
@@ -413,6 +430,7 @@ try header_c89 bash -c 'cc -std=c89 -fsyntax-only "$1" 2>&1 | grep -m 1 error: |
 try header_without_int128 has_the_values cc -O2 -DRAPIDHASH_NO_INT128
 try header_without_a_byte_order has_the_values cc -O2 -U__BYTE_ORDER__
 try header_with_assertions has_the_values cc -O3 -include assert.h -DRAPIDHASH_ASSERT=assert
+try header_stops_at_bounds stops_at_its_bounds
 try_with header_with_sanitizers "clang $fuzzer" ended sanitizers
 try_with header_tcc tcc has_the_values tcc
 try_with header_32_bits "gcc $multilib/libgcc.a" has_the_values gcc -m32 -O2

@@ -372,7 +372,7 @@ tell progress_on_a_terminal_is_erased $?
 writes_blocks() {
   can_trace && yes first | head -n 20000 | tr '\n' '\0' >names &&
     strace -qqo "$room/calls" -e trace=write "$program" --files0-from=names >sums && [ "$(wc -l <sums)" -eq 20000 ] &&
-    [ "$(wc -l <"$room/calls")" -eq 8 ]
+    [ "$(wc -l <"$room/calls")" -eq 8 ] && grep -q 'blocks of 64 KiB and before each message,$' "$top/packages/tools/rapidsum.1"
 }
 writes_lines() {
   can_trace && script -qec "strace -qqo calls -e trace=write $program first first" log </dev/null >/dev/null 2>&1 &&
