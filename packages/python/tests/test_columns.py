@@ -190,7 +190,11 @@ class Refused(unittest.TestCase):
                 rapidhash.each_slice(b"abc", array.array("Q", numbers))
         with self.assertRaisesRegex(ValueError, r"^offsets\[1\]"):
             rapidhash.each_slice(b"abc", array.array("I", [0, 1, 2**32 - 1]))
-        for offsets in (b"abcd", array.array("h", [0, 1]), array.array("d", [0, 1]), memoryview(bytes(16)).cast("B")):
+        class Nothing(ctypes.Structure):
+            pass  # whose items have no byte
+
+        for offsets in (b"abcd", array.array("h", [0, 1]), array.array("d", [0, 1]), memoryview(bytes(16)).cast("B"),
+                        (Nothing * 2)(), ctypes.c_int(1)):
             with self.assertRaisesRegex(TypeError, "^offsets must be a buffer of 32-bit or 64-bit integers$"):
                 rapidhash.each_slice(b"abc", offsets)
         other = (ctypes.c_int32.__ctype_be__ if sys.byteorder == "little" else ctypes.c_int32.__ctype_le__) * 2
