@@ -114,6 +114,7 @@ builds_by_cmake() {
   write_vectors "$room" && cmake -S "$top/packages/c/tests/cmake" -B "$room/cmake" -D CMAKE_PREFIX_PATH="$1" \
     -D VECTORS="$room/rapidhash_vectors.tsv" &&
     grep "^rapidhash_c_DIR:PATH=$1/" "$room/cmake/CMakeCache.txt" &&
+    cmake -S "$top/packages/c/tests/cmake" -B "$room/beside" -D CMAKE_PREFIX_PATH="$1" -D BESIDE="$top/packages/c" &&
     cmake --build "$room/cmake" && (cd "$room/cmake" && ctest | tee /dev/stderr | grep '100%.* out of 6$')
 }
 

@@ -377,7 +377,7 @@ fetches_by_cmake() {
     mkdir -p "$room/fetch" && cd "$room/fetch" && blocks "$top/docs/CPP.md" cpp hello >hello.cpp &&
     blocks "$top/docs/CPP.md" cmake FetchContent >CMakeLists.txt && YERVOUND=$top cmake -B fetched &&
     cmake --build fetched && [ "$(fetched/hello)" = 3327445792987248966 ] && cp -r "$top/packages/c" copy &&
-    sed -i 's/^FetchContent_Declare.*/add_subdirectory(copy)/; /FetchContent/d' CMakeLists.txt &&
+    sed -i 's/^FetchContent_Declare.*/add_subdirectory(copy)\nadd_subdirectory(copy again)/; /FetchContent/d' CMakeLists.txt &&
     cmake -D CMAKE_C_COMPILER=none -B added && cmake --build added && [ "$(added/hello)" = 3327445792987248966 ]
 }
 
