@@ -43,13 +43,13 @@ def computed(case):
 
 
 def differences(path):
-    """Yields the cases of a file whose values differ, or that the file has none."""
+    """Yields the cases of a file whose values differ."""
     head, *rows = [line.split("\t") for line in path.read_text().splitlines() if not line.startswith("#")]
     cases = [dict(zip(head, row)) for row in rows]
-    yield from (f"{case}: {found}" for case in cases
-                if (found := " ".join(map(str, computed(case)))) != case["expected"])
-    if not cases:
-        yield "no cases"
+    for case in cases:
+        if (found := " ".join(map(str, computed(case)))) != case["expected"]:
+            yield f"{case}: {found}"
+        compared.append(case)
 
 
 IN_C = r"""
@@ -91,8 +91,11 @@ def differences_in_c(length):
 
 
 DATA = TOP / "crates" / "test_replay" / "data"
+compared = []
 for path in sorted(DATA.glob("*.tsv")):
     tell(path.stem, *differences(path))
+listed = re.findall(r"^([\d,]+) cases ", (DATA / "README.md").read_text(), re.M)
+compare("cases_of_all_files", len(compared), sum(int(count.replace(",", "")) for count in listed))
 rows = re.findall(r"^\| (\S+) \| ([^|\d]*)(?:(\d+) bytes)? \| (\d{15,}) \|$", PAGE, re.M)
 for version, rule, size, value in rows:
     text = b"something\n" if "something" in rule else message("square", int(size or 0))
