@@ -170,7 +170,8 @@ TABLES = {
 }
 
 
-HASHES = "v1 v2_0 v2_1 v2_2 v3 v3_micro v3_nano v3_protected fast quality generator xxh3 xxh64 fnv1a".split()
+HEADER = (TOP / "packages/c/include/rapidhash_c.h").read_text()
+HASHES = [*re.findall(r" X\((\w+), rapidhash", HEADER), "fast", "quality", "generator", "xxh3", "xxh64", "fnv1a"]
 
 
 def known_figures(name):
