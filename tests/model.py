@@ -94,7 +94,8 @@ def saved(count, m, seed, s):
     kept = m[end - 16 : end] if rows else bytes(16)
     state = b"rapidV3" + bytes([1, count, 1, rows > 0, len(m) - end, 0, 0, 0, 0])
     state += b"".join(lane.to_bytes(8, "little") for lane in lanes) + (kept + m[end:]).ljust(128, b"\0")
-    return state + hash_of("V3", state, seed, s).to_bytes(8, "little")
+    check = hash_of("V3", state, seed, s) ^ hash_of("V3", state, seed, s, protected=True)
+    return state + check.to_bytes(8, "little")
 
 
 def repaired(x):
@@ -163,6 +164,8 @@ def message(rule, n):
         return bytes((i * i + 7 * i + n) % 251 for i in range(n))
     if name == "text":
         return rest.replace("\\n", "\n").encode()
+    if name == "bytes":
+        return bytes.fromhex(rest)
     if name == "at":
         at = dict(map(int, place.split("=")) for place in rest.split(",") if place)
         return bytes(at.get(i, 0) for i in range(n))

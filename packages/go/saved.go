@@ -36,7 +36,13 @@ func (stream *Stream) AppendBinary(out []byte) ([]byte, error) {
 	var kept [foldedSize + 112]byte
 	copy(kept[start:], stream.kept[start:foldedSize+stream.size])
 	out = append(out, kept[:]...)
-	return binary.LittleEndian.AppendUint64(out, V3WithSecrets(out[from:], &stream.secrets)), nil
+	return binary.LittleEndian.AppendUint64(out, checkOf(out[from:], &stream.secrets)), nil
+}
+
+// checkOf returns the check of a saved stream. A word that equals a secret hides others from V3; if its lowest bit
+// differs, it hides them from protected V3.
+func checkOf(state []byte, secrets *Secrets) uint64 {
+	return V3WithSecrets(state, secrets) ^ V3ProtectedWithSecrets(state, secrets)
 }
 
 // UnmarshalBinary replaces the message by that of a saved stream of the same version, seed and secrets. The zero Stream

@@ -30,13 +30,16 @@ func savedStreams(t *testing.T) (streams []savedStream) {
 		t.Fatal(err)
 	}
 	lines := strings.Split(strings.TrimSpace(string(text)), "\n")[3:]
-	compare(t, "saved streams", uint64(len(lines)), 54)
+	compare(t, "saved streams", uint64(len(lines)), 102)
 	for _, line := range lines {
 		columns := strings.Split(line, "\t")
 		size, _ := strconv.Atoi(columns[2])
 		message := make([]byte, size)
 		for at := range message {
 			message[at] = byte((at*at + 7*at + size) % 251)
+		}
+		if digits, isGiven := strings.CutPrefix(columns[1], "bytes:"); isGiven {
+			message, _ = hex.DecodeString(digits)
 		}
 		rule, digits, _ := strings.Cut(columns[3], ":")
 		number, _ := strconv.ParseUint(digits, 10, 64)
@@ -142,7 +145,7 @@ func TestForgedStreams(t *testing.T) {
 		forge := func(isState bool, place int, values ...byte) {
 			forged := append([]byte(nil), saved[:200]...)
 			copy(forged[place:], values)
-			forged = binary.LittleEndian.AppendUint64(forged, V3WithSecrets(forged, its.secrets))
+			forged = binary.LittleEndian.AppendUint64(forged, V3WithSecrets(forged, its.secrets)^V3ProtectedWithSecrets(forged, its.secrets))
 			if isState {
 				if err := stream.UnmarshalBinary(forged); err != nil {
 					t.Error(its.row, place, err)

@@ -10,10 +10,8 @@ use Rattle.std.proofs.lemmas.List.{drop-replicate, drop_at, get_or-replicate, le
 use Rattle.std.proofs.lemmas.Nat.{from_le_bytes-to_le_bytes_8, xor_lt}
 use Rattle.rapidhash_portable.specs.declared.secrets.RapidSecrets.{RapidSecrets}
 use Rattle.rapidhash_portable.specs.declared.v3.stream.parts.Parts.{Parts}
-use Rattle.rapidhash_portable.specs.Form.{standard, v3}
-use Rattle.rapidhash_portable.specs.Hash.{seeded_hash}
 use Rattle.rapidhash_portable.specs.Lanes.{IsLaneCount, lane_of, pair_of, pairs_of}
-use Rattle.rapidhash_portable.specs.Saved.{AreIn, IsSaved, UnusedHoldSeed, checked, option_byte, restored_lane, saved_body, saved_carried, saved_head, saved_lane, saved_parts}
+use Rattle.rapidhash_portable.specs.Saved.{AreIn, IsSaved, UnusedHoldSeed, checked, option_byte, restored_lane, saved_body, saved_carried, saved_head, saved_check, saved_lane, saved_parts}
 use Rattle.rapidhash_portable.specs.Stream.{PartsRepresent, chunk_count}
 use Rattle.rapidhash_portable.proofs.StreamLemmas.{chunk-below, chunk_count-low, length-buffered}
 
@@ -134,7 +132,7 @@ module _ {avalanche protected : Bool} {lanes : ℕ} {secrets : RapidSecrets} {x 
   kept = saved_carried g ++ (buffered ++ replicate (112 - g.len) 0)
 
   abbrev check : List ℕ
-  check = to_le_bytes w64 (seeded_hash v3 standard g.secrets.now (saved_body lanes options g))
+  check = to_le_bytes w64 (saved_check g.secrets.now (saved_body lanes options g))
 
   -- the head, the lanes, the kept bytes and the check
   bytes_are : saved_head lanes options g.any g.len ++ (held ++ (kept ++ check)) ≡ bytes

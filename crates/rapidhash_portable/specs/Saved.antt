@@ -1,7 +1,7 @@
 -- The bytes of a saved stream.
-use Rattle.std.specs.Prelude.{◌≡◌, ℕ, map, nat_eq, slice_index, ◌-◌, ◌*◌, ◌<◌, ◌≤◌, ◌^◌, Bool, List, [], ◌∷◌, ◌++◌, length, take, drop, replicate, bit_xor, flat_map, All, if◌then◌else◌}
+use Rattle.std.specs.Prelude.{◌≡◌, ℕ, map, nat_eq, slice_index, ◌-◌, ◌*◌, ◌<◌, ◌≤◌, ◌^◌, Bool, true, List, [], ◌∷◌, ◌++◌, length, take, drop, replicate, bit_xor, flat_map, All, if◌then◌else◌}
 use Rattle.std.specs.Int.{w64, from_le_bytes, to_le_bytes}
-use Rattle.rapidhash_portable.specs.Form.{standard, v3}
+use Rattle.rapidhash_portable.specs.Form.{guarded, standard, v3}
 use Rattle.rapidhash_portable.specs.Hash.{seeded_hash}
 use Rattle.rapidhash_portable.specs.Stream.{PartsRepresent, secrets_of_stream, steps_of}
 use Rattle.rapidhash_portable.specs.declared.secrets.RapidSecrets.{RapidSecrets}
@@ -31,9 +31,13 @@ saved_body lanes options parts =
     saved_head lanes options parts.any parts.len ++ (flat_map (saved_lane parts.secrets.now.seed) parts.folded.lanes
     ++ (saved_carried parts ++ (take parts.len (drop 16 parts.kept) ++ replicate (112 - parts.len) 0)))
 
--- the hash of these bytes is behind them
+-- the check: a word that equals a secret hides others from the first hash; if its lowest bit differs, from the second
+abbrev pub saved_check : RapidSecrets → List ℕ → ℕ
+saved_check secrets body = bit_xor (seeded_hash v3 standard secrets body) (seeded_hash v3 guarded secrets body)
+
+-- the bytes, and the check behind them
 abbrev pub checked : RapidSecrets → List ℕ → List ℕ
-checked secrets body = body ++ to_le_bytes w64 (seeded_hash v3 standard secrets body)
+checked secrets body = body ++ to_le_bytes w64 (saved_check secrets body)
 
 -- the 208 bytes of a saved stream
 abbrev pub saved_parts : ℕ → ℕ → Parts → List ℕ
@@ -60,12 +64,13 @@ UnusedHoldSeed lanes parts =
     let used : ℕ = if parts.any then lanes else 0 in
     drop used parts.folded.lanes ≡ drop used (replicate 7 parts.secrets.now.seed)
 
--- the hasher would save these bytes, has the secrets, the seed in each unused lane, and has folded no chunk itself
+-- the hasher would save these bytes, has the secrets, the seed in each unused lane, a buffered byte after any chunk, and has folded no chunk itself
 pub record IsRestored {lanes avalanche' protected' : ℕ} (avalanche protected : Bool) (secrets : RapidSecrets) (bytes : List ℕ)
     (hasher : RapidStreamHasherLanes lanes avalanche' protected') : Type 0 where
   pub bytes_are : saved_bytes avalanche protected hasher ≡ bytes
   pub secrets_are : secrets_of_stream hasher ≡ secrets
   pub unused : UnusedHoldSeed lanes hasher.state.parts
+  pub least : hasher.state.parts.any ≡ true → 0 < hasher.state.parts.len
   pub count : steps_of hasher ≡ 0
 
 -- the bytes are those of some saved stream that represents the message `x` under the secrets

@@ -75,6 +75,9 @@ pub fn message(alloc: Global, rule: &str, length: u64) -> Result<Vec<u8>> {
     if let Some(text) = rule.strip_prefix("text:") {
         return written(alloc, text, length);
     }
+    if let Some(digits) = rule.strip_prefix("bytes:") {
+        return Ok(hex::decode(alloc, digits)?);
+    }
     if let Some(places) = rule.strip_prefix("at:") {
         return placed(alloc, places, length);
     }

@@ -248,7 +248,9 @@ RAPIDHASH_INLINE void rapidhash_stream_save(const struct rapidhash_stream *strea
     saved[11] = (unsigned char)stream->len;
     for (size_t i = 0; i < lanes; i++) rapidhash_put8_(stream->lane[i] ^ stream->secrets->seed, saved + 16 + 8 * i);
     memcpy(saved + 88 - carried, stream->buffer + 16 - carried, carried + stream->len);
-    rapidhash_put8_(rapidhash_v3_with_secrets(saved, 200, stream->secrets), saved + 200);
+    /* A word that equals a secret hides others from V3; if its lowest bit differs, it hides them from protected V3. */
+    rapidhash_put8_(rapidhash_v3_with_secrets(saved, 200, stream->secrets)
+                    ^ rapidhash_v3_protected_with_secrets(saved, 200, stream->secrets), saved + 200);
 }
 
 /* Replaces the message of a started stream by that of a saved one. Returns false and does not modify the stream if

@@ -42,7 +42,8 @@ static void refuse(const char *row, struct rapidhash_stream *stream, const unsig
 /* Sets the check of a saved stream. */
 static void check(unsigned char *saved)
 {
-    const uint64_t hash = rapidhash_v3_with_secrets(saved, 200, &own);
+    const uint64_t hash =
+        rapidhash_v3_with_secrets(saved, 200, &own) ^ rapidhash_v3_protected_with_secrets(saved, 200, &own);
     int at;
 
     for (at = 0; at < 8; at++) saved[200 + at] = (unsigned char)(hash >> 8 * at & 255);
@@ -109,25 +110,35 @@ static void restore(const char *row, size_t lanes, size_t size, const unsigned c
     }
 }
 
+/* Reads this many bytes from hexadecimal digits. */
+static bool read(const char *digits, unsigned char *out, size_t size)
+{
+    unsigned byte;
+    size_t i;
+
+    for (i = 0; i < size && sscanf(digits + 2 * i, "%2x", &byte) == 1; i++) out[i] = (unsigned char)byte;
+    return i == size;
+}
+
 /* Tests a row: the lanes, the rule of the message, its length, the rule of the secrets, and the saved bytes. */
 static bool test(const char *row)
 {
     unsigned char known[SIZE], saved[SIZE];
     struct rapidhash_stream stream;
     unsigned long lanes, size, i;
-    char rule[40], digits[2 * SIZE + 1];
-    unsigned byte;
+    char content[1024], rule[40], digits[2 * SIZE + 1];
 
-    if (sscanf(row, "%lu\tsquare\t%lu\t%39s\t%416s", &lanes, &size, rule, digits) != 4) return false;
+    if (sscanf(row, "%lu\t%1023s\t%lu\t%39s\t%416s", &lanes, content, &size, rule, digits) != 5) return false;
     for (i = 0; i < sizeof message; i++) message[i] = (unsigned char)((i * i + 7 * i + size) % 251);
-    for (i = 0; i < SIZE && sscanf(digits + 2 * i, "%2x", &byte) == 1; i++) known[i] = (unsigned char)byte;
+    if (strncmp(content, "bytes:", 6) == 0) read(content + 6, message, size);
+    expect("digits", row, read(digits, known, SIZE));
     (*rule == 's' ? rapidhash_make_secrets : rapidhash_seed_secrets)(
         *rule == 'd' ? 0 : strtoull(strchr(rule, ':') + 1, NULL, 10), &own);
     start(&stream, lanes, &own);
     rapidhash_stream_write(&stream, message, size / 3);
     rapidhash_stream_write(&stream, message + size / 3, size - size / 3);
     rapidhash_stream_save(&stream, saved);
-    expect("saved", row, i == SIZE && memcmp(saved, known, SIZE) == 0);
+    expect("saved", row, memcmp(saved, known, SIZE) == 0);
     change(row, lanes, saved);
     restore(row, lanes, size, saved);
     return true;
@@ -135,10 +146,10 @@ static bool test(const char *row)
 
 int main(void)
 {
-    static char line[1000];
+    static char line[2000];
     unsigned cases = 0;
 
     while (fgets(line, sizeof line, stdin)) cases += test(line);
     printf("%u saved streams, %u faults\n", cases, failed);
-    return failed != 0 || cases != 54;
+    return failed != 0 || cases != 102;
 }

@@ -16,6 +16,15 @@ static void expect(const char *what, const std::string &row, bool holds)
         std::printf("FAILED %s: %.40s\n", what, row.c_str());
 }
 
+static std::vector<unsigned char> read(const std::string &digits)
+{
+    std::vector<unsigned char> bytes;
+
+    for (std::size_t at = 0; at < digits.size(); at += 2)
+        bytes.push_back(static_cast<unsigned char>(std::strtoul(digits.substr(at, 2).c_str(), nullptr, 16)));
+    return bytes;
+}
+
 static rapidhash::secrets made(const std::string &rule)
 {
     const std::uint64_t number = rule == "default" ? 0 : std::strtoull(rule.c_str() + rule.find(':') + 1, nullptr, 10);
@@ -38,8 +47,11 @@ static void check(const std::string &row, const rapidhash::secrets &own, const s
     known.resize(known.size() + 256);
     expect("a longer one", row, !stream.restore(known));
     known.resize(saved.size());
-    known[150] ^= 1;
-    expect("a changed byte", row, !stream.restore(known));
+    for (std::size_t bit = 0; bit < 8 * known.size(); bit++) {
+        known[bit / 8] ^= static_cast<unsigned char>(1 << bit % 8);
+        expect("a changed bit", row, !stream.restore(known));
+        known[bit / 8] ^= static_cast<unsigned char>(1 << bit % 8);
+    }
     expect("unchanged", row, stream.finish() == rapidhash::hash(message, own));
 }
 
@@ -53,14 +65,18 @@ int main()
         if (!(fields >> lanes >> message >> length >> rule >> digits) || lanes != "7")
             continue;
         const unsigned long size = std::strtoul(length.c_str(), nullptr, 10);
-        message.resize(size);
-        for (unsigned long at = 0; at < size; at++)
-            message[at] = static_cast<char>((at * at + 7 * at + size) % 251);
-        for (std::size_t at = 0; at < digits.size(); at += 2)
-            known.push_back(static_cast<unsigned char>(std::strtoul(digits.substr(at, 2).c_str(), nullptr, 16)));
+        known = read(digits);
+        if (message.rfind("bytes:", 0) == 0) {
+            const std::vector<unsigned char> bytes = read(message.substr(6));
+            message.assign(bytes.begin(), bytes.end());
+        } else {
+            message.resize(size);
+            for (unsigned long at = 0; at < size; at++)
+                message[at] = static_cast<char>((at * at + 7 * at + size) % 251);
+        }
         check(row, made(rule), message, known);
         cases++;
     }
     std::printf("%d saved streams, %d faults\n", cases, failed);
-    return failed != 0 || cases != 18;
+    return failed != 0 || cases != 34;
 }

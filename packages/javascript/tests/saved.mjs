@@ -14,14 +14,19 @@ async function read(url) {
   return (await import("node:fs/promises")).readFile(url, "utf8");
 }
 
+function bytesOf(digits) {
+  return Uint8Array.from(digits.match(/../g), (pair) => Number.parseInt(pair, 16));
+}
+
 /** Returns a row of the file: a class, the name of its hash, the secrets, the message, and the saved hasher. */
 function rowOf(line) {
-  const [lanes, , length, rule, digits] = line.split("\t");
+  const [lanes, content, length, rule, digits] = line.split("\t");
   const [name, number] = rule.split(":");
   const version = { 7: "3", 5: "3Micro", 3: "3Nano" }[lanes];
   const secrets = library[name === "seed" ? "makeSecrets" : "seedSecrets"](BigInt(number ?? 0));
-  const message = Uint8Array.from({ length: Number(length) }, (_, at) => (at * at + 7 * at + Number(length)) % 251);
-  const saved = Uint8Array.from(digits.match(/../g), (pair) => Number.parseInt(pair, 16));
+  const square = Uint8Array.from({ length: Number(length) }, (_, at) => (at * at + 7 * at + Number(length)) % 251);
+  const message = content.startsWith("bytes:") ? bytesOf(content.slice(6)) : square;
+  const saved = bytesOf(digits);
   return { Stream: library[`V${version}`], whole: library[`v${version}`], secrets, message, saved };
 }
 
@@ -29,7 +34,7 @@ const text = await read(new URL("saved.tsv", import.meta.url));
 const rows = text.trimEnd().split("\n").slice(3).map(rowOf);
 
 test("the file of saved streams", () => {
-  assert.equal(rows.length, 54);
+  assert.equal(rows.length, 102);
   for (const { Stream, whole, secrets, message, saved } of rows) {
     const hasher = new Stream({ secrets }).update(other).reset().update(message);
     assert.deepEqual(hasher.save(), saved);
@@ -69,8 +74,9 @@ test("bytes that no hasher saves, with the right check", () => {
     const hasher = new Stream({ secrets }).update(other);
     const forge = (at, byte) => {
       const forged = saved.map((old, place) => place === at ? byte : old);
-      const hash = library.v3(forged.subarray(0, 200), { secrets });
-      new DataView(forged.buffer).setBigUint64(200, hash, true);
+      const state = forged.subarray(0, 200);
+      const check = library.v3(state, { secrets }) ^ library.v3Protected(state, { secrets });
+      new DataView(forged.buffer).setBigUint64(200, check, true);
       return forged;
     };
     const [lanes, flag, rest] = [saved[8], saved[10], saved[11]];

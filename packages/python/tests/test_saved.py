@@ -19,10 +19,12 @@ CHANGED = "the saved hasher was changed, or has another seed or other secrets"
 def rows():
     """Yields the class, the start, the message, and the saved bytes of each row of the file."""
     for line in TABLE.read_text().splitlines()[3:]:
-        lanes, _, length, rule, digits = line.split("\t")
+        lanes, content, length, rule, digits = line.split("\t")
         name, _, number = rule.partition(":")
         start = {"secrets": rapidhash.make_secrets(int(number))} if name == "seed" else {"seed": int(number or 0)}
         message = bytes((i * i + 7 * i + int(length)) % 251 for i in range(int(length)))
+        if content.startswith("bytes:"):
+            message = bytes.fromhex(content[6:])
         yield KINDS[lanes], start, message, bytes.fromhex(digits)
 
 
@@ -40,7 +42,7 @@ class SavedStreams(unittest.TestCase):
         self.assertEqual((str(caught.exception), hasher.intdigest()), (reason, before))
 
     def test_the_file_of_saved_streams(self):
-        self.assertEqual(len(list(rows())), 54)
+        self.assertEqual(len(list(rows())), 102)
         for kind, start, message, known in rows():
             hasher = kind(DATA, **start)
             hasher.reset()
@@ -71,7 +73,8 @@ class SavedStreams(unittest.TestCase):
 
             def forge(at, byte):
                 state = known[:at] + bytes([byte]) + known[at + 1:200]
-                return state + rapidhash.v3(state, secrets=secrets).to_bytes(8, "little")
+                check = rapidhash.v3(state, secrets=secrets) ^ rapidhash.v3_protected(state, secrets=secrets)
+                return state + check.to_bytes(8, "little")
 
             for at in range(12, 200):
                 if flag and (16 <= at < 16 + 8 * lanes or 72 <= at < 88) or 88 <= at < 88 + rest:

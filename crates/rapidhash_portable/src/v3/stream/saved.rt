@@ -10,7 +10,7 @@
 //! | 16 | 56 | the seven lanes, each XOR the seed: zeros if the lane has folded nothing |
 //! | 72 | 16 | the last 16 folded bytes, or zeros |
 //! | 88 | 112 | the buffered bytes, and zeros |
-//! | 200 | 8 | V3 of the 200 bytes before, with the stream's seed and secrets |
+//! | 200 | 8 | V3 XOR protected V3 of the 200 bytes before, with the stream's seed and secrets |
 //!
 //! All numbers are little-endian. The secrets aren't part of it.
 
@@ -114,10 +114,13 @@ impl<'a> Parts<'a> {
     {
         let body = self.save_body::<LANES>(options);
         let (seed, secrets) = (self.secrets.seed, &self.secrets.secrets);
-        let check = hash::<7, true, NOT_COMPACT, false>(&body, seed, secrets);
+        // A word that equals a secret hides others from the plain hash; if its lowest bit differs,
+        // from the protected one.
+        let plain = hash::<7, true, NOT_COMPACT, false>(&body, seed, secrets);
+        let guarded = hash::<7, true, NOT_COMPACT, true>(&body, seed, secrets);
         let mut out = [0; SAVED_SIZE];
         put(&mut out, 0, &body);
-        put(&mut out, 200, &check.to_le_bytes());
+        put(&mut out, 200, &(plain ^ guarded).to_le_bytes());
         out
     }
 

@@ -83,6 +83,9 @@ pub fn message(rule: &str, length: u64) -> Result<Vec<u8>> {
     if let Some(text) = rule.strip_prefix("text:") {
         return written(text, length);
     }
+    if let Some(digits) = rule.strip_prefix("bytes:") {
+        return Ok(hex::decode(digits)?);
+    }
     if let Some(places) = rule.strip_prefix("at:") {
         return placed(places, length);
     }

@@ -42,5 +42,6 @@ returns-then-eq-clause-only g c = record {
       ∙ (slice_eq-Decides Decides-eqb c.save-saved.result c.args.bytes.now _ refl).0 (sym c.if-eq.ensures);
   secrets_are = c.restore-parts.ensures.secrets;
   unused = c.unused_hold_seed.ensures.0 c.if-not-unused_hold_seed.false;
+  least = λ on. omega (arith, rw on at c.if-parts-2.false);
   count = c.restore-parts.ensures.data.none;
 }

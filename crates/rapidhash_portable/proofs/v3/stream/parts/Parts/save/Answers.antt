@@ -1,6 +1,8 @@
-use Rattle.std.proofs.Common.{◌≡◌, ◌-◌, ◌++◌, ℕ, List, [], length, replicate, refl, sym, ap, ◌∙◌, arith}
+use Rattle.std.proofs.Common.{◌≡◌, ◌-◌, ◌++◌, ℕ, List, [], length, replicate, bit_xor, refl, sym, ap, ◌∙◌, arith}
 use Rattle.std.specs.Int.{w64, to_le_bytes}
 use Rattle.std.proofs.lemmas.List.{append-nil}
+use Rattle.rapidhash_portable.specs.Form.{standard, v3}
+use Rattle.rapidhash_portable.specs.Hash.{seeded_hash}
 use Rattle.rapidhash_portable.specs.Saved.{checked}
 use Rattle.rapidhash_portable.proofs.v3.stream.parts.Parts.save.Goals as goal
 
@@ -16,5 +18,6 @@ returns-clause-bytes g c =
     ∙ ap (λ n. (body ++ check) ++ replicate n 0) none
     ∙ append-nil (body ++ check)
     ∙ ap (λ l. body ++ l) c.to_le_bytes.ensures
-    ∙ ap (λ n. body ++ to_le_bytes w64 n) c.hash-check.ensures
+    ∙ ap (λ n. body ++ to_le_bytes w64 (bit_xor n c.hash-guarded.result)) c.hash-plain.ensures
+    ∙ ap (λ n. body ++ to_le_bytes w64 (bit_xor (seeded_hash v3 standard c.args.self.now.secrets.now body) n)) c.hash-guarded.ensures
     ∙ ap (checked c.args.self.now.secrets.now) c.save_body-body.ensures.bytes

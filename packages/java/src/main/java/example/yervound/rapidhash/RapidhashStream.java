@@ -123,7 +123,9 @@ public final class RapidhashStream implements Checksum {
             saved.putLong(lane ^ secrets.seed);
         }
         saved.position(72 + start).put(kept, start, end - start);
-        return saved.putLong(200, Hashes.v3(saved.array(), 0, 200, 7, secrets.seed, secrets)).array();
+        // A word that equals a secret hides others from V3; if its lowest bit differs, from protected V3.
+        long plain = Hashes.v3(saved.array(), 0, 200, 7, secrets.seed, secrets);
+        return saved.putLong(200, plain ^ ProtectedHash.v3(saved.array(), 0, 200, secrets.seed, secrets)).array();
     }
 
     /**

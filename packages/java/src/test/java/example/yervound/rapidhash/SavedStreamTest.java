@@ -27,7 +27,7 @@ public class SavedStreamTest {
         String name = System.getenv("RAPIDHASH_SAVED");
         assumeNotNull(name);
         List<String> lines = Files.readAllLines(Path.of(name));
-        assertEquals(57, lines.size());
+        assertEquals(105, lines.size());
         for (String line : lines.subList(3, lines.size())) {
             String[] columns = line.split("\t");
             Rapidhash<Secrets> version = columns[0].equals("7") ? Rapidhash.V3
@@ -35,6 +35,9 @@ public class SavedStreamTest {
             byte[] message = new byte[Integer.parseInt(columns[2])];
             for (int at = 0; at < message.length; at++) {
                 message[at] = (byte) ((at * at + 7 * at + message.length) % 251);
+            }
+            if (columns[1].startsWith("bytes:")) {
+                message = VectorsTest.bytesOf(columns[1].substring(6));
             }
             String[] rule = columns[3].replace("default", "cpp:0").split(":");
             long number = Long.parseUnsignedLong(rule[1]);
@@ -115,7 +118,8 @@ public class SavedStreamTest {
     private static byte[] forge(byte[] saved, Secrets secrets, int at, int value) {
         byte[] forged = saved.clone();
         forged[at] = (byte) value;
-        long check = Rapidhash.V3.hash(forged, 0, 200, secrets);
+        long check = Rapidhash.V3.hash(forged, 0, 200, secrets)
+            ^ Rapidhash.V3_PROTECTED.hash(forged, 0, 200, secrets);
         return ByteBuffer.wrap(forged).order(ByteOrder.LITTLE_ENDIAN).putLong(200, check).array();
     }
 
