@@ -7,6 +7,7 @@ pub mod HashLemmas
 pub mod InMemoryLemmas
 pub mod LanesLemmas
 pub mod ListLemmas
+pub mod MultiplyLemmas
 pub mod ReadingLemmas
 pub mod SavedLemmas
 pub mod SecretsLemmas

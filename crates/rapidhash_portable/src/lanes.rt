@@ -7,9 +7,25 @@
 
 ghost use Rattle.std.specs.Prelude.{◌≡◌, ◌+◌, ◌*◌, ◌≤◌, ◌<◌, ℕ, List, length, replicate, take};
 ghost use Rattle.rapidhash_portable.specs.Folded.{AfterRows, HaveFolded, PrefixIsFolded};
-ghost use Rattle.rapidhash_portable.specs.Lanes.{joined, mixed_shape, wide_shape};
+ghost use Rattle.rapidhash_portable.specs.Lanes.{joined, mixed_shape, pair_at, step, wide_shape};
 
 use crate::util::{rapid_mix, read_u64};
+
+/// Returns a lane, or the seed of a tail, after the pair at byte `at`. With the lane in the first
+/// factor, which the definition has second, LLVM needs an instruction less.
+#[inline(always)]
+#[tactic(auto, using(crate::proofs::MultiplyLemmas::mix_comm))]
+pub(crate) fn fold_pair<const PROTECTED: bool>(
+    bytes: &[u8],
+    at: usize,
+    secret: u64,
+    lane: u64,
+) -> u64
+    requires { at + 16 ≤ length bytes.now }
+    ensures { result ≡ step PROTECTED secret lane (pair_at bytes.now at) }
+{
+    rapid_mix::<PROTECTED>(read_u64(bytes, at + 8) ^ lane, read_u64(bytes, at) ^ secret)
+}
 
 /// Folds a row of `WIDTH` pairs at the head of `row` into the first `WIDTH` lanes.
 #[inline(always)]
@@ -26,10 +42,7 @@ pub(crate) fn fold_row<const LANES: usize, const WIDTH: usize, const PROTECTED: 
     ensures { HaveFolded PROTECTED secrets.now row.now WIDTH lanes.old lanes.new 1 }
 {
     for i in 0..WIDTH {
-        lanes[i] = rapid_mix::<PROTECTED>(
-            read_u64(row, 16 * i) ^ secrets[i],
-            read_u64(row, 16 * i + 8) ^ lanes[i],
-        );
+        lanes[i] = fold_pair::<PROTECTED>(row, 16 * i, secrets[i], lanes[i]);
     }
 }
 
@@ -67,14 +80,8 @@ pub(crate) fn fold_two_rows_by_lane<const LANES: usize, const WIDTH: usize, cons
     ensures { HaveFolded PROTECTED secrets.now rows.now WIDTH lanes.old lanes.new 2 }
 {
     for i in 0..WIDTH {
-        let first = rapid_mix::<PROTECTED>(
-            read_u64(rows, 16 * i) ^ secrets[i],
-            read_u64(rows, 16 * i + 8) ^ lanes[i],
-        );
-        lanes[i] = rapid_mix::<PROTECTED>(
-            read_u64(rows, 16 * (WIDTH + i)) ^ secrets[i],
-            read_u64(rows, 16 * (WIDTH + i) + 8) ^ first,
-        );
+        let first = fold_pair::<PROTECTED>(rows, 16 * i, secrets[i], lanes[i]);
+        lanes[i] = fold_pair::<PROTECTED>(rows, 16 * (WIDTH + i), secrets[i], first);
     }
 }
 

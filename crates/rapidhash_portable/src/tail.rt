@@ -7,7 +7,8 @@ ghost use Rattle.rapidhash_portable.specs.Lanes.{pair_of};
 ghost use Rattle.rapidhash_portable.specs.Form.{options};
 ghost use Rattle.rapidhash_portable.specs.Tail.{after_tail};
 
-use crate::util::{rapid_mix, rapid_mum, read_u64};
+use crate::lanes::fold_pair;
+use crate::util::{rapid_mix, rapid_mum};
 
 /// Returns the seed after the pairs of a tail: pair j is mixed with secret j of the table, and the
 /// last 1 to 16 bytes form no pair.
@@ -26,10 +27,7 @@ pub(crate) fn fold_tail<const COUNT: usize, const PROTECTED: bool>(
     let mut end = 16;
     for j in 0..COUNT {
         if tail.len() > end {
-            seed = rapid_mix::<PROTECTED>(
-                read_u64(tail, 16 * j) ^ table[j],
-                read_u64(tail, 16 * j + 8) ^ seed,
-            );
+            seed = fold_pair::<PROTECTED>(tail, 16 * j, table[j], seed);
         }
         end += 16;
     }

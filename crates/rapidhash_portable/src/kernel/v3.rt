@@ -75,10 +75,8 @@ fn long<const LANES: usize, const AVALANCHE: bool, const COMPACT: bool, const PR
     let n = bytes.len();
     if n <= LONGEST_INLINED && n <= 16 * LANES {
         close_tail::<AVALANCHE, PROTECTED>(bytes, bytes, seed, secrets)
-    } else if n <= 16 * LANES {
-        rowless::<LANES, AVALANCHE, PROTECTED>(bytes, seed, secrets)
     } else {
-        with_rows::<LANES, AVALANCHE, COMPACT, PROTECTED>(bytes, seed, secrets)
+        above_inlined::<LANES, AVALANCHE, COMPACT, PROTECTED>(bytes, seed, secrets)
     }
 }
 
@@ -105,17 +103,22 @@ fn rowless<const LANES: usize, const AVALANCHE: bool, const PROTECTED: bool>(
 #[cold]
 #[inline(never)]
 #[tactic(auto, unfolding(crate::specs::Form::shape_of))]
-fn with_rows<const LANES: usize, const AVALANCHE: bool, const COMPACT: bool, const PROTECTED: bool>(
-    bytes: &[u8],
-    seed: u64,
-    secrets: &[u64; 7],
-) -> u64
+fn above_inlined<
+    const LANES: usize,
+    const AVALANCHE: bool,
+    const COMPACT: bool,
+    const PROTECTED: bool,
+>(bytes: &[u8], seed: u64, secrets: &[u64; 7]) -> u64
     requires above_16 { 16 < length bytes.now }
-    requires has_lanes { 0 < LANES }
     requires at_most_7 { LANES ≤ 7 }
+    requires odd { LANES % 2 ≡ 1 }
     ensures { let chosen = options AVALANCHE PROTECTED in
         result ≡ portable_hash (V3 LANES) chosen seed secrets.now bytes.now }
 {
+    // With this test LLVM knows that the last 16 bytes exist.
+    if bytes.len() <= 16 * LANES {
+        return rowless::<LANES, AVALANCHE, PROTECTED>(bytes, seed, secrets);
+    }
     let (joined, tail) = wide_lanes::<LANES, 1, COMPACT, PROTECTED>(bytes, seed, secrets);
     close_tail::<AVALANCHE, PROTECTED>(tail, bytes, joined, secrets)
 }

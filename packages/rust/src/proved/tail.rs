@@ -3,7 +3,8 @@
 //! The end of every hash, after its rows: the pairs of the tail are folded into the seed, and the
 //! close computes the hash from the seed and the last two words.
 
-use crate::util::{rapid_mix, rapid_mum, read_u64};
+use crate::lanes::fold_pair;
+use crate::util::{rapid_mix, rapid_mum};
 
 const_fn! {
 /// Returns the seed after the pairs of a tail: pair j is mixed with secret j of the table, and the
@@ -20,10 +21,7 @@ pub(crate) const fn fold_tail<const COUNT: usize, const PROTECTED: bool>(
     let mut j = 0;
     while j < COUNT {
         if tail.len() > end {
-            seed = rapid_mix::<PROTECTED>(
-                read_u64(tail, 16 * j) ^ table[j],
-                read_u64(tail, 16 * j + 8) ^ seed,
-            );
+            seed = fold_pair::<PROTECTED>(tail, 16 * j, table[j], seed);
         }
         end += 16;
         j += 1;

@@ -61,10 +61,8 @@ const fn long<const LANES: usize, const AVALANCHE: bool, const COMPACT: bool, co
     let n = bytes.len();
     if n <= LONGEST_INLINED && n <= 16 * LANES {
         close_tail::<AVALANCHE, PROTECTED>(bytes, bytes, seed, secrets)
-    } else if n <= 16 * LANES {
-        rowless::<LANES, AVALANCHE, PROTECTED>(bytes, seed, secrets)
     } else {
-        with_rows::<LANES, AVALANCHE, COMPACT, PROTECTED>(bytes, seed, secrets)
+        above_inlined::<LANES, AVALANCHE, COMPACT, PROTECTED>(bytes, seed, secrets)
     }
 }
 }
@@ -86,7 +84,7 @@ const_fn! {
 /// Returns the hash above 16 bytes, out of line.
 #[cold]
 #[inline(never)]
-const fn with_rows<
+const fn above_inlined<
     const LANES: usize,
     const AVALANCHE: bool,
     const COMPACT: bool,
@@ -96,6 +94,10 @@ const fn with_rows<
     seed: u64,
     secrets: &[u64; 7],
 ) -> u64 {
+    // With this test LLVM knows that the last 16 bytes exist.
+    if bytes.len() <= 16 * LANES {
+        return rowless::<LANES, AVALANCHE, PROTECTED>(bytes, seed, secrets);
+    }
     let (joined, tail) = wide_lanes::<LANES, 1, COMPACT, PROTECTED>(bytes, seed, secrets);
     close_tail::<AVALANCHE, PROTECTED>(tail, bytes, joined, secrets)
 }
