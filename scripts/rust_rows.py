@@ -125,7 +125,15 @@ REPLACED = [
      "use std::io::{Read, Result, Stdin, Write};", "as above, and IsTerminal came with Rust 1.70"),
     ("tools/src/proved/rapidsum/choice", "by their names.\n", "by their names.\n#![allow(clippy::manual_find)]\n",
      "the proof is of a loop"),
-    ("tools/src/proved/rapidsum/runs", "use std::io::Read;\n", "", "the kit's reader has the only call"),
+    ("tools/src/proved/rapidsum/main", "#![forbid(unsafe_code)]", "#![deny(unsafe_code)]", "Rust's runtime ignores the signal"),
+    ("tools/src/proved/rapidsum/main", "mod usage;\n", "mod usage;\n\n#[cfg(unix)]\n#[path = \"../../kit/pipe.rs\"]\nmod pipe;\n",
+     "as above"),
+    ("tools/src/proved/rapidsum/main", "    let rt = HostRuntime::new();\n",
+     "    #[cfg(unix)]\n    pipe::restore();\n    let rt = HostRuntime::new();\n", "as above"),
+    ("tools/src/proved/rapidsum/main", "        Err(problem) if problem.is_broken_pipe() => ExitCode::from(BROKEN_PIPE),\n",
+     "", "as above"),
+    ("tools/src/proved/rapidsum/problem", "    /// Returns whether a line was written to a pipe",
+     "    #[allow(dead_code)]\n    /// Returns whether a line was written to a pipe", "as above"),
     ("tools/src/proved/rapidsum/console", "use std::io::{IsTerminal, Write};", "use std::io::Write;", "IsTerminal came with Rust 1.70"),
     ("tools/src/proved/rapidsum/parse", "text: *file,", "text: file,", "Rust follows the reference by itself"),
     ("tools/src/proved/lib", "mod hashes;", "pub mod form;\nmod hashes;", "the Rust crate has no forms"),
@@ -134,6 +142,8 @@ REPLACED = [
 
 # Items that the Rust crate implements differently: the starts of those of each file.
 LEFT_OUT = {
+    # The signal ends the program.
+    "tools/src/proved/rapidsum/main": ["const BROKEN_PIPE"],
     # It counts for the proof alone.
     "src/proved/v3/stream/folded": ["#[repr(C)]\n#[derive(Clone)]\nstruct Count", "impl Count"],
     # The crate has no dependency.

@@ -113,6 +113,12 @@ line_parts end line rest text n none is before found =
     let place = line_end end line rest n none (rw is at before) (rw is at found) in
     (rw (place, is) (take-append_seam line (end ∷ rest)), rw (place, is) (drop-append_seam line (end ∷ rest)))
 
+-- no byte of a text ends a line that has none
+pub no_end : (end : ℕ) (text : List ℕ) (n : ℕ) → has_byte end text ≡ false → n < length text → slice_index text n ≡ end → ⊥
+no_end end [] n none below is = omega (arith, below)
+no_end end (c ∷ cs) zero none below is = let same : c ≡ end = is in grind (arith)
+no_end end (c ∷ cs) (suc n) none below is = no_end end cs n (grind (arith)) (omega (arith, below)) is
+
 -- the entries so far are those of the first lines, and the rest of the text has the other lines
 abbrev pub IsReadTo : {A : Type 0} → List (OneEntry A) → List ℕ → List Printed → Type 0
 IsReadTo [] rest lines = rest ≡ list_of lines
@@ -123,6 +129,10 @@ IsReadTo (entry ∷ entries) rest (line ∷ lines) =
 -- the contracts of the calls in the loop
 abbrev pub IsNext : ℕ → List ℕ → List ℕ → List ℕ → Type 0
 IsNext end text line more = (one rest : List ℕ) → has_byte end one ≡ false → text ≡ one ++ end ∷ rest → (line ≡ one) × (more ≡ rest)
+
+-- a text without that byte is a line
+abbrev pub IsLast : ℕ → List ℕ → List ℕ → List ℕ → Type 0
+IsLast end text line more = has_byte end text ≡ false → (line ≡ text) × (more ≡ [])
 
 abbrev pub Reads : {A : Type 0} → List ℕ → Line A → Type 0
 Reads line read = (layout : Layout) (algorithm : Algorithm) (hash : ℕ) (name : List ℕ) → Fits algorithm hash

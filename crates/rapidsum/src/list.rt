@@ -1,6 +1,6 @@
 //! The lines of a list.
 
-ghost use Rattle.std.specs.Prelude.{◌≡◌, ◌≢◌, ◌++◌, ◌∷◌, ◌≤◌, ◌<◌, ◌==◌, false, length, slice_index, take, IsOkUnless};
+ghost use Rattle.std.specs.Prelude.{◌≡◌, ◌≢◌, ◌++◌, ◌∷◌, [], ◌≤◌, ◌<◌, ◌==◌, false, length, slice_index, take, IsOkUnless};
 ghost use Rattle.std.specs.Prelude.{ℕ, List as TheList};
 ghost use Rattle.std.specs.List.{All, list_any};
 ghost use Rattle.rapidsum.specs.List.{ReadsBack};
@@ -16,6 +16,13 @@ pub struct List {
     pub entries: Vec<Entry<Global>>,
     /// The numbers of those that have none, from 1 on, without empty lines and comments.
     pub malformed: Vec<u64>,
+}
+
+impl List {
+    /// Returns whether a line names its version.
+    pub fn names_a_version(&self) -> bool {
+        self.entries.iter().any(|entry| entry.algorithm.is_some())
+    }
 }
 
 // Returns the number of bytes before the first byte that ends a line, or of all bytes if there is
@@ -35,6 +42,8 @@ fn line_length(text: &[u8], end: u8) -> usize
 pub fn next_line(text: &[u8], end: u8) -> (&[u8], &[u8])
     ensures parts { (line rest : TheList ℕ) → list_any (λ byte. byte == end) line ≡ false →
         text.now ≡ line ++ end ∷ rest → (result.0.now ≡ line) × (result.1.now ≡ rest) }
+    ensures last { list_any (λ byte. byte == end) text.now ≡ false →
+        (result.0.now ≡ text.now) × (result.1.now ≡ []) }
     ensures shorter { 0 < length text.now → length result.1.now < length text.now }
 {
     let (line, rest) = text.split_at(line_length(text, end));

@@ -15,6 +15,7 @@ mod options;
 mod parse;
 mod parts;
 mod problem;
+mod quote;
 mod runs;
 mod seed;
 mod sources;
@@ -30,8 +31,8 @@ use parse::parse;
 use problem::Problem;
 use std::process::ExitCode;
 
-// The status that a shell reports for a program ended by the signal SIGPIPE.
-const BROKEN_PIPE: u8 = 141;
+// The status that ends xargs, as the signal SIGPIPE would.
+const BROKEN_PIPE: u8 = 255;
 
 // Carries out the request in the arguments. Returns whether all files could be read and all checks
 // passed.
@@ -43,14 +44,22 @@ fn run(rt: &HostRuntime) -> Result<bool, Problem> {
     }
 }
 
+// Prints a problem. If standard error cannot be written, the status still reports it.
+fn tell(rt: &HostRuntime, problem: &Problem) {
+    if let Ok(text) = problem.text(rt.alloc()) {
+        let _ = eprintln!(rt; "rapidsum: {text}");
+    } else {
+        let _ = eprintln!(rt; "rapidsum: {problem}");
+    }
+}
+
 fn main(rt: HostRuntime) -> ExitCode {
     match run(&rt) {
         Ok(true) => ExitCode::SUCCESS,
         Ok(false) => ExitCode::FAILURE,
         Err(problem) if problem.is_broken_pipe() => ExitCode::from(BROKEN_PIPE),
         Err(problem) => {
-            // If standard error cannot be written, the status still reports the failure.
-            let _ = eprintln!(rt; "rapidsum: {problem}");
+            tell(&rt, &problem);
             ExitCode::FAILURE
         }
     }

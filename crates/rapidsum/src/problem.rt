@@ -3,7 +3,7 @@
 ghost use Rattle.std.specs.Prelude.{◌≡◌};
 ghost use Rattle.rapidsum.specs.declared.problem.Problem.TheVariants.{Memory};
 
-use std::alloc::{AllocError, AllocFailed};
+use std::alloc::{AllocError, AllocFailed, Global};
 use std::io::ErrorKind;
 use std::{fmt, io};
 
@@ -20,7 +20,36 @@ pub enum Problem {
     Write(io::Error),
 }
 
+/// Returns the text of a system's error, without its number.
+///
+/// # Errors
+///
+/// If an allocation fails.
+pub fn reason_of(alloc: Global, error: &io::Error) -> Result<String, Problem> {
+    let text = format!(in alloc; "{error}")?;
+    let Some((reason, _)) = text.split_once(" (os error ") else {
+        return Ok(text);
+    };
+    Ok(format!(in alloc; "{reason}")?)
+}
+
 impl Problem {
+    /// Returns the text of the problem.
+    ///
+    /// # Errors
+    ///
+    /// If an allocation fails.
+    pub fn text(&self, alloc: Global) -> Result<String, Problem> {
+        Ok(match self {
+            Problem::Read(error) => reason_of(alloc, error)?,
+            Problem::Write(error) => {
+                let reason = reason_of(alloc, error)?;
+                format!(in alloc; "write error: {reason}")?
+            }
+            _ => format!(in alloc; "{self}")?,
+        })
+    }
+
     /// Returns whether a line was written to a pipe that its reader has closed.
     pub fn is_broken_pipe(&self) -> bool {
         matches!(self, Problem::Write(error) if error.kind() == ErrorKind::BrokenPipe)

@@ -92,6 +92,8 @@ case_check_with_comments() { list && printf '# comment\n\n' >>list && "$sum" -c 
 case_check_without_a_last_newline() { list && printf %s "$(cat list)" >short && "$sum" -c short; }
 case_check_of_a_name_of_300_bytes() { list && sed "1s/first/$(printf %0300d 1)/" list >long && "$sum" -c long; }
 case_check_to_a_full_disk() { list && "$sum" -c list >/dev/full; }
+case_names_in_quotes() { "$sum" '' ' a' 'b ' $'\t' $'\e[31m' $'\1x\1\2' $'a\nb' $'\a\b\v\f\r\177'; }
+case_list_in_quotes() { "$sum" -c $'\e[31m' && "$sum" -c ''; }
 
 case_unreadable() { chmod 0 first && "${as_user[@]}" "$sum" first 'second name'; }
 case_check_of_an_unreadable_file() { list && chmod 0 first && "${as_user[@]}" "$sum" -c list; }
@@ -171,10 +173,16 @@ cp wanted_of_all wanted
 prints a_list_of_all_versions "$program" -c list_of_all
 "$program" --seed 1 first >list
 answers check_with_a_seed 'first: OK\n' '' "$program" --seed 1 -c list
+! "$program" -c list 2>&1 | grep 'no file matched' >"$room/log"
+tell a_list_of_one_file_may_just_differ $?
+"$program" --seed 1 --tag first 'second name' | sed 's/[^ ]*$/0123456789abcdef/' >list
+! "$program" -c list 2>&1 | grep 'no file matched' >"$room/log"
+tell a_list_with_versions_is_for_no_other $?
+"$program" --seed 1 first 'second name' >list
 says check_without_the_seed '^rapidsum: list: no file matched: the list may be for another version, seed or program$' \
   "$program" -c list
 "$program" first >>list
-says a_line_that_matches 'WARNING: 1 computed checksum did NOT match$' "$program" -c list
+says a_line_that_matches 'WARNING: 2 computed checksums did NOT match$' "$program" -c list
 ! grep -q 'no file matched' "$room/log"
 tell no_file_matched_is_said_of_all $?
 printf 'RAPIDHASH-V9 (first) = a1266b469390773a\n' >list
@@ -233,8 +241,17 @@ if [ -n "${BUILT-}" ] && [ -x "$kit" ]; then
   try memory_of_both_builds needs_as_little_memory
 fi
 
-# As SIGPIPE does in sha256sum.
-runs closed_pipe 141 '' '' to_a_closed_pipe "$program" first first
+# A closed pipe ends cargo's build by SIGPIPE, as it ends sha256sum, and the kit's with a status. Both end xargs.
+runs closed_pipe "$([ -n "${BUILT-}" ] && echo 141 || echo 255)" '' '' to_a_closed_pipe "$program" first first
+ends_xargs() {
+  yes first | head -n 9000 | xargs -n 1000 strace -qqo "$room/calls" -A -e trace=openat "$program" 2>/dev/null | head -n 1
+  [[ ${PIPESTATUS[2]} == 12[45] ]] && [ "$(grep -c first "$room/calls")" -lt 1000 ]
+}
+can_trace && try a_closed_pipe_ends_xargs ends_xargs
+if [ -n "${BUILT-}" ]; then # The kit's runtime does not tell whether the signal was ignored.
+  runs closed_pipe_without_the_signal 1 '' $'rapidsum: write error: Broken pipe\n' \
+    to_a_closed_pipe perl -e '$SIG{PIPE} = "IGNORE"; exec @ARGV' "$program" first
+fi
 says help_to_a_full_disk 'No space left' to_a_full_disk "$program" --help
 says list_that_is_a_folder '.: Is a directory' "$program" -c .
 says list_of_which_a_read_fails 'list: Input/output error' failing read:error=EIO:when=2 list "$program" -c list
@@ -331,7 +348,9 @@ done
 
 # A list larger than the available memory, and the same file as input, which is read in pieces.
 head -c 67108864 /dev/zero | tr '\0' 'x' >large
-says memory_refused memory in_kibibytes 32768 "$program" -c large
+says a_large_file_is_no_list 'no properly formatted' in_kibibytes 32768 "$program" -c large
+"$program" first | cat - large >long
+says memory_refused memory in_kibibytes 32768 "$program" -c long
 try reads_in_pieces reads_in 1025 large "$program" large
 says memory_refused_to_a_list_of_names 'large: .*memory' in_kibibytes 32768 "$program" --files0-from=large
 head -c 8000000 /dev/zero >empty && says memory_refused_to_names memory in_kibibytes 65536 "$program" --files0-from=empty
@@ -339,7 +358,7 @@ yes 'a1266b469390773a  first' | head -n 20000 >entries
 try memory_of_a_list grows_by_a_factor "$program" -c --quiet entries
 try memory_of_input grows_by_a_factor "$program" -a v1 <large
 # The lines before a refusal are written, and those of a failed write are not written again.
-"$program" first >list && yes x | head -c 12000000 >short
+"$program" first >list && { cat list && yes x | head -c 12000000; } >short
 in_kibibytes 65536 "$program" -c list short >out 2>"$room/log"
 [ $? -eq 1 ] && grep -q memory "$room/log" && [ "$(cat out)" = 'first: OK' ]
 tell lines_before_a_refusal $?
@@ -368,17 +387,23 @@ truncate -s 300000000 sparse
 script -qec "$program sparse" log </dev/null >/dev/null 2>&1
 grep -q '128 MiB.*256 MiB' log && grep -qP '\r\x1b\[Kc266dafd0143ba3a  sparse' log
 tell progress_on_a_terminal_is_erased $?
-# Lines are written in blocks, but to a terminal at once.
+# Lines are written in blocks, but to a terminal at once. Blocks for a pipe are those that a system does not mix.
 writes_blocks() {
   can_trace && yes first | head -n 20000 | tr '\n' '\0' >names &&
     strace -qqo "$room/calls" -e trace=write "$program" --files0-from=names >sums && [ "$(wc -l <sums)" -eq 20000 ] &&
-    [ "$(wc -l <"$room/calls")" -eq 8 ] && grep -q 'blocks of 64 KiB and before each message,$' "$top/packages/tools/rapidsum.1"
+    [ "$(wc -l <"$room/calls")" -eq 8 ] && grep -q 'at most 64 KiB to a file' "$top/packages/tools/rapidsum.1"
+}
+writes_whole_lines() {
+  can_trace && strace -qq -s 4096 -o "$room/calls" -e trace=write "$program" --files0-from=names | cat >sums &&
+    [ "$(wc -l <sums)" -eq 20000 ] && [ "$(wc -l <"$room/calls")" -eq 118 ] && ! grep -v '\\n", [0-9]*) *= [0-9]*$' "$room/calls" &&
+    sed 's/.*= //' "$room/calls" | awk '$1 > 4096 { exit 1 }' && grep -q 'at most 4 KiB elsewhere' "$top/packages/tools/rapidsum.1"
 }
 writes_lines() {
   can_trace && script -qec "strace -qqo calls -e trace=write $program first first" log </dev/null >/dev/null 2>&1 &&
     [ "$(grep -c 'write(1, "a1266b469390773a' calls)" -eq 2 ]
 }
 try blocks_of_lines writes_blocks
+try whole_lines_into_a_pipe writes_whole_lines
 try lines_on_a_terminal writes_lines
 # Whether standard error is a terminal is asked once, for all files.
 asks_once() {

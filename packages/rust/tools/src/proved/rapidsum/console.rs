@@ -8,13 +8,17 @@ use crate::check::{Checked, Report, Verdict};
 use crate::list::List;
 use crate::names::{needs_escape, push_escaped};
 use crate::options::Options;
-use crate::problem::Problem;
+use crate::problem::{Problem, reason_of};
+use crate::quote::push_name;
 use rapidhash_tool::kit::alloc::Global;
-use std::io;
 use std::io::Write;
+use std::{fs, io};
 
-/// Lines are written when they have this many bytes.
-const BLOCK: usize = 65536;
+/// The most bytes of lines in a write to a regular file.
+const FILE_BLOCK: usize = 65536;
+
+/// The same elsewhere. A system does not mix such a write to a pipe with those of other programs.
+const PIPE_BLOCK: usize = 4096;
 
 const STDIN_TWICE: &[u8] =
     b"rapidsum: when reading file names from stdin, no file name of '-' allowed\n";
@@ -25,9 +29,21 @@ pub struct Console<'a> {
     pub rt: &'a HostRuntime,
     /// The options of a check.
     pub options: Options,
-    /// The lines that are not written yet.
-    pub lines: Vec<u8>,
-    is_terminal: bool,
+    /// The line that is not ended yet.
+    pub line: Vec<u8>,
+    lines: Vec<u8>,
+    block: usize,
+}
+
+// Returns the most bytes of lines in a write, or 0 if each line is written at once.
+fn block_of(rt: &HostRuntime) -> usize {
+    if rt.stdout().is_terminal() {
+        return 0;
+    }
+    match fs::metadata("/dev/stdout") {
+        Ok(metadata) if metadata.is_file() => FILE_BLOCK,
+        _ => PIPE_BLOCK,
+    }
 }
 
 /// Returns a name as in a line, and the texts around it.
@@ -48,8 +64,9 @@ impl<'a> Console<'a> {
         Console {
             rt,
             options,
+            line: Vec::new(rt.alloc()),
             lines: Vec::new(rt.alloc()),
-            is_terminal: rt.stdout().is_terminal(),
+            block: block_of(rt),
         }
     }
 
@@ -60,9 +77,14 @@ impl<'a> Console<'a> {
         written.map_err(Problem::Write)
     }
 
-    /// Writes the lines so far if they are a block, or if standard output is a terminal.
+    /// Ends the line. The lines before it are written if it makes them longer than a block.
     pub fn end_line(&mut self) -> Result<(), Problem> {
-        if self.is_terminal || self.lines.len() >= BLOCK {
+        if self.lines.len().saturating_add(self.line.len()) > self.block {
+            self.flush()?;
+        }
+        self.lines.extend_from_slice(self.line.as_slice())?;
+        self.line.clear();
+        if self.lines.len() >= self.block {
             self.flush()?;
         }
         Ok(())
@@ -76,7 +98,15 @@ impl<'a> Console<'a> {
 
     /// Reports on standard error why a file or a list is refused.
     pub fn complain(&mut self, name: &[u8], why: &str) -> Result<(), Problem> {
-        let mut text = with_name(self.rt.alloc(), "rapidsum: ", name, ": ")?;
+        self.complain_by(name, ": ", why)
+    }
+
+    // Does the same with this text between the name and the reason.
+    fn complain_by(&mut self, name: &[u8], between: &str, why: &str) -> Result<(), Problem> {
+        let mut text = Vec::new(self.rt.alloc());
+        text.extend_from_slice(b"rapidsum: ")?;
+        push_name(&mut text, name)?;
+        text.extend_from_slice(between.as_bytes())?;
         text.extend_from_slice(why.as_bytes())?;
         text.push(b'\n')?;
         self.say(text.as_slice())
@@ -87,11 +117,11 @@ impl<'a> Console<'a> {
         let alloc = self.rt.alloc();
         match (list, name) {
             (_, []) => {
-                let end = rapidhash_tool::kit::format(
+                let why = rapidhash_tool::kit::format(
                     alloc,
-                    format_args!(":{number}: invalid zero-length file name\n"),
+                    format_args!("{number}: invalid zero-length file name"),
                 )?;
-                self.say(with_name(alloc, "rapidsum: ", list, end.as_str())?.as_slice())?;
+                self.complain_by(list, ":", why.as_str())?;
             }
             ([b'-'], [b'-']) => self.say(STDIN_TWICE)?,
             _ => return Ok(true),
@@ -101,7 +131,7 @@ impl<'a> Console<'a> {
 
     /// Reports on standard error why a file could not be opened or read.
     pub fn complain_of(&mut self, name: &[u8], error: io::Error) -> Result<(), Problem> {
-        let why = rapidhash_tool::kit::format(self.rt.alloc(), format_args!("{error}"))?;
+        let why = reason_of(self.rt.alloc(), &error)?;
         self.complain(name, why.as_str())
     }
 
@@ -164,7 +194,7 @@ impl<'a> Console<'a> {
         if checked.count(Verdict::Same) > 0 || self.options.status {
             return Ok(());
         }
-        if different > 0 {
+        if different > 1 && !list.names_a_version() {
             self.complain(
                 name,
                 "no file matched: the list may be for another version, seed or program",
@@ -198,7 +228,7 @@ impl Report for Console<'_> {
             return Ok(());
         }
         let text = with_name(self.rt.alloc(), "", name, end)?;
-        self.lines.extend_from_slice(text.as_slice())?;
+        self.line.extend_from_slice(text.as_slice())?;
         self.end_line()
     }
 }

@@ -15,6 +15,13 @@ pub struct List {
     pub malformed: Vec<u64>,
 }
 
+impl List {
+    /// Returns whether a line names its version.
+    pub fn names_a_version(&self) -> bool {
+        self.entries.iter().any(|entry| entry.algorithm.is_some())
+    }
+}
+
 // Returns the number of bytes before the first byte that ends a line, or of all bytes if there is
 // none.
 fn line_length(text: &[u8], end: u8) -> usize {

@@ -1,7 +1,7 @@
 // Made by scripts/rust_crate from crates/rapidsum/src/main.rt: change that file.
 
 //! Prints the hash of each file as a line and checks such lines, as sha256sum does with its own.
-#![forbid(unsafe_code)]
+#![deny(unsafe_code)]
 
 mod algorithm;
 mod arguments;
@@ -17,6 +17,7 @@ mod options;
 mod parse;
 mod parts;
 mod problem;
+mod quote;
 mod runs;
 mod seed;
 mod sources;
@@ -27,14 +28,15 @@ mod sum;
 mod tag;
 mod usage;
 
+#[cfg(unix)]
+#[path = "../../kit/pipe.rs"]
+mod pipe;
+
 use rapidhash_tool::kit::HostRuntime;
 use arguments::arguments_of;
 use parse::parse;
 use problem::Problem;
 use std::process::ExitCode;
-
-// The status that a shell reports for a program ended by the signal SIGPIPE.
-const BROKEN_PIPE: u8 = 141;
 
 // Carries out the request in the arguments. Returns whether all files could be read and all checks
 // passed.
@@ -46,15 +48,24 @@ fn run(rt: &HostRuntime) -> Result<bool, Problem> {
     }
 }
 
+// Prints a problem. If standard error cannot be written, the status still reports it.
+fn tell(rt: &HostRuntime, problem: &Problem) {
+    if let Ok(text) = problem.text(rt.alloc()) {
+        let _ = rt.eprintln(format_args!("rapidsum: {text}"));
+    } else {
+        let _ = rt.eprintln(format_args!("rapidsum: {problem}"));
+    }
+}
+
 fn main() -> ExitCode {
+    #[cfg(unix)]
+    pipe::restore();
     let rt = HostRuntime::new();
     match run(&rt) {
         Ok(true) => ExitCode::SUCCESS,
         Ok(false) => ExitCode::FAILURE,
-        Err(problem) if problem.is_broken_pipe() => ExitCode::from(BROKEN_PIPE),
         Err(problem) => {
-            // If standard error cannot be written, the status still reports the failure.
-            let _ = rt.eprintln(format_args!("rapidsum: {problem}"));
+            tell(&rt, &problem);
             ExitCode::FAILURE
         }
     }

@@ -2,7 +2,7 @@
 
 //! The errors of the program.
 
-use rapidhash_tool::kit::alloc::{AllocError, AllocFailed};
+use rapidhash_tool::kit::alloc::{AllocError, AllocFailed, Global};
 use std::io::ErrorKind;
 use std::{fmt, io};
 
@@ -18,7 +18,42 @@ pub enum Problem {
     Write(io::Error),
 }
 
+/// Returns the text of a system's error, without its number.
+///
+/// # Errors
+///
+/// If an allocation fails.
+pub fn reason_of(alloc: Global, error: &io::Error) -> Result<String, Problem> {
+    let text = rapidhash_tool::kit::format(alloc, format_args!("{error}"))?;
+    let reason = if let Some((reason, _)) = text.split_once(" (os error ") {
+        reason
+    } else {
+        return Ok(text);
+    };
+    Ok(rapidhash_tool::kit::format(
+        alloc,
+        format_args!("{reason}"),
+    )?)
+}
+
 impl Problem {
+    /// Returns the text of the problem.
+    ///
+    /// # Errors
+    ///
+    /// If an allocation fails.
+    pub fn text(&self, alloc: Global) -> Result<String, Problem> {
+        Ok(match self {
+            Problem::Read(error) => reason_of(alloc, error)?,
+            Problem::Write(error) => {
+                let reason = reason_of(alloc, error)?;
+                rapidhash_tool::kit::format(alloc, format_args!("write error: {reason}"))?
+            }
+            _ => rapidhash_tool::kit::format(alloc, format_args!("{self}"))?,
+        })
+    }
+
+    #[allow(dead_code)]
     /// Returns whether a line was written to a pipe that its reader has closed.
     pub fn is_broken_pipe(&self) -> bool {
         matches!(self, Problem::Write(error) if error.kind() == ErrorKind::BrokenPipe)

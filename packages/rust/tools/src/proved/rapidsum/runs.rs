@@ -7,7 +7,7 @@ use rapidhash_tool::kit::Vec;
 use crate::check::{Verdict, check_entries};
 use crate::console::Console;
 use crate::disk::Disk;
-use crate::list::read_list;
+use crate::list::{List, read_list};
 use crate::parse::Call;
 use crate::problem::Problem;
 use crate::sources::names_in;
@@ -15,6 +15,10 @@ use crate::store::Store;
 use crate::sum::write_sum;
 use rapidhash_tool::kit::alloc::Global;
 use std::io;
+use std::io::Read;
+
+/// A list has a well-formed line in this many bytes, or none.
+const HEAD: u64 = 65536;
 
 /// Prints or checks the files of a call, or standard input if it names none. Returns whether all
 /// files could be read and all checks passed.
@@ -73,8 +77,8 @@ fn run_file(console: &mut Console<'_>, disk: &Disk<'_>, name: &[u8]) -> Result<b
 // Prints the line of a file, or reports why it cannot be read.
 fn print_sum(console: &mut Console<'_>, disk: &Disk<'_>, name: &[u8]) -> Result<bool, Problem> {
     let (rt, options) = (console.rt, console.options);
-    let (algorithm, style, lines) = (options.algorithm(), options.style(), &mut console.lines);
-    match write_sum(rt.alloc(), disk, name, algorithm, style, lines) {
+    let (algorithm, style, line) = (options.algorithm(), options.style(), &mut console.line);
+    match write_sum(rt.alloc(), disk, name, algorithm, style, line) {
         Ok(()) => {
             console.end_line()?;
             Ok(true)
@@ -87,14 +91,14 @@ fn print_sum(console: &mut Console<'_>, disk: &Disk<'_>, name: &[u8]) -> Result<
     }
 }
 
-// Returns the whole text of a list.
+// Returns the whole text of a list of names.
 fn read_whole(alloc: Global, disk: &Disk<'_>, name: &[u8]) -> io::Result<Vec<u8>> {
     let mut text = Vec::new(alloc);
     rapidhash_tool::kit::read_to_end(&mut disk.open(name)?, &mut text)?;
     Ok(text)
 }
 
-// Returns the whole text of a list, or reports why it cannot be read.
+// Returns the whole text of a list of names, or reports why it cannot be read.
 fn text_of(
     console: &mut Console<'_>,
     disk: &Disk<'_>,
@@ -109,15 +113,44 @@ fn text_of(
     }
 }
 
+// Reads a list. Of a file whose first bytes have no well-formed line, it reads no others.
+fn read_from(alloc: Global, disk: &Disk<'_>, name: &[u8]) -> Result<List, Problem> {
+    let mut reader = disk.open(name).map_err(Problem::Read)?;
+    let mut text = Vec::new(alloc);
+    let mut head = (&mut reader).take(HEAD);
+    rapidhash_tool::kit::read_to_end(&mut head, &mut text).map_err(Problem::Read)?;
+    let list = read_list(alloc, text.as_slice())?;
+    if list.entries.is_empty() {
+        return Ok(list);
+    }
+    rapidhash_tool::kit::read_to_end(&mut reader, &mut text).map_err(Problem::Read)?;
+    read_list(alloc, text.as_slice())
+}
+
+// Returns the list with this name, or reports why it cannot be read.
+fn list_named(
+    console: &mut Console<'_>,
+    disk: &Disk<'_>,
+    name: &[u8],
+) -> Result<Option<List>, Problem> {
+    match read_from(console.rt.alloc(), disk, name) {
+        Ok(list) => Ok(Some(list)),
+        Err(Problem::Read(error)) => {
+            console.complain_of(name, error)?;
+            Ok(None)
+        }
+        Err(problem) => Err(problem),
+    }
+}
+
 // Checks the files of the list with this name.
 fn check_list(console: &mut Console<'_>, disk: &Disk<'_>, name: &[u8]) -> Result<bool, Problem> {
     let (rt, given) = (console.rt, console.options.algorithm());
-    let text = if let Some(text) = text_of(console, disk, name)? {
-        text
+    let list = if let Some(list) = list_named(console, disk, name)? {
+        list
     } else {
         return Ok(false);
     };
-    let list = read_list(rt.alloc(), text.as_slice())?;
     console.warn_of_lines(name, &list)?;
     if list.entries.is_empty() {
         console.complain(name, "no properly formatted checksum lines found")?;
