@@ -8,11 +8,13 @@ pub use Rattle.rapidhash_portable.specs.Lanes
 pub use Rattle.rapidhash_portable.specs.InMemory
 pub use Rattle.rapidhash_portable.specs.Multiply
 pub use Rattle.rapidhash_portable.specs.Reading
+pub use Rattle.rapidhash_portable.specs.Saved
 pub use Rattle.rapidhash_portable.specs.Secrets
 pub use Rattle.rapidhash_portable.specs.SeedSource
 pub use Rattle.rapidhash_portable.specs.Source
 pub use Rattle.rapidhash_portable.specs.Stream
 pub use Rattle.rapidhash_portable.specs.Tail
+pub use Rattle.rapidhash_portable.specs.Version
 pub use Rattle.rapidhash_portable.specs.Words
 pub mod Generator
 pub mod Hasher

@@ -1,6 +1,7 @@
 //! The library rapidhash under the names of the Rust crate.
 //!
 //! - [`v1`], [`v2`], [`v3`]: the portable hashes, whose values never change.
+//! - [`form`]: the seven hashes as values, with their names.
 //! - [`reader`]: the reader with an error flag that the hashes of a reader need.
 //! - [`RapidHashMap`] and [`RapidHashSet`]: maps and sets over the fast hasher.
 //! - [`ByteKey`]: a key of bytes, which they hash in one write.
@@ -29,4 +30,4 @@ pub mod rng;
 
 pub use collections::{HashMapExt, HashSetExt, RapidHashMap, RapidHashSet};
 pub use keys::ByteKey;
-pub use rapidhash_portable::{reader, util, v1, v2, v3};
+pub use rapidhash_portable::{form, reader, util, v1, v2, v3};
