@@ -38,7 +38,7 @@ func savedStreams(t *testing.T) (streams []savedStream) {
 		for at := range message {
 			message[at] = byte((at*at + 7*at + size) % 251)
 		}
-		if digits, isGiven := strings.CutPrefix(columns[1], "bytes:"); isGiven {
+		if digits := strings.TrimPrefix(columns[1], "bytes:"); digits != columns[1] {
 			message, _ = hex.DecodeString(digits)
 		}
 		rule, digits, _ := strings.Cut(columns[3], ":")
