@@ -117,7 +117,7 @@ fn short_words_below_8(bytes: &[u8]) -> (u64, u64)
 /// Returns the two words of 4 to 16 bytes in V2, V3, micro and nano.
 #[inline(always)]
 #[tactic(auto, using(crate::proofs::Cases::tests), unfolding(crate::specs::Words::short_words))]
-fn words_from_4(bytes: &[u8]) -> (u64, u64)
+pub(crate) fn words_from_4(bytes: &[u8]) -> (u64, u64)
     requires at_least_4 { 4 ≤ length bytes.now }
     requires at_most_16 { length bytes.now ≤ 16 }
     ensures v2 { (minor : ℕ) → result ≡ short_words (V2 minor) bytes.now }

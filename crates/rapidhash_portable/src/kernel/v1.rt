@@ -69,9 +69,9 @@ fn long<const AVALANCHE: bool, const COMPACT: bool, const PROTECTED: bool, const
     }
 }
 
-/// Returns the hash of a message that has a row, out of line.
-#[cold]
-#[inline(never)]
+/// Returns the hash of a message that has a row. With rows of three lanes it is short enough to be
+/// inlined.
+#[inline]
 #[tactic(auto, using(crate::proofs::Cases::tests), unfolding(crate::specs::Form::shape_of))]
 fn with_rows<const AVALANCHE: bool, const COMPACT: bool, const PROTECTED: bool, const V1_BUG: bool>(
     bytes: &[u8],

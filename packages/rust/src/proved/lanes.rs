@@ -41,9 +41,25 @@ pub(crate) const fn fold_row<const LANES: usize, const WIDTH: usize, const PROTE
 
 const_fn! {
 /// Folds two rows of `WIDTH` pairs at the head of `rows` into the first `WIDTH` lanes: the body of
-/// the unrolled loop.
+/// the unrolled loop. Seven lanes do not fit into registers.
 #[inline(always)]
 const fn fold_two_rows<const LANES: usize, const WIDTH: usize, const PROTECTED: bool>(
+    lanes: &mut [u64; LANES],
+    rows: &[u8],
+    secrets: &[u64],
+) {
+    if WIDTH == 7 {
+        fold_two_rows_by_lane::<LANES, WIDTH, PROTECTED>(lanes, rows, secrets);
+    } else {
+        fold_two_rows_by_row::<LANES, WIDTH, PROTECTED>(lanes, rows, secrets);
+    }
+}
+}
+
+const_fn! {
+/// Folds two rows one after the other.
+#[inline(always)]
+const fn fold_two_rows_by_row<const LANES: usize, const WIDTH: usize, const PROTECTED: bool>(
     lanes: &mut [u64; LANES],
     rows: &[u8],
     secrets: &[u64],
@@ -54,8 +70,8 @@ const fn fold_two_rows<const LANES: usize, const WIDTH: usize, const PROTECTED: 
 }
 
 const_fn! {
-/// Folds two rows as [`fold_two_rows`] does, but lane by lane: lanes that are in memory are then
-/// loaded and stored once. For lanes in registers it needs one register more.
+/// Folds two rows lane by lane: lanes that are in memory are then loaded and stored once. For lanes
+/// in registers it needs one register more.
 #[inline(always)]
 pub(crate) const fn fold_two_rows_by_lane<
     const LANES: usize,

@@ -103,7 +103,7 @@ const fn short_words_below_8(bytes: &[u8]) -> (u64, u64) {
 const_fn! {
 /// Returns the two words of 4 to 16 bytes in V2, V3, micro and nano.
 #[inline(always)]
-const fn words_from_4(bytes: &[u8]) -> (u64, u64) {
+pub(crate) const fn words_from_4(bytes: &[u8]) -> (u64, u64) {
     let n = bytes.len();
     if n >= 8 {
         (read_u64(bytes, 0), read_u64(bytes, n - 8))

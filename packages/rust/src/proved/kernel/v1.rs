@@ -63,9 +63,9 @@ const fn long<const AVALANCHE: bool, const COMPACT: bool, const PROTECTED: bool,
 }
 
 const_fn! {
-/// Returns the hash of a message that has a row, out of line.
-#[cold]
-#[inline(never)]
+/// Returns the hash of a message that has a row. With rows of three lanes it is short enough to be
+/// inlined.
+#[inline]
 const fn with_rows<
     const AVALANCHE: bool,
     const COMPACT: bool,

@@ -5,7 +5,7 @@
 use crate::lanes::wide_lanes;
 use crate::tail::{close, fold_tail};
 use crate::util::ALTERNATING_BITS;
-use crate::words::{last_16, short_words_v3};
+use crate::words::{last_16, short_words_v3, words_from_4};
 
 /// The longest message that makes no call. Longer tails, inlined into a loop, make the shortest
 /// messages slower.
@@ -30,22 +30,25 @@ pub const fn hash<
     if n > 16 {
         return long::<LANES, AVALANCHE, COMPACT, PROTECTED>(bytes, seed, secrets);
     }
+    if n > 3 {
+        let words = words_from_4(bytes);
+        return close_short::<LANES, AVALANCHE, PROTECTED>(bytes, words, seed ^ n as u64, secrets);
+    }
     close_short::<LANES, AVALANCHE, PROTECTED>(bytes, short_words_v3(bytes), seed, secrets)
 }
 }
 
 const_fn! {
-/// Returns the hash of at most 16 bytes from their two words. From 4 bytes on the length is mixed
-/// into the seed.
+/// Returns the hash of at most 16 bytes from their two words, and from the seed, into which the
+/// length is mixed from 4 bytes on. It is compiled twice, so that one test finds both.
 #[inline(always)]
 const fn close_short<const LANES: usize, const AVALANCHE: bool, const PROTECTED: bool>(
     bytes: &[u8],
     words: (u64, u64),
-    seed: u64,
+    start: u64,
     secrets: &[u64; 7],
 ) -> u64 {
     let (n, second) = (bytes.len() as u64, secrets[1]);
-    let start = if n > 3 { seed ^ n } else { seed };
     close::<AVALANCHE, PROTECTED>(words, start, second, (ALTERNATING_BITS, second ^ n))
 }
 }
