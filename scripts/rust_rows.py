@@ -16,7 +16,7 @@ REPLACED = [
      "    secrets: crate::held::Owned::new(secrets),\n                folded", "as above"),
     ("v3/stream/saved", "    secrets,\n            folded",
      "    secrets: crate::held::Owned::new(secrets),\n            folded", "as above"),
-    ("key", "//! encodings ([`same_keys`](crate::laws::same_keys)), so", "//! encodings, so", "the laws are contracts"),
+    ("key", "//! encodings ([`same_keys`](crate::laws::same_keys)): those", "//! encodings: those", "the laws are contracts"),
     ("key", "#[derive(Clone, Copy)]", "#[derive(Debug, Clone, Copy, PartialEq, Eq, Hash)]", "users expect these"),
     ("seeding", "    counter: u64,\n    random: u64,", "    pub(crate) counter: u64,\n    pub(crate) random: u64,",
      "a thread keeps the words of its source apart"),
@@ -68,7 +68,8 @@ REPLACED = [
      "//! lanes, `parts` the data and all the code; `folded` keeps the lanes.", "as above"),
     ("v3/stream/folded", ", and how many chunks they have folded.\n//!\n//! No other code can fold a chunk without "
      "counting it, or count one without folding it: both are\n//! private here, and only `step`, `step_twice` and "
-     "`clear` change them. The count needs no memory\n//! and no time; only contracts see it.", ".", "no count"),
+     "`clear` change them. `with_lanes` starts from\n//! lanes that were saved, with a count of 0. The count needs no "
+     "memory and no time; only contracts\n//! see it.", ".", "no count"),
     ("v3/stream/folded", ", and how many chunks were folded into\n/// them.", ".", "as above"),
     ("v3/stream/folded", "    count: Count,\n", "", "as above"),
     ("v3/stream/folded", "            count: Count::new(),\n", "", "as above"),

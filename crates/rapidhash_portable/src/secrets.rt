@@ -69,6 +69,14 @@ impl RapidSecrets {
 
     /// Returns the same secrets with a new seed, which is made from the old one with the last
     /// default secret.
+    ///
+    /// ```
+    /// use rapidhash::v3::RapidSecrets;
+    ///
+    /// let secrets = RapidSecrets::seed(7);
+    /// assert_ne!(secrets.reseed().seed, secrets.seed);
+    /// assert_eq!(secrets.reseed().secrets, secrets.secrets);
+    /// ```
     pub const fn reseed(&self) -> Self
         ensures seed { result.seed ≡ reseeded self.now.seed 6 }
         ensures secrets { result.secrets ≡ self.now.secrets }
@@ -92,6 +100,12 @@ impl RapidSecrets {
     /// rapidhash, the C++ library derives it in the same way.
     /// Anyone who knows the default secrets can find messages with the same hash for every seed: if
     /// that matters, see [`RapidSecrets::seed`].
+    ///
+    /// ```
+    /// use rapidhash::v3::{DEFAULT_RAPID_SECRETS, RapidSecrets};
+    ///
+    /// assert_eq!(RapidSecrets::seed_cpp(7).secrets, DEFAULT_RAPID_SECRETS.secrets);
+    /// ```
     pub const fn seed_cpp(seed: u64) -> Self
         ensures seed { result.seed ≡ cpp_seeded seed 2 }
         ensures secrets { result.secrets ≡ default_secrets }

@@ -104,8 +104,8 @@ fn judge<S: Store, A: Allocator, B: Allocator + Copy>(
 /// Hashes the file of each line and returns the verdicts. A line that names no version has that of
 /// `given`.
 ///
-/// If the bytes of a file are known, its line has the verdict `Same` exactly when their hash is the
-/// line's, unless the file could not be opened or read. All pass exactly when each line has the
+/// If the bytes of a file are known, its line has the verdict `Same` only if their hash is the
+/// line's, and `Different` only if it is not. All pass exactly when each line has the
 /// verdict `Same`, or, with `ignore_missing`, `Missing`.
 ///
 /// # Errors

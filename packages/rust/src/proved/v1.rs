@@ -31,7 +31,7 @@ pub const fn rapidhash_v1(bytes: &[u8]) -> u64 {
 
 const_fn! {
 /// Returns the hash of `bytes` with the caller's seed and secrets. Collisions that were prepared
-/// for other secrets fail, but an attacker who sees hashes may still find collisions.
+/// for other secrets usually fail. An attacker who sees hashes may still find some.
 ///
 /// ```
 /// use rapidhash::v1::{DEFAULT_RAPID_SECRETS, rapidhash_v1_seeded};

@@ -40,7 +40,7 @@ pub const fn rapidhash_v3(bytes: &[u8]) -> u64 {
 
 const_fn! {
 /// Returns the hash of `bytes` with the caller's seed and secrets. Collisions that were prepared
-/// for other secrets fail, but an attacker who sees hashes may still find collisions.
+/// for other secrets usually fail. An attacker who sees hashes may still find some.
 ///
 /// ```
 /// use rapidhash::v3::{RapidSecrets, rapidhash_v3_seeded};

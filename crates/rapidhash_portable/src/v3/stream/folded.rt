@@ -1,8 +1,9 @@
 //! The lanes of a stream hasher, and how many chunks they have folded.
 //!
 //! No other code can fold a chunk without counting it, or count one without folding it: both are
-//! private here, and only `step`, `step_twice` and `clear` change them. The count needs no memory
-//! and no time; only contracts see it.
+//! private here, and only `step`, `step_twice` and `clear` change them. `with_lanes` starts from
+//! lanes that were saved, with a count of 0. The count needs no memory and no time; only contracts
+//! see it.
 //!
 //! The speed of large pieces depends on the loop of `fold_chunks`: after a change look at the
 //! machine code with `objdump`. If the lanes are copied from `self` into local variables, the

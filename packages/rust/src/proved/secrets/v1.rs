@@ -53,6 +53,14 @@ impl RapidSecrets {
 
     /// Returns the same secrets with a new seed, made from the old one with V1's last default
     /// secret.
+    ///
+    /// ```
+    /// use rapidhash::v1::RapidSecrets;
+    ///
+    /// let secrets = RapidSecrets::seed(7);
+    /// assert_ne!(secrets.reseed().seed, secrets.seed);
+    /// assert_eq!(secrets.reseed().secrets, secrets.secrets);
+    /// ```
     #[must_use]
     pub const fn reseed(&self) -> Self {
         RapidSecrets {
@@ -71,6 +79,12 @@ impl RapidSecrets {
     /// rapidhash, the C++ library derives it in the same way.
     /// Anyone who knows the default secrets can find messages with the same hash for every seed: if
     /// that matters, see [`RapidSecrets::seed`].
+    ///
+    /// ```
+    /// use rapidhash::v1::{DEFAULT_RAPID_SECRETS, RapidSecrets};
+    ///
+    /// assert_eq!(RapidSecrets::seed_cpp(7).secrets, DEFAULT_RAPID_SECRETS.secrets);
+    /// ```
     #[must_use]
     pub const fn seed_cpp(seed: u64) -> Self {
         RapidSecrets {

@@ -65,6 +65,15 @@ pub fn rapidhash_v1_file<R: Read + ?Sized>(data: &mut R, len: u64) -> io::Result
 
 /// Returns the hash of the next `len` bytes of a reader, with the caller's seed and secrets.
 ///
+/// ```
+/// use rapidhash::v1::{RapidSecrets, rapidhash_v1_file_seeded, rapidhash_v1_seeded};
+///
+/// let secrets = RapidSecrets::seed(7);
+/// let hash = rapidhash_v1_file_seeded(&mut b"hello world".as_slice(), 5, &secrets)?;
+/// assert_eq!(hash, rapidhash_v1_seeded(b"hello", &secrets));
+/// # Ok::<(), std::io::Error>(())
+/// ```
+///
 /// # Errors
 ///
 /// Returns the errors of [`rapidhash_v1_file`].
@@ -77,6 +86,15 @@ pub fn rapidhash_v1_file_seeded<R: Read + ?Sized>(
 }
 
 /// Returns the plain or the protected hash of the next `len` bytes of a reader.
+///
+/// ```
+/// use rapidhash::v1::{DEFAULT_RAPID_SECRETS, rapidhash_v1_file_inline, rapidhash_v1_inline};
+///
+/// let (mut text, secrets) = (b"hello".as_slice(), &DEFAULT_RAPID_SECRETS);
+/// let hash = rapidhash_v1_file_inline::<_, true>(&mut text, 5, secrets)?;
+/// assert_eq!(hash, rapidhash_v1_inline::<true, false, true, false>(b"hello", secrets));
+/// # Ok::<(), std::io::Error>(())
+/// ```
 ///
 /// # Errors
 ///

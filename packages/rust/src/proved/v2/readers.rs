@@ -66,6 +66,15 @@ pub fn rapidhash_v2_2_file<R: Read + ?Sized>(data: &mut R, len: u64) -> io::Resu
 /// Returns the V2.2 hash of the next `len` bytes of a reader, with the caller's seed and
 /// secrets.
 ///
+/// ```
+/// use rapidhash::v2::{RapidSecrets, rapidhash_v2_2_file_seeded, rapidhash_v2_2_seeded};
+///
+/// let secrets = RapidSecrets::seed(7);
+/// let hash = rapidhash_v2_2_file_seeded(&mut b"hello world".as_slice(), 5, &secrets)?;
+/// assert_eq!(hash, rapidhash_v2_2_seeded(b"hello", &secrets));
+/// # Ok::<(), std::io::Error>(())
+/// ```
+///
 /// # Errors
 ///
 /// Returns the errors of [`rapidhash_v2_2_file`].
@@ -79,6 +88,15 @@ pub fn rapidhash_v2_2_file_seeded<R: Read + ?Sized>(
 
 /// Returns the plain or the protected hash of the next `len` bytes of a reader. A call does not
 /// compile if `MINOR` is above 2.
+///
+/// ```
+/// use rapidhash::v2::{DEFAULT_RAPID_SECRETS, rapidhash_v2_file_inline, rapidhash_v2_inline};
+///
+/// let (mut text, secrets) = (b"hello".as_slice(), &DEFAULT_RAPID_SECRETS);
+/// let hash = rapidhash_v2_file_inline::<_, 1, false>(&mut text, 5, secrets)?;
+/// assert_eq!(hash, rapidhash_v2_inline::<1, true, false, false>(b"hello", secrets));
+/// # Ok::<(), std::io::Error>(())
+/// ```
 ///
 /// # Errors
 ///

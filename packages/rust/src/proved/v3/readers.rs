@@ -132,6 +132,15 @@ pub fn rapidhash_v3_file<R: Read>(data: R) -> io::Result<u64> {
 
 /// Returns the hash of all that a reader has, with the caller's seed and secrets.
 ///
+/// ```
+/// use rapidhash::v3::{RapidSecrets, rapidhash_v3_file_seeded, rapidhash_v3_seeded};
+///
+/// let secrets = RapidSecrets::seed(7);
+/// let hash = rapidhash_v3_file_seeded(b"hello".as_slice(), &secrets)?;
+/// assert_eq!(hash, rapidhash_v3_seeded(b"hello", &secrets));
+/// # Ok::<(), std::io::Error>(())
+/// ```
+///
 /// # Errors
 ///
 /// Returns the errors of [`rapidhash_v3_file`].
@@ -140,6 +149,15 @@ pub fn rapidhash_v3_file_seeded<R: Read>(data: R, secrets: &RapidSecrets) -> io:
 }
 
 /// Returns the plain or the protected hash of all that a reader has.
+///
+/// ```
+/// use rapidhash::v3::{DEFAULT_RAPID_SECRETS, rapidhash_v3_file_inline, rapidhash_v3_inline};
+///
+/// let secrets = &DEFAULT_RAPID_SECRETS;
+/// let hash = rapidhash_v3_file_inline::<_, true>(b"hello".as_slice(), secrets)?;
+/// assert_eq!(hash, rapidhash_v3_inline::<true, false, true>(b"hello", secrets));
+/// # Ok::<(), std::io::Error>(())
+/// ```
 ///
 /// # Errors
 ///
