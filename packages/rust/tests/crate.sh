@@ -43,7 +43,7 @@ readme_runs() {
 # two of them and does not compile. The names in this library have the constants of generic functions.
 needs_core_alone() {
   local project=$room/bare
-  mkdir -p "$project/src" && printf '%s\n' '[package]' 'name = "bare"' 'version = "0.0.0"' 'edition = "2021"' '[lib]' \
+  rm -rf "$project" && mkdir -p "$project/src" && printf '%s\n' '[package]' 'name = "bare"' 'version = "0.0.0"' 'edition = "2021"' '[lib]' \
     'crate-type = ["staticlib"]' '[dependencies]' \
     "yervound-rapidhash = { path = \"$top/packages/rust\", default-features = false }" \
     '[profile.dev]' 'panic = "abort"' >"$project/Cargo.toml" &&
@@ -96,8 +96,8 @@ builds_without_script() {
 # Checks that the compiler refuses calls with invalid constants, and names the reason.
 refuses_constants() {
   local project=$room/constants call reason
-  mkdir -p "$project/src" && printf '%s\n' '[package]' 'name = "first"' 'version = "0.0.0"' 'edition = "2021"' \
-    '[dependencies]' "yervound-rapidhash = { path = \"$top/packages/rust\" }" >"$project/Cargo.toml"
+  rm -rf "$project" && mkdir -p "$project/src" && printf '%s\n' '[package]' 'name = "first"' 'version = "0.0.0"' \
+    'edition = "2021"' '[dependencies]' "yervound-rapidhash = { path = \"$top/packages/rust\" }" >"$project/Cargo.toml"
   while IFS='|' read -r call reason; do
     echo "fn main() { use rapidhash::{v2::*, v3::{*, DEFAULT_RAPID_SECRETS}}; let _ = $call; }" >"$project/src/main.rs"
     if [ -z "$reason" ]; then
