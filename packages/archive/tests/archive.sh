@@ -93,17 +93,22 @@ refuses_changes() {
     grep -x 'make release: the tree has changes: commit them first' "$room/said" && [ ! -e "$room/changed/build" ]
 }
 
+# Checks that make refuses to release a commit without a gate that passed, before it builds anything.
+refuses_to_release() {
+  ! make -s MAKE=true kit=yes release 2>"$room/said" && [ ! -e build/release ] &&
+    grep -qx 'make release: build/gate.md has no gate of this commit that passed: run make check first' "$room/said"
+}
+
 # Checks that a release has the page of its gate, each product of make, for which empty files stand in, its commit and
 # all checksums. Without a page, or with that of another commit or of a gate that failed, there is none.
 releases_a_commit() {
   local gate file files=(gate.md a.tar.gz a.tgz a.jar wheels/a.whl wheels/b.tar.gz debian/a.deb debian/b.deb debian/a.dsc debian/a.tar.xz)
   git clone -q -s "$top" "$room/released" && cd "$room/released" || return
   for file in "${files[@]}" wheels/made debian/log; do install -D /dev/null "build/$file" || return; done
-  for gate in 'HEAD 1' 'HEAD~1 0' ''; do
+  rm build/gate.md && refuses_to_release || return
+  for gate in 'HEAD 1' 'HEAD~1 0'; do
     printf '| %s |\n' "commit | $(git rev-parse "${gate% *}")" "result | 9 passed, ${gate#* } failed" >build/gate.md
-    [ -n "$gate" ] || rm build/gate.md
-    ! make -s MAKE=true kit=yes release 2>"$room/said" && [ ! -e build/release ] &&
-      grep -qx 'make release: build/gate.md has no gate of this commit that passed: run make check first' "$room/said" || return
+    refuses_to_release || return
   done
   printf '| %s |\n' "commit | $(git rev-parse HEAD)" 'result | 9 passed, 0 failed' >build/gate.md
   make -s MAKE=true kit=yes release && cd build/release && git rev-parse HEAD | diff - COMMIT &&

@@ -135,8 +135,8 @@ static void check_copies()
     compare("a stream after a reset", assigned.update(message).finish(), known);
 }
 
-/* Checks that a moved stream has its own secrets: the place that it leaves gets others, and so do its places in a vector
- * that grows. */
+/* Checks that a moved stream has its own secrets: the place that it leaves gets others, and a vector that grows moves
+ * its streams. */
 static void check_moves()
 {
     const std::vector<unsigned char> message = counted();

@@ -9,14 +9,14 @@ names='librapidhash-c-dev librapidhash-c1 postgresql-15-rapidhash rapidhash-tool
 
 # Checks that the source package, unpacked elsewhere, builds the same bytes with Debian's tools alone, and no other
 # files: in a path with a space, and where others may not read new files. A build compares the vectors.
-packs_the_same_bytes() {
+packs_the_same_bytes() (
   make -s -C "$top" deb && cd "$packages" && grep -qxE '[1-9][0-9]* passed, 0 failed' log &&
     sha256sum ./*.deb >"$room/sums" && mkdir "$room/else where" &&
     cp ./*.dsc ./*.tar.xz "$room/else where" && cd "$room/else where" && umask 077 && dpkg-source -x ./*.dsc bare &&
-    (cd bare && env -i PATH=/usr/bin:/bin dpkg-buildpackage -b -us -uc) && umask 022 && sha256sum --check "$room/sums" &&
+    (cd bare && env -i PATH=/usr/bin:/bin dpkg-buildpackage -b -us -uc) && sha256sum --check "$room/sums" &&
     diff <(printf '%s_1.0.0_amd64.deb\n' $names) <(printf '%s\n' *.deb) &&
     [ "$(for deb in *.deb; do dpkg-deb --field "$deb" Multi-Arch; done | xargs)" = 'same same no foreign no' ]
-}
+)
 
 # Checks that all users may read the files of the source package, of a tree that only its owner may read.
 packs_readable_sources() (
