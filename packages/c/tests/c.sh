@@ -131,12 +131,11 @@ int main()
 CPP
 }
 
-# Checks that cppcheck reports no error in a file that includes a header, nor a warning in C: programs are checked in this
-# way. It has a file of each language.
+# Checks that cppcheck reports no error in a file of C or of C++ that includes a header.
 has_no_fault_of_cppcheck() {
   mkdir "$room/cppcheck" && cp "$room/second.c" "$room/cppcheck" &&
     printf '#include <rapidhash.hpp>\nint main() { return rapidhash::hash("hello") == 0; }\n' >"$room/cppcheck/first.cpp" &&
-    cppcheck --quiet --error-exitcode=1 --inline-suppr "-I$include" "$room/cppcheck"
+    cppcheck --quiet --error-exitcode=1 "-I$include" "$room/cppcheck"
 }
 
 # Checks that the library has the names of C if a C++ compiler builds it, and that at run time a hash of C++ calls the

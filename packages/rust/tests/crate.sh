@@ -219,6 +219,13 @@ makes_states_from_stored_words() {
     awk '/Collected : / { found = 1; if ($NF > 50000) exit 1 } END { if (!found) exit 1 }'
 }
 
+# Runs the tests of words over words in two halves, as a machine without atomics of 64 bits has them.
+shares_words_in_halves() (
+  mkdir "$room/halves" && cp -r Cargo.toml build.rs src tests "$room/halves" && cd "$room/halves" &&
+    sed -i '/^members/d' Cargo.toml && sed -i 's/target_has_atomic = "64"/target_has_atomic = "none"/' src/random/without_std.rs &&
+    tests_pass cargo test --no-default-features --test words
+)
+
 # Checks that compat has each feature of the crate rapidhash 4.5.1, and `rng_06`.
 has_its_features() {
   sed -n '/^\[features\]/,$ s/ = .*//p' compat/Cargo.toml | sort | diff - <(printf '%s\n' default getrandom_03 \
@@ -254,6 +261,7 @@ try_from without_build_script 83 builds_without_script std
 try_from without_build_script_and_std 83 builds_without_script
 try_from labels_of_docs_rs 92 has_no_label_of_a_compiler
 try_with states_without_std valgrind makes_states_from_stored_words
+try words_in_halves shares_words_in_halves
 try no_unsafe grep -x '#!\[forbid(unsafe_code)\]' src/lib.rs
 
 # The cases that are quick enough for two compilers: SUFFIX TOOLS
