@@ -46,7 +46,7 @@ name = yervound-1.0-x86_64-linux
 
 .PHONY: all built tool sums library wasm npm page wheel jar sqlite postgresql deb check check-source quick test fmt bench \
   install uninstall clean dist vendor release products test-edits test-machines test-windows test-debian test-dieharder \
-  test-vendor rapidhash_c rapidhash_cli rapidsum example_bloom example_perfect example_shards example_dedupe
+  test-source test-vendor rapidhash_c rapidhash_cli rapidsum example_bloom example_perfect example_shards example_dedupe
 .DELETE_ON_ERROR:
 MAKEFLAGS += --no-builtin-rules
 
@@ -101,6 +101,9 @@ needs_the_kit = [ -n '$(kit)' ] || { echo 'make $(1): rt, the command of the Rat
 unproved = $(if $(said),:,$(eval said := yes)echo 'make: $(if $(shell command -v rt),,rt is \
   not on PATH: )building with $(if $(tools),cc and cargo,cc the library alone), which is not the proved build' >&2)
 
+# The modes of what is packed, which others unpack, whatever the umask is.
+readable = u=rwX,go=rX
+
 include packages/*/make.mk
 
 # Everything that the tests of the packages and examples use, so that none of them builds what another is building.
@@ -141,7 +144,7 @@ folders = PREFIX BINDIR LIBDIR INCLUDEDIR DATADIR DESTDIR
 $(foreach name,$(folders),$(eval install uninstall: export $(name) := $$($(name))))
 
 install:
-	@$(MAKE) -q built || { echo 'make install: something is missing or out of date: run make first' >&2; exit 2; }
+	@$(MAKE) -q --no-print-directory built || { echo 'make install: something is missing or out of date: run make first' >&2; exit 2; }
 	@ARCHIVE='$(archive)' SHARED='$(shared)' TOOLS='$(tools)' scripts/install
 	$(say_left_out)
 
@@ -158,19 +161,20 @@ clean:
 release:
 	@$(call needs_the_kit,release)
 	@[ -z "$$(git status --porcelain)" ] || { echo 'make release: the tree has changes: commit them first' >&2; exit 2; }
-	@{ grep -qxF "| commit | $$(git rev-parse HEAD) |" build/gate.md && grep -q '^| result | .*, 0 failed |$$' build/gate.md; } 2>&- || \
+	@{ grep -qxF "| commit | $$(git rev-parse HEAD) |" build/gate.md && grep -q '^| result | .*, 0 failed |$$' build/gate.md; } 2>/dev/null || \
 	  { echo 'make release: build/gate.md has no gate of this commit that passed: run make check first' >&2; exit 2; }
 	@$(MAKE) -s dist deb
 	@rm -rf build/release && mkdir build/release && git rev-parse HEAD >build/release/COMMIT
 	@cp build/gate.md build/*.t*gz build/*.jar build/wheels/*.* build/debian/*.deb build/debian/*.dsc build/debian/*.tar.xz build/release
+	@chmod -R $(readable) build/release
 	@cd build/release && sha256sum -- * >SHA256SUMS
 
-# The next six are not part of the gate, because they take some additional minutes.
+# The next seven are not part of the gate, because they take some additional minutes.
 test-edits:
 	@tests/release/must_fail.py
 	@tests/release/failing_tests.py
 
-test-machines test-windows test-debian test-dieharder: test-%:
+test-machines test-windows test-debian test-dieharder test-source: test-%:
 	@prove --verbose --exec '' tests/release/$*.sh
 
 test-vendor:

@@ -23,5 +23,5 @@ dist:
 	  tee -a build/$(name)/README.md >&2)
 	install -m 644 packages/c/tests/c_library.c build/$(name)/check_vectors.c
 	python3 scripts/vectors.py crates/test_replay/data >build/$(name)/rapidhash_vectors.tsv
-	tar -C build -czf build/$(name).tar.gz $(name)
+	umask 022 && tar -C build --mode=$(readable) -czf build/$(name).tar.gz $(name)
 	rm -rf build/$(name)

@@ -9,7 +9,7 @@ $(jar): LICENSE-MIT LICENSE-APACHE NOTICE packages/java/pom.xml packages/java/ma
 	@rm -rf build/java build/java18 && mkdir -p build/java/META-INF/maven
 	@$(javac) --release 11 -d build/java $(filter packages/java/src/main/%.java,$^)
 	@cp LICENSE-MIT LICENSE-APACHE NOTICE build/java/META-INF && cp packages/java/pom.xml build/java/META-INF/maven
-	@jar --create --file $@ --module-version 1.0.0 -C build/java .
+	@umask 022 && jar --create --file $@ --module-version 1.0.0 -C build/java .
 	@if [ "$$(javac -version | sed 's/[^0-9]*\([0-9]*\).*/\1/')" -ge $(later) ]; then \
 	    $(javac) --release $(later) -d build/java18 $(filter packages/java/src/java18/%.java,$^) && \
 	    jar --update --file $@ --release $(later) -C build/java18 .; \

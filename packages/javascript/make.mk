@@ -26,7 +26,7 @@ $(folder): $(module) $(wildcard packages/javascript/*.*) LICENSE-MIT LICENSE-APA
 
 $(package): $(folder)
 	@command -v npm >/dev/null || { echo 'make: npm is not on PATH' >&2; exit 2; }
-	@cd build && npm pack --silent ./npm >npm.log
+	@chmod -R $(readable) build/npm && umask 022 && cd build && npm pack --silent ./npm >npm.log
 
 page: $(folder)
 	@rm -rf build/browser && mkdir build/browser

@@ -4,4 +4,4 @@ postgresql:
 	@[ -e "$$(pg_config --includedir-server)/postgres.h" ] || { echo 'make: the headers of the PostgreSQL server are missing:' \
 	  "install postgresql-server-dev-$$(pg_config --version | sed 's/[^0-9]*\([0-9]*\).*/\1/')" >&2; exit 2; }
 	@rm -rf build/postgresql && mkdir -p build && cp -r packages/postgresql build
-	@MAKEFLAGS= $(MAKE) -s -C build/postgresql COPT='-Werror -I$(CURDIR)/packages/c/include'
+	@MAKEFLAGS= $(MAKE) -s -C build/postgresql COPT='-Werror -I../../packages/c/include'

@@ -1,6 +1,6 @@
 """Builds the package by setuptools in a temporary copy of this directory, so that a build leaves nothing behind. In the
 repository and in an unpacked archive, the copy also gets the C header and the licences. A source distribution has
-them."""
+them. All users may read the files of a package, whatever the builder's umask is."""
 
 import contextlib
 import os
@@ -27,12 +27,15 @@ def _setuptools_in_a_copy():
         for path in map(Path, SHARED):
             if not (HERE / path.name).exists():
                 shutil.copy(HERE.parent.parent / path, copy)
-        before = os.getcwd()
+        for path in copy.rglob("*"):
+            path.chmod(0o755 if path.is_dir() else 0o644)
+        before, mask = os.getcwd(), os.umask(0o022)
         os.chdir(copy)
         try:
             yield build_meta
         finally:
             os.chdir(before)
+            os.umask(mask)
 
 
 def build_wheel(wheel_directory, config_settings=None, metadata_directory=None):

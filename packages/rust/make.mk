@@ -4,6 +4,6 @@ build/cargo/release/rapid%: $(wildcard packages/rust/*.toml packages/rust/build.
 	@command -v cargo >/dev/null || { echo 'make: neither rt, of the Rattle kit, nor cargo is on PATH' >&2; exit 2; }
 	@$(unproved)
 	@cd packages/rust/tools && CARGO_TARGET_DIR='$(CURDIR)/build/cargo' CARGO_PROFILE_RELEASE_LTO=fat \
-	  CARGO_PROFILE_RELEASE_CODEGEN_UNITS=1 CARGO_PROFILE_RELEASE_PANIC=abort \
+	  CARGO_PROFILE_RELEASE_CODEGEN_UNITS=1 CARGO_PROFILE_RELEASE_PANIC=abort CARGO_PROFILE_RELEASE_STRIP=symbols \
 	  cargo build --release --offline --quiet --bin rapid$*
 	@touch $@

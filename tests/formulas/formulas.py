@@ -17,18 +17,28 @@ FOLDER = TOP / "tests" / "formulas"
 C = ("-std=c99 -Wall -Wextra -Werror -Wno-unused-function '-DRAPIDHASH_PRIMITIVES=\"primitives.h\"' -include assert.h"
      " -DRAPIDHASH_ASSERT=assert -I$YERVOUND/packages/c/include -I$YERVOUND/tests/formulas $YERVOUND/tests/formulas/subject.c")
 CPP = "-x c++ " + C.replace("c99", "c++17")
-RUST = "rustc -O --edition 2021 --extern rapidhash=librapidhash.rlib $YERVOUND/tests/formulas/subject.rs"
 JAVA = ("mkdir java && cp -r $YERVOUND/packages/java/src/main/java/. $YERVOUND/packages/java/src/formulas/java/. java &&"
         " rm java/module-info.java && javac --release 11 -d classes $(find java -name '*.java')")
 SANITIZERS = "/usr/lib/llvm-*/lib/clang/*/lib/linux/libclang_rt.fuzzer-x86_64.a"
 GO = "(cd $YERVOUND/packages/go && GOCACHE=$OLDPWD/cache GOPROXY=off go test -tags formulas -c -o $OLDPWD/go)"
+
+
+def rust(rustc, name):
+    """Returns the commands that build the Rust crate and its subject with a compiler, which build.rs asks what it lacks."""
+    return (f"{rustc} --edition 2021 $YERVOUND/packages/rust/build.rs -o {name}_script && {rustc} -O --edition 2021"
+            f" --crate-type rlib --crate-name rapidhash --cap-lints allow --cfg 'feature=\"std\"'"
+            f" $(RUSTC={rustc} ./{name}_script | sed -n 's/^cargo:rustc-cfg=/--cfg /p') crate/lib.rs -o lib{name}.rlib &&"
+            f" {rustc} -O --edition 2021 --extern rapidhash=lib{name}.rlib $YERVOUND/tests/formulas/subject.rs -o {name}")
+
+
 # The subjects: name, kind, the tools that it needs, and the commands that build and run it in the directory ROOM.
 SUBJECTS = [
     ("c_gcc", "native", "gcc", f"gcc -O2 {C} -o c_gcc", "./c_gcc"),
     ("c_clang", "native", f"clang {SANITIZERS}", f"clang -O1 -fsanitize=address,undefined {C} -o c_clang", "./c_clang"),
     ("c_tcc", "native", "tcc", f"tcc {C} -o c_tcc", "./c_tcc"),
     ("cpp_constexpr", "v3", "g++", f"g++ -O2 {CPP} -o cpp_constexpr", "./cpp_constexpr"),
-    ("rust", "kernels", "rustc", f"{RUST} -o rust", "./rust"),
+    ("rust", "kernels", "rustc", rust("rustc", "rust"), "./rust"),
+    ("rust_debian", "kernels", "/usr/bin/rustc", rust("/usr/bin/rustc", "rust_debian"), "./rust_debian"),
     ("go", "native", "go", GO, "./go"),
     ("java", "native", "javac java", JAVA, "java -cp classes example.yervound.rapidhash.Formulas"),
     ("java_direct", "native", "javac java", "true", "java -cp classes example.yervound.rapidhash.Formulas direct"),
@@ -56,24 +66,22 @@ def build_definition():
     return shell("rustc -O --edition 2021 -A dead_code definition/main.rs -o compare", ROOM)
 
 
-def build_crate():
-    """Builds the Rust crate over random reads and a random product, which no constant function can call. Those that make
+def copy_crate():
+    """Copies the Rust crate over random reads and a random product, which no constant function can call. Those that make
     a stream call neither."""
     folder = shutil.copytree(TOP / "packages" / "rust" / "src", ROOM / "crate")
     for path in folder.rglob("*.rs"):
         if path.name not in ("held.rs", "stream.rs", "folded.rs"):
             path.write_text(re.sub(r"\bconst fn\b", "fn", path.read_text()))
     shutil.copy(FOLDER / "util.rs", folder / "proved")
-    return shell("rustc -O --edition 2021 --crate-type rlib --crate-name rapidhash --cap-lints allow"
-                 " --cfg 'feature=\"std\"' crate/lib.rs", ROOM)
 
 
 needs("rustc")
-for build in (build_definition, build_crate):
-    status, output = build()
-    if status:
-        tell(build.__name__, output[-2000:])
-        finish()
+status, output = build_definition()
+if status:
+    tell("build_definition", output[-2000:])
+    finish()
+copy_crate()
 for name, kind, program, build, run in SUBJECTS:
     if sys.argv[1:] and name not in sys.argv[1:]:
         continue

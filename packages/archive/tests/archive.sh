@@ -93,16 +93,22 @@ refuses_changes() {
     grep -x 'make release: the tree has changes: commit them first' "$room/said" && [ ! -e "$room/changed/build" ]
 }
 
+# Checks that make refuses to release a commit without a gate that passed, before it builds anything.
+refuses_to_release() {
+  ! make -s MAKE=true kit=yes release 2>"$room/said" && [ ! -e build/release ] &&
+    grep -qx 'make release: build/gate.md has no gate of this commit that passed: run make check first' "$room/said"
+}
+
 # Checks that a release has the page of its gate, each product of make, for which empty files stand in, its commit and
-# all checksums. A gate of another commit, or one that failed, is none.
+# all checksums. Without a page, or with that of another commit or of a gate that failed, there is none.
 releases_a_commit() {
   local gate file files=(gate.md a.tar.gz a.tgz a.jar wheels/a.whl wheels/b.tar.gz debian/a.deb debian/b.deb debian/a.dsc debian/a.tar.xz)
   git clone -q -s "$top" "$room/released" && cd "$room/released" || return
   for file in "${files[@]}" wheels/made debian/log; do install -D /dev/null "build/$file" || return; done
+  rm build/gate.md && refuses_to_release || return
   for gate in 'HEAD 1' 'HEAD~1 0'; do
     printf '| %s |\n' "commit | $(git rev-parse "${gate% *}")" "result | 9 passed, ${gate#* } failed" >build/gate.md
-    ! make -s MAKE=true kit=yes release 2>"$room/said" && [ ! -e build/release ] &&
-      grep -qx 'make release: build/gate.md has no gate of this commit that passed: run make check first' "$room/said" || return
+    refuses_to_release || return
   done
   printf '| %s |\n' "commit | $(git rev-parse HEAD)" 'result | 9 passed, 0 failed' >build/gate.md
   make -s MAKE=true kit=yes release && cd build/release && git rev-parse HEAD | diff - COMMIT &&
@@ -145,12 +151,34 @@ packs_a_part() {
     [ -z "$(ls packages/java/*.jar 2>/dev/null)" ]
 }
 
+# Checks that all users may read each package and its files, of a tree that only its owner may read.
+packs_readable_files() (
+  local product
+  umask 077
+  git clone -q -s "$top" "$room/private" && cd "$room/private" || return
+  for product in crates/rapidhash_cli/out/rapidhash_cli crates/rapidsum/out/rapidsum crates/rapidhash_c/out/librapidhash_c.a; do
+    install -D -m 700 "$top/$product" "$product" || return
+  done
+  make -s dist && python3 - build/*.t*gz build/wheels/*.* build/*.jar <<'PYTHON'
+import os, sys, tarfile, zipfile
+hidden = [name for name in sys.argv[1:] if os.stat(name).st_mode & 0o44 != 0o44]
+for name in sys.argv[1:]:
+    if "gz" in name:
+        modes = {it.name: it.mode for it in tarfile.open(name) if not it.issym()}
+    else:
+        modes = {it.filename: it.external_attr >> 16 or 0o44 for it in zipfile.ZipFile(name).infolist()}
+    hidden += [f"{name}: {it}" for it, mode in modes.items() if mode & 0o44 != 0o44]
+sys.exit("\n".join(hidden) if hidden or len(sys.argv) < 6 else 0)
+PYTHON
+)
+
 for target in dist release; do try "${target}_without_the_kit" refuses_without_the_kit "$target"; done
 try release_of_a_commit releases_a_commit
 try failed_bench keeps_the_figures
 try next_version carries_the_version
 needs rt esbuild wasm-ld clang npm javac /usr/lib/python3/dist-packages/{setuptools,wheel}
 try release_of_a_changed_tree refuses_changes
+try readable_files packs_readable_files
 try partial_archive packs_a_part
 try archive makes_the_archive
 try results_of_make has_what_make_builds

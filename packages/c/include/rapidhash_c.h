@@ -38,6 +38,15 @@
 #include <intrin.h>
 #endif
 
+/* The casts are those of C, of which g++ and clang++ can warn. */
+#if defined(__cplusplus) && defined(__GNUC__)
+#pragma GCC diagnostic push
+#pragma GCC diagnostic ignored "-Wold-style-cast"
+#ifndef __clang__
+#pragma GCC diagnostic ignored "-Wuseless-cast"
+#endif
+#endif
+
 /* The version of this header. The hashes are those of the Rust crate rapidhash 4.5.1. */
 #define RAPIDHASH_C_VERSION_MAJOR 1
 #define RAPIDHASH_C_VERSION_MINOR 0
@@ -311,7 +320,7 @@ RAPIDHASH_INLINE uint64_t rapidhash_from_canonical(const unsigned char *bytes)
 #define RAPIDHASH_ASSERT(condition) ((void)0)
 #endif
 /* Loads and the product. They depend on the machine, and nothing else does. A test replaces them by those of a file. */
-#ifdef RAPIDHASH_PRIMITIVES
+#if defined(RAPIDHASH_PRIMITIVES) && !defined(__CPPCHECK__)
 #include RAPIDHASH_PRIMITIVES
 #else
 #if defined(_MSC_VER) || (defined(__BYTE_ORDER__) && __BYTE_ORDER__ == __ORDER_LITTLE_ENDIAN__)
@@ -703,5 +712,8 @@ RAPIDHASH_API void rapidhash_stream_reset(struct rapidhash_stream *stream)
 #endif /* RAPIDHASH_LINK */
 #if defined(__cplusplus) && (defined(RAPIDHASH_LINK) || defined(RAPIDHASH_IMPLEMENTATION))
 }
+#endif
+#if defined(__cplusplus) && defined(__GNUC__)
+#pragma GCC diagnostic pop
 #endif
 #endif

@@ -13,6 +13,12 @@
 #include <optional>
 #endif
 
+/* On some machines a cast to std::size_t or std::int64_t changes no type, of which g++ can warn. */
+#if defined(__GNUC__) && !defined(__clang__)
+#pragma GCC diagnostic push
+#pragma GCC diagnostic ignored "-Wuseless-cast"
+#endif
+
 namespace rapidhash {
 
 /* Appends a value to a V3 stream of C, as the fields of a key. Different values of a type are different messages:
@@ -166,5 +172,9 @@ private:
 };
 
 } /* namespace rapidhash */
+
+#if defined(__GNUC__) && !defined(__clang__)
+#pragma GCC diagnostic pop
+#endif
 
 #endif

@@ -110,21 +110,32 @@ is_as_visible_as_asked() {
 }
 
 # Compiles the headers with all warnings of clang but these: the header joins expressions by commas and has structs with
-# padding, its callers use functions that may be unused, and for C++ it has casts of C and needs C++11.
+# padding, its callers use functions that may be unused, and for C++ it needs C++11.
 has_no_warning() {
   local allowed=(-Wno-comma -Wno-padded -Wno-used-but-marked-unused)
   clang -std=c99 -Weverything -Werror "${allowed[@]}" "-I$include" -c "$top/packages/c/rapidhash_c.c" -o /dev/null &&
-    clang++ -std=c++17 -Weverything -Werror "${allowed[@]}" -Wno-old-style-cast -Wno-c++98-compat-pedantic \
-      -Wno-pre-c++17-compat "-I$include" -x c++ -c -o /dev/null - <<'CPP'
+    includes_the_headers clang++ -Weverything "${allowed[@]}" -Wno-c++98-compat-pedantic -Wno-pre-c++17-compat
+}
+
+# Compiles a program in C++ that uses the headers, whose casts are of C, without a warning: COMPILER ARGUMENT..
+includes_the_headers() {
+  "$@" -std=c++17 -Werror "-I$include" -x c++ -c -o /dev/null - <<'CPP'
 #include <rapidhash.hpp>
 int main()
 {
     const rapidhash::hasher hasher;
     const rapidhash::seeded_hasher seeded(rapidhash::seed(7));
-    const auto value = std::make_tuple(1, std::make_pair("a", 'b'), std::optional<int>(), std::filesystem::path("a/b"));
+    const auto value = std::make_tuple(1, std::make_pair("a", 'b'), std::optional<long>(), std::filesystem::path("a/b"));
     return hasher(value) == seeded(value) && rapidhash::micro_stream().update("a").finish() == rapidhash::hash("a");
 }
 CPP
+}
+
+# Checks that cppcheck reports no error in a file of C or of C++ that includes a header.
+has_no_fault_of_cppcheck() {
+  mkdir "$room/cppcheck" && cp "$room/second.c" "$room/cppcheck" &&
+    printf '#include <rapidhash.hpp>\nint main() { return rapidhash::hash("hello") == 0; }\n' >"$room/cppcheck/first.cpp" &&
+    cppcheck --quiet --error-exitcode=1 "-I$include" "$room/cppcheck"
 }
 
 # Checks that the library has the names of C if a C++ compiler builds it, and that at run time a hash of C++ calls the
@@ -381,6 +392,48 @@ fetches_by_cmake() {
     cmake -D CMAKE_C_COMPILER=none -B added && cmake --build added && [ "$(added/hello)" = 3327445792987248966 ]
 }
 
+# Installs a library that includes the header's directory and exports a target with it, and the headers alone. Checks that
+# a program finds both, in a tree that was moved.
+exports_by_cmake() {
+  mkdir "$room/sums" && cd "$room/sums" && cat >CMakeLists.txt <<CMAKE && cat >sums.cpp <<'CPP' &&
+cmake_minimum_required(VERSION 3.10)
+project(sums CXX)
+add_subdirectory("$top/packages/c" rapidhash_c)
+add_library(sums STATIC sums.cpp)
+target_link_libraries(sums PUBLIC rapidhash_c::header)
+install(TARGETS sums EXPORT sums ARCHIVE DESTINATION lib)
+install(EXPORT sums FILE sums-targets.cmake DESTINATION lib/cmake/sums)
+install(FILES sums-config.cmake DESTINATION lib/cmake/sums)
+CMAKE
+#include <rapidhash.hpp>
+std::uint64_t sum(const char *text) { return rapidhash::hash(text); }
+CPP
+    printf '%s\n' 'include(CMakeFindDependencyMacro)' 'find_dependency(rapidhash_c 1.0)' \
+      'include("${CMAKE_CURRENT_LIST_DIR}/sums-targets.cmake")' >sums-config.cmake &&
+    cmake -B built -D CMAKE_INSTALL_PREFIX="$room/first place" && cmake --build built && cmake --install built &&
+    mv "$room/first place" "$room/sums place" && finds_by_cmake "$room/sums place" 'find_package(sums)' sums &&
+    cmake -S "$top/packages/c" -B headers -D CMAKE_C_COMPILER=none && cmake --install headers --prefix "$room/headers" &&
+    finds_by_cmake "$room/headers" 'find_package(rapidhash_c 1.0 CONFIG)' rapidhash_c::header &&
+    diff "$top/packages/c/include" "$room/headers/include"
+}
+
+# Builds a program over an installed tree of headers, which also serve pointers of 32 bits: PREFIX FIND TARGET
+finds_by_cmake() {
+  mkdir -p "$room/user" && cd "$room/user" && rm -rf built && cat >CMakeLists.txt <<CMAKE && cat >user.cpp <<'CPP' &&
+cmake_minimum_required(VERSION 3.10)
+project(user CXX)
+set(CMAKE_SIZEOF_VOID_P 4)
+$2
+add_executable(user user.cpp)
+target_link_libraries(user PRIVATE $3)
+CMAKE
+#include <cstdio>
+#include <rapidhash.hpp>
+int main() { std::printf("%llu\n", static_cast<unsigned long long>(rapidhash::hash("hello"))); }
+CPP
+    cmake -B built -D CMAKE_PREFIX_PATH="$1" && cmake --build built && [ "$(built/user)" = 3327445792987248966 ]
+}
+
 # Compiles and runs the programs of docs/C.md and docs/CPP.md with the headers alone, as the pages say.
 first_program_runs() {
   blocks "$top/docs/C.md" c hello >"$room/bare/hello.c" && blocks "$top/docs/C.md" sh Ipackages >"$room/commands" &&
@@ -442,6 +495,8 @@ for compiler in g++ clang++; do try_with "cpp_definitions_$compiler" "$compiler"
 for compiler in g++ clang++; do try_with "cpp_fields_$compiler" "$compiler" refuses_what_is_no_field "$compiler"; done
 for compiler in gcc clang; do try_with "visibility_$compiler" "$compiler" is_as_visible_as_asked "$compiler"; done
 try_with all_warnings_of_clang 'clang clang++' has_no_warning
+try_with casts_of_c g++ includes_the_headers g++ -Wall -Wextra -Wold-style-cast -Wuseless-cast
+try_with cppcheck cppcheck has_no_fault_of_cppcheck
 try_with cpp_header_32_bits "g++ $multilib/libstdc++.a" calls_from_cpp g++ c++11 -m32 \
   -idirafter /usr/include/x86_64-linux-gnu
 
@@ -489,6 +544,7 @@ COUNTS
 try_with words_of_the_header clang keeps_words_in_registers
 for compiler in gcc clang; do try_with "attributes_$compiler" "$compiler" has_attributes "$compiler"; done
 try_with fetched_by_cmake 'cmake make c++' fetches_by_cmake
+try_with exported_by_cmake 'cmake make c++' exports_by_cmake
 try_with manual_and_header mandoc manual_has_the_header
 try_with preconditions_of_the_manual mandoc manual_has_the_preconditions
 

@@ -113,7 +113,8 @@ static void check_defaults()
             of_counted_and_hello(rapidhash_v3_nano_with_secrets));
 }
 
-/* Checks that a copy has its own secrets: the first stream gets other secrets and is then destroyed. */
+/* Checks that a copy has its own secrets: the first stream gets other secrets and is then destroyed. A stream that is
+ * assigned to itself keeps its message. */
 static void check_copies()
 {
     const std::vector<unsigned char> message = counted();
@@ -124,12 +125,35 @@ static void check_copies()
     first->update(message.data(), 60);
     rapidhash::stream copy(*first);
     assigned = *first;
+    const rapidhash::stream &same = assigned;
+    assigned = same;
     *first = rapidhash::stream(rapidhash::seed(1)).update("other");
     first.reset();
     compare("a copied stream", copy.update(message.data() + 60, 60).finish(), known);
     compare("an assigned stream", assigned.update(message.data() + 60, 60).finish(), known);
     assigned.reset();
     compare("a stream after a reset", assigned.update(message).finish(), known);
+}
+
+/* Checks that a moved stream has its own secrets: the place that it leaves gets others, and a vector that grows moves
+ * its streams. */
+static void check_moves()
+{
+    const std::vector<unsigned char> message = counted();
+    rapidhash::stream source(own);
+    std::vector<rapidhash::stream> streams;
+
+    source.update(message.data(), 60);
+    rapidhash::stream moved(std::move(source));
+    source = rapidhash::stream(rapidhash::seed(1));
+    compare("a moved stream", moved.update(message.data() + 60, 60).finish(), rapidhash::hash(message, own));
+    for (std::uint64_t number = 0; number < 20; number++) {
+        streams.emplace_back(rapidhash::make_secrets(number));
+        streams.back().update(message.data(), 60);
+    }
+    for (std::uint64_t number = 0; number < 20; number++)
+        compare("a stream in a vector", streams[number].update(message.data() + 60, 60).finish(),
+                rapidhash::hash(message, rapidhash::make_secrets(number)));
 }
 
 static void check_tables()
@@ -285,6 +309,7 @@ int main(int count, char **words)
     check_constants();
     check_defaults();
     check_copies();
+    check_moves();
     check_tables();
     check_stored();
     check_vectors(words[1]);

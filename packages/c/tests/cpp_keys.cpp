@@ -67,6 +67,9 @@ static void check_hashers()
 #if __cplusplus >= 201703L
     compare_hashers("an optional", std::optional<int>(4711), 17387702299298608986U, 3930916115193605498U);
     compare_hashers("an empty optional", std::optional<std::string>(), 5702620981742189058U, 9713595378912556722U);
+    compare_hashers("an empty optional of bool", std::optional<bool>(), 5702620981742189058U, 9713595378912556722U);
+    compare_hashers("an optional of false", std::optional<bool>(false), rapidhash::key(0),
+                    rapidhash::key(rapidhash::seed(7), 0));
     compare_hashers("a pair of optionals", make_pair(std::optional<int>(), std::optional<int>(4711)),
                     5737980471343670974U, 14629814074638691538U);
 #endif

@@ -8,14 +8,28 @@ library=$root/usr/lib/x86_64-linux-gnu
 names='librapidhash-c-dev librapidhash-c1 postgresql-15-rapidhash rapidhash-tools sqlite3-rapidhash'
 
 # Checks that the source package, unpacked elsewhere, builds the same bytes with Debian's tools alone, and no other
-# files. A build compares the vectors.
-packs_the_same_bytes() {
+# files: in a path with a space, and where others may not read new files. A build compares the vectors.
+packs_the_same_bytes() (
   make -s -C "$top" deb && cd "$packages" && grep -qxE '[1-9][0-9]* passed, 0 failed' log &&
-    sha256sum ./*.deb >"$room/sums" && mkdir "$room/elsewhere" &&
-    cp ./*.dsc ./*.tar.xz "$room/elsewhere" && cd "$room/elsewhere" && dpkg-source -x ./*.dsc bare &&
+    sha256sum ./*.deb >"$room/sums" && mkdir "$room/else where" &&
+    cp ./*.dsc ./*.tar.xz "$room/else where" && cd "$room/else where" && umask 077 && dpkg-source -x ./*.dsc bare &&
     (cd bare && env -i PATH=/usr/bin:/bin dpkg-buildpackage -b -us -uc) && sha256sum --check "$room/sums" &&
     diff <(printf '%s_1.0.0_amd64.deb\n' $names) <(printf '%s\n' *.deb) &&
     [ "$(for deb in *.deb; do dpkg-deb --field "$deb" Multi-Arch; done | xargs)" = 'same same no foreign no' ]
+)
+
+# Checks that all users may read the files of the source package, of a tree that only its owner may read.
+packs_readable_sources() (
+  umask 077
+  git clone -q -s "$top" "$room/private" && cd "$room/private" &&
+    make -n deb | sed 's/dpkg-buildpackage -us -uc/dpkg-source -b ./' | bash -e && cd build/debian &&
+    [ "$(tar -tvf ./*.tar.xz | wc -l)" -gt 500 ] && ! tar -tvf ./*.tar.xz | grep -v '^[-d]rw.r-.r-. ' | grep -v '^l'
+)
+
+# Checks that a builder who asks for no tests runs none.
+builds_without_tests() {
+  local tested="make -sn -f debian/rules override_dh_auto_test"
+  cd "$packages/source" && $tested | grep c_library && [ -z "$(DEB_BUILD_OPTIONS=nocheck $tested)" ]
 }
 
 # Runs dpkg in the root with all packed files, even those that the machine omits from its own packages: ARGUMENT..
@@ -114,6 +128,8 @@ leaves_nothing() {
 needs dpkg-buildpackage dh lintian cc /usr/bin/{rustc,cargo} cmake sqlite3 pg_config '/usr/include/postgresql/*/server/postgres.h'
 [ "$(id -u)" -eq 0 ] || skip_all 'not run as root'
 try packages packs_the_same_bytes
+try without_tests builds_without_tests
+try readable_sources packs_readable_sources
 try lintian lintian --allow-root --fail-on error,warning "$packages"/*.changes
 try dependencies needs_others
 try install installs

@@ -1,5 +1,7 @@
 //! How streams, states and hashers hold their secrets.
 
+#[cfg(any(feature = "std", not(target_has_atomic = "32")))]
+use crate::proved::inner::state::seeded::Seeded;
 use crate::secrets::RapidSecrets;
 use std::marker::PhantomData;
 use std::ops::Deref;
@@ -30,8 +32,8 @@ impl Deref for Owned<'_> {
     }
 }
 
-/// The secrets of a state and its hashers: a reference, or without `std` the words themselves, because `core` has
-/// nothing that lends words to a whole process after a program has chosen them.
+/// The secrets of a hasher: a reference, or without `std` the words themselves, because `core` has nothing that lends
+/// words to a whole process after a program has chosen them.
 #[derive(Clone, Copy)]
 pub(crate) struct Secrets<'s> {
     #[cfg(feature = "std")]
@@ -56,6 +58,7 @@ impl<'s> Secrets<'s> {
 
 #[cfg(not(feature = "std"))]
 impl From<[u64; 7]> for Secrets<'static> {
+    #[inline(always)]
     fn from(words: [u64; 7]) -> Self {
         Secrets {
             words,
@@ -73,5 +76,26 @@ impl Deref for Secrets<'_> {
         return self.words;
         #[cfg(not(feature = "std"))]
         &self.words
+    }
+}
+
+/// The content of a state. Without `std`, `random` has a smaller one.
+#[cfg(any(feature = "std", not(target_has_atomic = "32")))]
+pub(crate) type Kept<'s> = Seeded<'s>;
+
+#[cfg(any(feature = "std", not(target_has_atomic = "32")))]
+impl<'s> Seeded<'s> {
+    #[inline(always)]
+    pub(crate) const fn new(seed: u64, words: &'s [u64; 7]) -> Self {
+        Seeded {
+            seed,
+            secrets: Secrets::new(words),
+        }
+    }
+
+    /// Returns the seed and the secrets.
+    #[inline(always)]
+    pub(crate) const fn seeded(&self) -> Self {
+        *self
     }
 }

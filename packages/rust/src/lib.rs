@@ -57,7 +57,7 @@
 //!   gives none, and std's words are the same in each run.
 //! - Without `std`, they come from the address at which the program was loaded. If the system does not choose it at
 //!   random, they are the same in each run.
-//! - In both cases a program can set its own: `set_random_words`.
+//! - In both cases a program can add its own: `set_random_words`. Without `std`, they replace those of the address.
 //!
 //! # Versions
 //!
@@ -69,6 +69,10 @@
 //! Without the default feature `std`, the crate needs only `core`, and has no readers and no maps.
 #![cfg_attr(not(feature = "std"), no_std)]
 #![cfg_attr(docsrs, feature(doc_cfg))]
+#![cfg_attr(
+    docsrs,
+    doc(auto_cfg(hide(rapidhash_old_const, rapidhash_no_once_lock)))
+)]
 #![forbid(unsafe_code)]
 #![deny(missing_docs)]
 // Proofs use array indices, and casts that they show to lose nothing. The generator's `next` is not an iterator's.

@@ -7,26 +7,30 @@
 //! allocator.
 //!
 //! Without std, a program can set the two words. Otherwise both come from an address, which most systems choose at
-//! random.
+//! random. Neither waits for a lock, so that an interrupt may make a state too.
 
 use crate::rng::RapidRng;
 use crate::secrets::RapidSecrets;
 
 use std::fmt::{Display, Formatter};
-pub(crate) use system::{global, next, secrets};
-#[cfg(feature = "std")]
-use with_std as system;
-#[cfg(not(feature = "std"))]
-use without_std as system;
+pub(crate) use system::{Kept, global, next, of_process};
 
-#[cfg(feature = "std")]
-mod with_std;
-#[cfg(not(feature = "std"))]
-mod without_std;
+#[cfg_attr(feature = "std", path = "random/with_std.rs")]
+#[cfg_attr(
+    all(not(feature = "std"), target_has_atomic = "32"),
+    path = "random/without_std.rs"
+)]
+#[cfg_attr(
+    all(not(feature = "std"), not(target_has_atomic = "32")),
+    path = "random/without_atomics.rs"
+)]
+mod system;
 
-/// Sets the two random words from which this process makes its secrets and seeds, on a system that has none of its own
-/// for this crate: without the feature `std`, or on wasm32-unknown-unknown. A program calls it once, first of all, with
-/// words that nobody else knows. A library never calls it.
+/// Adds two random words to those of the system, and makes the secrets and seeds of this process from all of them. It
+/// is for a system that gives this crate none: without the feature `std`, or on wasm32-unknown-unknown. A program calls
+/// it once, first of all, with words that nobody else knows.
+///
+/// Elsewhere it does no harm, even with words that others know: each only changes a random one, by XOR.
 ///
 /// ```
 /// # fn two_words_of_the_hardware() -> [u64; 2] { [0x9e37_79b9_7f4a_7c15, 0xbf58_476d_1ce4_e5b9] }
@@ -71,7 +75,7 @@ impl RapidSecrets {
     /// ```
     #[must_use]
     pub fn random() -> Self {
-        let state = next();
+        let state = next().seeded();
         RapidSecrets {
             seed: state.seed,
             secrets: *state.secrets,

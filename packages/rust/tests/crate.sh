@@ -1,13 +1,18 @@
 #!/usr/bin/env bash
 # Checks that the sources of the Rust crate in packages/rust/ are current. Tests its layout and lints, the package that
 # cargo builds, the README's program in its own directory, and the commands of docs/BINDINGS.md. Runs its tests and
-# examples with the machine's compiler and with Debian's.
+# examples with the machine's compiler and with Debian's, which is the oldest.
 . "$(dirname "$0")/../../../tests/cases.sh"
 export CARGO_TARGET_DIR=$room/target CARGO_NET_OFFLINE=true
 
 # Runs Debian's cargo with Debian's compiler: ARGUMENT..
 debian() {
   env RUSTC=/usr/bin/rustc RUSTDOC=/usr/bin/rustdoc CARGO_TARGET_DIR="$room/debian" /usr/bin/cargo "$@"
+}
+
+# Does the same as `try` if the compiler is not older than this version of Rust: NAME MINOR COMMAND..
+try_from() {
+  if [ "$(rustc --version | cut -d . -f 2)" -lt "$2" ]; then skip "$1" "no rustc 1.$2 (*rustup)"; else try "$1" "${@:3}"; fi
 }
 
 # Checks that tests ran and that none failed. A run without tests fails: COMMAND..
@@ -38,7 +43,7 @@ readme_runs() {
 # two of them and does not compile. The names in this library have the constants of generic functions.
 needs_core_alone() {
   local project=$room/bare
-  mkdir -p "$project/src" && printf '%s\n' '[package]' 'name = "bare"' 'version = "0.0.0"' 'edition = "2021"' '[lib]' \
+  rm -rf "$project" && mkdir -p "$project/src" && printf '%s\n' '[package]' 'name = "bare"' 'version = "0.0.0"' 'edition = "2021"' '[lib]' \
     'crate-type = ["staticlib"]' '[dependencies]' \
     "yervound-rapidhash = { path = \"$top/packages/rust\", default-features = false }" \
     '[profile.dev]' 'panic = "abort"' >"$project/Cargo.toml" &&
@@ -91,8 +96,8 @@ builds_without_script() {
 # Checks that the compiler refuses calls with invalid constants, and names the reason.
 refuses_constants() {
   local project=$room/constants call reason
-  mkdir -p "$project/src" && printf '%s\n' '[package]' 'name = "first"' 'version = "0.0.0"' 'edition = "2021"' \
-    '[dependencies]' "yervound-rapidhash = { path = \"$top/packages/rust\" }" >"$project/Cargo.toml"
+  rm -rf "$project" && mkdir -p "$project/src" && printf '%s\n' '[package]' 'name = "first"' 'version = "0.0.0"' \
+    'edition = "2021"' '[dependencies]' "yervound-rapidhash = { path = \"$top/packages/rust\" }" >"$project/Cargo.toml"
   while IFS='|' read -r call reason; do
     echo "fn main() { use rapidhash::{v2::*, v3::{*, DEFAULT_RAPID_SECRETS}}; let _ = $call; }" >"$project/src/main.rs"
     if [ -z "$reason" ]; then
@@ -194,6 +199,33 @@ works_without_a_system() {
       grep -q 'getrandom_04 need the feature `std`' "$room/refused")
 }
 
+# Builds the pages as docs.rs does, which label what depends on a feature. Checks that no page names what build.rs sets.
+has_no_label_of_a_compiler() {
+  local pages=$room/docs_rs/doc/rapidhash
+  RUSTC_BOOTSTRAP=1 RUSTDOCFLAGS='--cfg docsrs -D warnings' cargo doc --no-deps --all-features --target-dir "$room/docs_rs" &&
+    grep -rq 'Available on <strong>crate feature <code>std' "$pages" && ! grep -rlE 'rapidhash_(old_const|no_once_lock)' "$pages"
+}
+
+# Checks that a state without std executes at most 50 instructions. If each made its secrets anew, it would be 150.
+makes_states_from_stored_words() {
+  local project=$room/states
+  mkdir -p "$project/src" && printf '%s\n' '[package]' 'name = "first"' 'version = "0.0.0"' 'edition = "2021"' \
+    '[dependencies]' "yervound-rapidhash = { path = \"$top/packages/rust\", default-features = false }" \
+    >"$project/Cargo.toml" && printf '%s\n' '#[inline(never)] #[no_mangle] pub extern "C" fn counted(times: usize) {' \
+    'for _ in 0..times { std::hint::black_box(rapidhash::fast::RandomState::new()); } }' \
+    'fn main() { counted(999 + std::env::args().count()) }' >"$project/src/main.rs" &&
+    (cd "$project" && cargo build --release && valgrind --tool=callgrind --callgrind-out-file=/dev/null \
+      --toggle-collect=counted "$CARGO_TARGET_DIR/release/first" 2>&1) | tee /dev/stderr |
+    awk '/Collected : / { found = 1; if ($NF > 50000) exit 1 } END { if (!found) exit 1 }'
+}
+
+# Runs the tests of words over words in two halves, as a machine without atomics of 64 bits has them.
+shares_words_in_halves() (
+  mkdir "$room/halves" && cp -r Cargo.toml build.rs src tests "$room/halves" && cd "$room/halves" &&
+    sed -i '/^members/d' Cargo.toml && sed -i 's/target_has_atomic = "64"/target_has_atomic = "none"/' src/random/without_std.rs &&
+    tests_pass cargo test --no-default-features --test words
+)
+
 # Checks that compat has each feature of the crate rapidhash 4.5.1, and `rng_06`.
 has_its_features() {
   sed -n '/^\[features\]/,$ s/ = .*//p' compat/Cargo.toml | sort | diff - <(printf '%s\n' default getrandom_03 \
@@ -213,43 +245,55 @@ for features in --all-features --no-default-features; do
   try "tests_${features#--}" tests_pass cargo test "$features" --tests
 done
 try tests_in_release tests_pass cargo test --release --tests
-try core_alone needs_core_alone
-try rows_per_iteration folds_two_rows
 for manifest in Cargo.toml {compat,tools}/Cargo.toml; do try "metadata_of_$manifest" has_the_metadata "$manifest"; done
 try examples tests_pass cargo test --doc
 try_with pedantic cargo-clippy cargo clippy -- -D warnings -W clippy::pedantic
 crates=/usr/share/cargo/registry
+debian='/usr/bin/rustc /usr/bin/cargo'
 if [ "$(rustc --version | cut -d . -f 2)" -lt 83 ]; then
-  skip drop_in 'rustc is older than 1.83'
+  skip drop_in 'no rustc 1.83 (*rustup)'
 else
   try_with drop_in "$(printf "$crates/%s " rand_core-0.6\* hashbrown-0.12\* indexmap-1\*)" drops_in
 fi
 try features_of_compat has_its_features
-for features in '' nightly std rand 'std unsafe getrandom_03 getrandom_04'; do
-  try "compat_with_${features:-nothing}" over_compat "$features" cargo check
-done
-try_with compat_with_rng_06 "$crates/rand_core-0.6*" over_compat rng_06 cargo check
-try generates_by_rand_core_09 generates_by_rand_core_09
-try getrandom_without_std refuses_feature getrandom_04
-try attack_by_compat tests_pass over_compat std cargo test --test attack
-try attack_by_compat_without_std tests_pass over_compat '' cargo test --test attack
-try deprecations_of_compat deprecates
-try without_build_script builds_without_script std
-try without_build_script_and_std builds_without_script
-try invalid_constants refuses_constants
-try features_of_the_compiler finds_its_features
-try no_dependency bash -c '[ "$(cargo tree | wc -l)" -eq 1 ]'
+try_from deprecations_of_compat 81 deprecates
+try_from without_build_script 83 builds_without_script std
+try_from without_build_script_and_std 83 builds_without_script
+try_from labels_of_docs_rs 92 has_no_label_of_a_compiler
+try_with states_without_std valgrind makes_states_from_stored_words
+try words_in_halves shares_words_in_halves
 try no_unsafe grep -x '#!\[forbid(unsafe_code)\]' src/lib.rs
-try package packages
-try readme readme_runs README.md cargo
-try readme_of_the_repository readme_runs "$top/README.md" cargo
-debian='/usr/bin/rustc /usr/bin/cargo'
+
+# The cases that are quick enough for two compilers: SUFFIX TOOLS
+test_by_a_compiler() {
+  try_with "core_alone$1" "$2" needs_core_alone
+  try_with "rows_per_iteration$1" "$2" folds_two_rows
+  for features in '' nightly std rand 'std unsafe getrandom_03 getrandom_04'; do
+    try_with "compat_with_${features:-nothing}$1" "$2" over_compat "$features" cargo check
+  done
+  try_with "compat_with_rng_06$1" "$2 $crates/rand_core-0.6*" over_compat rng_06 cargo check
+  try_with "generates_by_rand_core_09$1" "$2 $crates/rand_core-0.6*" generates_by_rand_core_09
+  try_with "getrandom_without_std$1" "$2" refuses_feature getrandom_04
+  try_with "attack_by_compat$1" "$2" tests_pass over_compat std cargo test --test attack
+  try_with "attack_by_compat_without_std$1" "$2" tests_pass over_compat '' cargo test --test attack
+  try_with "invalid_constants$1" "$2" refuses_constants
+  try_with "features_of_the_compiler$1" "$2" finds_its_features
+  try_with "no_dependency$1" "$2" bash -c '[ "$(cargo tree | wc -l)" -eq 1 ]'
+  try_with "package$1" "$2" packages
+  try_with "readme$1" "$2" readme_runs README.md cargo
+  try_with "readme_of_the_repository$1" "$2" readme_runs "$top/README.md" cargo
+}
+
+test_by_a_compiler '' 'rustc cargo'
+path=$PATH
+export PATH=/usr/bin:/bin CARGO_TARGET_DIR=$room/debian
+test_by_a_compiler _by_debian "$debian"
+export PATH=$path CARGO_TARGET_DIR=$room/target
 try_with oldest_compiler "$debian" tests_pass debian test --tests
 try_with oldest_compiler_without_std "$debian" tests_pass debian test --tests --no-default-features
 try_with compat_by_the_oldest_compiler "$debian" over_compat 'std unsafe' debian check
 try_with wasm32 "$debian /usr/lib/rustlib/wasm32-unknown-unknown wasm-ld node" works_without_a_system
 try_with examples_by_the_oldest_compiler "$debian" tests_pass debian test --doc
-try_with readme_by_the_oldest_compiler "$debian" readme_runs README.md debian
 try commands works_as_its_page_says <(sed -n '/^## Rust$/,/^## Python$/p' "$top/docs/BINDINGS.md")
 
 finish

@@ -8,16 +8,32 @@ cd "$top" || exit 1
 # PATH without rt: an installation, perhaps as root, does not need it.
 path=/usr/bin:/bin builder=rt
 has rt || path=$PATH builder=cargo
+# What make says if it leaves out the programs, because nothing can build them.
+left_out=
+has "$builder" || left_out='make: the programs are left out: install cargo (Rust 1.63 or newer) and run make again'
 
-# Checks that make says that it leaves out the programs, if nothing can build them, and no more.
+# Checks that make says that it leaves out the programs, and no more.
 builds_nothing_anew() {
-  local said=
-  has "$builder" || said='make: the programs are left out: install cargo (Rust 1.63 or newer) and run make again'
-  [ "$(make -s -C "$top" 2>&1)" = "$said" ] && [ "$(PATH=$path make -s -j3 -C "$top" 2>&1)" = "$said" ]
+  [ "$(make -s -C "$top" 2>&1)" = "$left_out" ] && [ "$(PATH=$path make -s -j3 -C "$top" 2>&1)" = "$left_out" ]
 }
 
 installs() {
   PATH=$path make -s -C "$top" install "$@"
+}
+
+# Checks that an installation says no more either, although make may name each directory that it enters.
+installs_quietly() {
+  [ "$(cd "$top" && PATH=$path make install PREFIX="$room/quiet" 2>&1)" = "$left_out" ]
+}
+
+# Checks that a full disk leaves no part of a file: each is there as a whole, as it was before, or not at all. A limit for
+# the size of a file stands in for the disk.
+leaves_no_part() {
+  local place=$room/full file
+  mkdir -p "$place/lib" && echo old >"$place/lib/librapidhash_c.a" || return
+  ! (ulimit -f 8 && installs PREFIX="$place") && listed "$place" >"$room/files" && while read -r file; do
+    grep -axq old "$place/$file" || cmp "$place/$file" "$prefix/$file" || return 1
+  done <"$room/files"
 }
 
 # Checks that rapidsum prints the line of a known hash and reads it back.
@@ -199,7 +215,7 @@ serves_without_the_kit() {
       'make: rt is not on PATH: building with cc and cargo, which is not the proved build' ] &&
     [ -z "$(make -s -C "$sources" 2>&1)" ] && make -s -C "$sources" install PREFIX="$place" &&
     diff <(listed "$prefix") <(listed "$place") && builds_by_pkg_config "$place/lib" &&
-    prefix=$place prints_and_checks_a_sum && prints_the_known_hash "$place" && prints_the_known_hash "$sources" &&
+    [ -z "$(nm "$place/bin/rapidsum" 2>/dev/null)" ] && prefix=$place prints_and_checks_a_sum && prints_the_known_hash "$place" && prints_the_known_hash "$sources" &&
     make -s -C "$sources" clean && [ ! -e "$sources/build" ]
 }
 
@@ -249,6 +265,8 @@ for folder in PREFIX=usr BINDIR= LIBDIR='/a b' INCLUDEDIR="/a'b" DATADIR=$'/a\nb
   'PREFIX=/a"' PREFIX=/a\\ PREFIX=/a\` PREFIX=/a\$ PREFIX=/a\# PREFIX=/a\| PREFIX=/a\& PREFIX=/a\;; do
   try "refuses ${folder//$'\n'/ }" refuses "$folder"
 done
+try quiet installs_quietly
+try full_disk leaves_no_part
 try failed_copy fails_if_a_copy_fails
 try_with folders_of_a_packager pkg-config serves_a_packager
 try headers_elsewhere serves_headers_elsewhere

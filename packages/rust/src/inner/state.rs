@@ -1,9 +1,7 @@
-//! The states that build hashers for a map. Each keeps only a seed and secrets, in the proved
-//! `seeded`. The source of the seeds and secrets of a process is outside the proof.
+//! The states that build hashers for a map. Each keeps only a seed and secrets, of which the proved `seeded` makes the
+//! hashers. The source of the seeds and secrets of a process is outside the proof.
 
-use crate::held::Secrets;
-use crate::proved::inner::state::seeded::Seeded;
-use crate::random::{global, next, secrets};
+use crate::random::{Kept, global, next, of_process};
 use crate::secrets::RapidSecrets;
 use std::fmt::{Debug, Formatter, Result};
 use std::hash::BuildHasher;
@@ -12,7 +10,7 @@ use super::RapidHasher;
 
 /// Defines a state whose `new` comes from a function.
 macro_rules! random_state {
-    ($(#[$about:meta])* $name:ident, $(#[$new:meta])* $seeded:path) => {
+    ($(#[$about:meta])* $name:ident, $(#[$new:meta])* $kept:path) => {
         $(#[$about])*
         #[derive(Clone, Copy, PartialEq, Eq)]
         pub struct $name<
@@ -21,7 +19,7 @@ macro_rules! random_state {
             const COMPACT: bool,
             const PROTECTED: bool,
         > {
-            seeded: Seeded<'static>,
+            kept: Kept<'static>,
         }
 
         impl<const AVALANCHE: bool, const SPONGE: bool, const COMPACT: bool, const PROTECTED: bool>
@@ -31,7 +29,7 @@ macro_rules! random_state {
             #[must_use]
             #[inline]
             pub fn new() -> Self {
-                Self { seeded: $seeded() }
+                Self { kept: $kept() }
             }
         }
 
@@ -52,7 +50,7 @@ macro_rules! random_state {
 
             #[inline(always)]
             fn build_hasher(&self) -> Self::Hasher {
-                self.seeded.hasher()
+                self.kept.seeded().hasher()
             }
         }
 
@@ -118,7 +116,7 @@ pub struct SeedableState<
     const COMPACT: bool = false,
     const PROTECTED: bool = false,
 > {
-    seeded: Seeded<'s>,
+    kept: Kept<'s>,
 }
 
 impl<'s, const AVALANCHE: bool, const SPONGE: bool, const COMPACT: bool, const PROTECTED: bool>
@@ -129,10 +127,7 @@ impl<'s, const AVALANCHE: bool, const SPONGE: bool, const COMPACT: bool, const P
     #[must_use]
     pub fn new(seed: u64) -> Self {
         Self {
-            seeded: Seeded {
-                seed: RapidSecrets::seed_of_word(seed),
-                secrets: secrets(),
-            },
+            kept: of_process(RapidSecrets::seed_of_word(seed)),
         }
     }
 
@@ -140,7 +135,7 @@ impl<'s, const AVALANCHE: bool, const SPONGE: bool, const COMPACT: bool, const P
     #[must_use]
     #[inline]
     pub fn random() -> Self {
-        Self { seeded: next() }
+        Self { kept: next() }
     }
 
     /// Returns the state with the default seed and secrets, the same in every run of every program.
@@ -159,10 +154,7 @@ impl<'s, const AVALANCHE: bool, const SPONGE: bool, const COMPACT: bool, const P
     #[inline]
     pub const fn custom(seed: u64, secrets: &'s [u64; 7]) -> Self {
         Self {
-            seeded: Seeded {
-                seed,
-                secrets: Secrets::new(secrets),
-            },
+            kept: Kept::new(seed, secrets),
         }
     }
 
@@ -192,7 +184,7 @@ impl<'s, const AVALANCHE: bool, const SPONGE: bool, const COMPACT: bool, const P
 
     #[inline(always)]
     fn build_hasher(&self) -> Self::Hasher {
-        self.seeded.hasher()
+        self.kept.seeded().hasher()
     }
 }
 

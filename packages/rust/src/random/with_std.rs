@@ -1,7 +1,6 @@
 //! The random words of std. On wasm32-unknown-unknown std has none: there they are the same in each run.
 
-use crate::held::Secrets;
-use crate::proved::inner::state::seeded::Seeded;
+pub(crate) use crate::held::Kept;
 use crate::rng::rapidrng_fast;
 use crate::seeding::{GlobalSecrets, SeedSource};
 use std::cell::Cell;
@@ -26,7 +25,12 @@ impl Process {
     }
 
     fn new() -> Self {
-        Process::of([(); 2].map(|()| RandomState::new().build_hasher().finish()))
+        Process::with([0; 2])
+    }
+
+    /// Returns the process whose words are those of the system, each changed by one of the program, by XOR.
+    fn with(own: [u64; 2]) -> Self {
+        Process::of(own.map(|word| word ^ RandomState::new().build_hasher().finish()))
     }
 }
 
@@ -42,10 +46,10 @@ fn process() -> &'static Process {
     })
 }
 
-/// Sets the words of this process and returns whether it had none.
+/// Adds words to those of this process and returns whether it had none.
 #[cfg(not(rapidhash_no_once_lock))]
 pub(super) fn set(words: [u64; 2]) -> bool {
-    PROCESS.set(Process::of(words)).is_ok()
+    PROCESS.set(Process::with(words)).is_ok()
 }
 
 /// Before Rust 1.70, which has no `OnceLock`: here the first call allocates.
@@ -58,12 +62,12 @@ fn process() -> &'static Process {
     process.get_or_insert_with(|| Box::leak(Box::new(Process::new())))
 }
 
-/// Sets the words of this process and returns whether it had none.
+/// Adds words to those of this process and returns whether it had none.
 #[cfg(rapidhash_no_once_lock)]
 pub(super) fn set(words: [u64; 2]) -> bool {
     let mut process = PROCESS.lock().unwrap_or_else(PoisonError::into_inner);
     let is_first = process.is_none();
-    process.get_or_insert_with(|| Box::leak(Box::new(Process::of(words))));
+    process.get_or_insert_with(|| Box::leak(Box::new(Process::with(words))));
     is_first
 }
 
@@ -101,24 +105,21 @@ impl Seeds {
     }
 }
 
-/// Returns the secrets of this process.
+/// Returns a seed with the secrets of this process.
 #[inline]
-pub(crate) fn secrets() -> Secrets<'static> {
-    Secrets::new(process().global.get())
+pub(crate) fn of_process(seed: u64) -> Kept<'static> {
+    Kept::new(seed, process().global.get())
 }
 
 /// Returns the single seed of this process, with its secrets.
 #[inline]
-pub(crate) fn global() -> Seeded<'static> {
-    Seeded {
-        seed: process().global.get_global_seed(),
-        secrets: secrets(),
-    }
+pub(crate) fn global() -> Kept<'static> {
+    of_process(process().global.get_global_seed())
 }
 
 /// Returns the next seed of this thread, with the secrets of this process.
 #[inline]
-pub(crate) fn next() -> Seeded<'static> {
+pub(crate) fn next() -> Kept<'static> {
     SEEDS.with(|seeds| {
         let secrets = seeds.secrets.get().unwrap_or_else(|| seeds.start());
         let mut source = SeedSource {
@@ -127,9 +128,6 @@ pub(crate) fn next() -> Seeded<'static> {
         };
         let seed = source.next();
         seeds.counter.set(source.counter);
-        Seeded {
-            seed,
-            secrets: Secrets::new(secrets),
-        }
+        Kept::new(seed, secrets)
     })
 }
