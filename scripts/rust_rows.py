@@ -17,7 +17,7 @@ REPLACED = [
     ("v3/stream/saved", "    secrets,\n            folded",
      "    secrets: crate::held::Owned::new(secrets),\n            folded", "as above"),
     ("key", "//! encodings ([`same_keys`](crate::laws::same_keys)): those", "//! encodings: those", "the laws are contracts"),
-    ("key", "#[derive(Clone, Copy)]", "#[derive(Debug, Clone, Copy, PartialEq, Eq, Hash)]", "users expect these"),
+    ("key", "#[derive(Clone, Copy)]", "#[non_exhaustive]\n#[derive(Debug, Clone, Copy, PartialEq, Eq, Hash)]", "users expect these"),
     ("seeding", "    counter: u64,\n    random: u64,", "    pub(crate) counter: u64,\n    pub(crate) random: u64,",
      "a thread keeps the words of its source apart"),
     ("rng", "from_moment(secs: u64, nanos: u32)", "from_moment(time: Duration)", "a duration is always valid"),

@@ -17,6 +17,7 @@
 mod state;
 
 pub(crate) use crate::proved::inner::{hasher, sponge};
+#[doc(hidden)]
 pub use crate::seeding::{GlobalSecrets, SeedSource};
 pub use hasher::RapidHasher;
 pub use state::{GlobalState, RandomState, SeedableState};

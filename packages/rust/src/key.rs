@@ -1,8 +1,8 @@
 //! Keys of several fields: one hash for each key, the same in every language.
 //!
 //! A field is nothing (`None`, SQL's NULL), an integer of up to 64 bits, or bytes. The hash of a key is V3 of its fields'
-//! encodings. Different keys of one type have different encodings: `("ab", "c")` is not `("a", "bc")`, and `None` is
-//! neither 0 nor an empty text. A float is no field: convert it first.
+//! encodings. Different keys have different encodings: `("ab", "c")` is not `("a", "bc")`, and `None` is neither 0 nor an
+//! empty text. A float is no field: convert it first.
 //!
 //! ```
 //! use rapidhash::key;
@@ -12,11 +12,19 @@
 //! assert_eq!(key::hash(&("user", 4711, name)), 14742763072502883419);
 //! ```
 
+pub use crate::proved::key::Field;
+#[doc(hidden)]
 pub use crate::proved::key::{
-    Field, rapidhash_v3_key, rapidhash_v3_key_seeded, write_bytes, write_field, write_integer,
+    rapidhash_v3_key, rapidhash_v3_key_seeded, write_bytes, write_field, write_integer,
     write_nothing,
 };
-use crate::v3::{RapidSecrets, RapidStreamHasherV3};
+use crate::v3::{RapidSecrets, RapidStreamHasherLanes, RapidStreamHasherV3};
+#[cfg(feature = "std")]
+use std::{
+    borrow::{Cow, ToOwned},
+    rc::Rc,
+    sync::Arc,
+};
 
 /// A value that is a single field of a key.
 pub trait KeyField {
@@ -24,19 +32,45 @@ pub trait KeyField {
     fn field(&self) -> Field<'_>;
 }
 
-/// A value that is the fields of a key, in order: a tuple of up to eight, or a slice of [`Field`].
+/// A value that is the fields of a key, in order: a [`KeyField`], a tuple of up to twelve, or a list of [`Field`].
+///
+/// ```
+/// use rapidhash::key::{self, Field, Key, KeyField};
+///
+/// struct User {
+///     name: String,
+///     id: Option<u64>,
+/// }
+///
+/// impl Key for User {
+///     fn fields(&self, each: &mut dyn FnMut(Field<'_>)) {
+///         each(self.name.field());
+///         each(self.id.field());
+///     }
+/// }
+///
+/// let user = User { name: "user".to_owned(), id: Some(4711) };
+/// assert_eq!(key::hash(&user), key::hash(&("user", 4711)));
+/// ```
 pub trait Key {
-    /// Adds the fields to the message of a stream hasher.
-    fn write(&self, hasher: &mut RapidStreamHasherV3<'_>);
+    /// Passes each field to a function, in order.
+    fn fields(&self, each: &mut dyn FnMut(Field<'_>));
 }
 
-/// Returns the hash of a key, with the default seed and secrets.
+/// Returns the hash of a key, with the default seed and secrets. It allocates nothing.
+///
+/// ```
+/// use rapidhash::key;
+///
+/// assert_eq!(key::hash(&("user", 4711, None::<&str>)), 14742763072502883419);
+/// ```
 #[must_use]
+#[inline]
 pub fn hash<K: Key + ?Sized>(key: &K) -> u64 {
     hash_seeded(key, RapidSecrets::default_ref())
 }
 
-/// Returns the hash of a key, with the caller's seed and secrets.
+/// Returns the hash of a key, with the caller's seed and secrets. It allocates nothing.
 ///
 /// ```
 /// use rapidhash::{key, v3::RapidSecrets};
@@ -44,10 +78,33 @@ pub fn hash<K: Key + ?Sized>(key: &K) -> u64 {
 /// assert_eq!(key::hash_seeded(&("user", 4711, None::<i64>), &RapidSecrets::seed_cpp(7)), 4558979304646042975);
 /// ```
 #[must_use]
+#[inline]
 pub fn hash_seeded<K: Key + ?Sized>(key: &K, secrets: &RapidSecrets) -> u64 {
     let mut hasher = RapidStreamHasherV3::new(secrets);
-    key.write(&mut hasher);
+    write(key, &mut hasher);
     hasher.finish()
+}
+
+/// Adds the fields of a key to the message of a stream hasher, which may have any number of lanes and any options.
+///
+/// ```
+/// use rapidhash::key;
+/// use rapidhash::v3::{DEFAULT_RAPID_SECRETS, RapidStreamHasherInlineNano, RapidStreamHasherV3};
+///
+/// let mut rows = RapidStreamHasherV3::new(&DEFAULT_RAPID_SECRETS);
+/// key::write(&("user", 4711), &mut rows);
+/// assert_eq!(rows.finish(), key::hash(&("user", 4711)));
+///
+/// let mut nano = RapidStreamHasherInlineNano::<true, false>::new(&DEFAULT_RAPID_SECRETS);
+/// key::write(&("user", 4711), &mut nano);
+/// assert_eq!(nano.finish(), rows.finish()); // They differ above 48 bytes.
+/// ```
+#[inline]
+pub fn write<K: Key + ?Sized, const LANES: usize, const AVALANCHE: bool, const PROTECTED: bool>(
+    key: &K,
+    hasher: &mut RapidStreamHasherLanes<'_, LANES, AVALANCHE, PROTECTED>,
+) {
+    key.fields(&mut |field| write_field(hasher, field));
 }
 
 impl KeyField for Field<'_> {
@@ -69,6 +126,19 @@ macro_rules! integers {
 
 integers!(i8 i16 i32 i64 isize u8 u16 u32 u64 usize);
 
+macro_rules! not_zero {
+    ($($type:ident)*) => { $(
+        impl KeyField for std::num::$type {
+            fn field(&self) -> Field<'_> {
+                Field::Integer(self.get() as u64)
+            }
+        }
+    )* };
+}
+
+not_zero!(NonZeroI8 NonZeroI16 NonZeroI32 NonZeroI64 NonZeroIsize);
+not_zero!(NonZeroU8 NonZeroU16 NonZeroU32 NonZeroU64 NonZeroUsize);
+
 macro_rules! bytes {
     ($($(#[$when:meta])* $type:ty => $bytes:ident)*) => { $(
         $(#[$when])*
@@ -78,6 +148,13 @@ macro_rules! bytes {
             }
         }
     )* };
+}
+
+/// A bool is 0 or 1.
+impl KeyField for bool {
+    fn field(&self) -> Field<'_> {
+        Field::Integer(u64::from(*self))
+    }
 }
 
 bytes! {
@@ -102,18 +179,61 @@ impl<F: KeyField> KeyField for Option<F> {
     }
 }
 
-impl<F: KeyField + ?Sized> KeyField for &F {
+macro_rules! pointers {
+    ($($(#[$when:meta])* $type:ty)*) => { $(
+        $(#[$when])*
+        impl<F: KeyField + ?Sized> KeyField for $type {
+            fn field(&self) -> Field<'_> {
+                F::field(self)
+            }
+        }
+    )* };
+}
+
+pointers! {
+    &F
+    #[cfg(feature = "std")]
+    Box<F>
+    #[cfg(feature = "std")]
+    Rc<F>
+    #[cfg(feature = "std")]
+    Arc<F>
+}
+
+#[cfg(feature = "std")]
+impl<F: KeyField + ToOwned + ?Sized> KeyField for Cow<'_, F> {
     fn field(&self) -> Field<'_> {
         F::field(self)
     }
 }
 
-impl Key for [Field<'_>] {
-    fn write(&self, hasher: &mut RapidStreamHasherV3<'_>) {
-        for field in self {
-            write_field(hasher, *field);
-        }
+impl<F: KeyField + ?Sized> Key for F {
+    #[inline]
+    fn fields(&self, each: &mut dyn FnMut(Field<'_>)) {
+        each(self.field());
     }
+}
+
+macro_rules! lists {
+    ($($(#[$when:meta])* ($($generics:tt)*) $type:ty)*) => { $(
+        $(#[$when])*
+        impl<$($generics)*> Key for $type {
+            #[inline]
+            fn fields(&self, each: &mut dyn FnMut(Field<'_>)) {
+                for field in self.iter() {
+                    each(*field);
+                }
+            }
+        }
+    )* };
+}
+
+lists! {
+    () [Field<'_>]
+    () &[Field<'_>]
+    (const COUNT: usize) [Field<'_>; COUNT]
+    #[cfg(feature = "std")]
+    () Vec<Field<'_>>
 }
 
 macro_rules! tuples {
@@ -123,9 +243,10 @@ macro_rules! tuples {
     (@ $($name:ident)+) => {
         #[allow(non_snake_case)]
         impl<$($name: KeyField),+> Key for ($($name,)+) {
-            fn write(&self, hasher: &mut RapidStreamHasherV3<'_>) {
+            #[inline]
+            fn fields(&self, each: &mut dyn FnMut(Field<'_>)) {
                 let ($($name,)+) = self;
-                $(write_field(hasher, $name.field());)+
+                $(each($name.field());)+
             }
         }
         tuples!(@@ $($name)+);
@@ -136,4 +257,4 @@ macro_rules! tuples {
     (@) => {};
 }
 
-tuples!(A B C D E F G H);
+tuples!(A B C D E F G H I J K L);

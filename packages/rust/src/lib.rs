@@ -126,19 +126,9 @@ use proved::known_length;
 #[cfg(feature = "std")]
 #[doc(hidden)]
 pub use proved::reader;
+#[doc(hidden)]
+pub use proved::util;
 use proved::{in_memory, kernel, lanes, secrets, seeding, tail, words};
-pub use proved::{rng, util, v1, v2, v3};
+pub use proved::{rng, v1, v2, v3};
 #[cfg(any(feature = "std", target_has_atomic = "32"))]
 pub use random::{WordsInUse, set_random_words};
-
-#[cfg(all(
-    any(feature = "getrandom_03", feature = "getrandom_04"),
-    any(
-        not(feature = "std"),
-        all(target_family = "wasm", target_os = "unknown")
-    )
-))]
-compile_error!(
-    "rapidhash: the features getrandom_03 and getrandom_04 need the feature `std` and a system with random words: leave \
-     them out, and call `set_random_words` of yervound-rapidhash with the words of your own source"
-);

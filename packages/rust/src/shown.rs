@@ -18,14 +18,26 @@ macro_rules! shown {
     };
 }
 
+impl<const LANES: usize, const AVALANCHE: bool, const PROTECTED: bool> Debug
+    for RapidStreamHasherLanes<'_, LANES, AVALANCHE, PROTECTED>
+{
+    fn fmt(&self, f: &mut Formatter<'_>) -> Result {
+        let name = match LANES {
+            7 if AVALANCHE && !PROTECTED => "RapidStreamHasherV3",
+            7 => "RapidStreamHasherInlineV3",
+            5 => "RapidStreamHasherInlineMicro",
+            _ => "RapidStreamHasherInlineNano",
+        };
+        f.debug_struct(name).finish_non_exhaustive()
+    }
+}
+
 shown! {
     [] "RapidSecrets" RapidSecrets,
     [] "RapidSecrets" v1::RapidSecrets,
     [] "GlobalSecrets" GlobalSecrets,
     [] "SeedSource" SeedSource,
     [] "RapidStream" RapidStream<'_>,
-    [const LANES: usize, const AVALANCHE: bool, const PROTECTED: bool]
-        "RapidStreamHasherLanes" RapidStreamHasherLanes<'_, LANES, AVALANCHE, PROTECTED>,
     [const AVALANCHE: bool, const SPONGE: bool, const COMPACT: bool, const PROTECTED: bool]
         "RapidHasher" RapidHasher<'_, AVALANCHE, SPONGE, COMPACT, PROTECTED>,
 }

@@ -92,7 +92,14 @@ fn debug_shows_no_secret_and_no_message() {
     stream.write(b"password");
     let global = inner::GlobalSecrets::new(1);
     for (shown, name) in [
-        (format!("{stream:?}"), "RapidStreamHasherLanes"),
+        (format!("{stream:?}"), "RapidStreamHasherV3"),
+        (
+            format!(
+                "{:?}",
+                RapidStreamHasherInlineMicro::<true, false>::new(&secrets)
+            ),
+            "RapidStreamHasherInlineMicro",
+        ),
         (
             format!("{:?}", RapidStream::new(7, &secrets)),
             "RapidStream",

@@ -1,8 +1,15 @@
 //! Tests keys of several fields: the types of fields, and keys in a stream. vectors.rs has the file of keys.
 #![cfg(feature = "std")]
 
-use rapidhash::key::{self, Field, KeyField};
-use rapidhash::v3::{RapidStreamHasherV3, rapidhash_v3};
+use rapidhash::key::{self, Field, Key, KeyField};
+use rapidhash::v3::{
+    DEFAULT_RAPID_SECRETS, RapidStreamHasherInlineMicro, RapidStreamHasherInlineNano,
+    RapidStreamHasherV3, rapidhash_v3, rapidhash_v3_micro_inline, rapidhash_v3_nano_inline,
+};
+use std::borrow::Cow;
+use std::num::{NonZeroI64, NonZeroU8};
+use std::rc::Rc;
+use std::sync::Arc;
 
 #[test]
 fn types_of_fields() {
@@ -27,6 +34,9 @@ fn types_of_fields() {
     }
     as_64_bits!(i8 i16 i32 i64 isize u8 u16 u32 u64 usize);
     assert_eq!(key::hash(&(-1i8,)), key::hash(&(u64::MAX,)));
+    assert_eq!(key::hash(&(true, false)), key::hash(&(1, 0)));
+    let (some, negative) = (NonZeroU8::new(1), NonZeroI64::new(-5));
+    assert_eq!(key::hash(&(some.unwrap(), negative)), key::hash(&(1, -5)));
     assert_ne!(key::hash(&(u32::MAX,)), key::hash(&(-1i32,)));
     assert_eq!(
         key::hash(&(1, 2, 3, 4, 5, 6, 7, "8")),
@@ -37,6 +47,73 @@ fn types_of_fields() {
                 .chain(["8".field()])
                 .collect::<Vec<_>>()[..]
         )
+    );
+}
+
+/// Pointers to fields are fields, a field is a key, and so are all kinds of lists of fields.
+#[test]
+fn pointers_and_lists() {
+    let ab = key::hash(&("a", "b"));
+    let boxed: Box<str> = "b".into();
+    assert_eq!(key::hash(&(Cow::Borrowed("a"), &boxed)), ab);
+    assert_eq!(key::hash(&(Rc::<str>::from("a"), Some(boxed))), ab);
+    assert_eq!(key::hash(&(Arc::new("a".to_string()), Box::new("b"))), ab);
+    assert_eq!(key::hash("a"), key::hash(&("a",)));
+    assert_eq!(key::hash(&7), key::hash(&(7,)));
+    let fields = ["a".field(), "b".field()];
+    assert_eq!(key::hash(&fields), ab);
+    assert_eq!(key::hash(&fields[..]), ab);
+    assert_eq!(key::hash(&&fields[..]), ab);
+    assert_eq!(key::hash(&fields.to_vec()), ab);
+    assert_eq!(key::hash(&[] as &[Field<'_>]), rapidhash_v3(b""));
+    assert_eq!(
+        key::hash(&(1, 2, 3, 4, 5, 6, 7, 8, 9, 10, 11, 12)),
+        key::hash(&std::array::from_fn::<_, 12, _>(|at| Field::Integer(
+            at as u64 + 1
+        )))
+    );
+}
+
+/// A type that is a key, for any hash of its encoding.
+struct Row(u64, Option<String>);
+
+impl Key for Row {
+    fn fields(&self, each: &mut dyn FnMut(Field<'_>)) {
+        each(self.0.field());
+        each(self.1.field());
+    }
+}
+
+#[test]
+fn keys_of_other_hashes() {
+    let rows = [Row(1, Some("a".to_owned())), Row(2, None)];
+    let mut bytes = Vec::new();
+    let mut hashers = (
+        RapidStreamHasherV3::DEFAULT,
+        RapidStreamHasherInlineMicro::<true, false>::new(&DEFAULT_RAPID_SECRETS),
+        RapidStreamHasherInlineNano::<false, true>::new(&DEFAULT_RAPID_SECRETS),
+    );
+    for row in &rows {
+        row.fields(&mut |field| match field {
+            Field::Nothing => bytes.push(0),
+            Field::Integer(number) => bytes.extend([&[1], &number.to_le_bytes()[..]].concat()),
+            Field::Bytes(text) => {
+                bytes.extend([&[2], &text.len().to_le_bytes()[..], text].concat())
+            }
+            _ => panic!("a new kind of field"),
+        });
+        key::write(row, &mut hashers.0);
+        key::write(row as &dyn Key, &mut hashers.1);
+        key::write(row, &mut hashers.2);
+    }
+    assert_eq!(hashers.0.finish(), rapidhash_v3(&bytes));
+    assert_eq!(
+        hashers.1.finish(),
+        rapidhash_v3_micro_inline::<true, false>(&bytes, &DEFAULT_RAPID_SECRETS)
+    );
+    assert_eq!(
+        hashers.2.finish(),
+        rapidhash_v3_nano_inline::<false, true>(&bytes, &DEFAULT_RAPID_SECRETS)
     );
 }
 

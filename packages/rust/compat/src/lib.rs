@@ -56,3 +56,14 @@ pub mod v3 {
     #[cfg(feature = "std")]
     pub use proved::v3::{rapidhash_v3_file, rapidhash_v3_file_inline, rapidhash_v3_file_seeded};
 }
+#[cfg(all(
+    any(feature = "getrandom_03", feature = "getrandom_04"),
+    any(
+        not(feature = "std"),
+        all(target_family = "wasm", target_os = "unknown")
+    )
+))]
+compile_error!(
+    "rapidhash: the features getrandom_03 and getrandom_04 need the feature `std` and a system with random words: leave \
+     them out, and call `set_random_words` of yervound-rapidhash with the words of your own source"
+);

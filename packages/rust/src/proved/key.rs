@@ -10,6 +10,7 @@
 use rapidhash_portable::v3::{RapidSecrets, RapidStreamHasherLanes, RapidStreamHasherV3};
 
 /// A field of a key.
+#[non_exhaustive]
 #[derive(Debug, Clone, Copy, PartialEq, Eq, Hash)]
 pub enum Field<'d> {
     /// Nothing, as SQL's NULL.

@@ -22,72 +22,84 @@ impl<'s, const AVALANCHE: bool, const SPONGE: bool, const COMPACT: bool, const P
     /// assert_eq!(parts.finish(), whole.finish());
     /// ```
     #[inline(always)]
+    #[doc(hidden)]
     pub fn write_u8(&mut self, value: u8) {
         self.write_number(value as u64, 8);
     }
 
     /// Absorbs an integer of 16 bits.
     #[inline(always)]
+    #[doc(hidden)]
     pub fn write_u16(&mut self, value: u16) {
         self.write_number(value as u64, 16);
     }
 
     /// Absorbs an integer of 32 bits.
     #[inline(always)]
+    #[doc(hidden)]
     pub fn write_u32(&mut self, value: u32) {
         self.write_number(value as u64, 32);
     }
 
     /// Absorbs an integer of 64 bits.
     #[inline(always)]
+    #[doc(hidden)]
     pub fn write_u64(&mut self, value: u64) {
         self.write_number(value, 64);
     }
 
     /// Absorbs an integer of 64 bits, as [`RapidHasher::write_u64`], on every machine.
     #[inline(always)]
+    #[doc(hidden)]
     pub fn write_usize(&mut self, value: usize) {
         self.write_number(value as u64, 64);
     }
 
     /// Absorbs a signed integer of 8 bits, by its bits.
     #[inline(always)]
+    #[doc(hidden)]
     pub fn write_i8(&mut self, value: i8) {
         self.write_number(value.to_unsigned() as u64, 8);
     }
 
     /// Absorbs a signed integer of 16 bits, by its bits.
     #[inline(always)]
+    #[doc(hidden)]
     pub fn write_i16(&mut self, value: i16) {
         self.write_number(value.to_unsigned() as u64, 16);
     }
 
     /// Absorbs a signed integer of 32 bits, by its bits.
     #[inline(always)]
+    #[doc(hidden)]
     pub fn write_i32(&mut self, value: i32) {
         self.write_number(value.to_unsigned() as u64, 32);
     }
 
     /// Absorbs a signed integer of 64 bits, by its bits.
     #[inline(always)]
+    #[doc(hidden)]
     pub fn write_i64(&mut self, value: i64) {
         self.write_number(value.to_unsigned(), 64);
     }
 
     /// Absorbs a signed integer of 64 bits, by its bits, on every machine.
     #[inline(always)]
+    #[doc(hidden)]
     pub fn write_isize(&mut self, value: isize) {
         self.write_number((value as i64).to_unsigned(), 64);
     }
 
     /// Absorbs 128 bits in one step. The integers that wait in the sponge stay there.
     #[inline(always)]
+    #[doc(hidden)]
     pub fn write_u128(&mut self, value: u128) {
         self.seed = self.mixed(value);
     }
 
     /// Absorbs 128 bits in one step, as [`RapidHasher::write_u128`] does.
     #[inline(always)]
+    #[doc(hidden)]
     pub fn write_i128(&mut self, value: i128) {
         self.write_u128(value.to_unsigned());
     }
