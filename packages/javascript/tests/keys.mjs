@@ -91,8 +91,9 @@ test("what is no field", () => {
     const message = `fields[0] must be a safe integer, or a BigInt, not ${field}`;
     assert.throws(() => v3Key(field), { name: "RangeError", message });
   }
-  const refused = [[undefined, "undefined"], [true, "boolean"], [[1], "Array"], [{}, "Object"], [new Date(0), "Date"], [Symbol("a"), "symbol"],
-    [() => 0, "function"], [new Float64Array(1), "Float64Array"], [new BigInt64Array(1), "BigInt64Array"]];
+  const refused = [[undefined, "undefined"], [true, "boolean"], [[1], "Array"], [{}, "Object"], [new Date(0), "Date"],
+    [Symbol("a"), "symbol"], [() => 0, "function"], [new Float64Array(1), "Float64Array"],
+    [new BigInt64Array(1), "BigInt64Array"]];
   for (const [field, kind] of refused) {
     const message = `fields[2] must be null, an integer, a string or a Uint8Array, not ${kind}`;
     assert.throws(() => v3Key(1, 2, field), { name: "TypeError", message });
