@@ -20,7 +20,7 @@ func BenchmarkV3(b *testing.B) {
 }
 
 func BenchmarkWrite(b *testing.B) {
-	message, stream := long(), NewV3(nil)
+	message, stream := long(), New()
 	for _, size := range []int{4, 16, 64, 300, 1 << 20} {
 		b.Run(fmt.Sprint(size), func(b *testing.B) {
 			b.SetBytes(int64(size))

@@ -53,7 +53,7 @@ func ExampleStream() {
 }
 
 func ExampleStream_MarshalBinary() {
-	first, second := rapidhash.NewV3(nil), new(rapidhash.Stream)
+	first, second := rapidhash.New(), new(rapidhash.Stream)
 	first.WriteString("hel")
 	saved, _ := first.MarshalBinary()
 	if err := second.UnmarshalBinary(saved); err != nil {

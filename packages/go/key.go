@@ -31,15 +31,23 @@ func Bytes(data []byte) Field { return Field{tag: bytesTag, text: textOf(data)} 
 
 // V3Key returns the hash of a key of several fields, with the default seed and secrets. It is the same in every language.
 // Different keys are hashed as different messages.
-func V3Key(fields ...Field) uint64 { return V3KeyWithSecrets(nil, fields...) }
+func V3Key(fields ...Field) uint64 { return v3Key(nil, fields) }
 
 // V3KeyWithSeed returns the hash of a key with the default secrets and a seed word.
 func V3KeyWithSeed(seed uint64, fields ...Field) uint64 {
-	return V3KeyWithSecrets(&Secrets{seedOf(seed), defaults}, fields...)
+	return v3Key(&Secrets{seedOf(seed), defaults}, fields)
 }
 
-// V3KeyWithSecrets returns the hash of a key with a seed and secrets. If they are nil, the default ones are used.
+// V3KeyWithSecrets returns the hash of a key with a seed and secrets. It panics if they are nil.
 func V3KeyWithSecrets(s *Secrets, fields ...Field) uint64 {
+	if s == nil {
+		panic(nilSecrets)
+	}
+	return v3Key(s, fields)
+}
+
+// v3Key returns the hash of a key, with the default seed and secrets if they are nil.
+func v3Key(s *Secrets, fields []Field) uint64 {
 	var stream Stream
 	stream.start(7, s)
 	for i := range fields {

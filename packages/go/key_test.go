@@ -68,7 +68,7 @@ func TestFields(t *testing.T) {
 	unsigned := uint64(1) << 63
 	compare(t, "64 bits", V3Key(Integer(int64(unsigned))), V3Key(Integer(math.MinInt64)))
 	compare(t, "no bytes", V3Key(Bytes(nil)), V3Key(Text("")))
-	stream := NewV3(nil)
+	stream := New()
 	stream.WriteField(Text("user"))
 	stream.WriteField(Integer(4711))
 	stream.WriteField(Nothing())

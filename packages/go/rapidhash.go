@@ -4,7 +4,8 @@
 //	rapidhash.V3String("hello")     // the same, without a copy
 //
 // A hash is the same on every run and on every machine, and equals that of the Rust crate rapidhash 4.5.1. The hashes
-// are not cryptographic: someone who chooses the bytes can make two messages collide. Calls with nil secrets panic.
+// are not cryptographic: someone who chooses the bytes can make two messages collide. Calls with nil secrets panic, also
+// those that start a stream or hash a key.
 //
 // The package is plain Go without cgo and assembly, for every GOARCH. Calls can run concurrently, but only one
 // goroutine at a time may use a [Stream]. Hashing allocates nothing.
@@ -38,7 +39,12 @@ func V1WithSeed(data []byte, seed uint64) uint64 {
 }
 
 // V1WithSecrets returns the V1 hash of data with a seed and secrets. It panics if they are nil.
-func V1WithSecrets(data []byte, s *SecretsV1) uint64 { return v1(textOf(data), s.Seed, &s.Secrets) }
+func V1WithSecrets(data []byte, s *SecretsV1) uint64 {
+	if s == nil {
+		panic(nilSecrets)
+	}
+	return v1(textOf(data), s.Seed, &s.Secrets)
+}
 
 // V1String returns the hash that V1 returns for the bytes of text, without a copy.
 func V1String(text string) uint64 { return v1(text, defaultSeedV1, &defaultsV1) }
@@ -52,7 +58,12 @@ func V2_0WithSeed(data []byte, seed uint64) uint64 {
 }
 
 // V2_0WithSecrets returns the V2.0 hash of data with a seed and secrets. It panics if they are nil.
-func V2_0WithSecrets(data []byte, s *Secrets) uint64 { return v2(textOf(data), 0, s.Seed, &s.Secrets) }
+func V2_0WithSecrets(data []byte, s *Secrets) uint64 {
+	if s == nil {
+		panic(nilSecrets)
+	}
+	return v2(textOf(data), 0, s.Seed, &s.Secrets)
+}
 
 // V2_0String returns the hash that V2_0 returns for the bytes of text, without a copy.
 func V2_0String(text string) uint64 { return v2(text, 0, defaultSeed, &defaults) }
@@ -66,7 +77,12 @@ func V2_1WithSeed(data []byte, seed uint64) uint64 {
 }
 
 // V2_1WithSecrets returns the V2.1 hash of data with a seed and secrets. It panics if they are nil.
-func V2_1WithSecrets(data []byte, s *Secrets) uint64 { return v2(textOf(data), 1, s.Seed, &s.Secrets) }
+func V2_1WithSecrets(data []byte, s *Secrets) uint64 {
+	if s == nil {
+		panic(nilSecrets)
+	}
+	return v2(textOf(data), 1, s.Seed, &s.Secrets)
+}
 
 // V2_1String returns the hash that V2_1 returns for the bytes of text, without a copy.
 func V2_1String(text string) uint64 { return v2(text, 1, defaultSeed, &defaults) }
@@ -80,7 +96,12 @@ func V2_2WithSeed(data []byte, seed uint64) uint64 {
 }
 
 // V2_2WithSecrets returns the V2.2 hash of data with a seed and secrets. It panics if they are nil.
-func V2_2WithSecrets(data []byte, s *Secrets) uint64 { return v2(textOf(data), 2, s.Seed, &s.Secrets) }
+func V2_2WithSecrets(data []byte, s *Secrets) uint64 {
+	if s == nil {
+		panic(nilSecrets)
+	}
+	return v2(textOf(data), 2, s.Seed, &s.Secrets)
+}
 
 // V2_2String returns the hash that V2_2 returns for the bytes of text, without a copy.
 func V2_2String(text string) uint64 { return v2(text, 2, defaultSeed, &defaults) }
@@ -92,7 +113,12 @@ func V3(data []byte) uint64 { return v3(textOf(data), 7, defaultSeed, &defaults)
 func V3WithSeed(data []byte, seed uint64) uint64 { return v3(textOf(data), 7, seedOf(seed), &defaults) }
 
 // V3WithSecrets returns the V3 hash of data with a seed and secrets. It panics if they are nil.
-func V3WithSecrets(data []byte, s *Secrets) uint64 { return v3(textOf(data), 7, s.Seed, &s.Secrets) }
+func V3WithSecrets(data []byte, s *Secrets) uint64 {
+	if s == nil {
+		panic(nilSecrets)
+	}
+	return v3(textOf(data), 7, s.Seed, &s.Secrets)
+}
 
 // V3String returns the hash that V3 returns for the bytes of text, without a copy.
 func V3String(text string) uint64 { return v3(text, 7, defaultSeed, &defaults) }
@@ -104,6 +130,9 @@ func V3StringWithSeed(text string, seed uint64) uint64 {
 
 // V3StringWithSecrets returns the hash that V3WithSecrets returns for the bytes of text.
 func V3StringWithSecrets(text string, s *Secrets) uint64 {
+	if s == nil {
+		panic(nilSecrets)
+	}
 	return v3(text, 7, s.Seed, &s.Secrets)
 }
 
@@ -117,6 +146,9 @@ func V3MicroWithSeed(data []byte, seed uint64) uint64 {
 
 // V3MicroWithSecrets returns the V3 micro hash of data with a seed and secrets. It panics if they are nil.
 func V3MicroWithSecrets(data []byte, s *Secrets) uint64 {
+	if s == nil {
+		panic(nilSecrets)
+	}
 	return v3(textOf(data), 5, s.Seed, &s.Secrets)
 }
 
@@ -133,6 +165,9 @@ func V3NanoWithSeed(data []byte, seed uint64) uint64 {
 
 // V3NanoWithSecrets returns the V3 nano hash of data with a seed and secrets. It panics if they are nil.
 func V3NanoWithSecrets(data []byte, s *Secrets) uint64 {
+	if s == nil {
+		panic(nilSecrets)
+	}
 	return v3(textOf(data), 3, s.Seed, &s.Secrets)
 }
 
@@ -149,6 +184,9 @@ func V3ProtectedWithSeed(data []byte, seed uint64) uint64 {
 
 // V3ProtectedWithSecrets returns the protected V3 hash of data with a seed and secrets. It panics if they are nil.
 func V3ProtectedWithSecrets(data []byte, s *Secrets) uint64 {
+	if s == nil {
+		panic(nilSecrets)
+	}
 	return protected(textOf(data), s.Seed, &s.Secrets)
 }
 

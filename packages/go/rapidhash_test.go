@@ -83,7 +83,7 @@ func TestZeroStreams(t *testing.T) {
 	compare(t, "reset and copied", other.Sum64(), 7088138960297660729)
 	compare(t, "block size", uint64(sized.BlockSize()), 112)
 	saved, _ := new(Stream).MarshalBinary()
-	if known, _ := NewV3(nil).MarshalBinary(); !bytes.Equal(saved, known) {
+	if known, _ := New().MarshalBinary(); !bytes.Equal(saved, known) {
 		t.Errorf("%x is not %x", saved, known)
 	}
 }
@@ -132,21 +132,25 @@ func TestConcurrentCalls(t *testing.T) {
 	group.Wait()
 }
 
+// TestNilSecretsPanic checks that each call refuses nil secrets with the same message, also for a message without a byte.
 func TestNilSecretsPanic(t *testing.T) {
 	cases := map[string]func(){"v1": func() { V1WithSecrets(data(), nil) }, "v1 of nothing": func() { V1WithSecrets(nil, nil) },
-		"v3 string": func() { V3StringWithSecrets("hello", nil) }}
+		"v3 string": func() { V3StringWithSecrets("hello", nil) }, "key": func() { V3KeyWithSecrets(nil, Integer(1)) },
+		"key of nothing": func() { V3KeyWithSecrets(nil) }}
 	for name, call := range calls {
-		hash := call.seeded
-		if hash != nil {
+		if hash := call.seeded; hash != nil {
 			cases[name] = func() { hash(data(), nil) }
 			cases[name+" of nothing"] = func() { hash(nil, nil) }
+		}
+		if start := call.start; start != nil {
+			cases[name+" stream"] = func() { start(nil) }
 		}
 	}
 	for name, call := range cases {
 		func() {
 			defer func() {
-				if recover() == nil {
-					t.Error(name, "took nil secrets")
+				if found := recover(); found != nilSecrets {
+					t.Errorf("%s with nil secrets: %v", name, found)
 				}
 			}()
 			call()

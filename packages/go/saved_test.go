@@ -125,9 +125,9 @@ func TestRefusedStreams(t *testing.T) {
 			refuse(t, its.call.start(&other), its.saved, changed)
 		}
 	}
-	micro := NewV3Micro(nil)
+	micro := NewV3MicroWithSeed(0)
 	saved, _ := micro.MarshalBinary()
-	refuse(t, NewV3(nil), saved, "the Stream was saved with 5 lanes and options 1, not 7 and 1")
+	refuse(t, New(), saved, "the Stream was saved with 5 lanes and options 1, not 7 and 1")
 	saved[9] = 3
 	refuse(t, micro, saved, "the Stream was saved with 5 lanes and options 3, not 5 and 1")
 	for _, lanes := range []byte{0, 1, 4, 9} {

@@ -12,6 +12,9 @@ type SecretsV1 struct {
 	Secrets [3]uint64
 }
 
+// nilSecrets is the panic of each call with nil secrets. The default ones in their place would be public.
+const nilSecrets = "rapidhash: the secrets are nil: MakeSecrets makes secrets, and SeedSecrets returns the default ones"
+
 // The default seeds are those of the seed words 0, and v1Word in V1. Constants have as many bits as a product needs.
 const (
 	s0            = 0x2d358dccaa6c78a5

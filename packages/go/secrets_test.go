@@ -54,14 +54,48 @@ func TestKnownSecrets(t *testing.T) {
 
 // secretsOf returns a seed and secrets as a line of the file has them.
 func secretsOf(form, rule string, number uint64) string {
-	var found any = MakeSecrets(number)
-	switch {
-	case form == "v1" && rule == "seed":
-		found = MakeSecretsV1(number)
-	case form == "v1":
-		found = SeedSecretsV1(number)
-	case rule == "seed_cpp":
-		found = SeedSecrets(number)
+	made, madeV1 := MakeSecrets(number), MakeSecretsV1(number)
+	if rule != "seed" {
+		made, madeV1 = SeedSecrets(number), SeedSecretsV1(number)
 	}
-	return strings.NewReplacer("&{", "", "[", "", "]}", "").Replace(fmt.Sprint(found))
+	words := append([]uint64{made.Seed}, made.Secrets[:]...)
+	if form == "v1" {
+		words = append([]uint64{madeV1.Seed}, madeV1.Secrets[:]...)
+	}
+	return strings.Trim(fmt.Sprint(words), "[]")
+}
+
+// TestHiddenWords checks that fmt shows no word of secrets by any verb, also in values that hold them, and by those of %v
+// also behind a pointer in an unexported field.
+func TestHiddenWords(t *testing.T) {
+	secrets, secretsV1 := MakeSecrets(1), MakeSecretsV1(1)
+	stream := NewV3(secrets)
+	stream.Write(data())
+	holder := struct {
+		Secrets Secrets
+		V1      *SecretsV1
+		Stream  Stream
+	}{*secrets, secretsV1, *stream}
+	behind := struct{ pointers []any }{[]any{secrets, secretsV1, stream}}
+	words := append(append([]uint64{secrets.Seed}, secrets.Secrets[:]...), stream.lanes[:]...)
+	check := func(value any, verbs ...string) {
+		for _, verb := range verbs {
+			text := strings.ToLower(fmt.Sprintf(verb, value))
+			for _, word := range words {
+				if strings.Contains(text, fmt.Sprint(word)) || strings.Contains(text, fmt.Sprintf("%x", word)) {
+					t.Errorf("%T by %s shows %d: %s", value, verb, word, text)
+				}
+			}
+		}
+	}
+	for _, value := range []any{*secrets, secrets, *secretsV1, secretsV1, *stream, stream, holder, &holder,
+		[]Secrets{*secrets}, map[string]*Stream{"": stream}, map[Secrets]int{*secrets: 1}} {
+		check(value, "%v", "%+v", "%#v", "%s", "%q", "%d", "%x", "%X")
+	}
+	check(behind, "%v", "%+v", "%#v")
+	texts := fmt.Sprint(*secrets, secretsV1, stream) + secrets.String() + secretsV1.String() + stream.String()
+	if known := "rapidhash.Secrets[hidden] rapidhash.SecretsV1[hidden] rapidhash.Stream[hidden]"; strings.Count(
+		texts, "[hidden]") != 6 || !strings.HasPrefix(texts, known) {
+		t.Error(texts)
+	}
 }

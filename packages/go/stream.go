@@ -8,7 +8,7 @@ import (
 )
 
 // A Stream hashes a message in pieces, with V3, micro, or nano. NewV3, NewV3Micro, or NewV3Nano starts it; the zero
-// Stream behaves like that of NewV3(nil). It contains a copy of its secrets, and a copy made with = is independent.
+// Stream behaves like that of New. It contains a copy of its secrets, and a copy made with = is independent.
 //
 // It is a hash.Hash64, so io.Copy can write to it. MarshalBinary saves it in the middle of a message.
 type Stream struct {
@@ -28,16 +28,16 @@ var (
 )
 
 // New starts a stream for V3 with the default seed and secrets, as Sum64 has them.
-func New() *Stream { return NewV3(nil) }
+func New() *Stream { return new(Stream).start(7, nil) }
 
-// NewV3 starts a stream for V3. If secrets is nil, the default ones are used.
-func NewV3(secrets *Secrets) *Stream { return new(Stream).start(7, secrets) }
+// NewV3 starts a stream for V3 with a seed and secrets. It panics if they are nil.
+func NewV3(secrets *Secrets) *Stream { return new(Stream).startWith(7, secrets) }
 
-// NewV3Micro starts a stream for micro. If secrets is nil, the default ones are used.
-func NewV3Micro(secrets *Secrets) *Stream { return new(Stream).start(5, secrets) }
+// NewV3Micro starts a stream for micro with a seed and secrets. It panics if they are nil.
+func NewV3Micro(secrets *Secrets) *Stream { return new(Stream).startWith(5, secrets) }
 
-// NewV3Nano starts a stream for nano. If secrets is nil, the default ones are used.
-func NewV3Nano(secrets *Secrets) *Stream { return new(Stream).start(3, secrets) }
+// NewV3Nano starts a stream for nano with a seed and secrets. It panics if they are nil.
+func NewV3Nano(secrets *Secrets) *Stream { return new(Stream).startWith(3, secrets) }
 
 // NewV3WithSeed starts a stream for V3 with the default secrets and a seed word.
 func NewV3WithSeed(seed uint64) *Stream { return NewV3(&Secrets{seedOf(seed), defaults}) }
@@ -48,6 +48,18 @@ func NewV3MicroWithSeed(seed uint64) *Stream { return NewV3Micro(&Secrets{seedOf
 // NewV3NanoWithSeed starts a stream for nano with the default secrets and a seed word.
 func NewV3NanoWithSeed(seed uint64) *Stream { return NewV3Nano(&Secrets{seedOf(seed), defaults}) }
 
+// startWith starts a stream with the secrets of a caller. The compiler inlines NewV3 instead, so that the new stream can
+// remain on the stack of its caller.
+//
+//go:noinline
+func (stream *Stream) startWith(count int, secrets *Secrets) *Stream {
+	if secrets == nil {
+		panic(nilSecrets)
+	}
+	return stream.start(count, secrets)
+}
+
+// start starts a stream, with the default seed and secrets if they are nil.
 func (stream *Stream) start(count int, secrets *Secrets) *Stream {
 	*stream = Stream{secrets: Secrets{defaultSeed, defaults}, count: count}
 	if secrets != nil {

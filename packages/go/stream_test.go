@@ -18,7 +18,7 @@ func long() []byte {
 
 func TestLongPieces(t *testing.T) {
 	message := long()
-	for start, hash := range map[*Stream]func([]byte) uint64{NewV3(nil): V3, NewV3Nano(nil): V3Nano} {
+	for start, hash := range map[*Stream]func([]byte) uint64{New(): V3, NewV3NanoWithSeed(0): V3Nano} {
 		for _, size := range []int{1 << 20, 1<<20 + 1, len(message)} {
 			start.Reset()
 			written, err := start.Write(message[:size])
@@ -32,7 +32,7 @@ func TestLongPieces(t *testing.T) {
 
 func TestTakesWhatWritersTake(t *testing.T) {
 	message := long()
-	stream := NewV3(nil)
+	stream := New()
 	size, err := io.Copy(stream, bytes.NewReader(message))
 	if size != int64(len(message)) || err != nil {
 		t.Fatal(size, err)
@@ -94,7 +94,7 @@ func TestStreamsGoOn(t *testing.T) {
 }
 
 func TestAllocatesNothing(t *testing.T) {
-	made, madeV1, sum, restarted := MakeSecrets(1), MakeSecretsV1(1), make([]byte, 8), NewV3(nil)
+	made, madeV1, sum, restarted := MakeSecrets(1), MakeSecretsV1(1), make([]byte, 8), New()
 	saved := make([]byte, 0, 208)
 	for _, size := range []int{0, 3, 16, 100, 5000} {
 		bytes, text := long()[:size], string(long()[:size])

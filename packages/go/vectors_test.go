@@ -115,7 +115,7 @@ func (call call) checkZeros(t *testing.T, name, digits string, known uint64) {
 	zeros := make([]byte, size)
 	compare(t, name+" of zeros", call.plain(zeros), known)
 	if call.start != nil {
-		stream := call.start(nil)
+		stream := call.startWord(0)
 		if count, err := stream.Write(zeros); count != size || err != nil {
 			t.Error(count, err)
 		}

@@ -41,8 +41,8 @@ export interface Hasher {
   load(saved: ArrayBuffer | ArrayBufferView): this;
 }
 
-/** A field of a key: nothing, an integer of 64 bits (a safe one, or a BigInt), a text, or bytes. */
-export type Field = null | undefined | number | bigint | string | Uint8Array | ArrayBuffer | DataView;
+/** A field of a key: null, an integer of 64 bits (a safe one, or a BigInt), a text, or bytes. `undefined` is none. */
+export type Field = null | number | bigint | string | Uint8Array | ArrayBuffer | DataView;
 
 /** The functions. A hash is from 0 to 2^64 - 1, the same on every machine. */
 export interface Rapidhash {

@@ -59,6 +59,7 @@ export class Library {
     this.secretsOfState = new BigUint64Array(buffer, this.atState, 8);
     this.state = new Uint8Array(buffer, this.atState, stateSize);
     this.bytes = new Uint8Array(buffer, this.atBytes);
+    this.view = new DataView(buffer, this.atBytes);
     this.words = new Int32Array(buffer, this.atBytes, fewLetters / 4);
   }
 

@@ -94,6 +94,18 @@ function form(library, name, count, lanes) {
   return [hash, (data, options) => general(data, options, "hex")];
 }
 
+/** Returns the call that hashes a key: by V3, of which `v3` is the call for a long key. */
+function keys(library, v3) {
+  const { atBytes, atDefault, exports } = library;
+  return (fields, options) => {
+    const choice = options === undefined ? undefined : choose(options, "v3KeyWith");
+    const key = encodeKey(fields, library, piece);
+    if (typeof key !== "number") return v3(key, choice);
+    const secrets = choice === undefined ? atDefault : library.give(choice, 8);
+    return BigInt.asUintN(64, exports.v3(atBytes, key, secrets));
+  };
+}
+
 /** Returns the class of the hashers with `lanes` lanes, over the library that a function returns. */
 function hashers(libraryNeeded, lanes) {
   return class extends Stream {
@@ -115,11 +127,12 @@ function calls(library) {
   const [v3Micro, v3MicroHex] = form(library, "v3_micro", 8, 5);
   const [v3Nano, v3NanoHex] = form(library, "v3_nano", 8, 3);
   const [v3Protected, v3ProtectedHex] = form(library, "v3_protected", 8);
+  const key = keys(library, v3);
   return {
     v1, v2_0, v2_1, v2_2, v3, v3Micro, v3Nano, v3Protected,
     v1Hex, v2_0Hex, v2_1Hex, v2_2Hex, v3Hex, v3MicroHex, v3NanoHex, v3ProtectedHex,
-    v3Key: (...fields) => v3(encodeKey(fields)),
-    v3KeyWith: (options, ...fields) => v3(encodeKey(fields), choose(options, "v3KeyWith")),
+    v3Key: (...fields) => key(fields),
+    v3KeyWith: (options, ...fields) => key(fields, options),
     makeSecrets: secrets("make_secrets", 8),
     seedSecrets: secrets("seed_secrets", 8),
     makeSecretsV1: secrets("make_secrets_v1", 4),

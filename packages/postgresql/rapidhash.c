@@ -1,7 +1,6 @@
-/* The rapidhash family as PostgreSQL functions. rapidhash--1.0.sql declares them. */
+/* The rapidhash family as PostgreSQL functions, but for the keys in key.c. rapidhash--1.0.sql declares them. */
 #include <postgres.h>
 
-#include <catalog/pg_type.h>
 #include <fmgr.h>
 #include <inttypes.h>
 #include <rapidhash_c.h>
@@ -178,57 +177,3 @@ Datum finish_agg(PG_FUNCTION_ARGS)
         PG_RETURN_NULL();
     PG_RETURN_INT64((int64)rapidhash_stream_finish(&((struct running *)PG_GETARG_POINTER(0))->stream));
 }
-
-/* Appends an argument to a key, or raises an error if its type is no field. */
-static void add_field(FunctionCallInfo fcinfo, int at, const char *name, struct rapidhash_stream *stream)
-{
-    const Oid type = getBaseType(get_fn_expr_argtype(fcinfo->flinfo, at));
-    if (PG_ARGISNULL(at)) {
-        rapidhash_key_nothing(stream);
-    } else if (type == INT2OID || type == INT4OID || type == INT8OID) {
-        rapidhash_key_integer(stream, type == INT2OID   ? PG_GETARG_INT16(at)
-                                      : type == INT4OID ? PG_GETARG_INT32(at)
-                                                        : PG_GETARG_INT64(at));
-    } else if (type == UNKNOWNOID) {
-        const char *const literal = PG_GETARG_CSTRING(at);
-        rapidhash_key_bytes(stream, literal, strlen(literal));
-    } else if (type == TEXTOID || type == VARCHAROID || type == BYTEAOID) {
-        struct varlena *const bytes = PG_DETOAST_DATUM_PACKED(PG_GETARG_DATUM(at));
-        rapidhash_key_bytes(stream, VARDATA_ANY(bytes), VARSIZE_ANY_EXHDR(bytes));
-        PG_FREE_IF_COPY(bytes, at);
-    } else {
-        ereport(ERROR, (errcode(ERRCODE_DATATYPE_MISMATCH),
-                        errmsg("%s: argument %d is of type %s, and no field of a key", name, at + 1,
-                               format_type_be(type)),
-                        errhint("Cast it to text, bytea or bigint.")));
-    }
-}
-
-/* Returns the hash of a key of several fields, which follow the `first` arguments. */
-static Datum hash_key(FunctionCallInfo fcinfo, int first, const char *name,
-                      void (*make)(uint64_t word, struct rapidhash_secrets *secrets))
-{
-    struct rapidhash_secrets secrets;
-    struct rapidhash_stream stream;
-    int at;
-    if (get_fn_expr_variadic(fcinfo->flinfo))
-        ereport(ERROR, (errcode(ERRCODE_FEATURE_NOT_SUPPORTED), errmsg("%s: an array is no key", name),
-                        errhint("Pass each field as an argument of its own, without VARIADIC.")));
-    if (first == 1 && PG_ARGISNULL(0))
-        PG_RETURN_NULL();
-    make(first == 1 ? (uint64_t)PG_GETARG_INT64(0) : 0, &secrets);
-    rapidhash_v3_start(&stream, &secrets);
-    for (at = first; at < PG_NARGS(); at++)
-        add_field(fcinfo, at, name, &stream);
-    PG_RETURN_INT64((int64)rapidhash_stream_finish(&stream));
-}
-
-#define KEY(name, first, make) \
-    PG_FUNCTION_INFO_V1(sql_##name); \
-    Datum sql_##name(PG_FUNCTION_ARGS) \
-    { \
-        return hash_key(fcinfo, first, "rapidhash_" #name, make); \
-    }
-KEY(v3_key, 0, rapidhash_seed_secrets)
-KEY(v3_key_with_seed, 1, rapidhash_seed_secrets)
-KEY(v3_key_with_secrets, 1, rapidhash_make_secrets)

@@ -20,6 +20,54 @@ int read_word(PyObject *number, const char *name, uint64_t *word)
     return -1;
 }
 
+/* The interpreter keeps names that it has looked up. An interned one is the same object each time. */
+PyObject *attribute_of(PyObject *object, const char *name)
+{
+    PyObject *const interned = PyUnicode_InternFromString(name);
+    PyObject *const value = interned == NULL ? NULL : PyObject_GetAttr(object, interned);
+    Py_XDECREF(interned);
+    return value;
+}
+
+int has_attribute(PyObject *object, const char *name)
+{
+    PyObject *const interned = PyUnicode_InternFromString(name);
+    const int has = interned != NULL && PyObject_HasAttr(object, interned);
+    if (interned == NULL)
+        PyErr_Clear();
+    Py_XDECREF(interned);
+    return has;
+}
+
+char kind_of(PyObject *object)
+{
+    PyObject *const dtype = has_attribute(object, "dtype") ? attribute_of(object, "dtype") : NULL;
+    PyObject *const kind = dtype == NULL ? NULL : attribute_of(dtype, "kind");
+    PyObject *const text = kind != NULL && PyUnicode_Check(kind) ? PyUnicode_AsASCIIString(kind) : NULL;
+    const char letter = text == NULL ? 0 : *PyBytes_AsString(text);
+    PyErr_Clear();
+    Py_XDECREF(dtype);
+    Py_XDECREF(kind);
+    Py_XDECREF(text);
+    return letter;
+}
+
+/* Refuses the arrays of NumPy whose bytes are addresses, or also those of masked values. */
+static int refuse_array(PyObject *data, const char *name, const Py_buffer *buffer)
+{
+    if (buffer->format != NULL && strchr(buffer->format, 'O') != NULL) {
+        PyErr_Format(PyExc_TypeError, "%s must not be an array of objects, whose bytes are addresses: %R", name,
+                     Py_TYPE(data));
+        return -1;
+    }
+    if (!PyByteArray_Check(data) && !PyMemoryView_Check(data) && has_attribute(data, "mask")) {
+        PyErr_Format(PyExc_TypeError, "%s must not be a masked array, whose bytes are also those of masked values: %R",
+                     name, Py_TYPE(data));
+        return -1;
+    }
+    return 0;
+}
+
 /* A str is immutable and keeps its UTF-8. The contents of bytes need no buffer, but a subclass may have its own. */
 int read_message(PyObject *data, const char *name, struct message *message)
 {
@@ -36,9 +84,7 @@ int read_message(PyObject *data, const char *name, struct message *message)
     } else if (PyObject_CheckBuffer(data)) {
         if (PyObject_GetBuffer(data, &message->buffer, PyBUF_FORMAT | PyBUF_C_CONTIGUOUS) < 0)
             return -1;
-        if (message->buffer.format != NULL && strchr(message->buffer.format, 'O') != NULL) {
-            PyErr_Format(PyExc_TypeError, "%s must not be an array of objects, whose bytes are addresses: %R", name,
-                         Py_TYPE(data));
+        if (refuse_array(data, name, &message->buffer) < 0) {
             PyBuffer_Release(&message->buffer);
             return -1;
         }
@@ -50,6 +96,37 @@ int read_message(PyObject *data, const char *name, struct message *message)
     }
     message->len = (size_t)len;
     return 0;
+}
+
+/* Adds the place to the reason of a str that has no UTF-8. */
+static void name_reason(PyObject *error, const char *place)
+{
+    PyObject *const old = PyUnicodeEncodeError_GetReason(error);
+    PyObject *const reason = old == NULL ? NULL : PyUnicode_FromFormat("%U in %s", old, place);
+    PyObject *const text = reason == NULL ? NULL : PyUnicode_AsUTF8String(reason);
+    if (text != NULL)
+        PyUnicodeEncodeError_SetReason(error, PyBytes_AsString(text));
+    Py_XDECREF(old);
+    Py_XDECREF(reason);
+    Py_XDECREF(text);
+}
+
+/* An error of a class of its own, or for want of memory, is not about the value. */
+void name_error(const char *place)
+{
+    PyObject *type, *error, *trace;
+    PyErr_Fetch(&type, &error, &trace);
+    PyErr_NormalizeException(&type, &error, &trace);
+    if (type == PyExc_UnicodeEncodeError) {
+        name_reason(error, place);
+    } else if (type == PyExc_TypeError || type == PyExc_ValueError || type == PyExc_BufferError) {
+        PyErr_Format(type, "%s: %S", place, error);
+        Py_XDECREF(type);
+        Py_XDECREF(error);
+        Py_XDECREF(trace);
+        return;
+    }
+    PyErr_Restore(type, error, trace);
 }
 
 void release_message(struct message *message)

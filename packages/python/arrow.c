@@ -77,13 +77,15 @@ static void read_format(struct arrow *arrow, char *why, size_t size)
  * column is released. */
 PyObject *arrow(PyObject *module, PyObject *const *args, Py_ssize_t count)
 {
-    PyObject *const pair = count == 2 ? PyObject_CallMethod(args[0], "__arrow_c_array__", NULL) : NULL;
+    PyObject *const lend = count == 2 ? attribute_of(args[0], "__arrow_c_array__") : NULL;
+    PyObject *const pair = lend == NULL ? NULL : PyObject_CallObject(lend, NULL);
     PyObject *schema, *array, *capsule = NULL, *result = NULL;
     char why[80] = "";
     (void)module;
     if (pair != NULL && PyArg_Parse(pair, "(OO)", &schema, &array))
         capsule = take(schema, array);
     Py_XDECREF(pair);
+    Py_XDECREF(lend);
     if (capsule != NULL) {
         struct arrow *const arrow = PyCapsule_GetPointer(capsule, ARROW);
         read_format(arrow, why, sizeof why);

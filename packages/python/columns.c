@@ -64,13 +64,39 @@ int overlaps(const Py_buffer *out, const Py_buffer *buffer, const char *name)
     return 1;
 }
 
-/* Names the item of an error about its type. */
+/* Names the item of an error about it. Numbers are no messages, because equal ones may have different bytes. */
 static void name_item(Py_ssize_t at, PyObject *item)
 {
-    if (item == Py_None)
+    char place[64];
+    const char *hint = PyIndex_Check(item) ? ": each_key hashes integers" : "";
+    if (item == Py_None) {
         PyErr_Format(PyExc_TypeError, "items[%zd] is None: pass `missing`, the hash of a missing item", at);
-    else if (PyErr_ExceptionMatches(PyExc_TypeError))
-        PyErr_Format(PyExc_TypeError, "items[%zd] must be bytes, another buffer, or a str, not %R", at, Py_TYPE(item));
+    } else if (PyErr_ExceptionMatches(PyExc_TypeError)) {
+        PyErr_Format(PyExc_TypeError, "items[%zd] must be bytes, another buffer, or a str, not %R%s", at, Py_TYPE(item),
+                     hint);
+    } else {
+        PyOS_snprintf(place, sizeof place, "items[%zd]", at);
+        name_error(place);
+    }
+}
+
+/* Returns whether an item is a number or a time of NumPy, which has a buffer. Arrays of times have none. */
+static int is_number(PyObject *item, const Py_buffer *buffer)
+{
+    const char kind = buffer->obj == NULL || PyByteArray_Check(item) || PyMemoryView_Check(item) ? 0 : kind_of(item);
+    return kind != 0 && (strchr("mM", kind) != NULL || (buffer->ndim == 0 && strchr("biufc", kind) != NULL));
+}
+
+/* Reads an item. Returns 0, or -1 with an error set. */
+static int read_item(PyObject *item, struct message *message)
+{
+    if (read_message(item, "item", message) < 0)
+        return -1;
+    if (!is_number(item, &message->buffer))
+        return 0;
+    release_message(message);
+    PyErr_SetNone(PyExc_TypeError);
+    return -1;
 }
 
 /* Without the global lock, another thread can remove the item before this one holds it. */
@@ -94,7 +120,7 @@ static int hash_item(const struct column *column, Py_ssize_t at, PyObject *item)
         return -1;
     if (item == Py_None && column->has_missing)
         return put_hash(column, at, column->missing), 0;
-    if (read_message(item, "item", &message) < 0)
+    if (read_item(item, &message) < 0)
         return name_item(at, item), -1;
     if (message.len > LONG) {
         Py_BEGIN_ALLOW_THREADS

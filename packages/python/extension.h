@@ -44,6 +44,18 @@ int read_start(PyObject *module, const struct form *form, PyObject *seed, PyObje
 
 void release_message(struct message *message);
 
+/* Returns a new reference to an attribute, or NULL with an error set. */
+PyObject *attribute_of(PyObject *object, const char *name);
+
+/* Returns whether an object has an attribute. */
+int has_attribute(PyObject *object, const char *name);
+
+/* Returns the letter of the kind that an array or a scalar of NumPy has, such as b for a bool, and 0 for any other. */
+char kind_of(PyObject *object);
+
+/* Adds the place of an argument to the error that is set, if the error is about its value. */
+void name_error(const char *place);
+
 /* Returns the form of a version's name, or NULL with an error set. */
 const struct form *form_of(PyObject *version);
 

@@ -4,9 +4,11 @@
 
 #include <rapidhash_c.h>
 
-/* The encoding of a key. A long one is in the stream, but for its last bytes. */
+/* The encoding of a key. A long one is in the stream, but for its last bytes. `integers` is NULL, or a type that is
+ * known to have integers. */
 struct key {
     const struct rapidhash_secrets *secrets;
+    void *integers;
     struct rapidhash_stream stream;
     int is_long;
     size_t len;

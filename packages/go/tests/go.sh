@@ -29,6 +29,16 @@ copies_whole_pieces() {
   [ "$(go tool objdump -s 'Stream..(add|fold)$' "$room/test" | grep -c 'CALL runtime.memmove')" -eq 3 ]
 }
 
+# Checks by the instructions in that program that a key costs nothing besides its fields: the number of loops, with a jump
+# for the stack of each function, and of calls, also those that clear or copy memory, and at most 340 in all. A key that
+# first cleared or filled other memory would take longer.
+writes_fields_alone() {
+  go tool objdump -s 'rapidhash\.(v3Key|\(\*Stream\)\.(WriteField|add|Sum64))$' "$room/test" >"$room/code" && awk '
+    $2 ~ /^0x/ { count++; calls += $4 == "CALL" }
+    $2 ~ /^0x/ && $4 ~ /^J/ && ($5 !~ /^0x/ || length($5) == length($2) && $5 < $2) { back++ }
+    END { print back, calls, count <= 340 }' "$room/code" | diff - <(echo 5 23 1)
+}
+
 # Tests Clone with the library's package hash as Go 1.25 has it: an older Go's gets the interface.
 clones() {
   local root
@@ -53,7 +63,7 @@ try licences has_the_licences .
 try version requires_the_go_of_the_page
 try layout bash -c '[ -z "$(gofmt -l .)" ]'
 # The functions, methods, and types of the release.
-try names bash -c '[ "$(go doc -all | grep -cE "^(func|type) ")" -eq 69 ]'
+try names bash -c '[ "$(go doc -all | grep -cE "^(func|type) ")" -eq 75 ]'
 try tests passes_every_test
 try race go test -timeout 0 -count 1 -short -race .
 try fuzz go test -timeout 0 -run - -fuzz FuzzPieces -fuzztime 20000x .
@@ -63,6 +73,7 @@ try_with s390x qemu-s390x env GOARCH=s390x go test -timeout 0 -count 1 -short -e
 for os in linux windows darwin; do try "vet_$os" env GOOS="$os" GOARCH=amd64 go vet .; done
 try rows_per_iteration folds_many_rows
 try copies copies_whole_pieces
+try key_alone writes_fields_alone
 try clone clones
 try vet_formulas go vet -tags formulas ./...
 try lines_of_the_page runs_the_page

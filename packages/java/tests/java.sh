@@ -221,6 +221,14 @@ copies_whole_arrays() {
     grep -cE 'Method (java/lang/System.arraycopy|java/nio/ByteBuffer.get:\(\[B|append):?')" -eq 11 ]
 }
 
+# Checks by that code that each of the four loads of 4 or 8 bytes is a single one, and that those of a byte read one: byte
+# by byte, short messages would take longer.
+loads_whole_words() {
+  javap -c -p -cp "$jar" "$package.Primitives" >"$room/loads" &&
+    for load in 'VarHandle.get:' 'baload' 'ByteBuffer.get:(I)B'; do grep -cF "$load" "$room/loads"; done |
+    diff - <(printf '%s\n' 4 1 1)
+}
+
 needs javac java jar /usr/share/java/junit4.jar
 prepare_by make -s -C "$top" jar
 prepare_by write_vectors "$room"
@@ -233,6 +241,7 @@ try java_names has_its_names
 try java_secrets tells_secrets_apart
 try java_version is_for_the_jdk_of_the_page
 try java_copies copies_whole_arrays
+try java_loads loads_whole_words
 try java_buffers "$top/scripts/java_buffers" --check
 # No machine here has the other byte order: no source may ask for that of the machine.
 try java_byte_order bash -c '! grep -rnE "nativeOrder|Unsafe" "$1"' - "$folder/src/main"

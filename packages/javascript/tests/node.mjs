@@ -52,6 +52,18 @@ test("a module by its bytes, and compiled", async () => {
       { name: "TypeError", message: /^the module is not that of this version/ });
 });
 
+test("a key costs at most what JSON.stringify of its fields costs", () => {
+  const calls = [(at) => library.v3Key("user:1", at, null), (at) => library.v3(JSON.stringify(["user:1", at, null]))];
+  const costs = calls.map(() => Infinity);
+  for (let round = 0; round < 20; round++)
+    calls.forEach((call, which) => {
+      const start = process.hrtime.bigint();
+      for (let at = 0; at < 20000; at++) call(at);
+      costs[which] = Math.min(costs[which], Number(process.hrtime.bigint() - start));
+    });
+  assert.ok(costs[0] <= costs[1], `${costs[0] / 20000} ns, and ${costs[1] / 20000} ns`);
+});
+
 test("objects of another realm", () => {
   const { bytes, view, buffer, secrets, options, floats } = runInNewContext(`
     const bytes = Uint8Array.from({ length: 120 }, (_, at) => at);

@@ -24,9 +24,11 @@ async function pieces(): Promise<bigint> {
 }
 
 const shared: Promise<string> = ready().then(() => v3Hex("text") + v3("text", { seed: 1 }) + new V3().digest("hex"));
-const key: bigint = library.v3Key("text", 1, 2n, null, undefined, data, data.buffer);
+const key: bigint = library.v3Key("text", 1, 2n, null, data, data.buffer);
 const seeded: bigint = library.v3KeyWith({ seed: 1 }, key, new DataView(data.buffer));
 
+// @ts-expect-error A misspelt property is not a field.
+library.v3Key(undefined);
 // @ts-expect-error A date is not a field.
 library.v3Key(new Date());
 // @ts-expect-error A seed is not a string.

@@ -8,8 +8,9 @@ import sys
 from itertools import zip_longest
 from pathlib import Path
 
-sys.path.append(str(Path(__file__).parents[3] / "tests"))
+sys.path += [str(Path(__file__).parents[3] / "tests"), str(Path(__file__).parent)]
 from cases import ROOM, TOP, blocks, compare, finish, needs, shell, tell  # noqa: E402
+from fields import encodings, types  # noqa: E402
 from sql import (BINDINGS, DATA, HELLO, SERVER, STREAMS, ask, key_queries, lines_with_results, signed,  # noqa: E402
                  start_server, unpack, vector_queries)
 
@@ -184,7 +185,7 @@ def rest():
 needs("cc", *SERVER)
 stop = start_server()
 try:
-    for step in (install, installcheck, unpacked_archive, vectors, keys, storages, aggregates, partitions,
+    for step in (install, installcheck, unpacked_archive, vectors, keys, encodings, types, storages, aggregates, partitions,
                  hash_partitions, rest):
         step()
 finally:

@@ -12,10 +12,11 @@
 
 A hash is an integer below 2**64, the same on every machine. `data` is any contiguous buffer, such as bytes, bytearray,
 memoryview, array.array or mmap, or a str, which is hashed as its UTF-8. It is not copied. Threads can share a hasher.
-Other threads run while more than 64 KiB are hashed.
+Other threads run while a message of more than 64 KiB is hashed, or columns without Python objects.
 """
 
 import copyreg
+import itertools
 import operator
 from array import array
 
@@ -56,9 +57,21 @@ def _room(count):
     return array("Q", (0,)) * count
 
 
+def _is_masked(array):
+    """Returns whether an object is an array of NumPy with masked items."""
+    return hasattr(array, "filled") and hasattr(array, "mask")
+
+
 def _listed(column):
-    """Returns a Series or an Index of pandas as a list, with None for its missing values."""
-    return [None if missing else item for item, missing in zip(column.tolist(), column.isna())]
+    """Returns a Series or an Index of pandas, or a masked array of NumPy, as a list with None for its missing values."""
+    if type(getattr(getattr(column, "dtype", None), "na_value", None)).__name__ == "NAType":
+        return column.to_numpy(dtype=object, na_value=None).tolist()  # Its own tolist() is slow.
+    items = column.tolist()
+    if hasattr(column, "isna"):
+        missing = column.isna()
+        for at in itertools.compress(itertools.count(), missing.tolist() if hasattr(missing, "tolist") else missing):
+            items[at] = None
+    return items
 
 
 def each(items, version="v3", seed=None, secrets=None, out=None, missing=None):
@@ -67,8 +80,8 @@ def each(items, version="v3", seed=None, secrets=None, out=None, missing=None):
 
     `version` is the name of a hash in this module. With `out`, writes to this buffer of unsigned 64-bit integers and
     returns it. If a call raises an error, the contents of `out` are unspecified. `missing`, an integer, is the hash of
-    an item that is None, null in Arrow, or a missing value of a Series of pandas. Without it, such an item raises
-    TypeError."""
+    an item that is None, null in Arrow, masked in NumPy, or missing in a Series of pandas. Without it, such an item
+    raises TypeError. So does a number: `each_key` hashes integers."""
     if isinstance(items, (str, bytes, bytearray)) or hasattr(items, "columns"):
         raise TypeError(f"items must be an iterable of messages, not {type(items)!r}")
     if hasattr(items, "__arrow_c_array__"):
@@ -76,8 +89,11 @@ def each(items, version="v3", seed=None, secrets=None, out=None, missing=None):
         out = _room(rows) if out is None else out
         _extension.each_arrow(column, version, seed, secrets, out, missing)
         return out
-    if hasattr(items, "isna"):
-        items = _listed(items)
+    if hasattr(items, "isna") or _is_masked(items):
+        try:
+            items = _listed(items)
+        except NotImplementedError as error:  # of a MultiIndex
+            raise TypeError(f"items must be an iterable of messages, not {type(items)!r}: {error}") from None
     items = items if type(items) in (list, tuple) else tuple(items)
     out = _room(len(items)) if out is None else out
     _extension.each(items, version, seed, secrets, out, missing)
@@ -88,6 +104,8 @@ def each_row(data, width, version="v3", seed=None, secrets=None, out=None):
     """Returns the hash of each `width` bytes of a buffer, in the same way as `each`.
 
     Raises ValueError if `width` does not divide the number of bytes, or if `out` overlaps `data`."""
+    if _is_masked(data):
+        raise TypeError("data must not be a masked array, whose bytes are also those of masked values")
     view, width = memoryview(data), _integer("width", width)
     if "O" in view.format:
         raise TypeError("data must not be an array of objects, whose bytes are addresses")
@@ -121,8 +139,16 @@ def v3_key(*fields, seed=None, secrets=None):
         >>> rapidhash.v3_key("user", 4711, None)
         14742763072502883419
 
-    Raises TypeError for any other field, such as a float or a bool, and OverflowError for an int outside the range."""
+    Raises TypeError for any other field, such as a float, or a bool of Python or NumPy, and OverflowError for an int outside the range."""
     return _extension.key(fields, seed, secrets)
+
+
+def _viewed(column):
+    """Returns the buffer of a column, or its items."""
+    try:
+        return memoryview(column)
+    except TypeError:
+        return tuple(column)
 
 
 def _fields(at, column):
@@ -132,24 +158,27 @@ def _fields(at, column):
         raise TypeError(f"columns[{at}] must be a column of fields, not {type(column)!r}")
     if hasattr(column, "__arrow_c_array__"):
         return _extension.arrow(column, f"columns[{at}]")
-    if hasattr(column, "isna"):  # a Series or an Index of pandas
-        whole = getattr(column.dtype, "kind", "O") in "iu" and not hasattr(column.dtype, "na_value")
-        column = column.to_numpy() if whole else _listed(column)
-    elif not isinstance(column, (list, tuple)):
-        try:
-            column = memoryview(column)
-        except TypeError:
-            column = tuple(column)
-    return column, len(column) if at == 0 else None
+    try:
+        if hasattr(column, "isna"):  # a Series or an Index of pandas
+            whole = getattr(column.dtype, "kind", "O") in "iu" and not hasattr(column.dtype, "na_value")
+            column = column.to_numpy() if whole else _listed(column)
+        elif _is_masked(column):
+            column = _listed(column)
+        elif not isinstance(column, (list, tuple)):
+            column = _viewed(column)
+        return column, len(column) if at == 0 else None
+    except (BufferError, NotImplementedError, TypeError, ValueError) as error:
+        raise TypeError(f"columns[{at}] must be a column of fields, not {type(column)!r}: {error}") from None
 
 
 def each_key(*columns, seed=None, secrets=None, out=None):
     """Returns the hash of each row of one or more columns, as v3_key returns it, in the same way as `each`.
 
-    A column is a list, a tuple or another iterable of fields, a contiguous buffer of integers, such as a NumPy array, a
-    Series of pandas, whose missing values are None, or an Arrow array of strings, bytes or integers. Raises TypeError
-    for any other column, such as a str, a DataFrame or an array of objects, and ValueError if the columns have different
-    numbers of rows or `out` overlaps one."""
+    A column is a list, a tuple or another iterable of fields, a buffer of integers, such as a NumPy array, a Series of
+    pandas, whose missing values are None, as masked ones of NumPy are, or an Arrow array of strings, bytes or integers.
+    Other threads run if each column is a buffer of integers or an Arrow array. Raises TypeError for any other column,
+    such as a str, a DataFrame or an array of objects, and ValueError if the columns have different numbers of rows or
+    `out` overlaps one."""
     if not columns:
         raise TypeError("each_key() needs at least one column")
     opened = []

@@ -94,6 +94,16 @@ runs_installed() {
   cd "$room/tests" && PYTHONMALLOC=debug "$room/fresh/bin/python" -B "$1.py"
 }
 
+# Runs the tests of columns, which count the memory that is left, with the allocator of the C library.
+leaves_no_memory() {
+  cd "$room/tests" && PYTHONMALLOC=malloc "$room/fresh/bin/python" -B test_arrow.py
+}
+
+# Runs the tests with NumPy and pandas, which are Debian's, and the installed wheel.
+works_with_pandas() {
+  cd "$room/tests" && PYTHONPATH=$(echo "$room"/fresh/lib/python3*/site-packages) "$python" -B test_pandas.py
+}
+
 accepts_the_types() {
   cd "$room/tests" && mypy --strict --no-error-summary --cache-dir "$room/mypy" \
     --python-executable "$room/fresh/bin/python" test_types.py
@@ -124,6 +134,8 @@ try lay_out lay_out
 for name in "${names[@]}"; do
   try "$name" runs_installed "test_$name"
 done
+try malloc leaves_no_memory
+try_with pandas '/usr/lib/python3/dist-packages/pandas /usr/lib/python3/dist-packages/numpy' works_with_pandas
 try_with types mypy accepts_the_types
 try_with types_of_the_package mypy types_are_those_of_the_package
 try_with oldest_python mypy is_for_the_oldest_python

@@ -6,6 +6,7 @@ import unittest
 from pathlib import Path
 
 import rapidhash
+from test_buffers import lets_others_run
 
 TABLE = Path(__file__).with_name("keys.tsv")
 
@@ -93,6 +94,14 @@ class Keys(unittest.TestCase):
         class Date(bytearray):  # as a date of NumPy, which has a buffer
             dtype = "M8[D]"
 
+        class Wrong:
+            def __index__(self):
+                return "1"
+
+        class Own:
+            def __index__(self):
+                raise KeyError("own")
+
         for value in (1.5, True, [1], {}, object(), Date(8), array.array("i", [1]), array.array("d", [1]),
                       memoryview(b"").cast("b")):
             with self.assertRaisesRegex(TypeError, r"^fields\[1\] must be None, an int, a str or bytes, not <class '"):
@@ -104,10 +113,35 @@ class Keys(unittest.TestCase):
                 rapidhash.v3_key(value)
         with self.assertRaisesRegex(OverflowError, r"^columns\[0\]\[1\] must be from -2\*\*63 to 2\*\*63 - 1$"):
             rapidhash.each_key(array.array("Q", [2**63 - 1, 2**63]))
-        with self.assertRaises(UnicodeEncodeError):
-            rapidhash.v3_key("\ud800")
+        for call, place in ((lambda: rapidhash.v3_key(1, "\ud800"), r"fields\[1\]"),
+                            (lambda: rapidhash.each_key([1] * 1000, ["a"] * 999 + ["b\ud800"]), r"columns\[1\]\[999\]"),
+                            (lambda: rapidhash.each(["a"] * 999 + ["b\ud800"]), r"items\[999\]")):
+            with self.assertRaisesRegex(UnicodeEncodeError, rf"position \d: surrogates not allowed in {place}$"):
+                call()
+        for value, kind, reason in ((memoryview(b"abcd")[::2], BufferError, "memoryview: underlying buffer is not C-contiguous"),
+                                    (Wrong(), TypeError, "__index__ returned non-int"), (Own(), KeyError, None)):
+            places = ["", ""] if reason is None else [r"^fields\[0\]: ", r"^columns\[0\]\[1\]: "]
+            for call, place in zip((lambda: rapidhash.v3_key(value), lambda: rapidhash.each_key([1, value])), places):
+                with self.assertRaisesRegex(kind, place + (reason or "own")):
+                    call()
         with self.assertRaisesRegex(TypeError, "pass either seed or secrets, not both"):
             rapidhash.v3_key(1, seed=1, secrets=rapidhash.make_secrets(1))
+
+    def test_strides(self):
+        numbers = array.array("i", range(10))
+        for step in (1, 2, 3, 20, -1, -3):
+            wanted = [rapidhash.v3_key(number) for number in numbers[::step]]
+            self.assertEqual(list(rapidhash.each_key(memoryview(numbers)[::step])), wanted)
+        words = memoryview(array.array("Q", bytes(8 * 20)))
+        for column, out in ((words[::2], words[10:]), (words[9::-1], words[:10])):
+            with self.assertRaisesRegex(ValueError, r"^out must not overlap columns\[0\]$"):
+                rapidhash.each_key(column, out=out)
+        self.assertEqual(rapidhash.each_key(words[9::-1], out=words[10:])[0], rapidhash.v3_key(0))
+
+    def test_other_threads_run_meanwhile(self):
+        numbers = array.array("q", range(10_000))
+        self.assertTrue(lets_others_run(lambda: rapidhash.each_key(numbers, numbers), 20_000))
+        self.assertFalse(lets_others_run(lambda: rapidhash.each_key(numbers[:9], [1] * 9), 20_000))
 
     def test_what_is_no_column(self):
         class Frame:
@@ -116,7 +150,7 @@ class Keys(unittest.TestCase):
         class Nothing(ctypes.Structure):
             pass  # whose items have no byte
 
-        for column in ("text", b"bytes", Frame()):
+        for column in ("text", b"bytes", Frame(), 7):
             with self.assertRaisesRegex(TypeError, r"^columns\[1\] must be a column of fields, not <class '"):
                 rapidhash.each_key([1], column)
         for column in (array.array("d", [1.5]), memoryview(bytes(4)).cast("B", (2, 2)), (Nothing * 2)()):

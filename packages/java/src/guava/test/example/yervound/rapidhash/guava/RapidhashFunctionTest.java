@@ -74,6 +74,7 @@ public class RapidhashFunctionTest {
         compare("", f -> f.newHasher(7).hash());
         compare("fe0100", f -> f.newHasher().putByte((byte) -2).putBoolean(true).putBoolean(false).hash());
         compare("02812d4e", f -> f.newHasher().putShort((short) 0x8102).putChar('\u4e2d').hash());
+        compare("6100fe00", f -> f.newHasher().putChar('a').putShort((short) 0xfe).hash());
         compare("010203840102030405060788",
             f -> f.newHasher().putInt(0x84030201).putLong(0x8807060504030201L).hash());
         compare("0000c03f00000000000000c0", f -> f.newHasher().putFloat(1.5f).putDouble(-2).hash());

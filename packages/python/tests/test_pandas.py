@@ -1,0 +1,136 @@
+"""Tests columns of NumPy and pandas with an installed copy of the package."""
+
+import time
+import unittest
+import warnings
+
+import rapidhash
+
+try:
+    import numpy
+    import pandas
+except ImportError:
+    raise unittest.SkipTest("no pandas, which needs NumPy") from None
+
+warnings.simplefilter("error")
+NUMBERS = [7, -1, 2**62, 0, 5, 100, -2**63, 3, 2**63 - 1, 4]
+
+
+def keys(*columns):
+    return [rapidhash.v3_key(*row) for row in zip(*columns)]
+
+
+class Pandas(unittest.TestCase):
+    def refused(self, error, kind, call, *arguments, **words):
+        with self.subTest(error), self.assertRaisesRegex(kind, error):
+            call(*arguments, **words)
+
+    def test_strides(self):
+        array = numpy.array(NUMBERS)
+        for step in (1, 2, 3, 20, -1, -2, -3):
+            wanted = keys(NUMBERS[::step])
+            for column in (array[::step], pandas.Series(NUMBERS)[::step], memoryview(array)[::step]):
+                self.assertEqual(list(rapidhash.each_key(column)), wanted)
+            words = list("abcdefghij")[::step]
+            self.assertEqual(list(rapidhash.each_key(words, array[::step])), keys(words, NUMBERS[::step]))
+        frame = pandas.DataFrame(array.reshape(5, 2), columns=["a", "b"])
+        rows = [NUMBERS[at:at + 2] for at in range(0, 10, 2)]
+        self.assertEqual(list(rapidhash.each_key(frame.a, frame.b)), keys(*zip(*rows)))
+        self.assertEqual(list(rapidhash.each_key(frame.T[0], frame.T[3])), keys(rows[0], rows[3]))
+        self.assertEqual(list(rapidhash.each_key(numpy.broadcast_to(array[:1], 3))), keys([7] * 3))
+        for kind in "int8 uint8 int16 uint16 int32 uint32 int64 uint64".split():
+            self.assertEqual(list(rapidhash.each_key(numpy.arange(9, dtype=kind)[1::3])), keys([1, 4, 7]))
+
+    def test_strides_and_out(self):
+        room = numpy.zeros(20, "uint64")
+        for column, out in ((room[::2], room[10:]), (room[9::-1], room[:10]), (room[18::-2], room[9:19])):
+            self.refused(r"^out must not overlap columns\[1\]$", ValueError, rapidhash.each_key, [1] * 10, column, out=out)
+        self.assertEqual(list(rapidhash.each_key(room[9::-1], out=room[10:])), keys([0] * 10))
+
+    def test_masked_items_are_missing(self):
+        for values, none in ((NUMBERS[:3], 5), (["a", "b", "c"], "z")):
+            for mask in ([0, 1, 0], [1, 1, 1], [0, 0, 0], False):
+                column = numpy.ma.array(values, mask=mask)
+                wanted = column.tolist(none)
+                items = [None if item == none else item for item in wanted]
+                self.assertEqual(list(rapidhash.each_key(column, [1] * 3)), keys(items, [1] * 3))
+        texts = numpy.ma.array(["a", "b"], mask=[0, 1])
+        self.assertEqual(list(rapidhash.each(texts, missing=3)), [rapidhash.v3("a"), 3])
+        self.refused(r"^items\[1\] is None: pass `missing`", TypeError, rapidhash.each, texts)
+
+    def test_masked_arrays_are_no_bytes(self):
+        masked = numpy.ma.array(NUMBERS[:2], mask=[0, 1])
+        error = "^data must not be a masked array, whose bytes are also those of masked values"
+        self.refused(error, TypeError, rapidhash.each_row, masked, 8)
+        self.refused(error, TypeError, rapidhash.v3, masked)
+        self.refused(error, TypeError, rapidhash.V3, masked)
+        self.refused(r"^items\[1\] must be bytes", TypeError, rapidhash.each, [b"", masked])
+        self.refused(r"^fields\[0\]: ", TypeError, rapidhash.v3_key, numpy.ma.masked)
+        self.refused(r"^columns\[1\]\[1\]: ", TypeError, rapidhash.each_key, [1, 2], [1, numpy.ma.masked])
+
+    def test_bools_are_no_integers(self):
+        for value in (numpy.bool_(True), numpy.bool_(False), *pandas.array([True], dtype="boolean")):
+            self.refused(r"^fields\[1\] must be None, an int, a str or bytes, not <class '.*bool", TypeError,
+                         rapidhash.v3_key, 1, value)
+        self.refused(r"^columns\[0\]\[1\] must be None", TypeError, rapidhash.each_key, [numpy.int64(1), numpy.bool_(True)])
+        for column in (list(numpy.array([True, False])), pandas.Series([True, None], dtype="boolean"),
+                       pandas.Series([True, False]), pandas.array([True, None], dtype="boolean")):
+            self.refused(r"^columns\[1\]\[0\] must be None, an int, a str or bytes, not <class '.*bool", TypeError,
+                         rapidhash.each_key, [1, 2], column)
+        self.refused(r"^columns\[0\] must be .* of the format '\?'$", TypeError, rapidhash.each_key, numpy.array([True]))
+        for kind in "int8 uint8 int16 uint16 int32 uint32 int64 uint64".split():
+            self.assertEqual(list(rapidhash.each_key(list(numpy.array([1, 0], kind)))), keys([1, 0]))
+
+    def test_columns_with_missing_values(self):
+        texts, numbers = ["a", None, "", "c"], [2**62 + 1, None, -2**63, 0]
+        objects = pandas.Series(["a", float("nan"), pandas.NA, pandas.NaT, None, "c"])
+        self.assertEqual(list(rapidhash.each_key(objects)), keys(["a", None, None, None, None, "c"]))
+        for column, items in ((pandas.Series(texts, dtype="string"), texts), (pandas.Index(texts), texts),
+                              (pandas.Series(texts, dtype="category"), texts), (pandas.Series(numbers, dtype="Int64"), numbers),
+                              (pandas.array(numbers, dtype="Int64"), numbers), (pandas.Index(numbers, dtype="Int64"), numbers),
+                              (pandas.Series(pandas.arrays.SparseArray([0, 7, 0, 5])), [0, 7, 0, 5])):
+            self.assertEqual(list(rapidhash.each_key(column)), keys(items), column)
+            if items is texts:
+                self.assertEqual(list(rapidhash.each(column, missing=1)), list(rapidhash.each(texts, missing=1)))
+
+    def test_nullable_columns_are_not_slow(self):
+        def cost(column):
+            starts = [(time.perf_counter(), rapidhash.each_key(column), time.perf_counter()) for _ in range(20)]
+            return min(end - start for start, _, end in starts)
+
+        texts, numbers = [f"user:{at}" for at in range(10_000)], list(range(2**40, 2**40 + 10_000))
+        for items, kind in ((texts, "string"), (numbers, "Int64")):
+            self.assertLess(cost(pandas.Series(items, dtype=kind)), 4.5 * cost(items), kind)
+
+    def test_numbers_are_no_messages(self):
+        error = r"^items\[0\] must be bytes, another buffer, or a str, not <class '.*int\d*'>: each_key hashes integers$"
+        for items in (*(pandas.Series([1], dtype=kind) for kind in ("Int64", "Int32", "Int8", "UInt8", "int64", "uint8")),
+                      numpy.arange(3), [numpy.int16(1)], pandas.Index([1])):
+            self.refused(error, TypeError, rapidhash.each, items)
+        for item in (numpy.float64(1), numpy.float32(1), numpy.bool_(True), numpy.complex64(1),
+                     numpy.datetime64("2020-01-01"), numpy.timedelta64(1, "s")):
+            self.refused(r"^items\[1\] must be bytes, another buffer, or a str, not <class 'numpy", TypeError,
+                         rapidhash.each, [b"", item])
+        rows = numpy.arange(6, dtype="uint8").reshape(3, 2)
+        self.assertEqual(list(rapidhash.each(rows)), list(rapidhash.each(map(bytes, rows))))
+        self.assertEqual(list(rapidhash.each(numpy.array(["a", "bc"]))), list(rapidhash.each(["a", "bc"])))
+
+    def test_errors_name_the_place(self):
+        levels, dates = pandas.MultiIndex.from_arrays([[1], [2]]), numpy.array(["2020-01-01"], "M8[D]")
+        for column, reason in ((dates, "cannot include dtype 'M'"), (levels, "isna is not defined"), (7, "not iterable")):
+            self.refused(rf"^columns\[1\] must be a column of fields, not <class '.*'>: .*{reason}", TypeError,
+                         rapidhash.each_key, [1], column)
+        for column in (numpy.int64(5), numpy.array(5), numpy.array([[1]]), numpy.array(["a"], object), numpy.array([1.5])):
+            self.refused(r"^columns\[0\] must be a list, a tuple, or a buffer of integers", TypeError,
+                         rapidhash.each_key, column)
+        self.refused("^items must be an iterable of messages, not .*isna is not defined", TypeError, rapidhash.each, levels)
+        array = numpy.array(NUMBERS)
+        self.refused(r"^fields\[1\]: only integer scalar arrays", TypeError, rapidhash.v3_key, 1, array)
+        self.refused(r"^columns\[0\]\[1\]: only integer scalar arrays", TypeError, rapidhash.each_key, [1, array])
+        self.refused(r"^items\[1\]: ndarray is not C-contiguous$", ValueError, rapidhash.each, [b"", array[::2]])
+        self.refused(r"^columns\[0\]\[8\] must be from -2\*\*63 to ", OverflowError, rapidhash.each_key,
+                     numpy.array([0] * 8 + [2**63], "uint64")[::1])
+
+
+if __name__ == "__main__":
+    unittest.main()
