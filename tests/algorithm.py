@@ -6,8 +6,8 @@ import ctypes
 import re
 
 from cases import ROOM, TOP, compare, finish, lacks, shell, skip, tell
-from model import (LANES, PAGE, S, drawn, drawn_by_time, field_bytes, hash_of, hashed_items, hashed_pieces,
-                   hashed_slice, made_secrets, message, saved, secrets_of, seed_source)
+from model import (LANES, PAGE, S, bucket, drawn, drawn_by_time, field_bytes, fingerprint, first_hash, hash_of,
+                   hashed_items, hashed_pieces, hashed_slice, made_secrets, message, saved, secrets_of, seed_source, shard)
 
 
 HEADER = (TOP / "packages" / "c" / "include" / "rapidhash_c.h").read_text()
@@ -20,6 +20,12 @@ def computed(case):
         return hashed_pieces({"5": "micro", "3": "nano"}.get(case.get("lanes"), "V3"), case)
     if "call" in case:
         return secrets_of(case["call"], case["number"], version == "V1")
+    if "hashes" in case:
+        return [fingerprint(map(int, case["hashes"].split()))]
+    if "count" in case and "hash" in case:
+        hash, count = int(case["hash"]), int(case["count"])
+        own = shard(hash, count)
+        return [own, first_hash(own, count), bucket(hash, count) if count < 2**32 else "-"]
     if "key" in case:
         return [hashed_slice("V3", {**case, "protected": "0"}, b"".join(map(field_bytes, case["key"].split())))]
     if "items" in case:

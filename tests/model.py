@@ -206,6 +206,27 @@ def hashed_slice(version, case, content):
     return hash_of(version, content, seed, secrets, avalanche, protected, case.get("v1_bug") == "1")
 
 
+def shard(hash, count):
+    return hash * count >> 64
+
+
+def first_hash(shard, count):
+    return -(-(shard << 64) // count)
+
+
+def bucket(hash, count):
+    """Returns the bucket of jump consistent hashing, with its quotient in exact integers."""
+    at, after = 0, 0
+    while after < count:
+        at, hash = after, (hash * 2862933555777941757 + 1) % 2**64
+        after = ((at + 1) << 31) // ((hash >> 33) + 1)
+    return at
+
+
+def fingerprint(hashes):
+    return sum(hashes) % 2**64
+
+
 def field_bytes(text):
     """Returns the encoding of a key's field: `-`, a decimal integer, or x and hexadecimal digits."""
     if text == "-":

@@ -1,8 +1,11 @@
 pub mod AgreementLemmas
+pub mod BucketLemmas
+pub mod FingerprintLemmas
 pub mod GeneratorLemmas
 pub mod HasherLemmas
 pub mod KeyLemmas
 pub mod LawsLemmas
 pub mod ReplayLemmas
+pub mod ShardLemmas
 pub mod SpongeLemmas
 pub mod WritesLemmas

@@ -16,6 +16,7 @@ pub use Rattle.rapidhash_portable.specs.Stream
 pub use Rattle.rapidhash_portable.specs.Tail
 pub use Rattle.rapidhash_portable.specs.Version
 pub use Rattle.rapidhash_portable.specs.Words
+pub mod Fingerprints
 pub mod Generator
 pub mod Hasher
 pub mod Key
@@ -23,5 +24,6 @@ pub mod Keys
 pub mod Laws
 pub mod RapidHasher
 pub mod Replay
+pub mod Shards
 pub mod Sponge
 pub mod States

@@ -7,26 +7,31 @@
 //! - [`ByteKey`]: a key of bytes, which they hash in one write.
 //! - [`key`]: one hash for a key of several fields, the same in every language.
 //! - [`fast`], [`quality`]: the hasher and the states of maps, without and with an avalanche.
+//! - [`shards`]: the shard or the bucket of a hash, the same in every language.
+//! - [`fingerprints`]: a number for the rows of a table, in any order.
 //! - [`inner`]: the hasher of maps, with every option.
 //! - [`rng`]: a small generator.
 //! - [`laws`]: laws of the hashes, each as a call.
 //! - [`util`]: the reads and the multiply that the hashes use.
 //!
 //! ```
+//! use rapidhash::shards::shard;
 //! use rapidhash::v3::rapidhash_v3;
 //!
-//! let shard = rapidhash_v3(b"user:4711") % 64;
+//! let shard = shard(rapidhash_v3(b"user:4711"), 64);
 //! ```
 #![tactic(auto)]
 
 mod collections;
 pub mod fast;
+pub mod fingerprints;
 pub mod inner;
 pub mod key;
 mod keys;
 pub mod laws;
 pub mod quality;
 pub mod rng;
+pub mod shards;
 
 pub use collections::{HashMapExt, HashSetExt, RapidHashMap, RapidHashSet};
 pub use keys::ByteKey;

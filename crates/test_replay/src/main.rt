@@ -17,6 +17,7 @@ mod readers;
 mod rules;
 mod saved;
 mod seeds;
+mod shards;
 mod streams;
 mod tally;
 mod words;
@@ -88,6 +89,8 @@ fn replay_line(alloc: Global, columns: &str, line: &str) -> Result<Agreement> {
         seeds::RESEED_COLUMNS => seeds::replay_reseed(alloc, line),
         seeds::MADE_COLUMNS => seeds::replay_made(alloc, line),
         seeds::SOURCE_COLUMNS => seeds::replay_source(alloc, line),
+        shards::COLUMNS => shards::replay(alloc, line),
+        shards::FINGERPRINT_COLUMNS => shards::replay_fingerprint(alloc, line),
         draws::COLUMNS => draws::replay(alloc, line),
         draws::TIME_COLUMNS => draws::replay_time(alloc, line),
         draws::STEPS_COLUMNS => draws::replay_steps(alloc, line),

@@ -128,7 +128,7 @@ use proved::known_length;
 pub use proved::reader;
 #[doc(hidden)]
 pub use proved::util;
+pub use proved::{fingerprints, rng, shards, v1, v2, v3};
 use proved::{in_memory, kernel, lanes, secrets, seeding, tail, words};
-pub use proved::{rng, v1, v2, v3};
 #[cfg(any(feature = "std", target_has_atomic = "32"))]
 pub use random::{WordsInUse, set_random_words};

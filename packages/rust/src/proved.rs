@@ -1,5 +1,6 @@
 //! The proved sources without their contracts: `scripts/rust_crate` writes every file in `proved/`.
 
+pub mod fingerprints;
 pub mod in_memory;
 pub mod inner {
     pub mod hasher;
@@ -18,6 +19,7 @@ pub mod reader;
 pub mod rng;
 pub mod secrets;
 pub mod seeding;
+pub mod shards;
 pub mod tail;
 pub mod util;
 pub mod v1;

@@ -5,7 +5,7 @@ use rapidhash::rng::{RapidRng, rapidrng_time};
 use rapidhash::v3::{DEFAULT_RAPID_SECRETS, RapidSecrets, rapidhash_v3, rapidhash_v3_seeded};
 use rapidhash::v3::{RapidStream, RapidStreamHasherInlineMicro, RapidStreamHasherV3};
 use rapidhash::{HashMapExt, HashSetExt, RapidHashMap, RapidHashSet};
-use rapidhash::{fast, inner, quality, util, v1, v2, v3};
+use rapidhash::{fast, inner, quality, shards, util, v1, v2, v3};
 use std::io::{Read, Write, copy};
 use std::sync::Mutex;
 use std::thread;
@@ -234,4 +234,22 @@ fn a_second_of_nanoseconds() {
 #[should_panic]
 fn a_read_past_the_end() {
     let _ = util::read_u64(&[0; 8], 1);
+}
+
+#[test]
+#[should_panic = "the count must be at least 1"]
+fn no_shards() {
+    let _ = shards::shard(7, 0);
+}
+
+#[test]
+#[should_panic = "the shard must be below the count"]
+fn a_shard_too_many() {
+    let _ = shards::first_hash(10, 10);
+}
+
+#[test]
+#[should_panic = "the count must be at least 1"]
+fn no_buckets() {
+    let _ = shards::bucket(7, 0);
 }

@@ -10,7 +10,7 @@ use std::path::Path;
 #[test]
 fn every_vector_file_is_replayed() {
     let folder = Path::new(env!("CARGO_MANIFEST_DIR")).join("../../crates/test_replay/data");
-    assert_eq!(replay::folder(&folder).unwrap(), 27);
+    assert_eq!(replay::folder(&folder).unwrap(), 29);
 }
 
 /// Each version has the values of its definition, two versions agree at the lengths where upstream's do, and each cut of a

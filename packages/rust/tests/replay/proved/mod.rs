@@ -23,6 +23,7 @@ pub mod readers;
 pub mod rules;
 pub mod saved;
 pub mod seeds;
+pub mod shards;
 pub mod streams;
 pub mod tally;
 pub mod util;
@@ -44,6 +45,8 @@ pub fn replay_line(columns: &str, line: &str) -> Result<Agreement> {
         seeds::RESEED_COLUMNS => seeds::replay_reseed(line),
         seeds::MADE_COLUMNS => seeds::replay_made(line),
         seeds::SOURCE_COLUMNS => seeds::replay_source(line),
+        shards::COLUMNS => shards::replay(line),
+        shards::FINGERPRINT_COLUMNS => shards::replay_fingerprint(line),
         draws::COLUMNS => draws::replay(line),
         draws::TIME_COLUMNS => draws::replay_time(line),
         draws::STEPS_COLUMNS => draws::replay_steps(line),

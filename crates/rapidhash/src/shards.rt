@@ -1,0 +1,117 @@
+//! What a hash decides: a shard or a bucket, with the same value in every language.
+//!
+//! Cut a table into shards with [`shard`]. They are equally large to one hash, and intervals of
+//! the hashes, so that [`first_hash`] is the bound of a range. Multiplying the count splits each
+//! shard. For servers that come one by one use [`bucket`]: a hash then moves only to a new bucket.
+
+ghost use Rattle.std.specs.Prelude.{◌≡◌, ◌≤◌, ◌<◌, ◌+◌, ◌*◌, ◌/◌, ◌^◌, ◌↔◌, ◌⊎◌, ℕ};
+ghost use Rattle.rapidhash.specs.Shards.{FirstLaws, IsBucket, ShardLaws, first_hash_of, jump_from, shard_of, state_after};
+
+/// Returns the shard of a hash, below `count`: the integer part of `hash * count / 2^64`.
+///
+/// The hashes of a shard share their highest bits. If you use the same hash again inside a shard,
+/// take its lowest bits.
+///
+/// ```
+/// use rapidhash::shards::shard;
+/// use rapidhash::v3::rapidhash_v3;
+///
+/// assert_eq!(shard(rapidhash_v3(b"hello"), 10), 1);
+/// assert_eq!(shard(u64::MAX, 10), 9);
+/// ```
+///
+/// # Panics
+///
+/// In Rust, if `count` is 0. Rattle's checker refuses such a call.
+#[inline]
+#[tactic(auto, using(crate::proofs::ShardLemmas::shards))]
+pub const fn shard(hash: u64, count: u64) -> u64
+    requires { 0 < count }
+    ensures is { result ≡ shard_of hash count }
+    ensures below { result < count }
+    ensures laws { ShardLaws hash count result }
+{
+    prove!(count > 0, "the count must be at least 1");
+    (hash as u128 * count as u128 / 0x1_0000_0000_0000_0000) as u64
+}
+
+/// Returns the first hash of a shard. The shard has the hashes from it to before the first of the
+/// next shard: 2^64 / `count` of them, or one more.
+///
+/// ```
+/// use rapidhash::shards::{first_hash, shard};
+///
+/// assert_eq!(first_hash(1, 10), 1844674407370955162);
+/// assert_eq!(shard(1844674407370955161, 10), 0);
+/// assert_eq!(shard(1844674407370955162, 10), 1);
+/// ```
+///
+/// # Panics
+///
+/// In Rust, if `shard` is not below `count`. Rattle's checker refuses such a call.
+#[inline]
+#[tactic(auto, using(crate::proofs::ShardLemmas::shards))]
+pub const fn first_hash(shard: u64, count: u64) -> u64
+    requires { shard < count }
+    ensures is { result ≡ first_hash_of shard count }
+    ensures laws { FirstLaws shard count result }
+{
+    prove!(shard < count, "the shard must be below the count");
+    let product = shard as u128 * 0x1_0000_0000_0000_0000;
+    ((product + (count - 1) as u128) / count as u128) as u64
+}
+
+/// Returns the bucket of a hash, below `count`, by jump consistent hashing in integers: among more
+/// buckets a hash keeps its bucket or goes to a new one.
+///
+/// The time grows with the logarithm of `count`: some 14 steps for a million buckets.
+///
+/// ```
+/// use rapidhash::shards::bucket;
+/// use rapidhash::v3::rapidhash_v3;
+///
+/// let hash = rapidhash_v3(b"hello");
+/// assert_eq!([bucket(hash, 9), bucket(hash, 10), bucket(hash, 11)], [4, 4, 4]);
+/// ```
+///
+/// # Panics
+///
+/// In Rust, if `count` is 0. Rattle's checker refuses such a call.
+#[tactic(auto, using(crate::proofs::BucketLemmas::buckets))]
+pub fn bucket(hash: u64, count: u32) -> u32
+    requires { 0 < count }
+    ensures is { IsBucket hash count result }
+    ensures below { result < count }
+    ensures moves { (more other : ℕ) → count ≤ more → IsBucket hash more other →
+        (other ≡ result) ⊎ (count ≤ other) }
+{
+    prove!(count > 0, "the count must be at least 1");
+    let mut at = 0;
+    let mut state = next_state(hash);
+    let mut next = jump(state, at);
+    while next < count as u64 {
+        at = next as u32;
+        state = next_state(state);
+        next = jump(state, at);
+    }
+    at
+}
+
+// Returns the state after a state.
+fn next_state(state: u64) -> u64
+    ensures { result ≡ state_after state }
+{
+    state.wrapping_mul(2862933555777941757).wrapping_add(1)
+}
+
+// Returns the bucket to which a state jumps from another bucket. Of the 2^31 words of a state, a
+// share of (bucket + 1) / n jumps to n or past it.
+#[tactic(auto, using(crate::proofs::BucketLemmas::buckets))]
+fn jump(state: u64, bucket: u32) -> u64
+    ensures is { result ≡ jump_from state bucket }
+    ensures past { bucket < result }
+    ensures even { (n : ℕ) → 0 < n →
+        n ≤ result ↔ state / 2 ^ 33 + 1 ≤ (bucket + 1) * 2 ^ 31 / n }
+{
+    (bucket as u64 + 1) * 0x8000_0000 / ((state >> 33) + 1)
+}
