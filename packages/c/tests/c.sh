@@ -278,11 +278,11 @@ counts_instructions() {
     diff <(instructions "rapidhash_$name(bytes, length)" 0) - <<<"$counts" &&
       [ "$(instructions "$call" 0)" != "$([[ $name = v3_[mn]* ]] || instructions "$call" 1)" ] || return 1
   done <<'COUNTS'
-v2_2 31 110 2090
-v3 35 77 2077
-v3_micro 35 109 1961
-v3_nano 35 103 2011
-v3_protected 40 97 2774
+v2_2 31 110 1764
+v3 32 88 1765
+v3_micro 32 105 1712
+v3_nano 32 100 1760
+v3_protected 36 106 2837
 COUNTS
 }
 
