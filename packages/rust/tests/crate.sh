@@ -59,8 +59,8 @@ needs_core_alone() {
 # Checks by the names in that library that no default hash folds one row at a time, which is slower: the options in the
 # name are AVALANCHE, COMPACT and PROTECTED.
 folds_two_rows() {
-  nm -C "$CARGO_TARGET_DIR/debug/libbare.a" 2>/dev/null | grep -o 'with_rows::<.*' | sort -u | diff - <(
-    printf 'with_rows::<%strue, false, false%s>\n' '2, ' '' '3, ' '' '5, ' '' '7, ' '' '' ', false')
+  nm -C "$CARGO_TARGET_DIR/debug/libbare.a" 2>/dev/null | grep -oE '(with_rows|above_inlined)::<.*' | sort -u | diff - <(
+    printf '%s, true, false, false>\n' 'above_inlined::<'{3,5,7} 'with_rows::<2' && echo 'with_rows::<true, false, false, false>')
 }
 
 # Checks what the registry and lawyers read of the manifests, with the compiler of the page: MANIFEST
