@@ -88,6 +88,28 @@ def key_queries(literal, integer):
             yield f"SELECT rapidhash_v3_key{name}({', '.join(words + fields)}) = {signed(int(number))};"
 
 
+def shard_queries(integer):
+    """Yields a query for each row of the files of shards and fingerprints, whose result must be true. SQL has no count
+    above 2^63 - 1."""
+    data, skipped = TOP / "crates/test_replay/data", 0
+    lines = [line.split("\t") for line in (data / "shards.tsv").read_text().splitlines()[3:]]
+    for hash, count, expected in lines:
+        if int(count) >= 2**63:
+            skipped += 1
+            continue
+        own, first, bucket = expected.split()
+        calls = [f"rapidhash_shard({integer(signed(int(hash)))}, {integer(int(count))}) = {own}",
+                 f"rapidhash_first_hash({integer(int(own))}, {integer(int(count))}) = {signed(int(first))}"]
+        calls += [f"rapidhash_bucket({integer(signed(int(hash)))}, {integer(int(count))}) = {bucket}"] * (bucket != "-")
+        yield f"SELECT {' AND '.join(calls)};"
+    compare("count_of_shards", (len(lines), skipped), (328, 43))
+    lines = [line.split("\t") for line in (data / "fingerprints.tsv").read_text().splitlines()[2:]]
+    compare("count_of_fingerprints", len(lines), 16)
+    for hashes, expected in lines:
+        rows = ", ".join(f"({integer(signed(int(hash)))})" for hash in ["0", *hashes.split()])
+        yield f"SELECT rapidhash_fingerprint(column1) = {signed(int(expected))} FROM (VALUES {rows}) AS hashes;"
+
+
 def lines_with_results(page):
     """Returns the queries of a page that state their results, with these results."""
     return re.findall(r"^(SELECT .*?); *-- (-?\w+)$", "".join(blocks(page, "sql")), re.M)

@@ -91,6 +91,20 @@ export function loadSync(source?: Source): Rapidhash;
 /** Returns a hash as 16 lower-case hexadecimal digits. */
 export function hex(hash: bigint): string;
 
+/** Returns the shard of a hash, below `count`: the integer part of hash * count / 2^64. It has the type of `count`. */
+export function shard(hash: bigint, count: number): number;
+export function shard(hash: bigint, count: bigint): bigint;
+
+/** Returns the first hash of a shard. The shard has the hashes from it to before the first of the next shard. */
+export function firstHash(shard: bigint | number, count: bigint | number): bigint;
+
+/** Returns the bucket of a hash, below `count`, which is below 2^32. Among more buckets the hash keeps its bucket, or has
+ * a new one. */
+export function bucket(hash: bigint, count: bigint | number): number;
+
+/** Returns the fingerprint of hashes: their sum modulo 2^64, in any order, and 0n of none. */
+export function fingerprint(hashes: Iterable<bigint>): bigint;
+
 /** Loads the module for the calls below. Without it, the first of them loads the module synchronously, which some
  * browsers refuse outside of a worker. */
 export function ready(): Promise<void>;

@@ -57,6 +57,8 @@ export function loadSync(source = inside()) {
   return calls(libraryNow(source));
 }
 
+export { bucket, fingerprint, firstHash, shard } from "./shards.mjs";
+
 /** Returns a hash as 16 lower-case hexadecimal digits. */
 export function hex(hash) {
   return word("hex: hash", hash).toString(16).padStart(16, "0");

@@ -14,6 +14,22 @@ CREATE FUNCTION rapidhash_v3_key_with_seed(seed bigint, VARIADIC fields "any") R
 CREATE FUNCTION rapidhash_v3_key_with_secrets(number bigint, VARIADIC fields "any") RETURNS bigint
     AS 'MODULE_PATHNAME', 'sql_v3_key_with_secrets' LANGUAGE C IMMUTABLE PARALLEL SAFE;
 
+-- What a hash decides. A fingerprint skips NULL, and is 0 of no rows.
+CREATE FUNCTION rapidhash_shard(hash bigint, count bigint) RETURNS bigint
+    AS 'MODULE_PATHNAME', 'sql_shard' LANGUAGE C IMMUTABLE STRICT PARALLEL SAFE;
+CREATE FUNCTION rapidhash_first_hash(shard bigint, count bigint) RETURNS bigint
+    AS 'MODULE_PATHNAME', 'sql_first_hash' LANGUAGE C IMMUTABLE STRICT PARALLEL SAFE;
+CREATE FUNCTION rapidhash_bucket(hash bigint, count bigint) RETURNS bigint
+    AS 'MODULE_PATHNAME', 'sql_bucket' LANGUAGE C IMMUTABLE STRICT PARALLEL SAFE;
+CREATE FUNCTION rapidhash_fingerprint_add(fingerprint bigint, hash bigint) RETURNS bigint
+    AS 'MODULE_PATHNAME', 'sql_fingerprint_add' LANGUAGE C IMMUTABLE STRICT PARALLEL SAFE;
+CREATE FUNCTION rapidhash_fingerprint_remove(fingerprint bigint, hash bigint) RETURNS bigint
+    AS 'MODULE_PATHNAME', 'sql_fingerprint_remove' LANGUAGE C IMMUTABLE STRICT PARALLEL SAFE;
+CREATE AGGREGATE rapidhash_fingerprint(hash bigint) (
+    SFUNC = rapidhash_fingerprint_add, STYPE = bigint, INITCOND = '0', COMBINEFUNC = rapidhash_fingerprint_add,
+    MSFUNC = rapidhash_fingerprint_add, MINVFUNC = rapidhash_fingerprint_remove, MSTYPE = bigint, MINITCOND = '0',
+    PARALLEL = SAFE);
+
 -- For partitions by hash, and hash indexes.
 CREATE FUNCTION rapidhash_v3_ops(text) RETURNS integer
     AS 'MODULE_PATHNAME', 'sql_v3_ops' LANGUAGE C IMMUTABLE STRICT PARALLEL SAFE;

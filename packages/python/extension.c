@@ -138,7 +138,9 @@ static PyMethodDef calls[] = {
     {"each", FAST(each), METH_FASTCALL, NULL}, {"each_row", FAST(each_row), METH_FASTCALL, NULL},
     {"each_slice", FAST(each_slice), METH_FASTCALL, NULL}, {"key", FAST(key_of), METH_FASTCALL, NULL},
     {"each_key", FAST(each_key), METH_FASTCALL, NULL}, {"arrow", FAST(arrow), METH_FASTCALL, NULL},
-    {"each_arrow", FAST(each_arrow), METH_FASTCALL, NULL}, {NULL, NULL, 0, NULL}};
+    {"each_arrow", FAST(each_arrow), METH_FASTCALL, NULL}, {"shard", FAST(shard), METH_FASTCALL, NULL},
+    {"first_hash", FAST(first_hash), METH_FASTCALL, NULL}, {"bucket", FAST(bucket), METH_FASTCALL, NULL},
+    {"fingerprint", fingerprint, METH_O, NULL}, {NULL, NULL, 0, NULL}};
 
 /* The module's state: the classes of secrets, that of V1 second. Each interpreter has its own. */
 static int fill(PyObject *module)

@@ -82,6 +82,10 @@ PyObject *each_key(PyObject *module, PyObject *const *args, Py_ssize_t count);
 PyObject *each(PyObject *module, PyObject *const *args, Py_ssize_t count);
 PyObject *each_row(PyObject *module, PyObject *const *args, Py_ssize_t count);
 PyObject *each_slice(PyObject *module, PyObject *const *args, Py_ssize_t count);
+PyObject *shard(PyObject *module, PyObject *const *args, Py_ssize_t count);
+PyObject *first_hash(PyObject *module, PyObject *const *args, Py_ssize_t count);
+PyObject *bucket(PyObject *module, PyObject *const *args, Py_ssize_t count);
+PyObject *fingerprint(PyObject *module, PyObject *hashes);
 
 /* The base class of the hashers. */
 extern PyType_Spec rapidhash_stream_spec;

@@ -11,7 +11,7 @@ has_its_files() {
   local folder=$room/first/node_modules/yervound-rapidhash
   has_the_licences "$folder" && (cd "$folder" && LC_ALL=C ls) | diff - <(
     printf '%s\n' LICENSE-APACHE LICENSE-MIT NOTICE README.md arguments.mjs index.d.cts index.d.ts key.mjs \
-      library.mjs module.mjs package.json rapidhash.cjs rapidhash.mjs stream.mjs
+      library.mjs module.mjs package.json rapidhash.cjs rapidhash.mjs shards.mjs stream.mjs
   ) && cd "$room/first" && node -p 'const its = require("yervound-rapidhash/package.json");
     `${its.license}, ${its.engines.node}, ${its.sideEffects}`' | grep -x 'MIT OR Apache-2.0, >=18, false'
 }
@@ -19,7 +19,7 @@ has_its_files() {
 # Lays out the tests beside the installed package, with the files that they read.
 lay_out() {
   cp "$top"/packages/javascript/tests/*.m* "$top/build/rapidhash.wasm" "$room/first" &&
-    cp "$top"/crates/test_replay/data/{keys,saved}.tsv "$room/first" && write_vectors "$room/first" &&
+    cp "$top"/crates/test_replay/data/{keys,saved,shards,fingerprints}.tsv "$room/first" && write_vectors "$room/first" &&
     seq 1 20000000 | head -c 100000000 >"$room/first/large"
 }
 
@@ -52,7 +52,7 @@ runs_required() {
 # Checks that the types name each export of the package, and no other.
 names_each_export() {
   cd "$room/first" &&
-    diff <(sed -nE "s/^export (const|function) (\w+).*/\2/p" node_modules/*/index.d.ts | LC_ALL=C sort) \
+    diff <(sed -nE "s/^export (const|function) (\w+).*/\2/p" node_modules/*/index.d.ts | LC_ALL=C sort -u) \
       <(node --input-type=module -e 'import * as all from "yervound-rapidhash"; console.log(Object.keys(all).join("\n"))')
 }
 
@@ -105,7 +105,7 @@ try install works_as_its_page_says "$top/packages/javascript/README.md"
 try files has_its_files
 try lay_out lay_out
 try page runs_the_page
-for name in known refused keys saved shared vectors node; do
+for name in known refused keys saved shards shared vectors node; do
   try "node_$name" runs_in_node "$name"
 done
 try changed_files refuses_changed_files

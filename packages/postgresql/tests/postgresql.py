@@ -11,8 +11,8 @@ from pathlib import Path
 sys.path += [str(Path(__file__).parents[3] / "tests"), str(Path(__file__).parent)]
 from cases import ROOM, TOP, blocks, compare, finish, needs, shell, tell  # noqa: E402
 from fields import encodings, types  # noqa: E402
-from sql import (BINDINGS, DATA, HELLO, SERVER, STREAMS, ask, key_queries, lines_with_results, signed,  # noqa: E402
-                 start_server, unpack, vector_queries)
+from sql import (BINDINGS, DATA, HELLO, SERVER, STREAMS, ask, key_queries, lines_with_results, shard_queries,  # noqa: E402
+                 signed, start_server, unpack, vector_queries)
 
 PAGE = "packages/postgresql/README.md"
 FUNCTIONS = """SELECT prokind, proisstrict, count(*), count(*) FILTER (WHERE proargnames && '{seed,number}'), bool_and(provolatile = 'i' AND proparallel = 's')
@@ -64,6 +64,28 @@ def keys():
     label = "CREATE DOMAIN pg_temp.label AS text; SELECT rapidhash_v3_key('user'::pg_temp.label, 4711, NULL)"
     compare("key of a domain of texts", ask(label), [str(user)])
     compare("key with no seed", ask("SELECT rapidhash_v3_key_with_seed(NULL, 1) IS NULL"), ["t"])
+
+
+def shards():
+    queries = [*shard_queries("'{}'::bigint".format)]
+    found = ask("\n".join(queries))
+    tell("shards", *[query[:200] for query, line in zip_longest(queries, found, fillvalue="") if line != "t"])
+    rows = "(VALUES (1, 5), (2, NULL), (3, -7), (4, 9)) AS rows(place, hash)"
+    found = ask(f"SELECT rapidhash_fingerprint(hash) OVER (ORDER BY place ROWS 1 PRECEDING) FROM {rows}")
+    compare("fingerprints_of_windows", found, ["5", "5", "-7", "2"])
+    compare("fingerprints_and_null", ask(f"""SELECT rapidhash_fingerprint(hash), rapidhash_fingerprint(hash) FILTER (WHERE
+        false), rapidhash_shard(NULL, 3) IS NULL, rapidhash_bucket(7, NULL) IS NULL FROM {rows}"""), ["7|0|t|t"])
+    parallel = """CREATE TABLE many AS SELECT rapidhash_v3(number) AS hash FROM generate_series(1, 200000) AS number;
+        SET parallel_setup_cost = 0; SET parallel_tuple_cost = 0; SET min_parallel_table_scan_size = 0;
+        SELECT rapidhash_fingerprint(hash) FROM many; SET max_parallel_workers_per_gather = 0;
+        SELECT rapidhash_fingerprint(hash) FROM many; SET max_parallel_workers_per_gather = 4;
+        EXPLAIN (COSTS OFF) SELECT rapidhash_fingerprint(hash) FROM many; DROP TABLE many"""
+    one, other, *plan = ask(parallel)
+    compare("fingerprint_by_workers", (one == other, "Partial Aggregate" in "".join(plan)), (True, True))
+    for call, reason in (("shard(7, 0)", "the count must be from 1 to 9223372036854775807, not 0"),
+                         ("bucket(7, 4294967296)", "the count must be from 1 to 4294967295, not 4294967296"),
+                         ("first_hash(10, 10)", "the shard must be from 0 to the count less 1, not 10")):
+        tell(f"no {call}", *[line for line in ask(f"SELECT rapidhash_{call}")[:1] if not line.endswith(f"ERROR:  {reason}")])
 
 
 def installcheck():

@@ -29,7 +29,8 @@ from ._secrets import Secrets, SecretsV1
 __all__ = ["v1", "v2_0", "v2_1", "v2_2", "v3", "v3_micro", "v3_nano", "v3_protected",
            "v1_hexdigest", "v2_0_hexdigest", "v2_1_hexdigest", "v2_2_hexdigest",
            "v3_hexdigest", "v3_micro_hexdigest", "v3_nano_hexdigest", "v3_protected_hexdigest",
-           "each", "each_row", "each_slice", "v3_key", "each_key", "make_secrets", "Secrets", "SecretsV1",
+           "each", "each_row", "each_slice", "v3_key", "each_key", "shard", "first_hash", "bucket", "fingerprint",
+           "make_secrets", "Secrets", "SecretsV1",
            "V3", "V3Micro", "V3Nano", "file_digest", "__version__"]
 
 __version__ = "1.0.0"
@@ -271,6 +272,56 @@ class V3Nano(_Hasher):
     name = "rapidhash_v3_nano"
     block_size = 48
     _lanes = 3
+
+
+def _hashes(column):
+    """Returns the buffer of a column of hashes, or None for a single hash and for other items."""
+    try:
+        view = memoryview(column.to_numpy() if hasattr(column, "to_numpy") else column)
+    except TypeError:
+        return None
+    return view if view.ndim else None
+
+
+def _decided(call, hashes, count, out):
+    """Returns what a hash decides, or what each hash of a column does."""
+    column = _hashes(hashes)
+    if column is None:
+        return call(hashes, count, None)
+    out = _room(len(column)) if out is None else out
+    call(column, count, out)
+    return out
+
+
+def shard(hashes, count, out=None):
+    """Returns the shard of a hash, below `count`: the integer part of hash * count / 2**64.
+
+    The hashes may also be a column of unsigned 64-bit integers, such as that of `each_key`. Then the shards are written
+    to `out`, a new `array('Q')` by default, which is returned. Raises ValueError for a count of 0."""
+    return _decided(_extension.shard, hashes, count, out)
+
+
+def first_hash(shard, count):
+    """Returns the first hash of a shard, which has the hashes from it to before the first of the next shard.
+
+    Raises ValueError if `shard` is not below `count`."""
+    return _extension.first_hash(shard, count)
+
+
+def bucket(hashes, count, out=None):
+    """Returns the bucket of a hash, below `count`, or those of a column, as `shard` does. `count` is below 2**32.
+
+    Among more buckets a hash keeps its bucket, or has a new one (jump consistent hashing)."""
+    return _decided(_extension.bucket, hashes, count, out)
+
+
+def fingerprint(hashes):
+    """Returns the fingerprint of a column of hashes, or of an iterable: their sum modulo 2**64, in any order.
+
+    Two tables with equally many rows and one fingerprint of their `each_key` have the same rows, but for a chance of one
+    in 2**64. That does not hold against someone who chooses the rows."""
+    column = _hashes(hashes)
+    return sum(map(operator.index, hashes)) % 2**64 if column is None else _extension.fingerprint(column)
 
 
 def file_digest(fileobj, digest=V3, /):

@@ -5,7 +5,7 @@
 . "$(dirname "$0")/../../../tests/cases.sh"
 # The Python for which Debian has the packages that build wheels.
 python=/usr/bin/python3
-names=(rapidhash package buffers columns keys missing arrow saved vectors)
+names=(rapidhash package buffers columns keys shards missing arrow saved vectors)
 unset PYTHONPATH
 export PIP_NO_INDEX=1 PIP_DISABLE_PIP_VERSION_CHECK=1 CFLAGS='-Wall -Wextra -Werror'
 
@@ -38,7 +38,7 @@ lay_out() {
   mkdir -p "$room/source" "$room/tests" && cd "$top" && cp LICENSE-* NOTICE "$room/source" &&
     git ls-files packages/python packages/c/include | xargs cp --parents -t "$room/source" &&
     (cd "$room/source" && find . | sort) >"$room/listed" && cp packages/python/tests/test_*.py "$room/tests" &&
-    cp crates/test_replay/data/{keys,saved}.tsv "$room/tests" && write_vectors "$room/tests"
+    cp crates/test_replay/data/{keys,saved,shards,fingerprints}.tsv "$room/tests" && write_vectors "$room/tests"
 }
 
 leaves_nothing() {

@@ -10,7 +10,7 @@ from pathlib import Path
 sys.path.append(str(Path(__file__).parents[3] / "tests"))
 from cases import ROOM, TOP, blocks, compare, finish, needs, shell, skip_all, tell  # noqa: E402
 from sql import BINDINGS, DIGITS, HELLO, NOTHING, TEXT, TEXT_HASH  # noqa: E402
-from sql import key_queries, lines_with_results, signed, unpack, vector_queries  # noqa: E402
+from sql import key_queries, lines_with_results, shard_queries, signed, unpack, vector_queries  # noqa: E402
 
 PAGE = "packages/sqlite/README.md"
 REAL = "a REAL cannot be hashed: cast it to TEXT, BLOB or INTEGER"
@@ -32,6 +32,12 @@ ERRORS = {
         "rapidhash_v3_key: argument 2 is a REAL, and no field of a key: cast it to TEXT, BLOB or INTEGER",
     "rapidhash_v3_key_with_seed()": "rapidhash_v3_key_with_seed: the first argument is missing",
     "rapidhash_v3_key_with_secrets('1')": "rapidhash_v3_key_with_secrets: the number must be an INTEGER",
+    "rapidhash_shard(7, 0)": "rapidhash_shard: the count must be from 1 to 9223372036854775807, not 0",
+    "rapidhash_shard(7, -1)": "rapidhash_shard: the count must be from 1 to 9223372036854775807, not -1",
+    "rapidhash_shard('7', 1)": "rapidhash_shard: the hash must be an INTEGER",
+    "rapidhash_first_hash(10, 10)": "rapidhash_first_hash: the shard must be from 0 to the count less 1, not 10",
+    "rapidhash_bucket(7, 4294967296)": "rapidhash_bucket: the count must be from 1 to 4294967295, not 4294967296",
+    "rapidhash_fingerprint(1.5)": "rapidhash_fingerprint: the hash must be an INTEGER",
 }
 MEMORY = """cc -std=c99 -g -Wall -Wextra -Werror -fsanitize=address,undefined -fno-sanitize-recover=all -Ipackages/c/include \
     packages/sqlite/rapidhash.c packages/sqlite/tests/test_memory.c -lsqlite3 -o "$ROOM/test_memory"
@@ -71,6 +77,18 @@ def keys(database):
     found = ask(database, """SELECT rapidhash_v3_key(), rapidhash_v3_key('user', 4711, NULL),
         rapidhash_v3_key_with_seed(7, x'75736572', 4711, NULL), rapidhash_v3_key_with_seed(NULL, 1)""")
     compare("keys_of_each_type", found, [(NOTHING, signed(14742763072502883419), 4558979304646042975, None)])
+
+
+def shards(database):
+    queries = shard_queries(str)
+    tell("shards", *[query[:200] for query in queries if ask(database, query) != [(1,)]])
+    rows = "(SELECT column1 AS place, column2 AS hash FROM (VALUES (1, 5), (2, NULL), (3, -7), (4, 9)))"
+    found = ask(database, f"""SELECT rapidhash_fingerprint(hash) OVER (ORDER BY place ROWS 1 PRECEDING) FROM {rows}""")
+    compare("fingerprints_of_windows", found, [(5,), (5,), (-7,), (2,)])
+    found = ask(database, f"""SELECT rapidhash_fingerprint(hash), (SELECT rapidhash_fingerprint(hash) FROM {rows} WHERE 0),
+        rapidhash_shard(NULL, 3), rapidhash_shard(7, NULL), rapidhash_bucket(NULL, 3), rapidhash_first_hash(NULL, 3)
+        FROM {rows}""")
+    compare("fingerprints_and_null", found, [(7, 0, None, None, None, None)])
 
 
 def types(database, name):

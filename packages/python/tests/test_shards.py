@@ -1,0 +1,71 @@
+"""Tests shards, buckets and fingerprints with an installed copy of the package, over the files that all languages have."""
+
+import unittest
+from array import array
+from pathlib import Path
+
+import rapidhash
+from rapidhash import bucket, fingerprint, first_hash, shard
+
+FOLDER = Path(__file__).parent
+
+
+def rows(name):
+    lines = (FOLDER / name).read_text().splitlines()
+    return [line.split("\t") for line in lines if not line.startswith("#")][1:]
+
+
+@unittest.skipUnless((FOLDER / "shards.tsv").exists(), "the source distribution has no file of shards")
+class Files(unittest.TestCase):
+    def test_the_file_of_shards(self):
+        cases = rows("shards.tsv")
+        self.assertEqual(len(cases), 328)
+        for hash, count, expected in cases:
+            own, first, known = expected.split()
+            self.assertEqual(shard(int(hash), int(count)), int(own))
+            self.assertEqual(shard(array("Q", [int(hash)]), int(count)), array("Q", [int(own)]))
+            self.assertEqual(first_hash(int(own), int(count)), int(first))
+            if known == "-":
+                self.assertRaises(ValueError, bucket, int(hash), int(count))
+            else:
+                self.assertEqual(bucket(int(hash), int(count)), int(known))
+                self.assertEqual(bucket(array("Q", [int(hash)] * 2), int(count)), array("Q", [int(known)] * 2))
+
+    def test_the_file_of_fingerprints(self):
+        cases = rows("fingerprints.tsv")
+        self.assertEqual(len(cases), 16)
+        for texts, expected in cases:
+            hashes = [int(text) for text in texts.split()]
+            for column in (hashes, iter(hashes), array("Q", hashes), memoryview(array("Q", hashes[::-1]))[::-1]):
+                self.assertEqual(fingerprint(column), int(expected))
+
+
+class Shards(unittest.TestCase):
+    def test_columns(self):
+        keys = rapidhash.each_key(["a", "b", None], [1, 2, 3])
+        out = array("Q", [0] * 3)
+        self.assertIs(shard(keys, 10, out), out)
+        self.assertEqual(list(out), [shard(key, 10) for key in keys])
+        self.assertEqual(list(shard(memoryview(keys)[::2], 10)), [out[0], out[2]])
+        self.assertEqual(bucket(keys, 7, keys), array("Q", [bucket(key, 7) for key in rapidhash.each_key(["a", "b", None], [1, 2, 3])]))
+        self.assertEqual(shard(array("Q"), 10), array("Q"))
+
+    def test_what_is_refused(self):
+        for call, error, reason in (
+                (lambda: shard(7, 0), ValueError, "count must be from 1 to 18446744073709551615, not 0"),
+                (lambda: bucket(7, 0), ValueError, "count must be from 1 to 4294967295, not 0"),
+                (lambda: bucket(7, 2**32), ValueError, "count must be from 1 to 4294967295, not 4294967296"),
+                (lambda: first_hash(10, 10), ValueError, "shard must be below count, 10, not 10"),
+                (lambda: shard(-1, 10), OverflowError, "hash must be from 0 to"),
+                (lambda: shard("7", 10), TypeError, "hash must be an integer, not <class 'str'>"),
+                (lambda: shard(array("q", [1]), 10), TypeError, "hashes must be unsigned 64-bit integers in one dimension"),
+                (lambda: fingerprint(b"12345678"), TypeError, "hashes must be unsigned 64-bit integers in one dimension"),
+                (lambda: fingerprint([1.5]), TypeError, "float"),
+                (lambda: shard(array("Q", [1]), 10, array("Q")), ValueError, "out must have room for exactly 1 hashes")):
+            with self.assertRaises(error) as caught:
+                call()
+            self.assertIn(reason, str(caught.exception))
+
+
+if __name__ == "__main__":
+    unittest.main()
