@@ -6,7 +6,7 @@ import java.nio.charset.StandardCharsets;
 import java.util.Objects;
 
 /** The hashes of numbers, texts and inputs, by those of their bytes. */
-interface Values<S extends SecretWords> {
+interface Values<S extends SeedAndSecrets> {
     long hash(byte[] bytes);
 
     long hash(byte[] bytes, long seed);

@@ -31,7 +31,7 @@ public class ValuesTest {
         Rapidhash.ALL.forEach(ValuesTest::compareNumbers);
     }
 
-    private static <S extends SecretWords> void compareNumbers(Rapidhash<S> version) {
+    private static <S extends SeedAndSecrets> void compareNumbers(Rapidhash<S> version) {
         S own = Messages.own(version);
         assertEquals(version.hash(OF_NUMBER), version.hash(NUMBER));
         assertEquals(version.hash(OF_NUMBER, 7L), version.hash(NUMBER, 7L));
@@ -44,7 +44,7 @@ public class ValuesTest {
         Rapidhash.ALL.forEach(ValuesTest::compareTexts);
     }
 
-    private static <S extends SecretWords> void compareTexts(Rapidhash<S> version) {
+    private static <S extends SeedAndSecrets> void compareTexts(Rapidhash<S> version) {
         S own = Messages.own(version);
         for (CharSequence text : List.of(TEXT, new StringBuilder(TEXT), CharBuffer.wrap("<" + TEXT + ">", 1, 10))) {
             assertEquals(version.hash(OF_TEXT), version.hash(text));
