@@ -53,6 +53,26 @@ public class ValuesTest {
         }
     }
 
+    /** A letter is a text, also in a box, and no number as Java would take it for. */
+    @Test
+    public void letters() {
+        Character boxed = 'a';
+        assertEquals(6457959414642172395L, Rapidhash.V3.hash('a'));
+        assertEquals(6457959414642172395L, Rapidhash.V3.hash(boxed));
+        Rapidhash.ALL.forEach(ValuesTest::compareLetters);
+    }
+
+    private static <S extends SeedAndSecrets> void compareLetters(Rapidhash<S> version) {
+        S own = Messages.own(version);
+        for (String text : List.of("a", "\u00ef", "\u4e2d", "\ud83d")) {
+            char letter = text.charAt(0);
+            assertEquals(version.hash(text), version.hash(letter));
+            assertEquals(version.hash(text, 7L), version.hash(letter, 7L));
+            assertEquals(version.hash(text, own), version.hash(letter, own));
+        }
+        assertEquals(version.hash((long) 'a'), version.hash('a' + 0));
+    }
+
     /** Reads a message in pieces of 0, 1, 2 bytes, and so on. */
     private static final class Pieces extends ByteArrayInputStream {
         private int size;
