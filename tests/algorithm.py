@@ -65,7 +65,7 @@ uint64_t in_pieces(const uint8_t *bytes, size_t len, const struct rapidhash_secr
 {
     struct rapidhash_stream stream;
     size_t piece;
-    rapidhash_stream_start(&stream, lanes, own);
+    rapidhash_stream_start_(&stream, lanes, own);
     for (piece = 1; piece < len; bytes += piece, len -= piece, piece = 3 * piece + 1)
         rapidhash_stream_write(&stream, bytes, piece);
     rapidhash_stream_write(&stream, bytes, len);

@@ -40,7 +40,7 @@ EXPORT(seed_secrets_v1) void seed_secrets_v1(uint64_t seed, struct rapidhash_v1_
 { rapidhash_v1_seed_secrets(seed, secrets); }
 
 EXPORT(start) void start(struct rapidhash_stream *stream, size_t lanes, const struct rapidhash_secrets *secrets)
-{ rapidhash_stream_start(stream, lanes, secrets); }
+{ rapidhash_stream_start_(stream, lanes, secrets); }
 EXPORT(write) void write(struct rapidhash_stream *stream, const void *bytes, size_t len)
 { rapidhash_stream_write(stream, bytes, len); }
 EXPORT(reset) void reset(struct rapidhash_stream *stream)

@@ -76,7 +76,7 @@ static PyObject *start(PyObject *object, PyObject *args)
     }
     take_lock(self);
     memcpy(&self->secrets, words, sizeof self->secrets);
-    rapidhash_stream_start(&self->stream, (size_t)lanes, &self->secrets);
+    rapidhash_stream_start_(&self->stream, (size_t)lanes, &self->secrets);
     leave(self);
     Py_RETURN_NONE;
 }

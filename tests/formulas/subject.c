@@ -34,7 +34,7 @@ static uint64_t in_pieces(const struct record *asked, const uint8_t *bytes)
     struct rapidhash_stream stream;
     size_t at = 0;
 
-    rapidhash_stream_start(&stream, 15 - 2 * asked->form, &asked->own);
+    rapidhash_stream_start_(&stream, 15 - 2 * asked->form, &asked->own);
     for (int i = 0; i < 5; i++) {
         const size_t end = i < 4 ? (size_t)asked->cuts[i] : (size_t)asked->length, len = end - at;
         /* The pieces lie apart, so that a stream finds no earlier bytes in front of one. */

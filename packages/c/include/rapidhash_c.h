@@ -205,8 +205,8 @@ RAPIDHASH_PURE RAPIDHASH_NONNULL(1) uint64_t rapidhash_stream_finish(const struc
 /* Empties the message but keeps the secrets and the version. */
 RAPIDHASH_API RAPIDHASH_NONNULL(1) void rapidhash_stream_reset(struct rapidhash_stream *stream);
 
-/* Starts a stream with 7, 5, or 3 lanes. Call one of the three functions below instead. */
-RAPIDHASH_INLINE void rapidhash_stream_start(
+/* Starts a stream with 7, 5, or 3 lanes. Its name is private: call one of the three functions below. */
+RAPIDHASH_INLINE void rapidhash_stream_start_(
     struct rapidhash_stream *stream, size_t lanes, const struct rapidhash_secrets *secrets)
 {
     memset(stream, 0, sizeof *stream);
@@ -217,11 +217,11 @@ RAPIDHASH_INLINE void rapidhash_stream_start(
 
 /* Starts an empty stream, whose hash will be that of rapidhash_v3_with_secrets, or of micro or nano. */
 RAPIDHASH_INLINE void rapidhash_v3_start(struct rapidhash_stream *stream, const struct rapidhash_secrets *secrets)
-{ rapidhash_stream_start(stream, 7, secrets); }
+{ rapidhash_stream_start_(stream, 7, secrets); }
 RAPIDHASH_INLINE void rapidhash_v3_micro_start(struct rapidhash_stream *stream, const struct rapidhash_secrets *secrets)
-{ rapidhash_stream_start(stream, 5, secrets); }
+{ rapidhash_stream_start_(stream, 5, secrets); }
 RAPIDHASH_INLINE void rapidhash_v3_nano_start(struct rapidhash_stream *stream, const struct rapidhash_secrets *secrets)
-{ rapidhash_stream_start(stream, 3, secrets); }
+{ rapidhash_stream_start_(stream, 3, secrets); }
 
 /* Append a field of a key to the message of a V3 stream: nothing (as SQL's NULL), an integer, or bytes (a text is its
  * UTF-8). The hash after the last field is that of the key in every language. docs/ALGORITHM.md has the encoding, in
@@ -570,7 +570,7 @@ RAPIDHASH_NOINLINE uint64_t rapidhash_v2_with_rows_(const uint8_t *p, size_t n, 
 #endif
 
 /* Defines the code of a version and its three hashes. */
-#define RAPIDHASH_C_DEFINE(version, own) \
+#define RAPIDHASH_C_DEFINE(version, names) \
     RAPIDHASH_NOINLINE uint64_t rapidhash_##version##_with_rows_( \
         const uint8_t *p, size_t n, uint64_t seed, const uint64_t *s) \
     { return rapidhash_with_rows_(&rapidhash_##version##_form_, p, n, seed, s); } \
@@ -592,12 +592,12 @@ RAPIDHASH_NOINLINE uint64_t rapidhash_v2_with_rows_(const uint8_t *p, size_t n, 
                       : rapidhash_close_short_(&rapidhash_##version##_form_, p, n, seed, s); \
     } \
     RAPIDHASH_API uint64_t rapidhash_##version(const void *bytes, size_t len) \
-    { return rapidhash_##version##_(bytes, len, own##_default_seed_, rapidhash_default_secrets_); } \
+    { return rapidhash_##version##_(bytes, len, names##_default_seed_, rapidhash_default_secrets_); } \
     RAPIDHASH_API uint64_t rapidhash_##version##_with_seed(const void *bytes, size_t len, uint64_t seed) \
-    { return rapidhash_##version##_(bytes, len, own##_seed_(seed), rapidhash_default_secrets_); } \
+    { return rapidhash_##version##_(bytes, len, names##_seed_(seed), rapidhash_default_secrets_); } \
     RAPIDHASH_API uint64_t rapidhash_##version##_with_secrets( \
-        const void *bytes, size_t len, const struct own##_secrets *secrets) \
-    { return rapidhash_##version##_(bytes, len, secrets->seed, secrets->secrets); }
+        const void *bytes, size_t len, const struct names##_secrets *own) \
+    { return rapidhash_##version##_(bytes, len, own->seed, own->secrets); }
 RAPIDHASH_C_VERSIONS(RAPIDHASH_C_DEFINE)
 
 RAPIDHASH_API uint32_t rapidhash_c_version(void) { return RAPIDHASH_C_VERSION_NUMBER; }

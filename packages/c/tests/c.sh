@@ -138,6 +138,12 @@ has_no_fault_of_cppcheck() {
     cppcheck --quiet --error-exitcode=1 "-I$include" "$room/cppcheck"
 }
 
+# Checks that a declaration of the header and its definition name their parameters alike.
+names_parameters_alike() {
+  cppcheck --quiet --enable=style --inconclusive "-I$include" "$top/packages/c/rapidhash_c.c" 2>"$room/said" &&
+    ! grep funcArgNamesDifferent "$room/said"
+}
+
 # Checks that the library has the names of C if a C++ compiler builds it, and that at run time a hash of C++ calls the
 # code of the C header. No C++ file of a program may have a function or a table of its own, which its inline functions
 # would share by name only, and each is hidden in a shared library: COMPILER
@@ -497,6 +503,7 @@ for compiler in gcc clang; do try_with "visibility_$compiler" "$compiler" is_as_
 try_with all_warnings_of_clang 'clang clang++' has_no_warning
 try_with casts_of_c g++ includes_the_headers g++ -Wall -Wextra -Wold-style-cast -Wuseless-cast
 try_with cppcheck cppcheck has_no_fault_of_cppcheck
+try_with names_of_parameters cppcheck names_parameters_alike
 try_with cpp_header_32_bits "g++ $multilib/libstdc++.a" calls_from_cpp g++ c++11 -m32 \
   -idirafter /usr/include/x86_64-linux-gnu
 

@@ -19,7 +19,7 @@ static void expect(const char *what, const char *row, bool holds)
 /* Starts a stream of a number of lanes that has had another message. */
 static void start(struct rapidhash_stream *stream, size_t lanes, const struct rapidhash_secrets *secrets)
 {
-    rapidhash_stream_start(stream, lanes, secrets);
+    rapidhash_stream_start_(stream, lanes, secrets);
     rapidhash_stream_write(stream, message + 1000, 555);
     rapidhash_stream_reset(stream);
 }

@@ -8,6 +8,8 @@ junit=/usr/share/java/junit4.jar:/usr/share/java/hamcrest.jar
 package=example.yervound.rapidhash
 export RAPIDHASH_VECTORS=$room/rapidhash_vectors.tsv RAPIDHASH_SECRETS=$top/crates/test_replay/data/secrets.tsv
 export RAPIDHASH_KEYS=$top/crates/test_replay/data/keys.tsv RAPIDHASH_SAVED=$top/crates/test_replay/data/saved.tsv
+export RAPIDHASH_SHARDS=$top/crates/test_replay/data/shards.tsv
+export RAPIDHASH_FINGERPRINTS=$top/crates/test_replay/data/fingerprints.tsv
 
 # Compiles all sources in directories, without a warning: OUTPUT CLASSPATH DIRECTORY..
 compile() {
@@ -58,7 +60,7 @@ JAVA
 # Tests the classes in the jar, where the encoding of texts is not UTF-8. Without the variables, tests would skip their
 # files: TEST
 passes() {
-  [ "$(env | grep -c '^RAPIDHASH_')" -eq 4 ] &&
+  [ "$(env | grep -c '^RAPIDHASH_')" -eq 6 ] &&
     java -ea -Dfile.encoding=US-ASCII -cp "$jar:$room/tests:$junit" org.junit.runner.JUnitCore "$package.$1"
 }
 
@@ -112,15 +114,15 @@ adds_the_later_product() {
     has_the_later_product "$jar" && passes VectorsTest
 }
 
-# Builds and tests the package by Maven with Debian's plugins, offline and without the files of vectors: the four tests
+# Builds and tests the package by Maven with Debian's plugins, offline and without the files of vectors: the six tests
 # that read one are skipped. The jar must have the values, and with the profile of later JDKs their class.
 builds_by_maven() {
   local jar=$room/maven/target/yervound-rapidhash-1.0.0.jar
   cp -rs /usr/share/maven-repo "$room/maven-repo" && cp -r "$folder" "$room/maven" && cd "$room/maven" &&
-    env -u RAPIDHASH_VECTORS -u RAPIDHASH_SECRETS -u RAPIDHASH_KEYS -u RAPIDHASH_SAVED \
-      mvn -o -B -Dmaven.repo.local="$room/maven-repo" package &&
+    env -u RAPIDHASH_VECTORS -u RAPIDHASH_SECRETS -u RAPIDHASH_KEYS -u RAPIDHASH_SAVED -u RAPIDHASH_SHARDS \
+      -u RAPIDHASH_FINGERPRINTS mvn -o -B -Dmaven.repo.local="$room/maven-repo" package &&
     [ "$(cat target/surefire-reports/*.xml | grep -c '<testcase ')" -eq "$(grep -rhE '^ *@Test' src/test | wc -l)" ] &&
-    [ "$(cat target/surefire-reports/*.xml | grep -c '<skipped')" -eq 4 ] &&
+    [ "$(cat target/surefire-reports/*.xml | grep -c '<skipped')" -eq 6 ] &&
     runs_as_a_module && is_for_the_jdk_of_the_page && stub_later_product "$room/maven" &&
     mvn -o -B -Dmaven.repo.local="$room/maven-repo" -P later -Dlater=17 -Dmaven.test.skip=true package &&
     has_the_later_product "$jar"
@@ -161,7 +163,7 @@ works_in_other_programs() {
       'interface UDF2<A, B, R> extends java.io.Serializable { R call(A a, B b) throws Exception; }' &&
     mkdir "$room/stubs/test" && cat >"$room/stubs/test/KeyPartitioner.java" <<JAVA &&
 package test;
-import $package.Rapidhash;
+import $package.*;
 import org.apache.kafka.common.Cluster;
 $(blocks "$folder/README.md" java KeyPartitioner)
 JAVA
@@ -187,7 +189,7 @@ class Main {
         byte[] five = {5, 0, 0, 0, 0, 0, 0, 0};
         KeyPartitioner partitioner = new KeyPartitioner();
         int found = partitioner.partition("", null, five, null, null, new org.apache.kafka.common.Cluster());
-        assert found == 4 : "16027968813187602694 is in partition 4, not " + found;
+        assert found == 8 : "16027968813187602694 is in partition 8, not " + found;
         partitioner.partition("", null, null, null, null, new org.apache.kafka.common.Cluster());
         partitioner.close();
     }
@@ -203,7 +205,7 @@ contains_the_licences() {
 # Checks that the classes have the number of public types and members that the package had at its release.
 has_its_names() {
   jar -tf "$jar" | sed -n 's|^\(example/.*\)\.class$|\1|p' | xargs javap -cp "$jar" -public >"$room/names" &&
-    cat "$room/names" && [ "$(grep -c '\bpublic ' "$room/names")" -eq 67 ]
+    cat "$room/names" && [ "$(grep -c '\bpublic ' "$room/names")" -eq 76 ]
 }
 
 # Checks that all classes but those for later JDKs are for the oldest JDK that docs/BINDINGS.md names: JDK 11 reads major version 55.
@@ -251,6 +253,7 @@ done
 try java_later_product adds_the_later_product
 try java_formulas compiles_formulas
 try java_calls_of_the_page runs_the_page toDecimal RapidhashTest
+try java_shards_of_the_page runs_the_page firstHash RapidhashShardsTest
 try_with java_guava /usr/share/java/guava.jar works_with_guava
 try java_other_programs works_in_other_programs
 plugins=/usr/share/maven-repo/org/apache/maven/plugins/maven

@@ -65,7 +65,7 @@ public final class Formulas {
                 Secrets.of(record[3], Arrays.copyOfRange(record, 4, 11)), record, room);
     }
 
-    private static <S extends SecretWords> long hash(Rapidhash<S> form, S secrets, long[] record, ByteBuffer room) {
+    private static <S extends SeedAndSecrets> long hash(Rapidhash<S> form, S secrets, long[] record, ByteBuffer room) {
         int offset = (int) record[11];
         int end = offset + (int) record[12];
         if (record[13] == 0) {

@@ -22,7 +22,7 @@ final class BufferHashes {
         return mix(low(a, b) ^ lowMask, high(a, b) ^ highMask);
     }
 
-    static long v1(ByteBuffer data, int at, int n, long seed, SecretWords s) {
+    static long v1(ByteBuffer data, int at, int n, long seed, SeedAndSecrets s) {
         long a = 0, b = 0;
         int last = at + n - 4;
         if (n > 16) {
@@ -39,7 +39,7 @@ final class BufferHashes {
         return mixTwice(a ^ s.s1, b ^ seed ^ n, s.s0 ^ n, s.s1);
     }
 
-    private static long v1Long(ByteBuffer data, int at, int n, long start, SecretWords s) {
+    private static long v1Long(ByteBuffer data, int at, int n, long start, SeedAndSecrets s) {
         int end = at + n;
         int tail = at;
         long seed = start;
@@ -55,7 +55,7 @@ final class BufferHashes {
         return mixTwice(read64(data, end - 16) ^ s.s1, read64(data, end - 8) ^ seed, s.s0 ^ n, s.s1);
     }
 
-    static long v2(ByteBuffer data, int at, int n, int minor, long seed, SecretWords s) {
+    static long v2(ByteBuffer data, int at, int n, int minor, long seed, SeedAndSecrets s) {
         long a = 0, b = 0;
         if (n > 16) {
             return v2Long(data, at, n, minor, seed ^ n, s);
@@ -74,7 +74,7 @@ final class BufferHashes {
         return mixTwice(a ^ s.s1, b ^ seed ^ n, ALTERNATING ^ n, s.s1);
     }
 
-    private static long v2Long(ByteBuffer data, int at, int n, int minor, long start, SecretWords s) {
+    private static long v2Long(ByteBuffer data, int at, int n, int minor, long start, SeedAndSecrets s) {
         int end = at + n;
         long seed = start;
         if (n > (minor == 0 ? 56 : 64)) {
@@ -95,7 +95,7 @@ final class BufferHashes {
     }
 
     /** Returns the hash of V3, micro or nano, which have 7, 5 or 3 lanes. */
-    static long v3(ByteBuffer data, int at, int n, int count, long start, SecretWords s) {
+    static long v3(ByteBuffer data, int at, int n, int count, long start, SeedAndSecrets s) {
         long a = 0, b = 0;
         long seed = start;
         if (n > 16) {
@@ -115,7 +115,7 @@ final class BufferHashes {
         return mixTwice(a ^ s.s1, b ^ seed, ALTERNATING, s.s1 ^ n);
     }
 
-    private static long v3Long(ByteBuffer data, int at, int n, int count, long seed, SecretWords s) {
+    private static long v3Long(ByteBuffer data, int at, int n, int count, long seed, SeedAndSecrets s) {
         if (n <= 16 * count) {
             return v3Close(data, at, at + n, seed, s);
         }
@@ -125,7 +125,7 @@ final class BufferHashes {
     }
 
     /** Returns the hash from the joined lanes and the tail, before whose end are the message's last 16 bytes. */
-    static long v3Close(ByteBuffer data, int at, int end, long joined, SecretWords s) {
+    static long v3Close(ByteBuffer data, int at, int end, long joined, SeedAndSecrets s) {
         int t = end - at;
         long seed = foldTwo(data, at, end, joined, s.s2);
         if (t > 48) {
@@ -157,7 +157,7 @@ final class BufferHashes {
     }
 
     /** Folds rows of one pair for each of count lanes. Returns the index after them, which leaves the least bytes. */
-    static int fold(Lanes lanes, ByteBuffer data, int at, int end, int least, int count, SecretWords s) {
+    static int fold(Lanes lanes, ByteBuffer data, int at, int end, int least, int count, SeedAndSecrets s) {
         int row = 16 * count;
         int stop = at + (end - at - least) / row * row;
         if (count == 7) {
@@ -170,7 +170,7 @@ final class BufferHashes {
         return stop;
     }
 
-    private static void fold7(Lanes lanes, ByteBuffer data, int start, int stop, SecretWords s) {
+    private static void fold7(Lanes lanes, ByteBuffer data, int start, int stop, SeedAndSecrets s) {
         long a = lanes.l0, b = lanes.l1, c = lanes.l2, d = lanes.l3, e = lanes.l4, f = lanes.l5, g = lanes.l6;
         for (int at = start; at < stop; at += 112) {
             a = mix(read64(data, at) ^ s.s0, read64(data, at + 8) ^ a);
@@ -190,7 +190,7 @@ final class BufferHashes {
         lanes.l6 = g;
     }
 
-    private static void fold5(Lanes lanes, ByteBuffer data, int start, int stop, SecretWords s) {
+    private static void fold5(Lanes lanes, ByteBuffer data, int start, int stop, SeedAndSecrets s) {
         long a = lanes.l0, b = lanes.l1, c = lanes.l2, d = lanes.l3, e = lanes.l4;
         for (int at = start; at < stop; at += 80) {
             a = mix(read64(data, at) ^ s.s0, read64(data, at + 8) ^ a);
@@ -206,7 +206,7 @@ final class BufferHashes {
         lanes.l4 = e;
     }
 
-    private static void fold3(Lanes lanes, ByteBuffer data, int start, int stop, SecretWords s) {
+    private static void fold3(Lanes lanes, ByteBuffer data, int start, int stop, SeedAndSecrets s) {
         long a = lanes.l0, b = lanes.l1, c = lanes.l2;
         for (int at = start; at < stop; at += 48) {
             a = mix(read64(data, at) ^ s.s0, read64(data, at + 8) ^ a);

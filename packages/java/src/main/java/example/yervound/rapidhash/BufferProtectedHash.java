@@ -13,7 +13,7 @@ import static example.yervound.rapidhash.Primitives.read8;
 final class BufferProtectedHash {
     private BufferProtectedHash() {}
 
-    static long v3(ByteBuffer data, int at, int n, long start, SecretWords s) {
+    static long v3(ByteBuffer data, int at, int n, long start, SeedAndSecrets s) {
         long a = 0, b = 0;
         long seed = start;
         long t = n;
@@ -44,7 +44,7 @@ final class BufferProtectedHash {
     }
 
     /** Returns the seed after all pairs but the last words: the rows' pairs, and then the tail's. */
-    private static long afterTail(ByteBuffer data, int start, int n, long seed, SecretWords s) {
+    private static long afterTail(ByteBuffer data, int start, int n, long seed, SeedAndSecrets s) {
         long[] lanes = {seed, seed, seed, seed, seed, seed, seed};
         long[] secrets = s.secrets();
         long[] order = {s.s2, s.s2, s.s1, s.s1, s.s2, s.s1};

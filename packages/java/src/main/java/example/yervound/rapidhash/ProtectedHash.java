@@ -10,7 +10,7 @@ import static example.yervound.rapidhash.Primitives.read8;
 final class ProtectedHash {
     private ProtectedHash() {}
 
-    static long v3(byte[] data, int at, int n, long start, SecretWords s) {
+    static long v3(byte[] data, int at, int n, long start, SeedAndSecrets s) {
         long a = 0, b = 0;
         long seed = start;
         long t = n;
@@ -41,7 +41,7 @@ final class ProtectedHash {
     }
 
     /** Returns the seed after all pairs but the last words: the rows' pairs, and then the tail's. */
-    private static long afterTail(byte[] data, int start, int n, long seed, SecretWords s) {
+    private static long afterTail(byte[] data, int start, int n, long seed, SeedAndSecrets s) {
         long[] lanes = {seed, seed, seed, seed, seed, seed, seed};
         long[] secrets = s.secrets();
         long[] order = {s.s2, s.s2, s.s1, s.s1, s.s2, s.s1};

@@ -17,100 +17,100 @@ import java.util.Objects;
  *
  * @param <S> the secrets of the version: {@link SecretsV1} or {@link Secrets}
  */
-public abstract class Rapidhash<S extends SecretWords> implements Values<S> {
+public abstract class Rapidhash<S extends SeedAndSecrets> implements Values<S> {
     /** V1. */
     public static final Rapidhash<SecretsV1> V1 = new Rapidhash<>("V1", SecretsV1.DEFAULT) {
         @Override
-        long of(byte[] data, int at, int n, long seed, SecretWords s) {
+        long of(byte[] data, int at, int n, long seed, SeedAndSecrets s) {
             return Hashes.v1(data, at, n, seed, s);
         }
 
         @Override
-        long of(ByteBuffer data, int at, int n, long seed, SecretWords s) {
+        long of(ByteBuffer data, int at, int n, long seed, SeedAndSecrets s) {
             return BufferHashes.v1(data, at, n, seed, s);
         }
     };
     /** V2.0. */
     public static final Rapidhash<Secrets> V2_0 = new Rapidhash<>("V2_0", Secrets.DEFAULT) {
         @Override
-        long of(byte[] data, int at, int n, long seed, SecretWords s) {
+        long of(byte[] data, int at, int n, long seed, SeedAndSecrets s) {
             return Hashes.v2(data, at, n, 0, seed, s);
         }
 
         @Override
-        long of(ByteBuffer data, int at, int n, long seed, SecretWords s) {
+        long of(ByteBuffer data, int at, int n, long seed, SeedAndSecrets s) {
             return BufferHashes.v2(data, at, n, 0, seed, s);
         }
     };
     /** V2.1. */
     public static final Rapidhash<Secrets> V2_1 = new Rapidhash<>("V2_1", Secrets.DEFAULT) {
         @Override
-        long of(byte[] data, int at, int n, long seed, SecretWords s) {
+        long of(byte[] data, int at, int n, long seed, SeedAndSecrets s) {
             return Hashes.v2(data, at, n, 1, seed, s);
         }
 
         @Override
-        long of(ByteBuffer data, int at, int n, long seed, SecretWords s) {
+        long of(ByteBuffer data, int at, int n, long seed, SeedAndSecrets s) {
             return BufferHashes.v2(data, at, n, 1, seed, s);
         }
     };
     /** V2.2. */
     public static final Rapidhash<Secrets> V2_2 = new Rapidhash<>("V2_2", Secrets.DEFAULT) {
         @Override
-        long of(byte[] data, int at, int n, long seed, SecretWords s) {
+        long of(byte[] data, int at, int n, long seed, SeedAndSecrets s) {
             return Hashes.v2(data, at, n, 2, seed, s);
         }
 
         @Override
-        long of(ByteBuffer data, int at, int n, long seed, SecretWords s) {
+        long of(ByteBuffer data, int at, int n, long seed, SeedAndSecrets s) {
             return BufferHashes.v2(data, at, n, 2, seed, s);
         }
     };
     /** V3, the recommended version. */
     public static final Rapidhash<Secrets> V3 = new Rapidhash<>("V3", Secrets.DEFAULT) {
         @Override
-        long of(byte[] data, int at, int n, long seed, SecretWords s) {
+        long of(byte[] data, int at, int n, long seed, SeedAndSecrets s) {
             return Hashes.v3(data, at, n, 7, seed, s);
         }
 
         @Override
-        long of(ByteBuffer data, int at, int n, long seed, SecretWords s) {
+        long of(ByteBuffer data, int at, int n, long seed, SeedAndSecrets s) {
             return BufferHashes.v3(data, at, n, 7, seed, s);
         }
     };
     /** V3 micro, with five lanes. */
     public static final Rapidhash<Secrets> V3_MICRO = new Rapidhash<>("V3_MICRO", Secrets.DEFAULT) {
         @Override
-        long of(byte[] data, int at, int n, long seed, SecretWords s) {
+        long of(byte[] data, int at, int n, long seed, SeedAndSecrets s) {
             return Hashes.v3(data, at, n, 5, seed, s);
         }
 
         @Override
-        long of(ByteBuffer data, int at, int n, long seed, SecretWords s) {
+        long of(ByteBuffer data, int at, int n, long seed, SeedAndSecrets s) {
             return BufferHashes.v3(data, at, n, 5, seed, s);
         }
     };
     /** V3 nano, with three lanes. */
     public static final Rapidhash<Secrets> V3_NANO = new Rapidhash<>("V3_NANO", Secrets.DEFAULT) {
         @Override
-        long of(byte[] data, int at, int n, long seed, SecretWords s) {
+        long of(byte[] data, int at, int n, long seed, SeedAndSecrets s) {
             return Hashes.v3(data, at, n, 3, seed, s);
         }
 
         @Override
-        long of(ByteBuffer data, int at, int n, long seed, SecretWords s) {
+        long of(ByteBuffer data, int at, int n, long seed, SeedAndSecrets s) {
             return BufferHashes.v3(data, at, n, 3, seed, s);
         }
     };
     /** V3 with protected products: a factor of 0 does not erase the other. */
     public static final Rapidhash<Secrets> V3_PROTECTED = new Rapidhash<>("V3_PROTECTED", Secrets.DEFAULT) {
         @Override
-        long of(byte[] data, int at, int n, long seed, SecretWords s) {
+        long of(byte[] data, int at, int n, long seed, SeedAndSecrets s) {
             return ProtectedHash.v3(data, at, n, seed, s);
         }
 
         @Override
-        long of(ByteBuffer data, int at, int n, long seed, SecretWords s) {
+        long of(ByteBuffer data, int at, int n, long seed, SeedAndSecrets s) {
             return BufferProtectedHash.v3(data, at, n, seed, s);
         }
     };
@@ -126,9 +126,9 @@ public abstract class Rapidhash<S extends SecretWords> implements Values<S> {
         this.defaults = defaults;
     }
 
-    abstract long of(byte[] data, int at, int n, long seed, SecretWords s);
+    abstract long of(byte[] data, int at, int n, long seed, SeedAndSecrets s);
 
-    abstract long of(ByteBuffer data, int at, int n, long seed, SecretWords s);
+    abstract long of(ByteBuffer data, int at, int n, long seed, SeedAndSecrets s);
 
     /** Returns the hash of all bytes with the default seed and secrets. */
     @Override
@@ -141,7 +141,7 @@ public abstract class Rapidhash<S extends SecretWords> implements Values<S> {
     @Override
     public long hash(byte[] bytes, long seed) {
         Objects.requireNonNull(bytes, "bytes");
-        return of(bytes, 0, bytes.length, SecretWords.seedOf(seed, this == V1), defaults);
+        return of(bytes, 0, bytes.length, SeedAndSecrets.seedOf(seed, this == V1), defaults);
     }
 
     /** Returns the hash of all bytes with a seed and secrets. */
@@ -168,7 +168,7 @@ public abstract class Rapidhash<S extends SecretWords> implements Values<S> {
      */
     public long hash(byte[] bytes, int offset, int length, long seed) {
         Objects.checkFromIndexSize(offset, length, Objects.requireNonNull(bytes, "bytes").length);
-        return of(bytes, offset, length, SecretWords.seedOf(seed, this == V1), defaults);
+        return of(bytes, offset, length, SeedAndSecrets.seedOf(seed, this == V1), defaults);
     }
 
     /**
@@ -188,7 +188,7 @@ public abstract class Rapidhash<S extends SecretWords> implements Values<S> {
 
     /** Returns the hash of a buffer's remaining bytes with the default secrets and a seed word. */
     public long hash(ByteBuffer buffer, long seed) {
-        return ofBuffer(buffer, SecretWords.seedOf(seed, this == V1), defaults);
+        return ofBuffer(buffer, SeedAndSecrets.seedOf(seed, this == V1), defaults);
     }
 
     /** Returns the hash of a buffer's remaining bytes with a seed and secrets. */
@@ -236,7 +236,7 @@ public abstract class Rapidhash<S extends SecretWords> implements Values<S> {
         return this == V3 ? 7 : this == V3_MICRO ? 5 : 3;
     }
 
-    private long ofBuffer(ByteBuffer buffer, long seed, SecretWords secrets) {
+    private long ofBuffer(ByteBuffer buffer, long seed, SeedAndSecrets secrets) {
         int at = Objects.requireNonNull(buffer, "buffer").position();
         return buffer.hasArray() ? of(buffer.array(), buffer.arrayOffset() + at, buffer.remaining(), seed, secrets)
             : of(buffer, at, buffer.remaining(), seed, secrets);

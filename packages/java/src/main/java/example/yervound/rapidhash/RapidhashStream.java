@@ -21,14 +21,14 @@ public final class RapidhashStream implements Checksum {
     /** The name and the version of the format. */
     private static final byte[] NAME = "rapidV3\1".getBytes(StandardCharsets.US_ASCII);
 
-    private final SecretWords secrets;
+    private final SeedAndSecrets secrets;
     private final int count;
     private final Lanes lanes;
     private final byte[] kept;
     private int end;
     private boolean isFolded;
 
-    RapidhashStream(int count, SecretWords secrets) {
+    RapidhashStream(int count, SeedAndSecrets secrets) {
         this.count = count;
         this.secrets = secrets;
         lanes = new Lanes(secrets.seed);

@@ -1,7 +1,7 @@
 package example.yervound.rapidhash;
 
 /** A seed and seven secrets for every version except V1, which needs {@link SecretsV1}. Instances are immutable. */
-public final class Secrets extends SecretWords {
+public final class Secrets extends SeedAndSecrets {
     static final Secrets DEFAULT = ofSeed(0);
 
     private Secrets(long seed, long[] words) {

@@ -3,7 +3,7 @@ package example.yervound.rapidhash;
 import java.util.Arrays;
 
 /** A seed and three secrets for V1. Every other version needs {@link Secrets}. Instances are immutable. */
-public final class SecretsV1 extends SecretWords {
+public final class SecretsV1 extends SeedAndSecrets {
     static final SecretsV1 DEFAULT = ofSeed(0xbdd89aa982704029L);
 
     private SecretsV1(long seed, long[] words) {

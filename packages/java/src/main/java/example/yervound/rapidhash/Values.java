@@ -5,8 +5,8 @@ import java.io.InputStream;
 import java.nio.charset.StandardCharsets;
 import java.util.Objects;
 
-/** The hashes of numbers, texts and inputs, by those of their bytes. */
-interface Values<S extends SecretWords> {
+/** The hashes of numbers, texts, letters and inputs, by those of their bytes. */
+interface Values<S extends SeedAndSecrets> {
     long hash(byte[] bytes);
 
     long hash(byte[] bytes, long seed);
@@ -46,6 +46,24 @@ interface Values<S extends SecretWords> {
     /** Returns the hash of a text's UTF-8 with a seed and secrets. */
     default long hash(CharSequence text, S secrets) {
         return hash(encode(text), secrets);
+    }
+
+    /**
+     * Returns the hash of a letter as a text, with the default seed and secrets. Without this method, Java would take
+     * the letter for a number.
+     */
+    default long hash(char letter) {
+        return hash(String.valueOf(letter));
+    }
+
+    /** Returns the hash of a letter as a text with the default secrets and a seed word. */
+    default long hash(char letter, long seed) {
+        return hash(String.valueOf(letter), seed);
+    }
+
+    /** Returns the hash of a letter as a text with a seed and secrets. */
+    default long hash(char letter, S secrets) {
+        return hash(String.valueOf(letter), secrets);
     }
 
     /**

@@ -49,12 +49,12 @@ final class Messages {
 
     /** Returns the secrets that belong to the version. */
     @SuppressWarnings("unchecked")
-    static <S extends SecretWords> S select(Rapidhash<S> version, SecretsV1 ofV1, Secrets others) {
+    static <S extends SeedAndSecrets> S select(Rapidhash<S> version, SecretsV1 ofV1, Secrets others) {
         return (S) (version == Rapidhash.V1 ? ofV1 : others);
     }
 
     /** Returns secrets of the test's own. */
-    static <S extends SecretWords> S own(Rapidhash<S> version) {
+    static <S extends SeedAndSecrets> S own(Rapidhash<S> version) {
         return select(version, OWN_V1, OWN);
     }
 }

@@ -108,7 +108,7 @@ public class RapidhashStreamTest {
         }
     }
 
-    private static <S extends SecretWords> void hasNone(Rapidhash<S> version) {
+    private static <S extends SeedAndSecrets> void hasNone(Rapidhash<S> version) {
         Exception refused = assertThrows(UnsupportedOperationException.class, version::stream);
         assertEquals(version + " has no stream", refused.getMessage());
         assertThrows(UnsupportedOperationException.class, () -> version.stream(1));

@@ -63,7 +63,7 @@ public class RapidhashTest {
         }
     }
 
-    private static <S extends SecretWords> void allocatesLittle(Rapidhash<S> version, byte[] bytes) {
+    private static <S extends SeedAndSecrets> void allocatesLittle(Rapidhash<S> version, byte[] bytes) {
         S own = Messages.own(version);
         allocatesLittle(version, () -> version.hash(bytes));
         allocatesLittle(version, () -> version.hash(bytes, 0, bytes.length, 7L));
@@ -107,7 +107,7 @@ public class RapidhashTest {
         assertEquals(Rapidhash.V3.hash(Messages.bytes(300)), stream.getValue());
     }
 
-    private static <S extends SecretWords> void refuses(Rapidhash<S> version, int offset, int length) {
+    private static <S extends SeedAndSecrets> void refuses(Rapidhash<S> version, int offset, int length) {
         refuses(() -> version.hash(HELLO, offset, length));
         refuses(() -> version.hash(HELLO, offset, length, 1L));
         refuses(() -> version.hash(HELLO, offset, length, Messages.own(version)));
@@ -168,7 +168,7 @@ public class RapidhashTest {
     }
 
     /** Checks that secrets are not equal and have different hash codes. */
-    private static void differ(SecretWords one, SecretWords other) {
+    private static void differ(SeedAndSecrets one, SeedAndSecrets other) {
         assertNotEquals(one, other);
         assertNotEquals(one.hashCode(), other.hashCode());
     }
@@ -209,7 +209,8 @@ public class RapidhashTest {
         return sum;
     }
 
-    private static <S extends SecretWords> long sumOf(Rapidhash<S> version, byte[] message, List<ByteBuffer> buffers) {
+    private static <S extends SeedAndSecrets> long sumOf(Rapidhash<S> version, byte[] message,
+            List<ByteBuffer> buffers) {
         S own = Messages.own(version);
         long sum = 0;
         for (int n = 0; n <= message.length; n += 50) {

@@ -31,7 +31,7 @@ public class ValuesTest {
         Rapidhash.ALL.forEach(ValuesTest::compareNumbers);
     }
 
-    private static <S extends SecretWords> void compareNumbers(Rapidhash<S> version) {
+    private static <S extends SeedAndSecrets> void compareNumbers(Rapidhash<S> version) {
         S own = Messages.own(version);
         assertEquals(version.hash(OF_NUMBER), version.hash(NUMBER));
         assertEquals(version.hash(OF_NUMBER, 7L), version.hash(NUMBER, 7L));
@@ -44,13 +44,33 @@ public class ValuesTest {
         Rapidhash.ALL.forEach(ValuesTest::compareTexts);
     }
 
-    private static <S extends SecretWords> void compareTexts(Rapidhash<S> version) {
+    private static <S extends SeedAndSecrets> void compareTexts(Rapidhash<S> version) {
         S own = Messages.own(version);
         for (CharSequence text : List.of(TEXT, new StringBuilder(TEXT), CharBuffer.wrap("<" + TEXT + ">", 1, 10))) {
             assertEquals(version.hash(OF_TEXT), version.hash(text));
             assertEquals(version.hash(OF_TEXT, 7L), version.hash(text, 7L));
             assertEquals(version.hash(OF_TEXT, own), version.hash(text, own));
         }
+    }
+
+    /** A letter is a text, also in a box, and no number as Java would take it for. */
+    @Test
+    public void letters() {
+        Character boxed = 'a';
+        assertEquals(6457959414642172395L, Rapidhash.V3.hash('a'));
+        assertEquals(6457959414642172395L, Rapidhash.V3.hash(boxed));
+        Rapidhash.ALL.forEach(ValuesTest::compareLetters);
+    }
+
+    private static <S extends SeedAndSecrets> void compareLetters(Rapidhash<S> version) {
+        S own = Messages.own(version);
+        for (String text : List.of("a", "\u00ef", "\u4e2d", "\ud83d")) {
+            char letter = text.charAt(0);
+            assertEquals(version.hash(text), version.hash(letter));
+            assertEquals(version.hash(text, 7L), version.hash(letter, 7L));
+            assertEquals(version.hash(text, own), version.hash(letter, own));
+        }
+        assertEquals(version.hash((long) 'a'), version.hash('a' + 0));
     }
 
     /** Reads a message in pieces of 0, 1, 2 bytes, and so on. */

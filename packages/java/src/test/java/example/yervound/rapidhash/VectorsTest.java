@@ -59,7 +59,8 @@ public class VectorsTest {
         assertEquals(versions.keySet(), found);
     }
 
-    private static <S extends SecretWords> void compare(Rapidhash<S> version, byte[] message, String rule, long known) {
+    private static <S extends SeedAndSecrets> void compare(Rapidhash<S> version, byte[] message, String rule,
+            long known) {
         String[] parts = rule.replace("default", "default:0").split(":");
         long[] words = Arrays.stream(parts[1].split(",")).mapToLong(Long::parseUnsignedLong).toArray();
         if (parts[0].equals("make")) {
@@ -79,7 +80,7 @@ public class VectorsTest {
         }
     }
 
-    private static <S extends SecretWords> void compareSeed(Rapidhash<S> version, byte[] message, long seed,
+    private static <S extends SeedAndSecrets> void compareSeed(Rapidhash<S> version, byte[] message, long seed,
             long known) {
         assertEquals(known, version.hash(message, seed));
         assertEquals(known, version.hash(Messages.padded(message), 3, message.length, seed));
@@ -92,7 +93,8 @@ public class VectorsTest {
         compare(version, message, select(version, SecretsV1.ofSeed(seed), Secrets.ofSeed(seed)), known);
     }
 
-    private static <S extends SecretWords> void compare(Rapidhash<S> version, byte[] message, S secrets, long known) {
+    private static <S extends SeedAndSecrets> void compare(Rapidhash<S> version, byte[] message, S secrets,
+            long known) {
         assertEquals(known, version.hash(message, secrets));
         assertEquals(known, version.hash(Messages.padded(message), 3, message.length, secrets));
         for (ByteBuffer buffer : Messages.buffers(message)) {
@@ -177,7 +179,7 @@ public class VectorsTest {
             if (!isMade && !words[1].equals("seed_cpp")) {
                 continue;
             }
-            SecretWords found = words[0].equals("v1")
+            SeedAndSecrets found = words[0].equals("v1")
                 ? (isMade ? SecretsV1.make(number) : SecretsV1.ofSeed(number))
                 : (isMade ? Secrets.make(number) : Secrets.ofSeed(number));
             long[] known = Arrays.stream(words[3].split(" ")).mapToLong(Long::parseUnsignedLong).toArray();

@@ -6,7 +6,7 @@ import java.util.Arrays;
 import java.util.Objects;
 
 /** A seed and secrets: {@link Secrets}, or {@link SecretsV1} for V1. Instances are immutable. */
-public abstract class SecretWords {
+public abstract class SeedAndSecrets {
     static final long[] CONSTANTS = {
         0x2d358dccaa6c78a5L, 0x8bb84b93962eacc9L, 0x4b33a62ed433d4a3L, 0x4d5a2da51de1aa47L, 0xa0761d6478bd642fL,
         0xe7037ed1a0b428dbL, 0x90ed1765281c388cL
@@ -17,7 +17,7 @@ public abstract class SecretWords {
     final long s0, s1, s2, s3, s4, s5, s6;
 
     /** Keeps a seed and so many secrets. */
-    SecretWords(long seed, int count, long[] words) {
+    SeedAndSecrets(long seed, int count, long[] words) {
         if (Objects.requireNonNull(words, "secrets").length != count) {
             throw new IllegalArgumentException(count + " secrets are needed, not " + words.length);
         }
@@ -64,8 +64,8 @@ public abstract class SecretWords {
 
     @Override
     public boolean equals(Object other) {
-        return other instanceof SecretWords && seed == ((SecretWords) other).seed
-            && Arrays.equals(secrets(), ((SecretWords) other).secrets());
+        return other instanceof SeedAndSecrets && seed == ((SeedAndSecrets) other).seed
+            && Arrays.equals(secrets(), ((SeedAndSecrets) other).secrets());
     }
 
     @Override
