@@ -187,7 +187,7 @@ def hash_partitions():
 
 def rest():
     # The calls and rapidhash_hex, the aggregates, and the functions that these are made of.
-    compare("functions", ask(FUNCTIONS), ["a|f|18|9|t", "f|f|22|11|t", "f|t|77|50|t"])
+    compare("functions", ask(FUNCTIONS), ["a|f|19|9|t", "f|f|22|11|t", "f|t|82|50|t"])
     exports = shell("nm -D --defined-only build/postgresql/rapidhash.so | cut -d ' ' -f 3 | grep -v '^pg_finfo_'")[1].split()
     called = ask("SELECT DISTINCT prosrc FROM pg_proc WHERE probin LIKE '%rapidhash'")
     compare("exports", sorted(exports), sorted(["Pg_magic_func", *called]))
@@ -207,7 +207,7 @@ def rest():
 needs("cc", *SERVER)
 stop = start_server()
 try:
-    for step in (install, installcheck, unpacked_archive, vectors, keys, encodings, types, storages, aggregates, partitions,
+    for step in (install, installcheck, unpacked_archive, vectors, keys, shards, encodings, types, storages, aggregates, partitions,
                  hash_partitions, rest):
         step()
 finally:

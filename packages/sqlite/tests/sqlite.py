@@ -169,6 +169,7 @@ loaded = opened()
 loaded.execute("CREATE TABLE many (place INTEGER, part INTEGER, word TEXT)")
 vectors(loaded)
 keys(loaded)
+shards(loaded)
 types(loaded, "types")
 types(opened("UTF-16le"), "types_in_utf_16le")
 types(opened("UTF-16be"), "types_in_utf_16be")
@@ -186,6 +187,6 @@ query = "SELECT rapidhash_v3_agg(value) = rapidhash_v3(value) FROM (SELECT CAST(
 compare("long_rows", ask(loaded, query.format("TEXT")) + ask(loaded, query.format("BLOB")), [(1,), (1,)])
 compare("names", (ask(loaded, "SELECT count(*) FROM pragma_function_list WHERE name LIKE 'rapidhash%'"),
                   shell("nm -D --defined-only build/rapidhash.so | cut -d ' ' -f 3")[1]),
-        ([(34,)], "sqlite3_rapidhash_init\n"))
+        ([(38,)], "sqlite3_rapidhash_init\n"))
 compare("failing_memory", shell(MEMORY), (0, "every failed allocation ended in SQLITE_NOMEM\n"))
 finish()

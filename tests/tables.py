@@ -1,0 +1,112 @@
+#!/usr/bin/python3
+"""Runs the queries of docs/TABLES.md over the same rows in PostgreSQL, SQLite and pandas, and finds a changed, a lost and
+a doubled row. ROWS is the number of rows."""
+
+import csv
+import datetime
+import json
+import os
+import random
+import sqlite3
+import subprocess
+
+from cases import ROOM, TOP, blocks, compare, finish, lacks, needs, shell, skip_all
+from sql import DATA, SERVER, ask, start_server
+
+PAGE = "docs/TABLES.md"
+COUNT = int(os.environ.get("ROWS", 20_000))
+COLUMNS = "id, name, active, born, price"
+TYPES = "id bigint, name text, active integer, born integer, price text"
+
+
+def people():
+    """Returns rows with nulls, texts beyond ASCII, and fields converted as docs/BINDINGS.md says."""
+    draw, rows = random.Random(1), []
+    for number in range(COUNT):
+        name = None if number % 17 == 0 else draw.choice(["Åsa", "李", "Bob", ""]) + str(draw.randrange(10**6))
+        born = datetime.date(1900, 1, 1) + datetime.timedelta(draw.randrange(40_000))
+        days = None if number % 23 == 0 else (born - datetime.date(1970, 1, 1)).days
+        rows.append((number - 500, name, draw.randrange(2), days, str(draw.randrange(10_000))))
+    return rows
+
+
+def build():
+    """Builds the three packages, and installs that for PostgreSQL into the copy of the server."""
+    return shell(f"""make -s sqlite postgresql && make -s -C build/postgresql install DESTDIR='{ROOM}' >/dev/null &&
+        python3 -m venv --system-site-packages '{ROOM}/venv' && make -s wheel && '{ROOM}/venv/bin/pip' install -q --no-index \\
+        --find-links build/wheels yervound-rapidhash""", PATH="/usr/sbin:/usr/bin:/sbin:/bin")
+
+
+def fill(database, rows):
+    """Makes the table in PostgreSQL and in SQLite."""
+    with open(ROOM / "people.csv", "w", newline="") as file:
+        csv.writer(file).writerows([["\\N" if field is None else field for field in row] for row in rows])
+    ask(f"DROP TABLE IF EXISTS people; CREATE TABLE people ({TYPES}); "
+        f"\\copy people FROM '{ROOM}/people.csv' (FORMAT csv, NULL '\\N')")
+    database.execute("DROP TABLE IF EXISTS people")
+    database.execute(f"CREATE TABLE people ({TYPES})")
+    database.executemany("INSERT INTO people VALUES (?, ?, ?, ?, ?)", rows)
+
+
+def in_sqlite(database, query):
+    return ["|".join(map(str, row)) for row in database.execute(query)]
+
+
+def in_pandas(rows):
+    """Returns the values of the page's expressions in Python."""
+    program = f"""
+import json, sys
+from pandas import DataFrame
+from rapidhash import each_key, fingerprint, shard
+frame = DataFrame(json.load(sys.stdin), columns={COLUMNS.split(", ")!r}, dtype=object)
+shards, whole = {", ".join(f"({block})" for block in blocks(PAGE, "python"))}
+print(json.dumps([list(shards), whole]))"""
+    said = subprocess.run([ROOM / "venv/bin/python", "-c", program], input=json.dumps(rows), capture_output=True, text=True)
+    return json.loads(said.stdout) if said.returncode == 0 else said.stderr
+
+
+def differing(database, query):
+    """Returns the shards whose rows differ between the two databases."""
+    return {line.split("|")[0] for line in set(ask(query)) ^ set(in_sqlite(database, query))}
+
+
+def finds(database, name, change, by_shard):
+    """Changes rows in SQLite. Checks that their shard, and no other, differs, and that its rows show the change."""
+    database.execute("SAVEPOINT one")
+    database.execute(change)
+    shards = differing(database, by_shard)
+    rows = f"SELECT {COLUMNS} FROM people WHERE rapidhash_shard(rapidhash_v3_key({COLUMNS}), 1000) IN ({', '.join(shards)})"
+    theirs, ours = ([line.replace("None", "") for line in lines] for lines in (ask(rows), in_sqlite(database, rows)))
+    changed = [row for row in {*theirs, *ours} if theirs.count(row) != ours.count(row)]
+    compare(name, (1 <= len(shards) <= 2, {row.split("|")[0] for row in changed}), (True, {"77"}))
+    database.execute("ROLLBACK TO one")
+
+
+needs("cc", *SERVER)
+if lacks("/usr/lib/python3/dist-packages/pandas"):
+    skip_all(lacks("/usr/lib/python3/dist-packages/pandas"))
+stop = start_server()
+try:
+    status, said = build()
+    compare("packages", (status, said), (0, ""))
+    ask("CREATE EXTENSION rapidhash")
+    loaded = sqlite3.connect(":memory:", isolation_level=None)
+    loaded.enable_load_extension(True)
+    loaded.load_extension(str(TOP / "build/rapidhash"))
+    rows = people()
+    fill(loaded, rows)
+    by_shards, sample, equal, by_shard = blocks(PAGE, "sql")
+    shards, whole = in_pandas(rows)
+    counts = [f"{shard}|{shards.count(shard)}" for shard in range(16)]
+    compare("shards", (ask(by_shards), in_sqlite(loaded, by_shards)), (counts, counts))
+    compare("sample", ask(sample), in_sqlite(loaded, sample))
+    [found] = ask(equal)
+    compare("equal_tables", in_sqlite(loaded, equal), [found])
+    compare("equal_frame", [whole[0], whole[1] - (whole[1] >> 63 << 64)], [*map(int, found.split("|"))])
+    compare("no_shard_differs", differing(loaded, by_shard), set())
+    finds(loaded, "a_changed_row", "UPDATE people SET price = '10000' WHERE id = 77", by_shard)
+    finds(loaded, "a_lost_row", "DELETE FROM people WHERE id = 77", by_shard)
+    finds(loaded, "a_doubled_row", f"INSERT INTO people SELECT {COLUMNS} FROM people WHERE id = 77", by_shard)
+finally:
+    shell(stop, "/")
+finish()
