@@ -198,6 +198,42 @@ inline std::uint64_t from_canonical(const std::array<unsigned char, 8> &stored) 
     return ::rapidhash_from_canonical(stored.data());
 }
 
+/* What a hash decides: a shard or a bucket among `count`, which is at least 1. The functions of rapidhash_c.h describe
+ * them. From C++14 on, the results are constants of gcc and clang. */
+RAPIDHASH_CONSTANT inline std::uint64_t shard(std::uint64_t hash, std::uint64_t count) noexcept
+{
+    return ::rapidhash_shard(hash, count);
+}
+
+RAPIDHASH_CONSTANT inline std::uint64_t first_hash(std::uint64_t shard, std::uint64_t count) noexcept
+{
+    return ::rapidhash_first_hash(shard, count);
+}
+
+RAPIDHASH_CONSTANT inline std::uint32_t bucket(std::uint64_t hash, std::uint32_t count) noexcept
+{
+    return ::rapidhash_bucket(hash, count);
+}
+
+/* Returns the fingerprint of a table, from the hashes of its rows in any order. */
+RAPIDHASH_CONSTANT inline std::uint64_t fingerprint(const std::uint64_t *hashes, std::size_t count) noexcept
+{
+    return ::rapidhash_fingerprint(hashes, count);
+}
+
+/* Returns the same of a range, as a std::vector of hashes. */
+template <class Hashes>
+RAPIDHASH_CONSTANT std::uint64_t fingerprint(const Hashes &hashes) noexcept
+{
+    std::uint64_t sum = 0;
+    for (const auto &hash : hashes) {
+        static_assert(std::is_unsigned<typename std::decay<decltype(hash)>::type>::value && sizeof(hash) == 8,
+                      "a hash of a fingerprint is an unsigned integer of 64 bits");
+        sum += hash;
+    }
+    return sum;
+}
+
 /* Returns the same bytes as 16 hexadecimal digits, as rapidsum prints them. */
 inline std::string to_hex(std::uint64_t hash)
 {

@@ -16,7 +16,7 @@
  * under every seed word. If others choose the messages, use rapidhash_make_secrets with a random number.
  *
  * Threads and memory. The functions allocate no memory, keep no global state, and are thread-safe. They call no
- * functions but memcpy and memset.
+ * functions but memcpy and memset. On machines of 32 bits, rapidhash_bucket also calls the compiler's division.
  *
  * Preconditions of every hash function:
  * - `bytes` points to `len` readable bytes, and `len` is below 2^63. If `len` is 0, `bytes` may be any pointer, even
@@ -67,6 +67,13 @@
 #define RAPIDHASH_TABLE RAPIDHASH_SHARED inline constexpr
 #else
 #define RAPIDHASH_TABLE static const
+#endif
+
+/* From C++14 on, a function with this can be a constant of gcc and clang, unless a test replaces the product. */
+#if defined(__cplusplus) && __cplusplus >= 201402L && defined(__GNUC__)
+#define RAPIDHASH_CONSTANT constexpr
+#else
+#define RAPIDHASH_CONSTANT
 #endif
 
 /* The functions are inlined by default and only declared with RAPIDHASH_LINK. With RAPIDHASH_IMPLEMENTATION they are
@@ -296,8 +303,7 @@ RAPIDHASH_INLINE uint64_t rapidhash_from_canonical(const unsigned char *bytes)
     return hash;
 }
 
-#ifndef RAPIDHASH_LINK
-/* All names from here on that end with an underscore are private. docs/ALGORITHM.md has the algorithm and its terms.
+/* All names that end with an underscore are private. docs/ALGORITHM.md has the algorithm and its terms.
  * A function with FORCE_INLINE is inlined into a caller whose constant arguments choose its code. Messages above 16
  * bytes leave the caller for a function with NOINLINE; those with rows, which need all registers, for another one. */
 #if defined(__GNUC__)
@@ -322,6 +328,8 @@ RAPIDHASH_INLINE uint64_t rapidhash_from_canonical(const unsigned char *bytes)
 /* Loads and the product. They depend on the machine, and nothing else does. A test replaces them by those of a file. */
 #if defined(RAPIDHASH_PRIMITIVES) && !defined(__CPPCHECK__)
 #include RAPIDHASH_PRIMITIVES
+#undef RAPIDHASH_CONSTANT
+#define RAPIDHASH_CONSTANT
 #else
 #if defined(_MSC_VER) || (defined(__BYTE_ORDER__) && __BYTE_ORDER__ == __ORDER_LITTLE_ENDIAN__)
 #define RAPIDHASH_C_LITTLE(bits, word) word
@@ -354,7 +362,8 @@ RAPIDHASH_FORCE_INLINE uint64_t rapidhash_load8_(const uint8_t *p)
 }
 
 /* Sets the halves of the 128-bit product. WebAssembly has a 128-bit type, but its product is a call. */
-RAPIDHASH_FORCE_INLINE void rapidhash_multiply_(uint64_t a, uint64_t b, uint64_t *low, uint64_t *high)
+RAPIDHASH_FORCE_INLINE RAPIDHASH_CONSTANT void rapidhash_multiply_(
+    uint64_t a, uint64_t b, uint64_t *low, uint64_t *high)
 {
 #if defined(__SIZEOF_INT128__) && !defined(__wasm__) && !defined(RAPIDHASH_NO_INT128)
     __extension__ typedef unsigned __int128 rapidhash_product_;
@@ -379,6 +388,60 @@ RAPIDHASH_FORCE_INLINE void rapidhash_multiply_(uint64_t a, uint64_t b, uint64_t
 }
 #endif /* RAPIDHASH_PRIMITIVES */
 
+/* What a hash decides: a shard or a bucket among `count`, which is at least 1, or the fingerprint of a table. The
+ * results are the same in every language. Each is 0 if the count is 0.
+ *
+ * Returns the shard of a hash, below `count`: the integer part of hash * count / 2^64. Each shard has 2^64 / count
+ * hashes or one more. They follow one another, so that a database can have a shard as a range. Multiplying the count
+ * splits each shard. The hashes of a shard share their highest bits: inside it, use the lowest bits. */
+RAPIDHASH_INLINE RAPIDHASH_CONSTANT uint64_t rapidhash_shard(uint64_t hash, uint64_t count)
+{
+    uint64_t low = 0, high = 0;
+    rapidhash_multiply_(hash, count, &low, &high);
+    return high;
+}
+
+/* Returns the first hash of a shard, which is below `count`; otherwise returns 0. The shard has the hashes from it to
+ * before the first of the next shard. */
+RAPIDHASH_INLINE RAPIDHASH_CONSTANT uint64_t rapidhash_first_hash(uint64_t shard, uint64_t count)
+{
+    uint64_t rest = shard, quotient = 0;
+    if (shard >= count) return 0;
+    /* Divides shard * 2^64 bit by bit: not every machine divides 128 bits without a call. */
+    for (int bit = 0; bit < 64; bit++) {
+        const bool fits = rest >> 63 || 2 * rest >= count;
+        rest = 2 * rest - (fits ? count : 0);
+        quotient = 2 * quotient + fits;
+    }
+    return quotient + (rest > 0);
+}
+
+/* Returns the bucket of a hash, below `count`, by jump consistent hashing in integers: among more buckets a hash keeps
+ * its bucket or goes to a new one. The time grows with the logarithm of the count: some 14 steps for a million. */
+RAPIDHASH_INLINE RAPIDHASH_CONSTANT uint32_t rapidhash_bucket(uint64_t hash, uint32_t count)
+{
+    uint64_t at = 0, next = 0;
+    while (next < count) {
+        at = next;
+        hash = hash * UINT64_C(2862933555777941757) + 1;
+        next = ((at + 1) << 31) / ((hash >> 33) + 1);
+    }
+    return (uint32_t)at;
+}
+
+/* Returns the fingerprint of a table, from the hashes of its rows in any order: their sum modulo 2^64. The fingerprints
+ * of parts add up to that of the whole. Tables with equally many rows and one fingerprint have the same rows, but for a
+ * chance of one in 2^64. That does not hold against someone who chooses the rows, nor if rows are repeated very often.
+ *
+ * `hashes` points to `count` words. If `count` is 0, it may be any pointer. */
+RAPIDHASH_INLINE RAPIDHASH_CONSTANT uint64_t rapidhash_fingerprint(const uint64_t *hashes, size_t count)
+{
+    uint64_t sum = 0;
+    for (size_t at = 0; at < count; at++) sum += hashes[at];
+    return sum;
+}
+
+#ifndef RAPIDHASH_LINK
 /* The default secrets, and the default seeds of V1 and of the other versions. */
 RAPIDHASH_TABLE uint64_t rapidhash_default_secrets_[7] = {
     UINT64_C(0x2d358dccaa6c78a5), UINT64_C(0x8bb84b93962eacc9), UINT64_C(0x4b33a62ed433d4a3),

@@ -84,6 +84,28 @@ has_those_of() {
     ${under-} "$room/of_a_file" <"$top/crates/test_replay/data/$2.tsv"
 }
 
+# Compares what hashes decide, by each path of the product and as declarations without a library: COMPILER ARGUMENT..
+decides_by_each_path() {
+  local options name
+  for options in -DRAPIDHASH_NO_INT128 -DRAPIDHASH_LINK "-U__SIZEOF_INT128__ -D_MSC_VER=1930 -D_M_X64 -I$tests/msvc" \
+    "-U__SIZEOF_INT128__ -D_MSC_VER=1930 -D_M_ARM64 -I$tests/msvc"; do
+    for name in shards fingerprints; do
+      # shellcheck disable=SC2086 # These are several arguments.
+      has_those_of shards.c "$name" "$@" $options || { echo "$options" && return 1; }
+    done
+  done
+}
+
+# Compares what hashes decide by the C++ header, from C++14 on also as constants: COMPILER
+decides_in_cpp() {
+  local standard name
+  for standard in c++11 c++14 c++20; do
+    for name in shards fingerprints; do
+      has_those_of shards.c "$name" "$1" -x c++ "-std=$standard" -O2 -Wpedantic -Wconversion || return 1
+    done
+  done
+}
+
 # Compiles such a program with the archive, whose code it must contain: COMPILER ARGUMENT..
 calls_from_c() {
   linked=$archive has_the_values "$@" -DRAPIDHASH_LINK -O2 -Wall -Wextra -Werror &&
@@ -182,6 +204,7 @@ std::wstring()|a field is nullptr, an integer,
 std::optional<std::optional<int>>()|an optional field is an integer, a text, bytes or a path
 std::optional<std::pair<int, int>>()|an optional field is an integer,
 std::optional<std::tuple<int>>()|an optional field is an integer,
+rapidhash::fingerprint(std::array<int, 2>())|a hash of a fingerprint is an unsigned integer of 64 bits
 VALUES
 }
 
@@ -523,12 +546,15 @@ done
 s390x='clang s390x-linux-gnu-ld /usr/lib/gcc-cross/s390x-linux-gnu/*/libgcc.a /usr/s390x-linux-gnu/include/stdio.h'
 under=qemu-s390x try_with properties_s390x "$s390x qemu-s390x" \
   has_the_properties "$both" clang --target=s390x-linux-gnu -static -O2
-for name in keys saved; do
-  try "$name" has_those_of "$name.c" "$name" cc -std=c99 -O2
-  try_with "${name}_32_bits" "gcc $multilib/libgcc.a" has_those_of "$name.c" "$name" gcc -m32 -O2
-  under=qemu-s390x try_with "${name}_s390x" "$s390x qemu-s390x" has_those_of "$name.c" "$name" \
+for name in keys saved shards fingerprints; do
+  source=${name/fingerprints/shards}.c
+  try "$name" has_those_of "$source" "$name" cc -std=c99 -O2
+  try_with "${name}_32_bits" "gcc $multilib/libgcc.a" has_those_of "$source" "$name" gcc -m32 -O2
+  under=qemu-s390x try_with "${name}_s390x" "$s390x qemu-s390x" has_those_of "$source" "$name" \
     clang --target=s390x-linux-gnu -static -O2
 done
+try_with shards_by_each_path gcc decides_by_each_path gcc -O2
+for compiler in g++ clang++; do try_with "shards_$compiler" "$compiler" decides_in_cpp "$compiler"; done
 try_with cpp_saved c++ has_those_of saved.cpp saved c++ -std=c++11 -fno-exceptions -O2
 under='valgrind -q --error-exitcode=9' try_with content 'valgrind /usr/include/valgrind/memcheck.h' \
   has_the_properties content cc -O2 -DTEST_CONTENT
