@@ -16,7 +16,7 @@ REPLACED = [
      "    secrets: crate::held::Owned::new(secrets),\n                folded", "as above"),
     ("v3/stream/saved", "    secrets,\n            folded",
      "    secrets: crate::held::Owned::new(secrets),\n            folded", "as above"),
-    ("key", "//! encodings ([`same_keys`](crate::laws::same_keys)): those", "//! encodings: those", "the laws are contracts"),
+    ("key", "//! encodings ([`same_keys`](crate::laws::same_keys)): `", "//! encodings: `", "the laws are contracts"),
     ("key", "#[derive(Clone, Copy)]", "#[non_exhaustive]\n#[derive(Debug, Clone, Copy, PartialEq, Eq, Hash)]", "users expect these"),
     ("seeding", "    counter: u64,\n    random: u64,", "    pub(crate) counter: u64,\n    pub(crate) random: u64,",
      "a thread keeps the words of its source apart"),

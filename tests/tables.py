@@ -11,7 +11,7 @@ import sqlite3
 import subprocess
 
 from cases import ROOM, TOP, blocks, compare, finish, lacks, needs, shell, skip_all
-from sql import DATA, SERVER, ask, start_server
+from sql import SERVER, ask, start_server
 
 PAGE = "docs/TABLES.md"
 COUNT = int(os.environ.get("ROWS", 20_000))

@@ -98,8 +98,8 @@ export function shard(hash: bigint, count: bigint): bigint;
 /** Returns the first hash of a shard. The shard has the hashes from it to before the first of the next shard. */
 export function firstHash(shard: bigint | number, count: bigint | number): bigint;
 
-/** Returns the bucket of a hash, below `count`, which is below 2^32. Among more buckets the hash keeps its bucket, or has
- * a new one. */
+/** Returns the bucket of a hash, below `count`, which is below 2^32. Among more buckets the hash keeps its bucket, or
+ * has a new one. */
 export function bucket(hash: bigint, count: bigint | number): number;
 
 /** Returns the fingerprint of hashes: their sum modulo 2^64, in any order, and 0n of none. */

@@ -26,8 +26,8 @@ static int open_hashes(PyObject *hashes, Py_buffer *buffer)
         return -1;
     if (buffer->ndim == 1 && letter_of(buffer) == 'Q')
         return 0;
-    PyErr_Format(PyExc_TypeError, "hashes must be unsigned 64-bit integers in one dimension, such as array('Q'), not %R",
-                 Py_TYPE(hashes));
+    PyErr_Format(PyExc_TypeError, "hashes must be unsigned 64-bit integers in one dimension, such as array('Q'), "
+                 "not %R", Py_TYPE(hashes));
     PyBuffer_Release(buffer);
     return -1;
 }

@@ -348,8 +348,8 @@ int sqlite3_rapidhash_init(sqlite3 *database, char **error, const sqlite3_api_ro
         status = sqlite3_create_function_v2(database, keys[at].name, -1, FLAGS, (void *)&keys[at], call_key, NULL, NULL,
             NULL);
     for (at = 0; at < COUNT(decisions) && status == SQLITE_OK; at++)
-        status = sqlite3_create_function_v2(database, decisions[at].name, 2, FLAGS, (void *)&decisions[at], decide, NULL,
-            NULL, NULL);
+        status = sqlite3_create_function_v2(database, decisions[at].name, 2, FLAGS, (void *)&decisions[at], decide,
+            NULL, NULL, NULL);
     if (status == SQLITE_OK)
         status = sqlite3_create_window_function(database, "rapidhash_fingerprint", 1, FLAGS, NULL, add_hash,
             fingerprint_so_far, fingerprint_so_far, remove_hash, NULL);

@@ -3,7 +3,7 @@
 //! A field is nothing (as SQL's NULL), an integer or bytes. Its encoding is a tag, followed by the
 //! integer as 8 bytes, or by the number of bytes as 8 bytes and the bytes. All numbers are
 //! little-endian. The hash of a key is V3 of its fields' encodings. Different keys have different
-//! encodings ([`same_keys`](crate::laws::same_keys)): those of `("ab", "c")` and `("a", "bc")` differ.
+//! encodings ([`same_keys`](crate::laws::same_keys)): `("ab", "c")` is not `("a", "bc")`.
 
 ghost use Rattle.std.specs.Prelude.{◌≡◌};
 ghost use Rattle.rapidhash_portable.specs.Form.{standard, v3};

@@ -5,7 +5,7 @@
 //! A field is nothing (as SQL's NULL), an integer or bytes. Its encoding is a tag, followed by the
 //! integer as 8 bytes, or by the number of bytes as 8 bytes and the bytes. All numbers are
 //! little-endian. The hash of a key is V3 of its fields' encodings. Different keys have different
-//! encodings: those of `("ab", "c")` and `("a", "bc")` differ.
+//! encodings: `("ab", "c")` is not `("a", "bc")`.
 
 use rapidhash_portable::v3::{RapidSecrets, RapidStreamHasherLanes, RapidStreamHasherV3};
 

@@ -77,7 +77,8 @@ impl<'a> Console<'a> {
         written.map_err(Problem::Write)
     }
 
-    /// Ends the line. The lines before it are written if it makes them longer than a block.
+    /// Adds the line to those that are written together: if it makes them longer than a block, they are
+    /// written before.
     pub fn end_line(&mut self) -> Result<(), Problem> {
         if self.lines.len().saturating_add(self.line.len()) > self.block {
             self.flush()?;
