@@ -63,6 +63,18 @@ folds_two_rows() {
     printf '%s, true, false, false>\n' 'above_inlined::<'{3,5,7} 'with_rows::<2' && echo 'with_rows::<true, false, false, false>')
 }
 
+# Checks the machine code of V3's, micro's and nano's rows: their products, at most so many instructions, and no panic.
+# With the lane in the second factor they would have 298, 212 and 140 instructions.
+folds_in_few_instructions() {
+  local assembly=$room/assembly
+  CARGO_TARGET_DIR=$assembly cargo rustc --release --lib -- --emit asm -C codegen-units=1 &&
+    awk '/^_.*above_inlined.*:$/ { on = 1; all = products = panics = 0 } on && /^\t[a-z]/ { all++ }
+      on && /^\tmul/ { products++ } on && /panic/ { panics++ } on && /^\.Lfunc_end/ { print products, panics, all; on = 0 }' \
+      "$assembly"/release/deps/rapidhash-*.s | sort -n >"$room/rows" && cat "$room/rows" &&
+    diff <(cut -d ' ' -f 1,2 "$room/rows") <(printf '%s 0\n' 13 21 29) &&
+    awk 'BEGIN { most[13] = 133; most[21] = 206; most[29] = 272 } $3 > most[$1] { exit 1 }' "$room/rows"
+}
+
 # Checks what the registry and lawyers read of the manifests, with the compiler of the page: MANIFEST
 has_the_metadata() {
   grep -qx 'license = "MIT OR Apache-2.0"' "$1" &&
@@ -262,6 +274,8 @@ try_from without_build_script_and_std 83 builds_without_script
 try_from labels_of_docs_rs 92 has_no_label_of_a_compiler
 try_with states_without_std valgrind makes_states_from_stored_words
 try words_in_halves shares_words_in_halves
+if [ "$(uname -m)" = x86_64 ]; then try_from instructions_of_rows 83 folds_in_few_instructions
+else skip instructions_of_rows 'no x86_64 (*machine)'; fi
 try no_unsafe grep -x '#!\[forbid(unsafe_code)\]' src/lib.rs
 
 # The cases that are quick enough for two compilers: SUFFIX TOOLS
