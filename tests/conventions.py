@@ -6,7 +6,7 @@ import re
 
 from cases import ROOM, TOP, compare, finish, lacks, shell, skip, tell
 from model import field_bytes, hash_of, secrets_of
-from sql import SERVER, ask, start_server
+from sql import SERVER, ask, start_server, unpack
 
 # A column of the table, a value as text, and its fields. Dates and times are as GNU date computes them.
 VALUES = (
@@ -47,11 +47,6 @@ def known(fields):
     texts = ("x" + (it.encode() if isinstance(it, str) else it).hex() if isinstance(it, (str, bytes)) else str(it) for it in fields)
     seed, *secrets = secrets_of("default", "", False)
     return hash_of("V3", b"".join(map(field_bytes, texts)), seed, secrets)
-
-
-def nested(value, call):
-    """Returns the literal of a list in a language, whose items are fields or lists."""
-    return call([nested(it, call) if isinstance(it, tuple) else it for it in value])
 
 
 # The programs of the languages around their values: the file, the command, the text, which has its values at VALUES, the
@@ -126,7 +121,7 @@ VALUES}""", '{ let mut h = RapidStreamHasherV3::new(&DEFAULT_RAPID_SECRETS); PAR
 TOOLS = {"Python": ("cc", "/usr/lib/python3/dist-packages/setuptools", "/usr/include/python3*/Python.h"), "JavaScript": ("node", "esbuild", "clang", "wasm-ld", "npm"),
          "Java": ("java", "javac"), "Go": ("go",), "C++": ("g++",), "Rust": ("cargo",), "SQLite": ("sqlite3", "cc", "/usr/include/sqlite3.h"), "PostgreSQL": SERVER}
 BUILDS = {"Python": 'make -s wheel && /usr/bin/python3 -m zipfile -e build/wheels/*.whl "$ROOM/wheel"', "JavaScript": "make -s npm",
-          "Java": "make -s jar", "SQLite": "make -s sqlite", "PostgreSQL": "make -s postgresql && make -s -C build/postgresql install"}
+          "Java": "make -s jar", "SQLite": "make -s sqlite"}
 
 
 def source(language, column, value, field):
@@ -198,9 +193,13 @@ def converts(language, cells):
 
 
 def build(language):
-    """Builds what the programs of a language need. Returns the command that stops the server, if it has one."""
-    stop = start_server() if language == "PostgreSQL" else None
-    status, printed = shell(BUILDS.get(language, ":"), DESTDIR=str(ROOM))
+    """Builds what the programs of a language need. Returns the command that stops the server, if it has one. Other scripts
+    may build the extension for PostgreSQL at the same time, so this one builds it in its room."""
+    stop, command, folder = None, BUILDS.get(language, ":"), TOP
+    if language == "PostgreSQL":
+        folder = ROOM / "unpacked"
+        stop, command = start_server(), unpack(folder, "postgresql").replace("sudo ", "")
+    status, printed = shell(command, folder, DESTDIR=str(ROOM))
     if status != 0:
         tell(f"build for {language}", *printed.splitlines()[-20:])
     return stop
