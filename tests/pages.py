@@ -77,8 +77,10 @@ def limits():
 
 def names():
     """Checks that each name on a page is that of a file, or in the code: not only in tests, benches, edits or compat. On
-    pages that name what the tests have, or what programs call, it may be in any file."""
+    pages that name what the tests have, or what programs call, it may be in any file. tests/conventions.py runs the
+    expressions of a table."""
     code, everywhere = set(), set()
+    run = (TOP / "docs/BINDINGS.md").read_text().partition("| boolean b ")[2].partition("\n\n")[0]
     for name in shell("git ls-files")[1].splitlines():
         if not name.endswith((".md", ".tsv")):
             text = re.findall(r"\w+", f"{name} {(TOP / name).read_text(errors='replace')}")
@@ -88,7 +90,7 @@ def names():
     pages = dict.fromkeys(("PROVED", "ARCHITECTURE", "C", "CPP", "DECISIONS", "PERFORMANCE"), code) | dict.fromkeys(
         ("BINDINGS", "COMMANDS", "EXAMPLES", "GLOSSARY", "LAWS", "NEW_FORM", "QUESTIONS", "RATTLE"), everywhere)
     for page, place, line in prose(TOP / "docs" / f"{name}.md" for name in pages):
-        for name in NAME.findall(line):
+        for name in NAME.findall(line) if line not in run else []:
             yield from (f"{place}: no {part} of {name} in the code" for part in re.split(r"::|\.", name)
                         if part not in pages[page.stem])
 
@@ -291,6 +293,6 @@ def commits():
 for check in (links, paths, variables, limits, names, values, layers, edits, vectors, statements, sizes, clauses,
               pictures, means, measurements, commits):
     tell(check.__name__, *check())
-for made, maker in (("calls", "scripts/api"), ("version", "scripts/version"), ("figures", "bench/figures")):
+for made, maker in (("calls", "scripts/api"), ("public", "scripts/public"), ("version", "scripts/version"), ("figures", "bench/figures")):
     tell(made, *made_by(maker))
 finish()

@@ -13,7 +13,7 @@ func BenchmarkV3(b *testing.B) {
 		b.Run(fmt.Sprint(size), func(b *testing.B) {
 			b.SetBytes(int64(size))
 			for count := 0; count < b.N; count++ {
-				sink += V3(message[:size])
+				sink += Sum64(message[:size])
 			}
 		})
 	}

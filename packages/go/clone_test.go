@@ -5,7 +5,7 @@ package rapidhash
 import "testing"
 
 func TestClone(t *testing.T) {
-	first := NewV3Micro(&own)
+	first := V3Micro.NewWithSecrets(&own)
 	first.Write(data()[:90])
 	second, err := first.Clone()
 	if err != nil {
@@ -13,6 +13,6 @@ func TestClone(t *testing.T) {
 	}
 	first.WriteString("other")
 	second.Write(data()[90:])
-	compare(t, "a clone", second.(*Stream).Sum64(), V3MicroWithSecrets(data(), &own))
-	compare(t, "the first", first.Sum64(), V3MicroWithSecrets(append(data()[:90], "other"...), &own))
+	compare(t, "a clone", second.(*Stream).Sum64(), V3Micro.Sum64WithSecrets(data(), &own))
+	compare(t, "the first", first.Sum64(), V3Micro.Sum64WithSecrets(append(data()[:90], "other"...), &own))
 }

@@ -10,16 +10,16 @@ import (
 )
 
 func Example() {
-	fmt.Println(rapidhash.V3([]byte("hello")))
-	fmt.Println(rapidhash.V3String("hello"))
+	fmt.Println(rapidhash.Sum64([]byte("hello")))
+	fmt.Println(rapidhash.Sum64String("hello"))
 	// Output:
 	// 3327445792987248966
 	// 3327445792987248966
 }
 
-func ExampleV3WithSeed() {
-	fmt.Println(rapidhash.V3WithSeed([]byte("hello"), 0) == rapidhash.V3([]byte("hello")))
-	fmt.Println(rapidhash.V3WithSeed([]byte("hello"), 1) == rapidhash.V3([]byte("hello")))
+func ExampleVersionV3_Sum64WithSeed() {
+	fmt.Println(rapidhash.V3.Sum64WithSeed([]byte("hello"), 0) == rapidhash.Sum64([]byte("hello")))
+	fmt.Println(rapidhash.V3.Sum64WithSeed([]byte("hello"), 1) == rapidhash.Sum64([]byte("hello")))
 	// Output:
 	// true
 	// false
@@ -27,10 +27,10 @@ func ExampleV3WithSeed() {
 
 // The lines are those of README.md.
 func Example_readme() {
-	fmt.Println(rapidhash.V3WithSeed([]byte("hello"), 1) == rapidhash.V3WithSecrets([]byte("hello"), rapidhash.SeedSecrets(1)))
-	fmt.Println(rapidhash.V3WithSecrets([]byte("hello"), rapidhash.MakeSecrets(42)) == rapidhash.V3([]byte("hello")))
+	fmt.Println(rapidhash.V3.Sum64WithSeed([]byte("hello"), 1) == rapidhash.V3.Sum64WithSecrets([]byte("hello"), rapidhash.SeedSecrets(1)))
+	fmt.Println(rapidhash.V3.Sum64WithSecrets([]byte("hello"), rapidhash.MakeSecrets(42)) == rapidhash.Sum64([]byte("hello")))
 	fmt.Println(rapidhash.V3Key(rapidhash.Text("user"), rapidhash.Integer(4711), rapidhash.Nothing()))
-	stream := rapidhash.NewV3WithSeed(0)
+	stream := rapidhash.V3.NewWithSeed(0)
 	fmt.Fprint(stream, "hello")
 	fmt.Println(stream.Sum64(), stream.UnmarshalBinary([]byte("other")))
 	// Output:

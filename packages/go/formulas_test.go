@@ -39,16 +39,15 @@ func (r *record) hash(name string, message []byte) (uint64, error) {
 	if r.Options&2 != 0 {
 		name += "_protected"
 	}
-	call := calls[name]
-	switch {
-	case r.Streamed == 0 && name == "v1":
-		return V1WithSecrets(message, &SecretsV1{r.Secrets.Seed, *(*[3]uint64)(r.Secrets.Secrets[:])}), nil
-	case r.Streamed == 0 && call.seeded != nil:
-		return call.seeded(message, &r.Secrets), nil
-	case r.Streamed == 0 || call.start == nil:
+	call, isVersion := calls[name]
+	if isVersion && r.Streamed == 0 {
+		return call.Sum64WithSecrets(message, &r.Secrets), nil
+	}
+	version, isStream := streams[name]
+	if !isStream {
 		return 0, fmt.Errorf("formulas: no %s with options %d, streamed %d", name, r.Options, r.Streamed)
 	}
-	stream, from := call.start(&r.Secrets), uint64(0)
+	stream, from := version.NewWithSecrets(&r.Secrets), uint64(0)
 	for _, cut := range append(r.Cuts[:], r.Length) {
 		stream.Write(message[from:cut])
 		from = cut

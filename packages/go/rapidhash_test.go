@@ -27,10 +27,10 @@ func compare(t *testing.T, name string, value, known uint64) {
 
 func TestDefaultSecrets(t *testing.T) {
 	for name, call := range calls {
-		compare(t, name, call.plain(data()[:call.size]), call.known)
+		compare(t, name, call.Sum64(data()[:call.size]), call.known)
 	}
-	compare(t, "v1 of a line", V1([]byte("something\n")), 15965596575264898037)
-	compare(t, "v3 of nothing", V3(nil), 232177599295442350)
+	compare(t, "v1 of a line", V1.Sum64([]byte("something\n")), 15965596575264898037)
+	compare(t, "v3 of nothing", V3.Sum64(nil), 232177599295442350)
 	compare(t, "Sum64", Sum64(data()), 7088138960297660729)
 	compare(t, "Sum64String", Sum64String(string(data())), 7088138960297660729)
 	stream := New()
@@ -39,11 +39,8 @@ func TestDefaultSecrets(t *testing.T) {
 }
 
 func TestUnevenPieces(t *testing.T) {
-	for name, call := range calls {
-		if call.start == nil {
-			continue
-		}
-		stream, value := call.start(&own), call.seeded(data(), &own)
+	for name, version := range streams {
+		stream, value := version.NewWithSecrets(&own), version.Sum64WithSecrets(data(), &own)
 		stream.Write(data()[:100])
 		stream.Reset()
 		rest := data()
@@ -61,7 +58,7 @@ func TestUnevenPieces(t *testing.T) {
 
 // TestEqualStreams checks that streams of the same message are equal, so none keeps a pointer to its own secrets.
 func TestEqualStreams(t *testing.T) {
-	first, second := NewV3(&own), NewV3(&own)
+	first, second := V3.NewWithSecrets(&own), V3.NewWithSecrets(&own)
 	for _, step := range []func(*Stream){func(*Stream) {}, func(stream *Stream) { stream.Write(data()) },
 		func(stream *Stream) { stream.Sum64() }, (*Stream).Reset} {
 		step(first)
@@ -90,31 +87,28 @@ func TestZeroStreams(t *testing.T) {
 
 func TestSeedOf0(t *testing.T) {
 	secrets := Secrets{0, own.Secrets}
-	stream := NewV3(&secrets)
+	stream := V3.NewWithSecrets(&secrets)
 	stream.Write(data())
-	compare(t, "stream", stream.Sum64(), V3WithSecrets(data(), &secrets))
+	compare(t, "stream", stream.Sum64(), V3.Sum64WithSecrets(data(), &secrets))
 }
 
 // TestConcurrentCalls runs all calls with the same messages and secrets, as the race detector also checks.
 func TestConcurrentCalls(t *testing.T) {
-	bytes, text, secrets, secretsV1 := long()[:700], string(long()[:700]), MakeSecrets(7), MakeSecretsV1(7)
+	bytes, text, secrets := long()[:700], string(long()[:700]), MakeSecrets(7)
 	all := func() (sum uint64) {
 		for n := 1; n <= len(bytes); n *= 2 {
-			sum += V1WithSecrets(bytes[:n], secretsV1) + V3StringWithSecrets(text[:n], secrets) + V3StringWithSeed(text[:n], 7)
 			sum += V3Key(Text(text[:n]), Integer(int64(n)))
 			for _, call := range calls {
-				sum += call.plain(bytes[:n]) + call.word(bytes[:n], 7) + call.text(text[:n])
-				if call.seeded != nil {
-					sum += call.seeded(bytes[:n], secrets)
-				}
-				if call.start != nil {
-					first, second := call.start(secrets), call.startWord(7)
-					first.Write(bytes[:n])
-					saved, _ := first.MarshalBinary()
-					second.UnmarshalBinary(saved)
-					second.WriteString(text[:n])
-					sum += second.Sum64()
-				}
+				sum += call.Sum64(bytes[:n]) + call.Sum64WithSeed(bytes[:n], 7) + call.Sum64WithSecrets(bytes[:n], secrets)
+				sum += call.Sum64String(text[:n]) + call.Sum64StringWithSeed(text[:n], 7) + call.Sum64StringWithSecrets(text[:n], secrets)
+			}
+			for _, version := range streams {
+				first, second := version.NewWithSecrets(secrets), version.NewWithSecrets(secrets)
+				first.Write(bytes[:n])
+				saved, _ := first.MarshalBinary()
+				second.UnmarshalBinary(saved)
+				second.WriteString(text[:n])
+				sum += second.Sum64() + version.NewWithSeed(7).Sum64() + version.New().Sum64()
 			}
 		}
 		return sum + MakeSecrets(7).Secrets[6]
@@ -132,28 +126,63 @@ func TestConcurrentCalls(t *testing.T) {
 	group.Wait()
 }
 
+// panicOf returns the panic of a call.
+func panicOf(call func()) (found any) {
+	defer func() { found = recover() }()
+	call()
+	return nil
+}
+
 // TestNilSecretsPanic checks that each call refuses nil secrets with the same message, also for a message without a byte.
 func TestNilSecretsPanic(t *testing.T) {
-	cases := map[string]func(){"v1": func() { V1WithSecrets(data(), nil) }, "v1 of nothing": func() { V1WithSecrets(nil, nil) },
-		"v3 string": func() { V3StringWithSecrets("hello", nil) }, "key": func() { V3KeyWithSecrets(nil, Integer(1)) },
-		"key of nothing": func() { V3KeyWithSecrets(nil) }}
+	cases := map[string]func(){"key": func() { V3KeyWithSecrets(nil, Integer(1)) }, "key of nothing": func() { V3KeyWithSecrets(nil) }}
 	for name, call := range calls {
-		if hash := call.seeded; hash != nil {
-			cases[name] = func() { hash(data(), nil) }
-			cases[name+" of nothing"] = func() { hash(nil, nil) }
-		}
-		if start := call.start; start != nil {
-			cases[name+" stream"] = func() { start(nil) }
+		hash, hashText := call.Sum64WithSecrets, call.Sum64StringWithSecrets
+		cases[name] = func() { hash(data(), nil) }
+		cases[name+" of nothing"] = func() { hash(nil, nil) }
+		cases[name+" of a string"] = func() { hashText("hello", nil) }
+		if version, isStream := streams[name]; isStream {
+			cases[name+" stream"] = func() { version.NewWithSecrets(nil) }
 		}
 	}
 	for name, call := range cases {
-		func() {
-			defer func() {
-				if found := recover(); found != nilSecrets {
-					t.Errorf("%s with nil secrets: %v", name, found)
+		if found := panicOf(call); found != nilSecrets {
+			t.Errorf("%s with nil secrets: %v", name, found)
+		}
+	}
+}
+
+// TestNoVersionPanics checks that a number that is no version panics. One of V3's may return the hash of V3 instead, up to
+// 112 bytes and without a stream.
+func TestNoVersionPanics(t *testing.T) {
+	message := make([]byte, 5000)
+	for _, size := range []int{0, 1, 7, 16, 17, 48, 49, 97, 112, 113, 224, 300, 5000} {
+		bytes, text := message[:size], string(message[:size])
+		for number := uint(0); number < 5000; number++ {
+			v2, v3, isV3 := VersionV2(number), VersionV3(number), number == 112 || number == 80 || number == 48
+			for kind, version := range map[string]hasher{"V2": v2, "V3": v3} {
+				for name, call := range map[string]func() uint64{
+					"slice":               func() uint64 { return version.Sum64(bytes) - V3.Sum64(bytes) },
+					"string":              func() uint64 { return version.Sum64String(text) - V3.Sum64(bytes) },
+					"slice with a seed":   func() uint64 { return version.Sum64WithSeed(bytes, 0) - V3.Sum64(bytes) },
+					"string with a seed":  func() uint64 { return version.Sum64StringWithSeed(text, 0) - V3.Sum64(bytes) },
+					"slice with secrets":  func() uint64 { return version.Sum64WithSecrets(bytes, SeedSecrets(0)) - V3.Sum64(bytes) },
+					"string with secrets": func() uint64 { return version.Sum64StringWithSecrets(text, SeedSecrets(0)) - V3.Sum64(bytes) },
+				} {
+					difference := uint64(1)
+					found := panicOf(func() { difference = call() })
+					if isVersion := kind == "V2" && number < 3 || kind == "V3" && isV3; isVersion != (found == nil) &&
+						(isVersion || kind == "V2" || size > 112 || difference != 0) || found != nil && found != noVersion {
+						t.Errorf("%s, %d: %s of %d bytes: %v", kind, number, name, size, found)
+					}
 				}
-			}()
-			call()
-		}()
+			}
+			for name, start := range map[string]func() *Stream{"New": v3.New, "NewWithSeed": func() *Stream { return v3.NewWithSeed(7) },
+				"NewWithSecrets": func() *Stream { return v3.NewWithSecrets(&own) }} {
+				if found := panicOf(func() { start() }); isV3 != (found == nil) || !isV3 && found != noVersion {
+					t.Errorf("%s of %d: %v", name, number, found)
+				}
+			}
+		}
 	}
 }

@@ -42,7 +42,7 @@ func (stream *Stream) AppendBinary(out []byte) ([]byte, error) {
 // checkOf returns the check of a saved stream. A word that equals a secret hides others from V3; if its lowest bit
 // differs, it hides them from protected V3.
 func checkOf(state []byte, secrets *Secrets) uint64 {
-	return V3WithSecrets(state, secrets) ^ V3ProtectedWithSecrets(state, secrets)
+	return V3.Sum64WithSecrets(state, secrets) ^ V3Protected.Sum64WithSecrets(state, secrets)
 }
 
 // UnmarshalBinary replaces the message by that of a saved stream of the same version, seed and secrets. The zero Stream

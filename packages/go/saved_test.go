@@ -12,7 +12,7 @@ import (
 
 // savedStream is a row of the file of saved streams: a stream of a version after a message, and its bytes.
 type savedStream struct {
-	call    call
+	version VersionV3
 	secrets *Secrets
 	message []byte
 	saved   []byte
@@ -51,8 +51,8 @@ func savedStreams(t *testing.T) (streams []savedStream) {
 		if err != nil {
 			t.Fatal(line, err)
 		}
-		version := map[string]string{"7": "v3", "5": "v3_micro", "3": "v3_nano"}[columns[0]]
-		streams = append(streams, savedStream{calls[version], secrets, message, saved, line[:30]})
+		version := map[string]VersionV3{"7": V3, "5": V3Micro, "3": V3Nano}[columns[0]]
+		streams = append(streams, savedStream{version, secrets, message, saved, line[:30]})
 	}
 	return streams
 }
@@ -60,7 +60,7 @@ func savedStreams(t *testing.T) (streams []savedStream) {
 // TestSavedStreams saves each stream of the file after another message and a reset, and restores it.
 func TestSavedStreams(t *testing.T) {
 	for _, its := range savedStreams(t) {
-		stream, restored := its.call.start(its.secrets), its.call.start(its.secrets)
+		stream, restored := its.version.NewWithSecrets(its.secrets), its.version.NewWithSecrets(its.secrets)
 		stream.Write(data())
 		stream.Reset()
 		stream.Write(its.message)
@@ -77,12 +77,12 @@ func TestSavedStreams(t *testing.T) {
 		}
 		restored.Write(data())
 		whole := append(append([]byte(nil), its.message...), data()...)
-		compare(t, its.row, restored.Sum64(), its.call.seeded(whole, its.secrets))
+		compare(t, its.row, restored.Sum64(), its.version.Sum64WithSecrets(whole, its.secrets))
 		zero, isDefault := new(Stream), *its.secrets == *SeedSecrets(0)
 		if err := zero.UnmarshalBinary(its.saved); (err == nil) != isDefault {
 			t.Error(its.row, "by the zero Stream", err)
 		} else if isDefault {
-			compare(t, its.row, zero.Sum64(), its.call.plain(its.message))
+			compare(t, its.row, zero.Sum64(), its.version.Sum64(its.message))
 		}
 	}
 }
@@ -101,7 +101,7 @@ func refuse(t *testing.T, stream *Stream, saved []byte, reason string) {
 
 func TestRefusedStreams(t *testing.T) {
 	for _, its := range savedStreams(t) {
-		stream := its.call.start(its.secrets)
+		stream := its.version.NewWithSecrets(its.secrets)
 		stream.Write(data())
 		for at := range its.saved {
 			reason := changed
@@ -122,10 +122,10 @@ func TestRefusedStreams(t *testing.T) {
 		for at := 0; at < 2; at++ {
 			other := *its.secrets
 			*[]*uint64{&other.Seed, &other.Secrets[1]}[at] ^= 1
-			refuse(t, its.call.start(&other), its.saved, changed)
+			refuse(t, its.version.NewWithSecrets(&other), its.saved, changed)
 		}
 	}
-	micro := NewV3MicroWithSeed(0)
+	micro := V3Micro.New()
 	saved, _ := micro.MarshalBinary()
 	refuse(t, New(), saved, "the Stream was saved with 5 lanes and options 1, not 7 and 1")
 	saved[9] = 3
@@ -141,11 +141,11 @@ func TestRefusedStreams(t *testing.T) {
 // TestForgedStreams checks that bytes that no stream would save are refused, although their check is right.
 func TestForgedStreams(t *testing.T) {
 	for _, its := range savedStreams(t) {
-		stream, saved := its.call.start(its.secrets), its.saved
+		stream, saved := its.version.NewWithSecrets(its.secrets), its.saved
 		forge := func(isState bool, place int, values ...byte) {
 			forged := append([]byte(nil), saved[:200]...)
 			copy(forged[place:], values)
-			forged = binary.LittleEndian.AppendUint64(forged, V3WithSecrets(forged, its.secrets)^V3ProtectedWithSecrets(forged, its.secrets))
+			forged = binary.LittleEndian.AppendUint64(forged, V3.Sum64WithSecrets(forged, its.secrets)^V3Protected.Sum64WithSecrets(forged, its.secrets))
 			if isState {
 				if err := stream.UnmarshalBinary(forged); err != nil {
 					t.Error(its.row, place, err)

@@ -34,7 +34,7 @@ var (
 func seedOf(word uint64) uint64   { return word ^ mix(word^s2, s1) }
 func seedOfV1(word uint64) uint64 { return word ^ mix(word^s0, s1) }
 
-// SeedSecrets returns the default secrets with the seed of a seed word, as V3WithSeed uses them.
+// SeedSecrets returns the default secrets with the seed of a seed word, as Sum64WithSeed of a version uses them.
 func SeedSecrets(word uint64) *Secrets { return &Secrets{seedOf(word), defaults} }
 
 // SeedSecretsV1 is SeedSecrets for V1.

@@ -12,7 +12,7 @@ func TestDefaultSeeds(t *testing.T) {
 	if *SeedSecrets(0) != (Secrets{defaultSeed, defaults}) || *SeedSecretsV1(v1Word) != (SecretsV1{defaultSeedV1, defaultsV1}) {
 		t.Error("a default seed is not that of its word")
 	}
-	compare(t, "v3", V3WithSeed([]byte("hello"), 0), 3327445792987248966)
+	compare(t, "v3", V3.Sum64WithSeed([]byte("hello"), 0), 3327445792987248966)
 	for _, word := range []uint64{0, 1, v1Word} {
 		if SeedSecrets(word) == SeedSecrets(word) || SeedSecretsV1(word) == SeedSecretsV1(word) || MakeSecrets(word) == MakeSecrets(word) {
 			t.Error("two calls share their secrets")
@@ -42,7 +42,12 @@ func TestKnownSecrets(t *testing.T) {
 		if _, err := fmt.Sscan(words[2], &number); err != nil {
 			t.Fatal(err)
 		}
-		if found := secretsOf(words[0], words[1], number); found != words[3] {
+		secrets, size := secretsOf(words[0], map[bool]string{true: "make"}[words[1] == "seed"], number), 7
+		if words[0] == "v1" {
+			size = 3
+		}
+		found := strings.Trim(fmt.Sprint(append([]uint64{secrets.Seed}, secrets.Secrets[:size]...)), "[]")
+		if found != words[3] {
 			t.Errorf("%s %s of %d: %s, and %s is known", words[0], words[1], number, found, words[3])
 		}
 		count++
@@ -52,24 +57,25 @@ func TestKnownSecrets(t *testing.T) {
 	}
 }
 
-// secretsOf returns a seed and secrets as a line of the file has them.
-func secretsOf(form, rule string, number uint64) string {
-	made, madeV1 := MakeSecrets(number), MakeSecretsV1(number)
-	if rule != "seed" {
-		made, madeV1 = SeedSecrets(number), SeedSecretsV1(number)
+// secretsOf returns the secrets of a version that MakeSecrets makes from a number, or else those of a seed word. V1 has the
+// first three.
+func secretsOf(version, rule string, number uint64) *Secrets {
+	secrets, secretsV1 := SeedSecrets(number), SeedSecretsV1(number)
+	if rule == "make" {
+		secrets, secretsV1 = MakeSecrets(number), MakeSecretsV1(number)
 	}
-	words := append([]uint64{made.Seed}, made.Secrets[:]...)
-	if form == "v1" {
-		words = append([]uint64{madeV1.Seed}, madeV1.Secrets[:]...)
+	if version == "v1" {
+		secrets = &Secrets{Seed: secretsV1.Seed}
+		copy(secrets.Secrets[:], secretsV1.Secrets[:])
 	}
-	return strings.Trim(fmt.Sprint(words), "[]")
+	return secrets
 }
 
 // TestHiddenWords checks that fmt shows no word of secrets by any verb, also in values that hold them, and by those of %v
 // also behind a pointer in an unexported field.
 func TestHiddenWords(t *testing.T) {
 	secrets, secretsV1 := MakeSecrets(1), MakeSecretsV1(1)
-	stream := NewV3(secrets)
+	stream := V3.NewWithSecrets(secrets)
 	stream.Write(data())
 	holder := struct {
 		Secrets Secrets

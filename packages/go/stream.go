@@ -7,8 +7,8 @@ import (
 	"io"
 )
 
-// A Stream hashes a message in pieces, with V3, micro, or nano. NewV3, NewV3Micro, or NewV3Nano starts it; the zero
-// Stream behaves like that of New. It contains a copy of its secrets, and a copy made with = is independent.
+// A Stream hashes a message in pieces, with V3, V3Micro or V3Nano, whose methods start it. The zero Stream behaves like
+// that of New. It contains a copy of its secrets, and a copy made with = is independent.
 //
 // It is a hash.Hash64, so io.Copy can write to it. MarshalBinary saves it in the middle of a message.
 type Stream struct {
@@ -27,36 +27,15 @@ var (
 	_ encoding.BinaryUnmarshaler = (*Stream)(nil)
 )
 
-// New starts a stream for V3 with the default seed and secrets, as Sum64 has them.
+// New starts a stream of V3 with the default seed and secrets, as Sum64 has them.
 func New() *Stream { return new(Stream).start(7, nil) }
 
-// NewV3 starts a stream for V3 with a seed and secrets. It panics if they are nil.
-func NewV3(secrets *Secrets) *Stream { return new(Stream).startWith(7, secrets) }
-
-// NewV3Micro starts a stream for micro with a seed and secrets. It panics if they are nil.
-func NewV3Micro(secrets *Secrets) *Stream { return new(Stream).startWith(5, secrets) }
-
-// NewV3Nano starts a stream for nano with a seed and secrets. It panics if they are nil.
-func NewV3Nano(secrets *Secrets) *Stream { return new(Stream).startWith(3, secrets) }
-
-// NewV3WithSeed starts a stream for V3 with the default secrets and a seed word.
-func NewV3WithSeed(seed uint64) *Stream { return NewV3(&Secrets{seedOf(seed), defaults}) }
-
-// NewV3MicroWithSeed starts a stream for micro with the default secrets and a seed word.
-func NewV3MicroWithSeed(seed uint64) *Stream { return NewV3Micro(&Secrets{seedOf(seed), defaults}) }
-
-// NewV3NanoWithSeed starts a stream for nano with the default secrets and a seed word.
-func NewV3NanoWithSeed(seed uint64) *Stream { return NewV3Nano(&Secrets{seedOf(seed), defaults}) }
-
-// startWith starts a stream with the secrets of a caller. The compiler inlines NewV3 instead, so that the new stream can
-// remain on the stack of its caller.
+// startVersion starts a stream of a version. It panics for a number that is no version. The compiler inlines its callers
+// instead, so that the new stream can remain on the stack of theirs.
 //
 //go:noinline
-func (stream *Stream) startWith(count int, secrets *Secrets) *Stream {
-	if secrets == nil {
-		panic(nilSecrets)
-	}
-	return stream.start(count, secrets)
+func (stream *Stream) startVersion(v VersionV3, secrets *Secrets) *Stream {
+	return stream.start(v.lanes(), secrets)
 }
 
 // start starts a stream, with the default seed and secrets if they are nil.
@@ -126,8 +105,8 @@ func (stream *Stream) fold(data string) {
 func (stream *Stream) Sum64() uint64 {
 	stream.ensureStarted()
 	ending := textOf(stream.kept[:foldedSize+stream.size])
-	if !stream.isFolded {
-		return v3(ending[foldedSize:], stream.count, stream.secrets.Seed, &stream.secrets.Secrets)
+	if !stream.isFolded { // a message without a row, whose hash is that of V3 in each version
+		return v3(ending[foldedSize:], V3, stream.secrets.Seed, &stream.secrets.Secrets)
 	}
 	return v3Close(ending[foldedSize:], ending, stream.lanes.joined(), &stream.secrets.Secrets)
 }

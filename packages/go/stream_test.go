@@ -18,14 +18,15 @@ func long() []byte {
 
 func TestLongPieces(t *testing.T) {
 	message := long()
-	for start, hash := range map[*Stream]func([]byte) uint64{New(): V3, NewV3NanoWithSeed(0): V3Nano} {
+	for name, version := range streams {
+		stream := version.New()
 		for _, size := range []int{1 << 20, 1<<20 + 1, len(message)} {
-			start.Reset()
-			written, err := start.Write(message[:size])
+			stream.Reset()
+			written, err := stream.Write(message[:size])
 			if written != size || err != nil {
 				t.Error(written, err)
 			}
-			compare(t, fmt.Sprint(size, " bytes"), start.Sum64(), hash(message[:size]))
+			compare(t, fmt.Sprint(name, " of ", size, " bytes"), stream.Sum64(), version.Sum64(message[:size]))
 		}
 	}
 }
@@ -37,22 +38,22 @@ func TestTakesWhatWritersTake(t *testing.T) {
 	if size != int64(len(message)) || err != nil {
 		t.Fatal(size, err)
 	}
-	compare(t, "copied", stream.Sum64(), V3(message))
+	compare(t, "copied", stream.Sum64(), V3.Sum64(message))
 	stream.Reset()
 	for at := range message {
 		if written, err := stream.Write(message[at : at+1]); written != 1 || err != nil {
 			t.Fatal(written, err)
 		}
 	}
-	compare(t, "in single bytes", stream.Sum64(), V3(message))
+	compare(t, "in single bytes", stream.Sum64(), V3.Sum64(message))
 	for name, call := range calls {
-		compare(t, name+" of a long string", call.text(string(message)), call.plain(message))
+		compare(t, name+" of a long string", call.Sum64String(string(message)), call.Sum64(message))
 	}
 	stream.Reset()
 	if written, err := stream.WriteString(string(message)); written != len(message) || err != nil {
 		t.Error(written, err)
 	}
-	compare(t, "a long string", stream.Sum64(), V3(message))
+	compare(t, "a long string", stream.Sum64(), V3.Sum64(message))
 	sum := stream.Sum([]byte{7})
 	if len(sum) != 1+stream.Size() || sum[0] != 7 || sum[1] != byte(stream.Sum64()>>56) {
 		t.Errorf("%x is not 7 and then the hash", sum)
@@ -64,9 +65,9 @@ func TestTakesWhatWritersTake(t *testing.T) {
 func TestStreamsGoOn(t *testing.T) {
 	const most = 3*112 + 1
 	message, sizes := long()[:2*most], map[string]int{"v3": 112, "v3_micro": 80, "v3_nano": 48}
-	for name, call := range calls {
-		for size := 0; call.start != nil && size <= most; size++ {
-			first, restored := call.start(&own), call.start(&own)
+	for name, version := range streams {
+		for size := 0; size <= most; size++ {
+			first, restored := version.NewWithSecrets(&own), version.NewWithSecrets(&own)
 			first.Write(message[:size])
 			restored.Write(message)
 			if saved, err := first.MarshalBinary(); err != nil || restored.UnmarshalBinary(saved) != nil {
@@ -78,11 +79,11 @@ func TestStreamsGoOn(t *testing.T) {
 			for more := 0; more <= most; more++ {
 				again, copied, last := *first, *first, *restored
 				again.Reset()
-				rest, known := message[size:size+more], call.seeded(message[:size+more], &own)
+				rest, known := message[size:size+more], version.Sum64WithSecrets(message[:size+more], &own)
 				for _, stream := range []*Stream{&again, &copied, &last} {
 					stream.Write(rest)
 				}
-				if found := again.Sum64(); found != call.seeded(rest, &own) {
+				if found := again.Sum64(); found != version.Sum64WithSecrets(rest, &own) {
 					t.Fatal(name, size, more, "reset", found)
 				}
 				if copied.Sum64() != known || last.Sum64() != known {
@@ -99,27 +100,27 @@ func TestAllocatesNothing(t *testing.T) {
 	for _, size := range []int{0, 3, 16, 100, 5000} {
 		bytes, text := long()[:size], string(long()[:size])
 		runs := map[string]func(){
-			"v1 seeded":           func() { V1WithSecrets(bytes, madeV1) },
-			"strings":             func() { V3StringWithSecrets(text, made); V3StringWithSeed(text, 1) },
+			"v1 with secrets":     func() { V1.Sum64WithSecrets(bytes, madeV1); V1.Sum64StringWithSecrets(text, madeV1) },
+			"new streams":         func() { New().Write(bytes); V3.New().Write(bytes); V3Nano.NewWithSecrets(made).Write(bytes) },
 			"restart":             func() { *restarted = Stream{}; restarted.Write(bytes) },
 			"restart by a string": func() { *restarted = Stream{}; restarted.WriteString(text) },
 			"restart by a sum":    func() { *restarted = Stream{}; restarted.Sum(sum[:0]) },
 		}
 		for name, call := range calls {
 			call := call
-			runs[name] = func() { call.plain(bytes); call.word(bytes, 1); call.text(text) }
-			if call.seeded != nil {
-				runs[name+" seeded"] = func() { call.seeded(bytes, made) }
+			runs[name] = func() {
+				sink += call.Sum64(bytes) + call.Sum64WithSeed(bytes, 1) + call.Sum64WithSecrets(bytes, made)
+				sink += call.Sum64String(text) + call.Sum64StringWithSeed(text, 1) + call.Sum64StringWithSecrets(text, made)
 			}
-			if call.start != nil {
-				stream := call.start(made)
-				runs[name+" stream"] = func() {
-					stream.Reset()
-					stream.Write(bytes)
-					stream.WriteString(text)
-					stream.Sum(sum[:0])
-					stream.AppendBinary(saved[:0])
-				}
+		}
+		for name, version := range streams {
+			stream := version.NewWithSecrets(made)
+			runs[name+" stream"] = func() {
+				stream.Reset()
+				stream.Write(bytes)
+				stream.WriteString(text)
+				stream.Sum(sum[:0])
+				stream.AppendBinary(saved[:0])
 			}
 		}
 		for name, run := range runs {
@@ -136,18 +137,15 @@ func FuzzPieces(f *testing.F) {
 	f.Add(data(), uint64(1)<<63, uint16(48), uint16(112))
 	f.Fuzz(func(t *testing.T, message []byte, seed uint64, first, second uint16) {
 		secrets := MakeSecrets(seed)
-		for name, call := range calls {
-			if call.start == nil {
-				continue
-			}
-			stream, rest := call.start(secrets), message
+		for name, version := range streams {
+			stream, rest := version.NewWithSecrets(secrets), message
 			for _, size := range []uint16{first, second} {
 				cut := int(size) % (len(rest) + 1)
 				stream.Write(rest[:cut])
 				rest = rest[cut:]
 			}
 			stream.Write(rest)
-			compare(t, name, stream.Sum64(), call.seeded(message, secrets))
+			compare(t, name, stream.Sum64(), version.Sum64WithSecrets(message, secrets))
 		}
 	})
 }

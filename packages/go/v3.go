@@ -1,13 +1,14 @@
 package rapidhash
 
-// v3 returns the hash of V3, micro or nano, which have 7, 5 or 3 lanes.
-func v3(data string, count int, seed uint64, s *[7]uint64) uint64 {
+// v3 returns the hash of V3, micro or nano. A number that is no version panics where it costs nothing to others: if the
+// message has rows of so many bytes, or its tail is longer than a row of V3.
+func v3(data string, v VersionV3, seed uint64, s *[7]uint64) uint64 {
 	if len(data) > 16 {
 		tail := data
-		if len(data) > 16*count {
+		if uint(len(data)) > uint(v) {
 			var folded lanes
 			folded.start(seed)
-			tail = folded.fold(data, 1, s[:count])
+			tail = folded.fold(data, 1, s[:v.lanes()])
 			seed = folded.joined()
 		}
 		return v3Close(tail, data, seed, s)
@@ -45,6 +46,9 @@ func v3Close(tail, ending string, seed uint64, s *[7]uint64) uint64 {
 		seed = mix(read64(tail[64:])^s[2], read64(tail[72:])^seed)
 	}
 	if len(tail) > 96 {
+		if len(tail) > 112 {
+			panic(noVersion)
+		}
 		seed = mix(read64(tail[80:])^s[1], read64(tail[88:])^seed)
 	}
 	return mixTwice(read64(last)^t^s[1], read64(last[8:])^seed, alternating, s[1]^t)

@@ -12,33 +12,57 @@ import (
 	"testing"
 )
 
-// call has the functions of a version: those with the default seed and secrets, with a seed word, and with secrets. The
-// known hash is that of the first bytes of data(), as many as the size. TestLengthsBetween compares the sum.
+// hasher is what the tests call of a version.
+type hasher interface {
+	Sum64([]byte) uint64
+	Sum64String(string) uint64
+	Sum64WithSeed([]byte, uint64) uint64
+	Sum64StringWithSeed(string, uint64) uint64
+	Sum64WithSecrets([]byte, *Secrets) uint64
+	Sum64StringWithSecrets(string, *Secrets) uint64
+}
+
+// wideV1 is V1 with the first three of seven secrets.
+type wideV1 struct{ VersionV1 }
+
+// narrow returns the secrets of V1, or nil.
+func narrow(s *Secrets) *SecretsV1 {
+	if s == nil {
+		return nil
+	}
+	return &SecretsV1{s.Seed, *(*[3]uint64)(s.Secrets[:])}
+}
+
+func (wideV1) Sum64WithSecrets(data []byte, s *Secrets) uint64 {
+	return V1.Sum64WithSecrets(data, narrow(s))
+}
+
+func (wideV1) Sum64StringWithSecrets(text string, s *Secrets) uint64 {
+	return V1.Sum64StringWithSecrets(text, narrow(s))
+}
+
+// call is a version with a known hash: that of the first bytes of data(), as many as the size. TestLengthsBetween
+// compares the sum.
 type call struct {
-	plain     func([]byte) uint64
-	word      func([]byte, uint64) uint64
-	text      func(string) uint64
-	seeded    func([]byte, *Secrets) uint64
-	start     func(*Secrets) *Stream
-	startWord func(uint64) *Stream
-	size      int
-	known     uint64
-	sum       uint64
+	hasher
+	size  int
+	known uint64
+	sum   uint64
 }
 
 var calls = map[string]call{
-	"v1":   {V1, V1WithSeed, V1String, nil, nil, nil, 60, 13504714392771582078, 11757234185863877016},
-	"v2_0": {V2_0, V2_0WithSeed, V2_0String, V2_0WithSecrets, nil, nil, 60, 13186137053657766175, 18115706928600855272},
-	"v2_1": {V2_1, V2_1WithSeed, V2_1String, V2_1WithSecrets, nil, nil, 60, 13012060828128651499, 18115706928600855272},
-	"v2_2": {V2_2, V2_2WithSeed, V2_2String, V2_2WithSecrets, nil, nil, 60, 6181707366222537282, 18115706928600855272},
-	"v3":   {V3, V3WithSeed, V3String, V3WithSecrets, NewV3, NewV3WithSeed, 120, 7088138960297660729, 623517397202350133},
-	"v3_micro": {V3Micro, V3MicroWithSeed, V3MicroString, V3MicroWithSecrets, NewV3Micro, NewV3MicroWithSeed,
-		120, 3055975138125564292, 17316189793002705663},
-	"v3_nano": {V3Nano, V3NanoWithSeed, V3NanoString, V3NanoWithSecrets, NewV3Nano, NewV3NanoWithSeed,
-		120, 3778853990780631382, 14492001302674092559},
-	"v3_protected": {V3Protected, V3ProtectedWithSeed, V3ProtectedString, V3ProtectedWithSecrets, nil, nil,
-		120, 4753706306364957255, 17860716362093790630},
+	"v1":           {wideV1{}, 60, 13504714392771582078, 11757234185863877016},
+	"v2_0":         {V20, 60, 13186137053657766175, 18115706928600855272},
+	"v2_1":         {V21, 60, 13012060828128651499, 18115706928600855272},
+	"v2_2":         {V22, 60, 6181707366222537282, 18115706928600855272},
+	"v3":           {V3, 120, 7088138960297660729, 623517397202350133},
+	"v3_micro":     {V3Micro, 120, 3055975138125564292, 17316189793002705663},
+	"v3_nano":      {V3Nano, 120, 3778853990780631382, 14492001302674092559},
+	"v3_protected": {V3Protected, 120, 4753706306364957255, 17860716362093790630},
 }
+
+// streams has the versions that have streams.
+var streams = map[string]VersionV3{"v3": V3, "v3_micro": V3Micro, "v3_nano": V3Nano}
 
 // check compares the hashes of a message with the secrets of a rule, and of streams that write it, with a known hash.
 func (call call) check(t *testing.T, name, rule string, message []byte, known uint64) {
@@ -51,34 +75,32 @@ func (call call) check(t *testing.T, name, rule string, message []byte, known ui
 			t.Fatal(name, rule, err)
 		}
 	}
-	secrets, secretsV1 := Secrets{words[0], *(*[7]uint64)(words[1:])}, SecretsV1{words[0], *(*[3]uint64)(words[1:])}
+	text, secrets := string(message), &Secrets{words[0], *(*[7]uint64)(words[1:])}
+	stream, isStream := streams[name]
 	switch kind {
 	case "default":
-		secrets, secretsV1 = *SeedSecrets(0), *SeedSecretsV1(v1Word)
-		compare(t, name, call.plain(message), known)
-		compare(t, name+" of a string", call.text(string(message)), known)
+		compare(t, name, call.Sum64(message), known)
+		compare(t, name+" of a string", call.Sum64String(text), known)
+		if isStream {
+			compare(t, name+" in pieces", inPieces(t, stream.New(), message), known)
+		}
+		if secrets = SeedSecrets(0); name == "v1" {
+			secrets = secretsOf(name, "word", v1Word)
+		}
 	case "word":
-		secrets, secretsV1 = *SeedSecrets(words[0]), *SeedSecretsV1(words[0])
-		compare(t, name+" with "+rule, call.word(message, words[0]), known)
-		if call.startWord != nil {
-			compare(t, name+" in pieces with "+rule, inPieces(t, call.startWord(words[0]), message), known)
+		compare(t, name+" with "+rule, call.Sum64WithSeed(message, words[0]), known)
+		compare(t, name+" of a string with "+rule, call.Sum64StringWithSeed(text, words[0]), known)
+		if isStream {
+			compare(t, name+" in pieces with "+rule, inPieces(t, stream.NewWithSeed(words[0]), message), known)
 		}
-		if name == "v3" {
-			compare(t, "string with "+rule, V3StringWithSeed(string(message), words[0]), known)
-		}
+		fallthrough
 	case "make":
-		secrets, secretsV1 = *MakeSecrets(words[0]), *MakeSecretsV1(words[0])
+		secrets = secretsOf(name, kind, words[0])
 	}
-	if call.seeded == nil {
-		compare(t, name+" with "+rule, V1WithSecrets(message, &secretsV1), known)
-	} else {
-		compare(t, name+" with "+rule, call.seeded(message, &secrets), known)
-	}
-	if call.start != nil {
-		compare(t, name+" in pieces with "+rule, inPieces(t, call.start(&secrets), message), known)
-	}
-	if name == "v3" {
-		compare(t, "string with "+rule, V3StringWithSecrets(string(message), &secrets), known)
+	compare(t, name+" with "+rule, call.Sum64WithSecrets(message, secrets), known)
+	compare(t, name+" of a string with "+rule, call.Sum64StringWithSecrets(text, secrets), known)
+	if isStream {
+		compare(t, name+" in pieces with "+rule, inPieces(t, stream.NewWithSecrets(secrets), message), known)
 	}
 }
 
@@ -113,9 +135,9 @@ func (call call) checkZeros(t *testing.T, name, digits string, known uint64) {
 		return
 	}
 	zeros := make([]byte, size)
-	compare(t, name+" of zeros", call.plain(zeros), known)
-	if call.start != nil {
-		stream := call.startWord(0)
+	compare(t, name+" of zeros", call.Sum64(zeros), known)
+	if version, isStream := streams[name]; isStream {
+		stream := version.New()
 		if count, err := stream.Write(zeros); count != size || err != nil {
 			t.Error(count, err)
 		}
@@ -136,7 +158,7 @@ func TestLengthsBetween(t *testing.T) {
 	for name, call := range calls {
 		sum := uint64(0)
 		for n := 5000; n < 1000000; {
-			sum = 31*sum + call.word(message[:n], uint64(n))
+			sum = 31*sum + call.Sum64WithSeed(message[:n], uint64(n))
 			if n < 16384 {
 				n += 11
 			} else {

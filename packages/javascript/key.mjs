@@ -98,7 +98,8 @@ function putKey(fields, array, view, room) {
       putSize(after - start, view, end + 1);
       end = after;
     } else {
-      throw new TypeError(`fields[${place}] must be null, an integer, a string or a Uint8Array, not ${whatIs(field)}`);
+      throw new TypeError(`fields[${place}] must be null, an integer, a string or a Uint8Array, not ${
+        whatIs(field)}; docs/BINDINGS.md lists conversions`);
     }
   }
   return end;

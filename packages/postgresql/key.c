@@ -38,6 +38,8 @@ static const char *hint_for(Oid type)
         case NUMERICOID:
             return "Pass it as text without trailing zeros: trim_scale(n)::text.";
         default:
+            if (OidIsValid(get_element_type(type)))
+                return "Pass the number of items and then each item: cardinality(l), l[1], l[2].";
             return "Pass a text, bytea or bigint that does not depend on settings, and make it alike in all programs.";
     }
 }

@@ -65,7 +65,8 @@ static int add_bytes(PyObject *field, Py_ssize_t at, Py_ssize_t row, struct key 
         append(key, message.bytes, message.len);
     } else {
         name_place(place, sizeof place, at, row);
-        PyErr_Format(PyExc_TypeError, "%s must be None, an int, a str or bytes, not %R", place, Py_TYPE(field));
+        PyErr_Format(PyExc_TypeError, "%s must be None, an int, a str or bytes, not %R; "
+                     "docs/BINDINGS.md lists conversions", place, Py_TYPE(field));
     }
     release_message(&message);
     return are_bytes ? 0 : -1;

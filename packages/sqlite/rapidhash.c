@@ -132,7 +132,7 @@ static int add_field(sqlite3_context *context, const char *name, int at, sqlite3
                      struct rapidhash_stream *stream)
 {
     struct message message;
-    char refused[120];
+    char refused[160];
     switch (sqlite3_value_type(value)) {
     case SQLITE_NULL:
         rapidhash_key_nothing(stream);
@@ -142,7 +142,7 @@ static int add_field(sqlite3_context *context, const char *name, int at, sqlite3
         return 1;
     case SQLITE_FLOAT:
         sqlite3_snprintf(sizeof refused, refused, "argument %d is a REAL, and no field of a key: cast it to TEXT, BLOB "
-                         "or INTEGER", at);
+                         "or INTEGER; docs/BINDINGS.md lists conversions", at);
         refuse(context, name, refused);
         return 0;
     default:

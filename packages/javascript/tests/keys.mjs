@@ -95,7 +95,8 @@ test("what is no field", () => {
     [Symbol("a"), "symbol"], [() => 0, "function"], [new Float64Array(1), "Float64Array"],
     [new BigInt64Array(1), "BigInt64Array"]];
   for (const [field, kind] of refused) {
-    const message = `fields[2] must be null, an integer, a string or a Uint8Array, not ${kind}`;
+    const message = `fields[2] must be null, an integer, a string or a Uint8Array, not ${
+      kind}; docs/BINDINGS.md lists conversions`;
     assert.throws(() => v3Key(1, 2, field), { name: "TypeError", message });
   }
   for (const half of ["a\ud800", "\udc00", "\ud800a", "\ud800\ud800", `${"a".repeat(99)}\ud800`])

@@ -40,7 +40,7 @@ CONVERTED = (("boolean", "b", "true", "1"), ("boolean", "b", "false", "0"),
              ("timestamptz", "t", "'0001-01-01 00:00:00.000001+00'", "-62135596799999999"),
              ("uuid", "u", "'00112233-4455-6677-8899-aabbccddeeff'", bytes(range(0, 256, 17))),
              ("numeric", "n", "1.50", b"1.5"), ("numeric", "n", "100", b"100"), ("numeric", "n", "-0.0", b"0"))
-OTHERS = "real", "double precision", "jsonb", "json", "char(3)", "name", "time", "interval", "inet", "bytea[]"
+OTHERS = "real", "double precision", "jsonb", "json", "char(3)", "name", "time", "interval", "inet"
 
 
 def types():
@@ -61,6 +61,8 @@ def types():
     hint = "HINT:  Pass a text, bytea or bigint that does not depend on settings, and make it alike in all programs."
     found = [ask(f"SELECT rapidhash_v3_key(7, NULL::{type})")[1:] for type in OTHERS]
     compare("hints of other types", found, [[hint]] * len(OTHERS))
+    compare("hint of a list", ask("SELECT rapidhash_v3_key(7, NULL::bytea[])")[1:], [
+        "HINT:  Pass the number of items and then each item: cardinality(l), l[1], l[2]."])
     found = ask("CREATE TABLE dated (d date); CREATE INDEX ON dated (rapidhash_v3_key(d)); INSERT INTO dated VALUES (NULL)")
     compare("NULL in an index", [line.rpartition("ERROR:  ")[2] for line in found][:1], [
         "rapidhash_v3_key: argument 1 is of type date, and no field of a key"])

@@ -104,7 +104,8 @@ class Keys(unittest.TestCase):
 
         for value in (1.5, True, [1], {}, object(), Date(8), array.array("i", [1]), array.array("d", [1]),
                       memoryview(b"").cast("b")):
-            with self.assertRaisesRegex(TypeError, r"^fields\[1\] must be None, an int, a str or bytes, not <class '"):
+            with self.assertRaisesRegex(TypeError, r"^fields\[1\] must be None, an int, a str or bytes, not <class '.*'>; "
+                                        r"docs/BINDINGS.md lists conversions$"):
                 rapidhash.v3_key(1, value)
             with self.assertRaisesRegex(TypeError, r"^columns\[1\]\[2\] must be None, an int, a str or bytes, not "):
                 rapidhash.each_key([1, 2, 3], ["a", None, value])

@@ -29,7 +29,7 @@ ERRORS = {
     "rapidhash_v3_with_secrets(1)": "wrong number of arguments to function rapidhash_v3_with_secrets()",
     "rapidhash_v3_agg(1, 2, 3)": "wrong number of arguments to function rapidhash_v3_agg()",
     "rapidhash_v3_key('a', 2.0)":
-        "rapidhash_v3_key: argument 2 is a REAL, and no field of a key: cast it to TEXT, BLOB or INTEGER",
+        "rapidhash_v3_key: argument 2 is a REAL, and no field of a key: cast it to TEXT, BLOB or INTEGER; docs/BINDINGS.md lists conversions",
     "rapidhash_v3_key_with_seed()": "rapidhash_v3_key_with_seed: the first argument is missing",
     "rapidhash_v3_key_with_secrets('1')": "rapidhash_v3_key_with_secrets: the number must be an INTEGER",
     "rapidhash_shard(7, 0)": "rapidhash_shard: the count must be from 1 to 9223372036854775807, not 0",

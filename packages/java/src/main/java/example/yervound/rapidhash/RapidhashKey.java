@@ -56,7 +56,8 @@ public final class RapidhashKey {
             addBytes(stream, encode((CharSequence) field, at));
         } else {
             throw new IllegalArgumentException(
-                "fields[" + at + "] must be null, an integer, a text or bytes, not " + field.getClass().getName());
+                "fields[" + at + "] must be null, an integer, a text or bytes, not " + field.getClass().getName()
+                    + "; docs/BINDINGS.md lists conversions");
         }
     }
 

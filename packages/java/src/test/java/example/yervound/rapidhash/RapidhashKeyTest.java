@@ -72,8 +72,8 @@ public class RapidhashKeyTest {
         for (Object field : new Object[] {1.5, 1.5f, true, 'a', BigInteger.ONE, new int[1], List.of()}) {
             IllegalArgumentException e =
                 assertThrows(IllegalArgumentException.class, () -> RapidhashKey.hash("a", field));
-            assertEquals("fields[1] must be null, an integer, a text or bytes, not " + field.getClass().getName(),
-                e.getMessage());
+            assertEquals("fields[1] must be null, an integer, a text or bytes, not " + field.getClass().getName()
+                + "; docs/BINDINGS.md lists conversions", e.getMessage());
         }
         IllegalArgumentException e = assertThrows(IllegalArgumentException.class, () -> RapidhashKey.hash("a\ud800"));
         assertEquals("fields[0] has half of a surrogate pair", e.getMessage());

@@ -1,0 +1,220 @@
+#!/usr/bin/env python3
+"""Takes the expressions out of the table of docs/BINDINGS.md that converts other values to fields of a key, and runs
+each in its language. The keys are compared with those of the model, for fields that this script states."""
+
+import re
+
+from cases import ROOM, TOP, compare, finish, lacks, shell, skip, tell
+from model import field_bytes, hash_of, secrets_of
+from sql import SERVER, ask, start_server, unpack
+
+# A column of the table, a value as text, and its fields. Dates and times are as GNU date computes them.
+VALUES = (
+    ("boolean b", "true", 1), ("boolean b", "false", 0),
+    *(("date d", day, days) for day, days in (
+        ("1970-01-01", 0), ("1969-12-31", -1), ("2024-02-29", 19782), ("2000-02-29", 11016), ("1900-03-01", -25508),
+        ("0001-01-01", -719162), ("9999-12-31", 2932896))),
+    *(("time t", time, microseconds) for time, microseconds in (
+        ("1970-01-01 00:00:00.000000", 0), ("1969-12-31 23:59:59.999999", -1), ("1969-12-31 23:59:59.001000", -999000),
+        ("2024-02-29 12:34:56.789012", 1709210096789012), ("2024-02-29 12:34:56.789000", 1709210096789000),
+        ("0001-01-01 00:00:00.000001", -62135596799999999), ("9999-12-31 23:59:59.999999", 253402300799999999),
+        ("1969-12-31 23:59:59.999998001", -2))),
+    *(("UUID u", digits, bytes.fromhex(digits.replace("-", ""))) for digits in (
+        "00112233-4455-6677-8899-aabbccddeeff", "ffffffff-ffff-ffff-ffff-ffffffffffff", "f0000000-0000-0000-0000-000000000080")),
+    *(("decimal n", digits, text.encode()) for digits, text in (
+        ("1.50", "1.5"), ("-0.10", "-0.1"), ("100", "100"), ("100.00", "100"), ("0.00", "0"), ("10.050", "10.05"), ("-7", "-7"),
+        ("12345678901234567890123456789.010", "12345678901234567890123456789.01"), ("1E+3", "1000"), ("-0.0", "0"))),
+    *(("list l", items, [len(items), *items]) for items in ((7, -1), ("a", "bc"), (), (3, 2, 1), ("",))),
+    ("list l", ((1, 2), (), (3,)), [3, 2, 1, 2, 0, 1, 3]),
+)
+# Values that a language's type, or the expression for two items, cannot have.
+NANOSECONDS, MICROSECONDS, TYPED, OTHER_LISTS = r"t .*\.\d{9}", r"t .*[1-9]", r"n (1E.*|-0\.0)", r"l \((|3, 2.*|'',|\(.*)\)"
+LACKS = {"Python": (NANOSECONDS,), "JavaScript": (MICROSECONDS, TYPED), "PostgreSQL": (NANOSECONDS, OTHER_LISTS),
+         "SQLite": (NANOSECONDS, TYPED, OTHER_LISTS), "Java": (), "Go": (TYPED,), "C++": (TYPED, OTHER_LISTS), "Rust": (TYPED,)}
+QUOTE = '"'
+PAGE = (TOP / "docs/BINDINGS.md").read_text()
+
+
+def table():
+    """Returns the expressions of the table, keyed by language and column."""
+    lines = re.search(r"^(\| \| boolean b .*\n)\|---.*\n((?:\|.*\n)*)", PAGE, re.M)
+    columns, *rows = ([cell.strip() for cell in re.split(r"(?<!\\)\|", line)[1:-1]] for line in (lines[1] + lines[2]).splitlines())
+    return {row[0]: {column: cell.strip("`").replace("\\|", "|") for column, cell in zip(columns[1:], row[1:])} for row in rows}
+
+
+def known(fields):
+    """Returns the key of fields by the model."""
+    texts = ("x" + (it.encode() if isinstance(it, str) else it).hex() if isinstance(it, (str, bytes)) else str(it) for it in fields)
+    seed, *secrets = secrets_of("default", "", False)
+    return hash_of("V3", b"".join(map(field_bytes, texts)), seed, secrets)
+
+
+# The programs of the languages around their values: the file, the command, the text, which has its values at VALUES, the
+# block of a value, which has its parts at PARTS, a part of so many items, a part that declares a value and has its
+# expression at FIELDS, and the declarations, with the value at IT.
+PROGRAMS = {
+    "Python": ("a.py", "/usr/bin/python3 a.py", """from datetime import date, datetime, timedelta, timezone
+from decimal import Context, Decimal
+from uuid import UUID
+from rapidhash import v3_key
+VALUES""", "f = []\nPARTSprint(v3_key(*f))\n", "f += [IT]\n", "DECLARE; f += [FIELDS]\n", {
+        "boolean b": "b = 'IT' == 'true'", "date d": "d = date.fromisoformat('IT')", "UUID u": "u = UUID('IT')",
+        "time t": "t = datetime.fromisoformat('IT+00:00')", "decimal n": "n = Decimal('IT')", "list l": "l = [IT]"}),
+    "JavaScript": ("a.mjs", "node a.mjs", "import { v3Key, ready } from 'TOP/build/npm/rapidhash.mjs';\nawait ready;\nVALUES",
+        "{ const f = []; PARTS console.log(String(v3Key(...f))); }\n", "f.push(IT); ", "{ DECLARE; f.push(FIELDS); }", {
+        "boolean b": "const b = IT", "date d": "const d = new Date('IT')", "time t": "const t = new Date('ITZ')",
+        "UUID u": "const u = 'IT'", "decimal n": "const n = 'IT'", "list l": "const l = [IT]"}),
+    "Java": ("a.java", "java -cp TOP/build/yervound-rapidhash-1.0.0.jar a.java", """import java.math.BigDecimal;
+import java.nio.ByteBuffer;
+import java.time.*;
+import java.util.*;
+import java.util.stream.Stream;
+class a {
+    static void add(List<Object> f, Object... fields) { f.addAll(Arrays.asList(fields)); }
+    static void print(List<Object> f) { System.out.println(example.yervound.rapidhash.RapidhashKey.hash(f.toArray())); }
+    public static void main(String[] arguments) {
+VALUES}}""", "{ List<Object> f = new ArrayList<>(); PARTS print(f); }\n", "add(f, IT); ", "{ DECLARE; add(f, FIELDS); }", {
+        "boolean b": "boolean b = IT", "date d": 'var d = LocalDate.parse("IT")', "UUID u": 'var u = UUID.fromString("IT")',
+        "time t": """var t = LocalDateTime.parse("IT".replace(' ', 'T')).toInstant(ZoneOffset.UTC)""",
+        "decimal n": 'var n = new BigDecimal("IT")', "list l": "List<Object> l = List.of(IT)"}),
+    "Go": ("a.go", "{ go mod init first && go mod edit -replace yervound.example/rapidhash=TOP/packages/go && "
+           "go get yervound.example/rapidhash; } >log 2>&1; go run .", """package main
+
+import ("fmt"; "regexp"; "time"; . "yervound.example/rapidhash")
+
+func read(layout, text string) time.Time { t, _ := time.Parse(layout, text); return t }
+func main() {
+	_ = regexp.MustCompile
+VALUES}""", "{ var f []Field; PARTS; fmt.Println(V3Key(f...)) }\n", "f = append(f, Integer(IT)); ", "{ DECLARE; f = append(f, FIELDS) }; ", {
+        "boolean b": "b := IT", "date d": 'd := read("2006-01-02", "IT")', "time t": 't := read("2006-01-02 15:04:05", "IT")',
+        "UUID u": "u := [16]byte{IT}", "decimal n": 'n := "IT"', "list l": "l := []Field{IT}"}),
+    "C++": ("a.cpp", "g++ -std=c++20 -ITOP/packages/c/include a.cpp -o a && ./a", """#include <array>
+#include <chrono>
+#include <iostream>
+#include <regex>
+#include <string>
+#include <vector>
+#include <rapidhash.hpp>
+using namespace std::chrono;
+int main() {
+VALUES}""", "{ PARTS }\n", "", "DECLARE; std::cout << rapidhash::key(FIELDS) << '\\n';", {
+        "boolean b": "bool b = IT", "date d": "sys_days d{days(IT)}", "time t": "auto t = sys_time<decltype(IT)>(IT)",
+        "UUID u": "std::array<unsigned char, 16> u{IT}", "decimal n": 'std::string n = "IT"', "list l": "std::vector l{IT}"}),
+    "Rust": ("src/main.rs", "cargo init --quiet --name first --vcs none && cargo add --quiet --offline --path TOP/packages/rust && "
+             "cargo run --quiet --offline", """#![allow(unused)]
+use rapidhash::{key::{self, Field, KeyField}, v3::{RapidStreamHasherV3, DEFAULT_RAPID_SECRETS}};
+use std::time::{Duration, UNIX_EPOCH};
+fn main() {
+VALUES}""", '{ let mut h = RapidStreamHasherV3::new(&DEFAULT_RAPID_SECRETS); PARTS println!("{}", h.finish()); }\n',
+             "key::write(&IT, &mut h); ", "{ DECLARE; let it = FIELDS; key::write(&it, &mut h); }", {
+        "boolean b": "let b = IT", "date d": "let d = UNIX_EPOCH IT", "time t": "let t = UNIX_EPOCH IT",
+        "UUID u": "let u: [u8; 16] = [IT]", "decimal n": 'let n = "IT"', "list l": "let l = [IT]"}),
+    "SQLite": ("a.sql", "sqlite3 -cmd '.load TOP/build/rapidhash' :memory: <a.sql", "VALUES", "PARTS\n", "",
+        "SELECT rapidhash_v3_key(FIELDS) FROM (SELECT DECLARE);", {
+        "boolean b": "IT AS b", "date d": "'IT' AS d", "time t": "'IT' AS t", "UUID u": "x'IT' AS u", "decimal n": "'IT' AS n",
+        "list l": "'[IT]' AS l"}),
+    "PostgreSQL": (None, None, "CREATE EXTENSION rapidhash; SET timezone = 'Asia/Kolkata';\nVALUES", "PARTS\n", "",
+        "SELECT rapidhash_v3_key(FIELDS) FROM (SELECT DECLARE) AS v;", {
+        "boolean b": "IT AS b", "date d": "date 'IT' AS d", "time t": "timestamptz 'IT+00' AS t", "UUID u": "uuid 'IT' AS u",
+        "decimal n": "numeric 'IT' AS n", "list l": "ARRAY[IT] AS l"}),
+}
+TOOLS = {"Python": ("cc", "/usr/lib/python3/dist-packages/setuptools", "/usr/include/python3*/Python.h"), "JavaScript": ("node", "esbuild", "clang", "wasm-ld", "npm"),
+         "Java": ("java", "javac"), "Go": ("go",), "C++": ("g++",), "Rust": ("cargo",), "SQLite": ("sqlite3", "cc", "/usr/include/sqlite3.h"), "PostgreSQL": SERVER}
+BUILDS = {"Python": 'make -s wheel && /usr/bin/python3 -m zipfile -e build/wheels/*.whl "$ROOM/wheel"', "JavaScript": "make -s npm",
+          "Java": "make -s jar", "SQLite": "make -s sqlite"}
+
+
+def source(language, column, value, field):
+    """Returns a value as the source text of a language. C++ and Rust have no text of a date or a time."""
+    if column == "list l":
+        texts = [f'"{it}"' if isinstance(it, str) else str(it) for it in value]
+        if language == "Go":
+            texts = [f"{'Text' if it[0] == QUOTE else 'Integer'}({it})" for it in texts]
+        if language == "Rust" and not value:
+            return "0; 0"
+        return ", ".join(texts).replace(QUOTE, "'" if language == "PostgreSQL" else QUOTE)
+    if column == "UUID u" and language in ("C++", "Go", "Rust", "SQLite"):
+        return field.hex() if language == "SQLite" else ", ".join(map(str, field))
+    if column == "time t" and language == "JavaScript":
+        return value[:-3]
+    if column == "date d" and language == "C++":
+        return str(field)
+    if column in ("date d", "time t") and language in ("C++", "Rust"):
+        return since_1970(column, value, field, language)
+    return value
+
+
+def since_1970(column, value, field, language):
+    """Returns a date or a time as a number in the source text of C++ or Rust: of nanoseconds, if the value has them."""
+    unit, number = ("secs", 86400 * field) if column == "date d" else ("micros", field)
+    if column == "time t" and value[-10] == ".":
+        unit, number = "nanos", 1000 * field + int(value[-3:])
+    if language == "C++":
+        return f"{unit[:-1]}seconds({number})"
+    return f"{'-' if number < 0 else '+'} Duration::from_{unit}({abs(number)})"
+
+
+def block(language, column, value, fields, expression):
+    """Returns the part of a program for a value."""
+    _, _, _, whole, count, part, declared = PROGRAMS[language]
+    lists = [value]
+    parts = ""
+    if column == "list l" and value and isinstance(value[0], tuple):
+        lists, parts = value, count.replace("IT", str(len(value)))
+    for it in lists:
+        declare = declared[column].replace("IT", source(language, column, it, fields[0]))
+        parts += part.replace("DECLARE", declare).replace("FIELDS", expression + "..." * (language == "Go" and column == "list l"))
+    return whole.replace("PARTS", parts)
+
+
+def keys_by(language, text):
+    """Returns the keys that a program prints, or the lines that it printed instead."""
+    file, command, *_ = PROGRAMS[language]
+    if language == "PostgreSQL":
+        return ask(text)
+    folder = ROOM / language
+    (folder / file).parent.mkdir(parents=True)
+    (folder / file).write_text(text.replace("TOP", str(TOP)))
+    return shell(command.replace("TOP", str(TOP)), folder, PYTHONPATH=str(ROOM / "wheel"), GOPROXY="off", GOCACHE=str(ROOM / "cache"))[1].splitlines()
+
+
+def converts(language, cells):
+    """Compares the keys of a language with those of the model."""
+    values = [(column, value, fields if isinstance(fields, list) else [fields]) for column, value, fields in VALUES
+              if not any(re.fullmatch(lack, f"{column[-1]} {value}") for lack in LACKS[language])]
+    text = "".join(block(language, column, value, fields, cells[column]) for column, value, fields in values)
+    found = keys_by(language, PROGRAMS[language][2].replace("VALUES", text))
+    wanted = [known(fields) for *_, fields in values]
+    if len(found) != len(wanted):
+        tell(language, *found[-20:], f"{len(found)} keys, not {len(wanted)}")
+        return
+    tell(language, *(f"{column} {value}: {key}" for (column, value, _), key, right in zip(values, found, wanted)
+                     if not re.fullmatch(r"-?\d+", key) or int(key) % 2**64 != right))
+
+
+def build(language):
+    """Builds what the programs of a language need. Returns the command that stops the server, if it has one. Other scripts
+    may build the extension for PostgreSQL at the same time, so this one builds it in its room."""
+    stop, command, folder = None, BUILDS.get(language, ":"), TOP
+    if language == "PostgreSQL":
+        folder = ROOM / "unpacked"
+        stop, command = start_server(), unpack(folder, "postgresql").replace("sudo ", "")
+    status, printed = shell(command, folder, DESTDIR=str(ROOM))
+    if status != 0:
+        tell(f"build for {language}", *printed.splitlines()[-20:])
+    return stop
+
+
+EXPRESSIONS = table()
+compare("languages", [*EXPRESSIONS][1:], [*LACKS])
+for language, tools in TOOLS.items():
+    if reason := lacks(*tools):
+        skip(language, reason)
+        continue
+    stop = build(language)
+    try:
+        converts(language, EXPRESSIONS[language])
+    finally:
+        shell(stop or ":", "/")
+
+finish()
