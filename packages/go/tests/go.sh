@@ -63,8 +63,8 @@ try licences has_the_licences .
 try version requires_the_go_of_the_page
 try layout bash -c '[ -z "$(gofmt -l .)" ]'
 # The functions, types and values of the release, and all with the methods.
-try names bash -c '[ "$(go doc -all | grep -cE "^(func [A-Z]|type |var |\s(V[23]\w+|V3) )|^\s(V\w+)$")" -eq 30 ]'
-try methods bash -c '[ "$(go doc -all | grep -cE "^(func|type) ")" -eq 66 ]'
+try names bash -c '[ "$(go doc -all | grep -cE "^(func [A-Z]|type |var |\s(V[23]\w+|V3) )|^\s(V\w+)$")" -eq 34 ]'
+try methods bash -c '[ "$(go doc -all | grep -cE "^(func|type) ")" -eq 70 ]'
 try tests passes_every_test
 try race go test -timeout 0 -count 1 -short -race .
 try fuzz go test -timeout 0 -run - -fuzz FuzzPieces -fuzztime 20000x .
