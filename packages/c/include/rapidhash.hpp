@@ -68,7 +68,8 @@ class bytes {
     using element = typename std::remove_pointer<decltype(std::declval<const Range &>().data())>::type;
     template <class Element>
     using if_byte = typename std::enable_if<
-        sizeof(Element) == 1 && (std::is_integral<Element>::value || std::is_enum<Element>::value)>::type;
+        sizeof(Element) == 1 && (std::is_integral<Element>::value || std::is_enum<Element>::value)
+        && !std::is_same<typename std::remove_cv<Element>::type, bool>::value>::type;
     template <class Text>
     using if_text = typename std::enable_if<
         std::is_same<Text, const char *>::value || std::is_same<Text, char *>::value, int>::type;
