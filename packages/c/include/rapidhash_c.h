@@ -407,10 +407,10 @@ RAPIDHASH_INLINE RAPIDHASH_CONSTANT uint64_t rapidhash_first_hash(uint64_t shard
 {
     uint64_t rest = shard, quotient = 0;
     if (shard >= count) return 0;
-    /* Divides shard * 2^64 bit by bit: not every machine divides 128 bits without a call. */
+    /* Divides shard * 2^64 bit by bit and without a branch: not every machine divides 128 bits without a call. */
     for (int bit = 0; bit < 64; bit++) {
-        const bool fits = rest >> 63 || 2 * rest >= count;
-        rest = 2 * rest - (fits ? count : 0);
+        const uint64_t fits = rest >> 63 | (2 * rest >= count);
+        rest = 2 * rest - (count & (0 - fits));
         quotient = 2 * quotient + fits;
     }
     return quotient + (rest > 0);
