@@ -388,8 +388,8 @@ RAPIDHASH_FORCE_INLINE RAPIDHASH_CONSTANT void rapidhash_multiply_(
 }
 #endif /* RAPIDHASH_PRIMITIVES */
 
-/* What a hash decides: a shard or a bucket among `count`, which is at least 1, or the fingerprint of a table. The
- * results are the same in every language. Each is 0 if the count is 0.
+/* The next four functions return what a hash decides. Their results are the same in every language. A count of shards
+ * or buckets is at least 1; for 0 the result is 0.
  *
  * Returns the shard of a hash, below `count`: the integer part of hash * count / 2^64. Each shard has 2^64 / count
  * hashes or one more. They follow one another, so that a database can have a shard as a range. Multiplying the count
