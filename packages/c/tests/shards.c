@@ -1,5 +1,5 @@
-/* Compares what hashes decide with the values of a file: cc shards.c && ./a.out <shards.tsv, or <fingerprints.tsv. Their
- * README.md has the format. Compiles as C, and as C++ with the functions of rapidhash.hpp. */
+/* Compares what hashes decide with the values of a file: cc shards.c && ./a.out <shards.tsv, or <fingerprints.tsv.
+ * Their README.md has the format. Compiles as C, and as C++ with the functions of rapidhash.hpp. */
 #ifdef __cplusplus
 #include "rapidhash.hpp"
 #include <vector>
