@@ -8,6 +8,7 @@ tests=$top/packages/c/tests
 secrets=$top/crates/test_replay/data/secrets.tsv
 keys=$top/crates/test_replay/data/keys.tsv
 saved=$top/crates/test_replay/data/saved.tsv
+shards=$top/crates/test_replay/data/shards.tsv
 rust=$room/rust/x86_64-pc-windows-gnu/release
 wine=/usr/lib/wine/wine64
 export WINEPREFIX=$room/prefix WINEDEBUG=-all LC_ALL=C.UTF-8
@@ -29,6 +30,7 @@ build_by_msvc() {
   printf '%s\n' '#include "rapidhash_c.c"' 'uint64_t load4(const uint8_t *p) { return rapidhash_load4_(p); }' \
     'uint64_t load8(const uint8_t *p) { return rapidhash_load8_(p); }' \
     'void multiply(uint64_t a, uint64_t b, uint64_t *low, uint64_t *high) { rapidhash_multiply_(a, b, low, high); }' \
+    'uint64_t shard_of(uint64_t hash, uint64_t count) { return rapidhash_shard(hash, count); }' \
     >"$room/msvc.c" &&
     clang --target="$1-pc-windows-msvc" -fms-extensions -fms-compatibility-version=19.30 -U__SIZEOF_INT128__ \
       -ffreestanding -isystem "$room/include" -I"$top/packages/c" -I"$top/packages/c/include" -O2 -Wall -Wextra \
@@ -42,14 +44,16 @@ has_the_values() {
     build "$@" "$tests/properties.c" -o "$room/properties.exe" &&
     "$wine" "$room/properties.exe" product && "$wine" "$room/properties.exe" streams &&
     build "$@" "$tests/keys.c" -o "$room/keys.exe" && "$wine" "$room/keys.exe" <"$keys" &&
-    build "$@" "$tests/saved.c" -o "$room/saved.exe" && "$wine" "$room/saved.exe" <"$saved"
+    build "$@" "$tests/saved.c" -o "$room/saved.exe" && "$wine" "$room/saved.exe" <"$saved" &&
+    build "$@" "$tests/shards.c" -o "$room/shards.exe" && "$wine" "$room/shards.exe" <"$shards"
 }
 
-# The same with the object that clang compiled, whose loads and product have other names.
+# The same with the object that clang compiled, whose loads, product and shard have other names.
 has_the_values_by_msvc() {
-  printf '%s\n' '#include <stdint.h>' 'uint64_t load4(const uint8_t *), load8(const uint8_t *);' \
-    'void multiply(uint64_t, uint64_t, uint64_t *, uint64_t *);' '#define rapidhash_load4_ load4' \
-    '#define rapidhash_load8_ load8' '#define rapidhash_multiply_ multiply' >"$room/names.h" &&
+  printf '%s\n' '#include "rapidhash_c.h"' 'uint64_t load4(const uint8_t *), load8(const uint8_t *);' \
+    'void multiply(uint64_t, uint64_t, uint64_t *, uint64_t *);' 'uint64_t shard_of(uint64_t, uint64_t);' \
+    '#define rapidhash_load4_ load4' '#define rapidhash_load8_ load8' '#define rapidhash_multiply_ multiply' \
+    '#define rapidhash_shard shard_of' >"$room/names.h" &&
     build_by_msvc x86_64 && has_the_values -DRAPIDHASH_LINK -include "$room/names.h" "$room/x86_64.obj"
 }
 

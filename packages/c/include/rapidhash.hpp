@@ -68,7 +68,8 @@ class bytes {
     using element = typename std::remove_pointer<decltype(std::declval<const Range &>().data())>::type;
     template <class Element>
     using if_byte = typename std::enable_if<
-        sizeof(Element) == 1 && (std::is_integral<Element>::value || std::is_enum<Element>::value)>::type;
+        sizeof(Element) == 1 && (std::is_integral<Element>::value || std::is_enum<Element>::value)
+        && !std::is_same<typename std::remove_cv<Element>::type, bool>::value>::type;
     template <class Text>
     using if_text = typename std::enable_if<
         std::is_same<Text, const char *>::value || std::is_same<Text, char *>::value, int>::type;
@@ -198,8 +199,8 @@ inline std::uint64_t from_canonical(const std::array<unsigned char, 8> &stored) 
     return ::rapidhash_from_canonical(stored.data());
 }
 
-/* What a hash decides: a shard or a bucket among `count`, which is at least 1. The functions of rapidhash_c.h describe
- * them. From C++14 on, the results are constants of gcc and clang. */
+/* Return what a hash decides among `count`, which is at least 1: its shard, the first hash of a shard, or its bucket.
+ * rapidhash_c.h describes them. From C++14 on, the results can be constants of gcc and clang. */
 RAPIDHASH_CONSTANT inline std::uint64_t shard(std::uint64_t hash, std::uint64_t count) noexcept
 {
     return ::rapidhash_shard(hash, count);

@@ -388,8 +388,8 @@ RAPIDHASH_FORCE_INLINE RAPIDHASH_CONSTANT void rapidhash_multiply_(
 }
 #endif /* RAPIDHASH_PRIMITIVES */
 
-/* What a hash decides: a shard or a bucket among `count`, which is at least 1, or the fingerprint of a table. The
- * results are the same in every language. Each is 0 if the count is 0.
+/* The next four functions return what a hash decides. Their results are the same in every language. A count of shards
+ * or buckets is at least 1; for 0 the result is 0.
  *
  * Returns the shard of a hash, below `count`: the integer part of hash * count / 2^64. Each shard has 2^64 / count
  * hashes or one more. They follow one another, so that a database can have a shard as a range. Multiplying the count
@@ -407,10 +407,10 @@ RAPIDHASH_INLINE RAPIDHASH_CONSTANT uint64_t rapidhash_first_hash(uint64_t shard
 {
     uint64_t rest = shard, quotient = 0;
     if (shard >= count) return 0;
-    /* Divides shard * 2^64 bit by bit: not every machine divides 128 bits without a call. */
+    /* Divides shard * 2^64 bit by bit and without a branch: not every machine divides 128 bits without a call. */
     for (int bit = 0; bit < 64; bit++) {
-        const bool fits = rest >> 63 || 2 * rest >= count;
-        rest = 2 * rest - (fits ? count : 0);
+        const uint64_t fits = rest >> 63 | (2 * rest >= count);
+        rest = 2 * rest - (count & (0 - fits));
         quotient = 2 * quotient + fits;
     }
     return quotient + (rest > 0);

@@ -4,13 +4,20 @@
 
 #include "rapidhash.hpp"
 
+#include <array>
+#include <chrono>
 #include <iterator>
+#include <ratio>
 #include <tuple>
 #include <type_traits>
 #include <utility>
+#include <vector>
 #if __cplusplus >= 201703L
 #include <filesystem>
 #include <optional>
+#endif
+#if __cplusplus >= 202002L
+#include <span>
 #endif
 
 /* On some machines a cast to std::size_t or std::int64_t changes no type, of which g++ can warn. */
@@ -21,17 +28,41 @@
 
 namespace rapidhash {
 
-/* Appends a value to a V3 stream of C, as the fields of a key. Different values of a type are different messages:
+/* Finds pointers that are no text, also those of the library that own what they point to, and variants. */
+template <class Value, class = void>
+struct is_pointer : std::integral_constant<bool, std::is_pointer<Value>::value
+                                                     && !std::is_convertible<const Value &, bytes>::value> {};
+template <class Value>
+struct is_pointer<Value, typename std::enable_if<
+    std::is_same<decltype(std::declval<const Value &>().get()), typename Value::element_type *>::value>::type>
+    : std::true_type {};
+template <class Value, class = void> struct is_variant : std::false_type {};
+template <class Value>
+struct is_variant<Value, decltype(static_cast<void>(std::declval<const Value &>().valueless_by_exception()))>
+    : std::true_type {};
+
+/* Appends a value to a V3 stream of C, as the fields of a key. But for a time, different values of a type are different
+ * messages:
  *
  * - nullptr is nothing (as SQL's NULL), an integer or an enumerator an integer, and a text or bytes are bytes;
  * - a pair or a tuple has the fields of its elements, one after another;
+ * - a vector, an array or a span is a list, if it is not bytes: the number of its items, and then their fields;
  * - an optional is nothing or its value, which is itself no optional, pair or tuple;
- * - a path has the number of its elements, and then each of them as bytes.
+ * - a path has the number of its elements, and then each of them as bytes;
+ * - a time of the system clock has the whole microseconds since 1970-01-01 in UTC, but a date of it, such as
+ *   std::chrono::sys_days, the days since then;
+ * - a duration, also of days, is its microseconds.
  *
  * A program can specialize it for its own types. */
 template <class Value, class = void> struct field {
-    static_assert(std::is_convertible<const Value &, bytes>::value,
-                  "a field is nullptr, an integer, an enumerator, a text, bytes, or a pair, tuple, optional or path");
+    static constexpr bool is_refused = is_pointer<Value>::value || is_variant<Value>::value;
+    static_assert(!is_pointer<Value>::value,
+                  "a pointer is no field: pass what it points to, nullptr, or rapidhash::bytes(pointer, length)");
+    static_assert(!is_variant<Value>::value,
+                  "a variant is no field: pass its index(), and then its value by std::visit");
+    static_assert(is_refused || std::is_convertible<const Value &, bytes>::value,
+                  "a field is nullptr, an integer, an enumerator, a text, bytes, a time, a duration, or a pair, tuple, "
+                  "vector, array, span, optional or path");
     static void add(::rapidhash_stream *state, bytes value) noexcept
     {
         ::rapidhash_key_bytes(state, value.data(), value.size());
@@ -81,6 +112,75 @@ template <class... Values> struct field<std::tuple<Values...>> {
     }
 };
 
+/* Appends the items of a list after their number. */
+template <class List> void add_list(::rapidhash_stream *state, const List &items) noexcept
+{
+    ::rapidhash_key_integer(state, static_cast<std::int64_t>(items.size()));
+    for (auto &&item : items)
+        add_field<typename std::remove_cv<typename List::value_type>::type>(state, item);
+}
+
+/* Selects a list whose memory is not bytes. */
+template <class List>
+using if_list = typename std::enable_if<!std::is_convertible<const List &, bytes>::value>::type;
+
+template <class Item, class Allocator>
+struct field<std::vector<Item, Allocator>, if_list<std::vector<Item, Allocator>>> {
+    static void add(::rapidhash_stream *state, const std::vector<Item, Allocator> &value) noexcept
+    {
+        add_list(state, value);
+    }
+};
+
+template <class Item, std::size_t Size>
+struct field<std::array<Item, Size>, if_list<std::array<Item, Size>>> {
+    static void add(::rapidhash_stream *state, const std::array<Item, Size> &value) noexcept { add_list(state, value); }
+};
+
+#if __cplusplus >= 202002L
+template <class Item, std::size_t Size>
+struct field<std::span<Item, Size>, if_list<std::span<Item, Size>>> {
+    static void add(::rapidhash_stream *state, const std::span<Item, Size> &value) noexcept
+    {
+        add_list(state, value);
+    }
+};
+#endif
+
+/* Returns the microseconds of a duration, rounded down. Above 64 bits they are its two's complement. */
+template <class Number, class Period>
+std::int64_t to_microseconds(const std::chrono::duration<Number, Period> &value) noexcept
+{
+    using unit = std::ratio_divide<Period, std::micro>;
+    static_assert(std::is_integral<Number>::value && std::is_signed<Number>::value && sizeof(Number) <= 8,
+                  "a time or duration of a key has a signed integer of at most 64 bits: convert it by duration_cast");
+    const std::int64_t count = value.count(), rest = count % unit::den, below = rest < 0 ? unit::den : 0;
+    const std::int64_t whole = count / unit::den - (rest < 0 ? 1 : 0);
+    return static_cast<std::int64_t>(static_cast<std::uint64_t>(whole) * static_cast<std::uint64_t>(unit::num)
+                                     + static_cast<std::uint64_t>((rest + below) * unit::num / unit::den));
+}
+
+template <class Number, class Period> struct field<std::chrono::duration<Number, Period>> {
+    static_assert(std::ratio_divide<Period, std::micro>::den == 1,
+                  "a duration of a key has whole microseconds: round it by duration_cast<microseconds>");
+    static void add(::rapidhash_stream *state, const std::chrono::duration<Number, Period> &value) noexcept
+    {
+        ::rapidhash_key_integer(state, to_microseconds(value));
+    }
+};
+
+template <class Clock, class Duration> struct field<std::chrono::time_point<Clock, Duration>> {
+    static_assert(std::is_same<Clock, std::chrono::system_clock>::value,
+                  "a time of a key is of the system clock, which counts from 1970-01-01 in UTC: convert it");
+    static constexpr bool is_date = std::ratio_equal<typename Duration::period, std::ratio<86400>>::value;
+
+    static void add(::rapidhash_stream *state, const std::chrono::time_point<Clock, Duration> &value) noexcept
+    {
+        const std::int64_t micros = to_microseconds(value.time_since_epoch());
+        ::rapidhash_key_integer(state, is_date ? static_cast<std::int64_t>(value.time_since_epoch().count()) : micros);
+    }
+};
+
 #if __cplusplus >= 201703L
 template <class Value> struct is_compound : std::false_type {};
 template <class Value> struct is_compound<std::optional<Value>> : std::true_type {};
@@ -88,7 +188,7 @@ template <class... Values> struct is_compound<std::pair<Values...>> : std::true_
 template <class... Values> struct is_compound<std::tuple<Values...>> : std::true_type {};
 
 template <class Value> struct field<std::optional<Value>> {
-    static_assert(!is_compound<Value>::value, "an optional field is an integer, a text, bytes or a path");
+    static_assert(!is_compound<Value>::value, "an optional field is itself no optional, pair or tuple");
     static void add(::rapidhash_stream *state, const std::optional<Value> &value) noexcept
     {
         value ? add_field(state, *value) : add_field(state, nullptr);

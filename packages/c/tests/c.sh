@@ -147,7 +147,8 @@ int main()
 {
     const rapidhash::hasher hasher;
     const rapidhash::seeded_hasher seeded(rapidhash::seed(7));
-    const auto value = std::make_tuple(1, std::make_pair("a", 'b'), std::optional<long>(), std::filesystem::path("a/b"));
+    const auto value = std::make_tuple(1, std::make_pair("a", 'b'), std::optional<long>(), std::filesystem::path("a/b"),
+                                       std::vector<bool>(), std::array<long, 1>(), std::chrono::system_clock::now());
     return hasher(value) == seeded(value) && rapidhash::micro_stream().update("a").finish() == rapidhash::hash("a");
 }
 CPP
@@ -196,14 +197,28 @@ refuses_what_is_no_field() {
   while IFS='|' read -r value why; do
     ! "$1" -std=gnu++17 "-I$include" -x c++ -fsyntax-only - 2>"$room/said" \
       <<<"#include <rapidhash.hpp>
+#include <memory>
+#include <variant>
 std::uint64_t hash() { return rapidhash::key($value); }" && grep "$why" "$room/said" || { echo "$value" && return 1; }
   done <<'VALUES'
 static_cast<__int128>(1)|an integer of a key has at most 64 bits
-1.5|a field is nullptr, an integer, an enumerator, a text, bytes, or a pair, tuple, optional or path
+1.5|a field is nullptr, an integer, an enumerator, a text, bytes, a time, a duration, or a pair, tuple, vector, array, span, optional or path
 std::wstring()|a field is nullptr, an integer,
-std::optional<std::optional<int>>()|an optional field is an integer, a text, bytes or a path
-std::optional<std::pair<int, int>>()|an optional field is an integer,
-std::optional<std::tuple<int>>()|an optional field is an integer,
+std::optional<std::optional<int>>()|an optional field is itself no optional, pair or tuple
+std::optional<std::pair<int, int>>()|an optional field is itself no optional,
+std::optional<std::tuple<int>>()|an optional field is itself no optional,
+std::vector<double>()|a field is nullptr, an integer,
+L"user"|a field is nullptr, an integer,
+static_cast<const int *>(nullptr)|a pointer is no field: pass what it points to, nullptr, or rapidhash::bytes(pointer, length)
+std::unique_ptr<int>()|a pointer is no field: pass what it points to,
+std::shared_ptr<int[]>()|a pointer is no field: pass what it points to,
+std::array<void *, 1>()|a pointer is no field: pass what it points to,
+std::variant<int, long>()|a variant is no field: pass its index(), and then its value by std::visit
+std::chrono::nanoseconds(1)|a duration of a key has whole microseconds: round it by duration_cast<microseconds>
+std::chrono::duration<double>(1)|a time or duration of a key has a signed integer of at most 64 bits: convert it by
+std::chrono::duration<std::uint64_t>(1)|a time or duration of a key has a signed integer of at most 64 bits:
+std::chrono::steady_clock::now()|a time of a key is of the system clock, which counts from 1970-01-01 in UTC: convert it
+rapidhash::hash(std::array<bool, 2>())|error: no matching function for call to .hash
 rapidhash::fingerprint(std::array<int, 2>())|a hash of a fingerprint is an unsigned integer of 64 bits
 VALUES
 }

@@ -2,6 +2,8 @@
  * values are those of tests/model.py; some are in crates/test_replay/data/keys.tsv too. */
 #include <rapidhash.hpp>
 
+#include <array>
+#include <chrono>
 #include <unordered_map>
 #include <unordered_set>
 #include <vector>
@@ -75,6 +77,85 @@ static void check_hashers()
 #endif
 }
 
+/* Checks lists of items, and vectors and arrays of bytes, which are no lists. */
+static void check_lists()
+{
+    using std::make_pair;
+    const std::vector<unsigned char> bytes = {1, 2, 3};
+    const std::vector<std::vector<int>> lists = {{1, 2}, {3}};
+    const std::vector<std::pair<std::string, long>> pairs = {{"user", 4711}, {"", -5}};
+    const std::array<bool, 3> truths = {{true, false, true}};
+
+    compare_hashers("a vector", std::vector<short>{1, 2, 3}, 5274283684956059766U, 8846790870064972352U);
+    compare_hashers("an array", std::array<const std::uint64_t, 3>{{1, 2, 3}}, 5274283684956059766U,
+                    8846790870064972352U);
+    compare_hashers("an empty vector", std::vector<int>(), 2551358084531978446U, 10397672620287050828U);
+    compare_hashers("an empty array", std::array<int, 0>(), 2551358084531978446U, 10397672620287050828U);
+    compare_hashers("a vector of bool", std::vector<bool>{true, false, true}, 296724802962120459U,
+                    7868970583480082777U);
+    compare_hashers("an array of bool", truths, 296724802962120459U, 7868970583480082777U);
+    compare_hashers("a vector of texts", std::vector<std::string>{"user", ""}, 3107895578776183965U,
+                    12594252446880725228U);
+    compare_hashers("a vector of vectors", lists, 16365743134400273687U, 17557123899752749624U);
+    compare_hashers("a vector of pairs", pairs, 4633099409459385466U, 10745796545195027368U);
+    compare("a list in a key", rapidhash::key(std::vector<int>{1, 2}, std::vector<int>{3}),
+            rapidhash::key(2, 1, 2, 1, 3));
+    compare("a vector of bytes", rapidhash::key(bytes), 15013185985414520456U);
+    compare("an array of bytes", rapidhash::key(std::array<signed char, 3>{{1, 2, 3}}), 15013185985414520456U);
+    compare("the hash of a vector of bytes", rapidhash::hasher()(bytes),
+            static_cast<std::size_t>(1935367403401278886U));
+#if __cplusplus >= 201703L
+    const std::array<std::byte, 3> three = {{std::byte(1), std::byte(2), std::byte(3)}};
+    compare("an array of std::byte", rapidhash::key(three), 15013185985414520456U);
+    compare_hashers("a vector of optionals", std::vector<std::optional<int>>(1), 15989114710758558975U,
+                    6381286949908111888U);
+    compare_hashers("an optional vector", std::optional<std::vector<int>>({1, 2, 3}), 5274283684956059766U,
+                    8846790870064972352U);
+    compare_hashers("an empty optional vector", std::optional<std::vector<int>>(), 5702620981742189058U,
+                    9713595378912556722U);
+#endif
+#if __cplusplus >= 202002L
+    const int numbers[] = {1, 2, 3};
+    compare_hashers("a span", std::span(numbers), 5274283684956059766U, 8846790870064972352U);
+    compare("a span of bytes", rapidhash::key(std::span(bytes)), 15013185985414520456U);
+#endif
+}
+
+/* Checks times, dates and durations. The time is 2026-11-29 03:04:05.678901 in UTC. */
+static void check_times()
+{
+    using namespace std::chrono;
+    using time = std::chrono::system_clock;
+    using frames = duration<int, std::ratio<1, 3>>;
+    using days_of_c11 = duration<int, std::ratio<86400>>;
+    const microseconds now(1795921445678901);
+    const auto of = [](nanoseconds since) { return time_point<time, nanoseconds>(since); };
+
+    compare_hashers("a time", time_point<time, microseconds>(now), 12441909187889453402U, 2776045618874950061U);
+    compare_hashers("a time in nanoseconds", of(now + nanoseconds(999)), 12441909187889453402U, 2776045618874950061U);
+    compare_hashers("a time before 1970", of(nanoseconds(-1)), 8262727485331911684U, 13414414892000826377U);
+    compare_hashers("a microsecond before 1970", of(nanoseconds(-1000)), 8262727485331911684U, 13414414892000826377U);
+    compare_hashers("a time before that", of(nanoseconds(-1001)), 6299518586499656803U, 290012365531764315U);
+    compare_hashers("a time in seconds", time_point<time, seconds>(seconds(5400)), 1140894827498793034U,
+                    5122025725715897668U);
+    compare_hashers("a time in thirds of a second", time_point<time, frames>(frames(1)), 5791196716402987087U,
+                    11213285517736121593U);
+    compare_hashers("such a time before 1970", time_point<time, frames>(frames(-1)), 785980754753479697U,
+                    3888829872361580583U);
+    compare_hashers("a date", time_point<time, days_of_c11>(days_of_c11(20786)), 5326882408246747049U,
+                    1226254199588022146U);
+    compare_hashers("a date before 1970", time_point<time, days_of_c11>(days_of_c11(-1)), 8262727485331911684U,
+                    13414414892000826377U);
+    compare_hashers("a duration in minutes", minutes(90), 1140894827498793034U, 5122025725715897668U);
+    compare_hashers("a duration in microseconds", microseconds(-1), 8262727485331911684U, 13414414892000826377U);
+    compare_hashers("a duration in days", days_of_c11(3), 13367503737575725187U, 14921215492117392322U);
+    compare_hashers("the same in hours", hours(72), 13367503737575725187U, 14921215492117392322U);
+    compare("the time of the clock", rapidhash::key(time::time_point(seconds(5400))), 1140894827498793034U);
+#if __cplusplus >= 202002L && defined(__cpp_lib_chrono) && __cpp_lib_chrono >= 201907L
+    compare_hashers("a calendar date", sys_days(year(2026) / 11 / 29), 5326882408246747049U, 1226254199588022146U);
+#endif
+}
+
 static void check_tables_of_values()
 {
     std::unordered_map<std::pair<std::string, int>, int, rapidhash::hasher> counts;
@@ -132,6 +213,8 @@ void check_keys()
     compare("optional fields", rapidhash::key(name, std::optional<int>(4711), std::optional<long>()), hash_of_user);
 #endif
     check_hashers();
+    check_lists();
+    check_times();
     check_tables_of_values();
     check_paths();
 }

@@ -44,5 +44,7 @@ static_assert(noexcept(hasher()(std::string())) && noexcept(seeded_hasher(seed(1
                   && noexcept(hash("", seed(1))) && noexcept(stream(stream())) && noexcept(stream().reset())
                   && noexcept(stream(seed(1)) = stream(own)) && noexcept(stream().update("").update("", 0).finish())
                   && noexcept(from_canonical(to_canonical(1)))
+                  && noexcept(shard(1, first_hash(1, bucket(1, 2))))
+                  && noexcept(fingerprint(nullptr, 0) + fingerprint(std::array<std::uint64_t, 2>()))
                   && noexcept(from_hex("", std::declval<std::uint64_t &>())),
               "a hash throws nothing");
