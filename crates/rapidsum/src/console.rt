@@ -74,8 +74,8 @@ impl<'a> Console<'a> {
         written.map_err(Problem::Write)
     }
 
-    /// Adds the line to those that are written together: if it makes them longer than a block, they are
-    /// written before.
+    /// Adds the line to those that are written together. If it made them longer than a block, they
+    /// are written before.
     pub fn end_line(&mut self) -> Result<(), Problem> {
         if self.lines.len().saturating_add(self.line.len()) > self.block {
             self.flush()?;
