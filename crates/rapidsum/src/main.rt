@@ -31,7 +31,7 @@ use parse::parse;
 use problem::Problem;
 use std::process::ExitCode;
 
-// The status that ends xargs, as the signal SIGPIPE would.
+/// The status that ends xargs, as the signal SIGPIPE would.
 const BROKEN_PIPE: u8 = 255;
 
 // Carries out the request in the arguments. Returns whether all files could be read and all checks

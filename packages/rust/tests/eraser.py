@@ -62,6 +62,7 @@ FORMS = "|".join((
 BODY = rf"(?:[^{{}}]|{GROUP})*"
 RUST = (
     (r"# \[ must_use \] ", ""),
+    (r"# \[ doc \( hidden \) \] (?=pub fn write_[iu])", ""),
     (rf"const_fn ! {{ ([^{{}}]*?)const fn ({BODY})}} ", r"\1fn \2"),
     (rf"let mut (\w+) = 0 ; while \1 < (\w+) {{ ({BODY}?)\1 \+ = 1 ; }} ", r"for \1 in 0 . . \2 { \3} "),
     (r"(\w+) \. split_at \( ([^()]*)\) \. 1 ", r"& \1 [ \2. . ] "),
@@ -87,7 +88,7 @@ def without(pattern, text):
 def as_in_rattle(rust):
     """Returns the tokens of a text of Rust, with those of Rattle where RUST has other ones."""
     text = words_of(rust)
-    for pattern, new in RUST if "const_fn!" in rust else RUST[:1]:
+    for pattern, new in RUST if "const_fn!" in rust else RUST[:2]:
         pattern, new, before = re.compile(f"^{pattern}".replace(" ", "\n"), re.MULTILINE), new.replace(" ", "\n"), None
         while text != before:
             before, text = text, pattern.sub(new, text)
