@@ -11,7 +11,7 @@ import sqlite3
 import subprocess
 
 from cases import ROOM, TOP, blocks, compare, finish, lacks, needs, shell, skip_all
-from sql import SERVER, ask, start_server
+from sql import SERVER, ask, start_server, unpack
 
 PAGE = "docs/TABLES.md"
 COUNT = int(os.environ.get("ROWS", 20_000))
@@ -31,10 +31,10 @@ def people():
 
 
 def build():
-    """Builds the three packages, and installs that for PostgreSQL into the copy of the server."""
-    return shell(f"""make -s sqlite postgresql && make -s -C build/postgresql install DESTDIR='{ROOM}' >/dev/null &&
-        python3 -m venv --system-site-packages '{ROOM}/venv' && make -s wheel && '{ROOM}/venv/bin/pip' install -q --no-index \\
-        --find-links build/wheels yervound-rapidhash""", PATH="/usr/sbin:/usr/bin:/sbin:/bin")
+    """Builds the three packages, that for PostgreSQL away from other tests, and installs it into the copy of the server."""
+    status, said = shell(unpack(ROOM / "source", "postgresql").replace("sudo ", ""), ROOM / "source", DESTDIR=str(ROOM))
+    return (status, said) if status else shell("make -s sqlite wheel && /usr/bin/python3 -m zipfile -e build/wheels/*.whl "
+                                               '"$ROOM/wheel"')
 
 
 def fill(database, rows):
@@ -61,7 +61,9 @@ from rapidhash import each_key, fingerprint, shard
 frame = DataFrame(json.load(sys.stdin), columns={COLUMNS.split(", ")!r}, dtype=object)
 shards, whole = {", ".join(f"({block})" for block in blocks(PAGE, "python"))}
 print(json.dumps([list(shards), whole]))"""
-    said = subprocess.run([ROOM / "venv/bin/python", "-c", program], input=json.dumps(rows), capture_output=True, text=True)
+    environment = dict(os.environ, PYTHONPATH=str(ROOM / "wheel"))
+    said = subprocess.run(["/usr/bin/python3", "-c", program], input=json.dumps(rows), capture_output=True, text=True,
+                          env=environment)
     return json.loads(said.stdout) if said.returncode == 0 else said.stderr
 
 
