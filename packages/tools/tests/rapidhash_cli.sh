@@ -165,13 +165,13 @@ to_a_full_error() { "$@" 2>/dev/full; }
 runs full_error 1 '' '' to_a_full_error "$program" --v1 --v3
 
 # The replay that rt ci built contains each body with each of its options, so it also compares the compact code. The
-# names have the options as numbers. V2.1 and V2.2 share their code for rows.
+# names have the options as numbers. V2.1 and V2.2 share their code for rows, and half of V1's are inlined.
 replay=$top/crates/test_replay/out/test_replay
 if [ -e "$replay" ]; then
-  bodies=$(nm "$replay" | grep -oE '(in_memory|v[0-9])::with_(wide_)?rows::<[^>]*>' | sort -u |
+  bodies=$(nm "$replay" | grep -oE '(in_memory|v[0-9])::(with_(wide_)?rows|above_inlined)::<[^>]*>' | sort -u |
     sed 's/::<.*//' | uniq -c)
   [ "$(xargs <<<"$bodies")" = \
-    '8 in_memory::with_rows 8 in_memory::with_wide_rows 16 v1::with_rows 16 v2::with_rows 16 v3::with_rows' ]
+    '8 in_memory::with_rows 8 in_memory::with_wide_rows 8 v1::with_rows 16 v2::with_rows 16 v3::above_inlined' ]
   tell replay_has_all_options $?
 else
   skip replay_has_all_options 'test_replay is not built'
