@@ -166,7 +166,7 @@ fn refused_streams(rt: HostRuntime) {
     assert!(rt; unseen_bit(saved, &SECRETS).is_none());
 }
 
-/// The saved micro stream of 150 bytes: a chunk, and 70 bytes behind it.
+/// The saved micro stream of 150 bytes: a chunk and the 70 bytes after it.
 fn saved_micro() -> [u8; 208] {
     let mut hasher: RapidStreamHasherInlineMicro<true, false> = RapidStreamHasherLanes::new(
         &SECRETS,

@@ -2,13 +2,14 @@
 //!
 //! A field is nothing (`None`, SQL's NULL), an integer of up to 64 bits, or bytes. The hash of a key is V3 of its fields'
 //! encodings. Different keys have different encodings: `("ab", "c")` is not `("a", "bc")`, and `None` is neither 0 nor an
-//! empty text. A float is no field: convert it first.
+//! empty text. Floats are not fields: convert them first.
 //!
 //! ```
 //! use rapidhash::key;
+//! use rapidhash::shards::shard;
 //!
 //! let name: Option<&str> = None;
-//! let shard = key::hash(&("user", 4711, name)) % 64;
+//! let shard = shard(key::hash(&("user", 4711, name)), 64);
 //! assert_eq!(key::hash(&("user", 4711, name)), 14742763072502883419);
 //! ```
 
