@@ -13,7 +13,7 @@
 //! ```
 //! let secrets = RapidSecrets::seed(kept);
 //! let state = quality::SeedableState::custom(secrets.seed, &secrets.secrets);
-//! let shard = state.hash_one(user) % 64;
+//! let shard = shard(state.hash_one(user), 64);
 //! ```
 
 use crate::inner;

@@ -47,9 +47,9 @@ pub(crate) fn fold_row<const LANES: usize, const WIDTH: usize, const PROTECTED: 
 }
 
 /// Folds two rows of `WIDTH` pairs at the head of `rows` into the first `WIDTH` lanes: the body of
-/// the unrolled loop. Seven lanes do not fit into registers.
+/// the unrolled loop. Seven lanes do not fit into registers, so each is folded twice in turn.
 #[inline(always)]
-fn fold_two_rows<const LANES: usize, const WIDTH: usize, const PROTECTED: bool>(
+pub(crate) fn fold_two_rows<const LANES: usize, const WIDTH: usize, const PROTECTED: bool>(
     lanes: &mut [u64; LANES],
     rows: &[u8],
     secrets: &[u64],
@@ -63,25 +63,9 @@ fn fold_two_rows<const LANES: usize, const WIDTH: usize, const PROTECTED: bool>(
     if WIDTH == 7 {
         fold_two_rows_by_lane::<LANES, WIDTH, PROTECTED>(lanes, rows, secrets);
     } else {
-        fold_two_rows_by_row::<LANES, WIDTH, PROTECTED>(lanes, rows, secrets);
+        fold_row::<LANES, WIDTH, PROTECTED>(lanes, rows, secrets);
+        fold_row::<LANES, WIDTH, PROTECTED>(lanes, &rows[16 * WIDTH..], secrets);
     }
-}
-
-/// Folds two rows one after the other.
-#[inline(always)]
-fn fold_two_rows_by_row<const LANES: usize, const WIDTH: usize, const PROTECTED: bool>(
-    lanes: &mut [u64; LANES],
-    rows: &[u8],
-    secrets: &[u64],
-)
-    requires enough { 32 * WIDTH ≤ length rows.now }
-    requires secrets { WIDTH ≤ length secrets.now }
-    requires within_lanes { WIDTH ≤ LANES }
-    requires at_most_7 { WIDTH ≤ 7 }
-    ensures { HaveFolded PROTECTED secrets.now rows.now WIDTH lanes.old lanes.new 2 }
-{
-    fold_row::<LANES, WIDTH, PROTECTED>(lanes, rows, secrets);
-    fold_row::<LANES, WIDTH, PROTECTED>(lanes, &rows[16 * WIDTH..], secrets);
 }
 
 /// Folds two rows lane by lane: lanes that are in memory are then loaded and stored once. For lanes

@@ -27,7 +27,6 @@ pub use stream::{
 /// use rapidhash::v3::rapidhash_v3;
 ///
 /// assert_eq!(rapidhash_v3(b"hello"), 3327445792987248966);
-/// let shard = rapidhash_v3(b"user:4711") % 64;
 /// ```
 #[inline(always)]
 pub fn rapidhash_v3(bytes: &[u8]) -> u64

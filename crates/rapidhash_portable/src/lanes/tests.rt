@@ -2,7 +2,7 @@
 
 ghost use Rattle.std.specs.Prelude.{◌≤◌};
 
-use super::{fold_row, fold_two_rows_by_lane, fold_two_rows_by_row};
+use super::{fold_row, fold_two_rows, fold_two_rows_by_lane};
 use crate::secrets::DEFAULT_RAPID_SECRETS;
 use std::process::Abort;
 
@@ -21,7 +21,7 @@ fn two_rows<const WIDTH: usize, const PROTECTED: bool>(rt: &impl Abort)
     let (mut one, mut two, mut by_lane) = (start, start, start);
     fold_row::<WIDTH, WIDTH, PROTECTED>(&mut one, &rows, secrets);
     fold_row::<WIDTH, WIDTH, PROTECTED>(&mut one, &rows[16 * WIDTH..], secrets);
-    fold_two_rows_by_row::<WIDTH, WIDTH, PROTECTED>(&mut two, &rows, secrets);
+    fold_two_rows::<WIDTH, WIDTH, PROTECTED>(&mut two, &rows, secrets);
     fold_two_rows_by_lane::<WIDTH, WIDTH, PROTECTED>(&mut by_lane, &rows, secrets);
     assert!(rt; one != start);
     assert!(rt; two == one);

@@ -25,9 +25,10 @@ pub enum Field<'d> {
 ///
 /// ```
 /// use rapidhash::key::{Field, rapidhash_v3_key};
+/// use rapidhash::shards::shard;
 ///
 /// let key = [Field::Bytes(b"user"), Field::Integer(4711), Field::Nothing];
-/// let shard = rapidhash_v3_key(&key) % 64;
+/// let shard = shard(rapidhash_v3_key(&key), 64);
 /// ```
 #[must_use]
 pub fn rapidhash_v3_key(fields: &[Field<'_>]) -> u64 {

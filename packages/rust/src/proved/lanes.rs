@@ -41,9 +41,9 @@ pub(crate) const fn fold_row<const LANES: usize, const WIDTH: usize, const PROTE
 
 const_fn! {
 /// Folds two rows of `WIDTH` pairs at the head of `rows` into the first `WIDTH` lanes: the body of
-/// the unrolled loop. Seven lanes do not fit into registers.
+/// the unrolled loop. Seven lanes do not fit into registers, so each is folded twice in turn.
 #[inline(always)]
-const fn fold_two_rows<const LANES: usize, const WIDTH: usize, const PROTECTED: bool>(
+pub(crate) const fn fold_two_rows<const LANES: usize, const WIDTH: usize, const PROTECTED: bool>(
     lanes: &mut [u64; LANES],
     rows: &[u8],
     secrets: &[u64],
@@ -51,21 +51,9 @@ const fn fold_two_rows<const LANES: usize, const WIDTH: usize, const PROTECTED: 
     if WIDTH == 7 {
         fold_two_rows_by_lane::<LANES, WIDTH, PROTECTED>(lanes, rows, secrets);
     } else {
-        fold_two_rows_by_row::<LANES, WIDTH, PROTECTED>(lanes, rows, secrets);
+        fold_row::<LANES, WIDTH, PROTECTED>(lanes, rows, secrets);
+        fold_row::<LANES, WIDTH, PROTECTED>(lanes, rows.split_at(16 * WIDTH).1, secrets);
     }
-}
-}
-
-const_fn! {
-/// Folds two rows one after the other.
-#[inline(always)]
-const fn fold_two_rows_by_row<const LANES: usize, const WIDTH: usize, const PROTECTED: bool>(
-    lanes: &mut [u64; LANES],
-    rows: &[u8],
-    secrets: &[u64],
-) {
-    fold_row::<LANES, WIDTH, PROTECTED>(lanes, rows, secrets);
-    fold_row::<LANES, WIDTH, PROTECTED>(lanes, rows.split_at(16 * WIDTH).1, secrets);
 }
 }
 
