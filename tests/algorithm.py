@@ -1,4 +1,5 @@
 #!/usr/bin/env python3
+# reads: docs tests/model.py crates/test_replay/data packages/c/include
 """Compares the hashes of model.py with the values of the upstream crate in the vector files and on docs/ALGORITHM.md,
 and with the C header's hashes of messages above 100,000 bytes."""
 
@@ -10,7 +11,71 @@ from model import (LANES, PAGE, S, bucket, drawn, drawn_by_time, field_bytes, fi
                    hashed_items, hashed_pieces, hashed_slice, made_secrets, message, saved, secrets_of, seed_source, shard)
 
 
+# Upstream's hashes of 2^32 + 205 bytes of 0, and of the key that has them. Without the upper bits of the length the hash
+# would be that of 205 bytes: more than a stream takes into its buffer.
+LONG = {("hash", "v1"): 11246987188218965133, ("hash", "v2_0"): 5529583638319163554,
+        ("hash", "v2_1"): 5529583638319163554, ("hash", "v2_2"): 5529583638319163554, ("hash", "v3"): 15840509470265968530,
+        ("hash", "v3_micro"): 15985150752381399984, ("hash", "v3_nano"): 10837033937540029418,
+        ("hash", "v3_protected"): 7473375221130942755, ("key", "v3"): 16330010940139620822}
 HEADER = (TOP / "packages" / "c" / "include" / "rapidhash_c.h").read_text()
+
+
+def form_of(name):
+    """Returns the form of a version, by the name of its call in C."""
+    name = name.removesuffix("_protected").removeprefix("v3_")
+    return name if name in LANES else name.upper().replace("_", ".")
+
+
+def bytes_of(argument):
+    """Returns the message of an argument of a case."""
+    rule, _, size = argument.partition(":")
+    return message(rule, int(size)) if size else bytes.fromhex(argument.strip("-"))
+
+
+def decided(kind, number, count):
+    """Computes a shard, the first hash of one, or a bucket."""
+    if count == 0 or kind == "bucket" and count >= 2**32 or kind == "first_hash" and number >= count:
+        return "refused"
+    return {"shard": shard, "first_hash": first_hash, "bucket": bucket}[kind](number, count)
+
+
+def played(case, seed, secrets):
+    """Computes the hashes and the saved bytes of a stream's operations. Yields also what is refused but saved."""
+    form, content, last = form_of(case["version"]), b"", (b"", b"")
+    for operation in case["argument"].split():
+        kind, digits = operation[0], operation[1:]
+        if kind == "w":
+            content += bytes.fromhex(digits)
+        elif kind == "r":
+            content = b""
+        elif kind == "f":
+            yield hash_of(form, content, seed, secrets)
+        elif kind == "s":
+            last = content, saved(LANES[form], content, seed, secrets)
+            yield last[1].hex()
+        elif kind == "=":
+            content = last[0] if bytes.fromhex(digits) == last[1] else None
+        elif kind == "!" and bytes.fromhex(digits) == last[1] or kind not in "!~^+":
+            yield operation
+
+
+def computed_of_kind(case):
+    """Computes the value of a line of the file of cases, or the line's own of a message above 4 GiB."""
+    kind, argument = case["kind"], case["argument"]
+    rule, _, number = case["secrets"].partition(":")
+    if argument.startswith("zeros:"):
+        return [LONG.get((kind, case["version"]))]
+    if kind == "fingerprint":
+        return [fingerprint(map(int, argument.strip("-").split()))]
+    if case["version"] == "-":
+        return [decided(kind, *map(int, argument.split()))]
+    seed, *secrets = secrets_of(rule, number, case["version"] == "v1")
+    if kind == "secrets":
+        return [seed, *secrets]
+    if kind == "stream":
+        return played(case, seed, secrets)
+    content = b"".join(map(field_bytes, argument.strip("()").split())) if kind == "key" else bytes_of(argument)
+    return [hash_of(form_of(case["version"]), content, seed, secrets, protected="protected" in case["version"])]
 
 
 def computed(case):
@@ -18,28 +83,17 @@ def computed(case):
     version = {"v1": "V1", "v2": f"V2.{case.get('minor')}", "v3": "V3"}.get(case.get("form"), case.get("form"))
     if "operations" in case:
         return hashed_pieces({"5": "micro", "3": "nano"}.get(case.get("lanes"), "V3"), case)
-    if "call" in case:
-        return secrets_of(case["call"], case["number"], version == "V1")
-    if "hashes" in case:
-        return [fingerprint(map(int, case["hashes"].split()))]
-    if "count" in case and "hash" in case:
-        hash, count = int(case["hash"]), int(case["count"])
-        own = shard(hash, count)
-        return [own, first_hash(own, count), bucket(hash, count) if count < 2**32 else "-"]
-    if "key" in case:
-        return [hashed_slice("V3", {**case, "protected": "0"}, b"".join(map(field_bytes, case["key"].split())))]
+    if "kind" in case:
+        return computed_of_kind(case)
     if "items" in case:
         return [hashed_items(case, case["items"].split() if case["items"] != "(none)" else [])]
-    if "lanes" in case:
-        rule, _, number = case["secrets"].partition(":")
-        seed, *secrets = secrets_of(rule, number, False)
-        return [saved(int(case["lanes"]), message(case["message"], int(case["length"])), seed, secrets).hex()]
     if "length" in case:
         content = message(case["message"], int(case["length"]))
         return [hashed_slice(version, case, content) if version else hashed_items(case, ["bytes:" + content.hex()])]
+    if "form" in case:
+        return secrets_of("reseed", case["number"], version == "V1")
     numbers = {name: int(value) for name, value in case.items() if name != "expected"}
     return {
-        "number": lambda number: secrets_of("seed then reseed", number, True),
         "random_word": made_secrets,
         "random_word second_word": seed_source,
         "seed count": lambda seed, count: drawn(seed, count) + drawn(seed, count, False)[:-1],
@@ -53,7 +107,7 @@ def differences(path):
     head, *rows = [line.split("\t") for line in path.read_text().splitlines() if not line.startswith("#")]
     cases = [dict(zip(head, row)) for row in rows]
     for case in cases:
-        if (found := " ".join(map(str, computed(case)))) != case["expected"]:
+        if (found := " ".join(map(str, computed(case)))) != case["value" if "kind" in case else "expected"]:
             yield f"{case}: {found}"
         compared.append(case)
 
@@ -82,9 +136,8 @@ def differences_in_c(length):
     if (len(names), len(lanes)) != (8, 3):
         yield f"the header has the versions {names} and the streams {lanes}"
     for name in names:
-        form = name.removesuffix("_protected").removeprefix("v3_")
-        form = form if form in LANES else form.upper().replace("_", ".")
-        numbers = secrets_of("seed", length, form == "V1")
+        form = form_of(name)
+        numbers = secrets_of("make", length, form == "V1")
         arguments = content, ctypes.c_size_t(length), (ctypes.c_uint64 * 8)(*numbers)
         wanted = hash_of(form, content, numbers[0], numbers[1:], protected=name.endswith("_protected"))
         calls = [(f"rapidhash_{name}_with_secrets", *arguments)]

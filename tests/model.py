@@ -109,21 +109,23 @@ def premix(x, i):
 
 
 def secrets_of(rule, number, is_v1):
-    """Returns a seed and its secrets."""
+    """Returns a seed and its secrets, by a rule of crates/test_replay/data/README.md."""
     count = 3 if is_v1 else 7
-    if rule in ("cpp", "seed_cpp", "default"):
+    if rule in ("word", "default"):
         x = int(number or 0xBDD89AA982704029 * is_v1)
         return [x ^ (mix(x ^ S[0], S[1]) if is_v1 else mix(x ^ S[2], S[1])), *S[:count]]
     if rule == "bare":
         seed, *places = number.split(",")
         at = dict(map(int, place.split("=")) for place in places)
         return [int(seed), *(at.get(k, 0) for k in range(count))]
+    if rule == "own":
+        return [int(word) for word in number.split(",")]
     if rule == "words":
         return drawn(int(number), count + 1)[:-1]
     made = [premix(int(number), 0)]
     for i in range(count):
         made.append(premix(made[-1], i))
-    return [premix(made[0], 2 if is_v1 else 6), *made[1:]] if rule == "seed then reseed" else made
+    return [premix(made[0], 2 if is_v1 else 6), *made[1:]] if rule == "reseed" else made
 
 
 def made_secrets(r):
@@ -162,6 +164,8 @@ def message(rule, n):
     name, _, rest = rule.partition(":")
     if name == "square":
         return bytes((i * i + 7 * i + n) % 251 for i in range(n))
+    if name == "ramp":
+        return bytes(i % 251 for i in range(n))
     if name == "text":
         return rest.replace("\\n", "\n").encode()
     if name == "bytes":

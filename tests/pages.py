@@ -1,4 +1,5 @@
 #!/usr/bin/env python3
+# reads: .
 """Compares the pages with the repository. Links and paths must exist, names must occur in the code, and counts must be
 those of the files. Pages and lines must keep their limits, and texts generated from the sources must be current."""
 
@@ -135,8 +136,7 @@ def edits():
 
 
 def vectors():
-    """Checks that the page beside the vector files has each file with its number of cases, that its sums are right, and
-    that docs/PROVED.md has the first."""
+    """Checks that the page beside the vector files has each file with its number of cases, and that its sums are right."""
     data = TOP / "crates" / "test_replay" / "data"
     parts = re.split(r"^([\d,]+) cases ", (data / "README.md").read_text(), flags=re.M)
     sums, rows = parts[1::2], [re.findall(r"^\| (`[^|]*) \| (\d+)", part, re.M) for part in parts[2::2]]
@@ -146,10 +146,6 @@ def vectors():
     yield from (f"{name} has {count} cases in the folder or on the page alone" for name, count in differing)
     yield from (f"the cases above {table[0][0]} are not {count}" for count, table in zip(sums, tables)
                 if f"{sum(number for _, number in table):,}" != count)
-    told = re.search(r"with ([\d,]+) values of upstream.* ([\d,]+) values of an independent model, (\d+) cases .* (\d+) "
-                     "strings", (TOP / "docs" / "PROVED.md").read_text())
-    if not told or [*told.groups()[:2], str(int(told[3]) + int(told[4]))] != sums:
-        yield f"docs/PROVED.md does not have {sums} values"
 
 
 def statements():

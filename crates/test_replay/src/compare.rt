@@ -93,7 +93,7 @@ fn print_versions(rt: &impl Print, secrets: &Secrets, bytes: &[u8]) -> Result<u6
 
 /// Prints a line for each comparison; returns the number of values that differ.
 pub fn compare(rt: &(impl Print + AllocGlobal)) -> Result<u64> {
-    let secrets = secrets_of("seed:0")?;
+    let secrets = secrets_of("make:0")?;
     let bytes = message(rt.alloc(), "rng:0", 1025)?;
     let bytes = bytes.as_slice();
     let (Some(short), Some(shorter)) = (bytes.get(..513), bytes.get(..256)) else {

@@ -1,15 +1,12 @@
 //! Cases of keys of several fields.
 
-use crate::rules::{number, secrets_of};
+use crate::rules::secrets_of;
 use crate::tally::Agreement;
-use anyhow::{Result, bail};
+use anyhow::Result;
 use rapidhash::key::{Field, rapidhash_v3_key, rapidhash_v3_key_seeded};
 use rapidhash_portable::form::{Options, Version};
 use std::alloc::{AllocError, Global};
 use test_definitions::bodies::{Tested, defined};
-
-/// The columns of a file of keys.
-pub const COLUMNS: &str = "key\tsecrets\texpected";
 
 /// A field whose bytes are its own.
 #[derive(Drop)]
@@ -56,15 +53,11 @@ impl Part {
     }
 }
 
-/// Replays the hash of a key.
-pub fn replay(alloc: Global, line: &str) -> Result<Agreement> {
-    let columns: Vec<&str> = line.split("\t").collect(alloc)?;
-    let [key, rule, expected] = columns.as_slice() else {
-        bail!("no three fields");
-    };
+/// Replays the hash of a key, whose fields are between spaces, or `()` for none.
+pub fn replay(alloc: Global, rule: &str, key: &str, expected: u64) -> Result<Agreement> {
     let mut parts = Vec::new(alloc);
     let mut message = Vec::new(alloc);
-    for text in key.split_whitespace() {
+    for text in key.split_whitespace().filter(|text| *text != "()") {
         let part = Part::new(alloc, text)?;
         part.encode(&mut message)?;
         parts.push(part)?;
@@ -74,13 +67,12 @@ pub fn replay(alloc: Global, line: &str) -> Result<Agreement> {
         fields.push(part.field())?;
     }
     let secrets = secrets_of(rule)?;
-    let expected = number(expected)?;
     let options = Options {
         avalanche: true,
         protected: false,
     };
     let v3 = Tested::Named(Version::V3);
-    let default = *rule != "default" || rapidhash_v3_key(fields.as_slice()) == expected;
+    let default = rule != "default" || rapidhash_v3_key(fields.as_slice()) == expected;
     let seeded = rapidhash_v3_key_seeded(fields.as_slice(), &secrets.seven);
     Ok(Agreement::new(
         defined(v3, options, &secrets, message.as_slice()) == expected,

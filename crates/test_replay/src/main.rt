@@ -6,8 +6,10 @@
 #![tactic(auto)]
 
 mod bulk;
+mod cases;
 mod compare;
 mod draws;
+mod forged;
 mod hashers;
 mod items;
 mod keys;
@@ -78,19 +80,15 @@ fn replay(rt: &(impl Files + Print + Eprint + AllocGlobal), name: &str) -> Resul
 fn replay_line(alloc: Global, columns: &str, line: &str) -> Result<Agreement> {
     match columns {
         bulk::COLUMNS => bulk::replay(alloc, line),
+        cases::COLUMNS => cases::replay(alloc, line),
         bulk::MEMORY_COLUMNS => bulk::replay_memory(alloc, line),
         hashers::COLUMNS => hashers::replay(alloc, line),
-        keys::COLUMNS => keys::replay(alloc, line),
         readers::COLUMNS => readers::replay(alloc, line),
         streams::COLUMNS => streams::replay(alloc, line),
         streams::LANES_COLUMNS => streams::replay_with_lanes(alloc, line),
-        saved::COLUMNS => saved::replay(alloc, line),
-        seeds::COLUMNS => seeds::replay(alloc, line),
         seeds::RESEED_COLUMNS => seeds::replay_reseed(alloc, line),
         seeds::MADE_COLUMNS => seeds::replay_made(alloc, line),
         seeds::SOURCE_COLUMNS => seeds::replay_source(alloc, line),
-        shards::COLUMNS => shards::replay(alloc, line),
-        shards::FINGERPRINT_COLUMNS => shards::replay_fingerprint(alloc, line),
         draws::COLUMNS => draws::replay(alloc, line),
         draws::TIME_COLUMNS => draws::replay_time(alloc, line),
         draws::STEPS_COLUMNS => draws::replay_steps(alloc, line),

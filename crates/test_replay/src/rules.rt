@@ -89,6 +89,14 @@ pub fn message(alloc: Global, rule: &str, length: u64) -> Result<Vec<u8>> {
     Ok(bytes)
 }
 
+/// Returns the message of hexadecimal digits, `-` for none, or `ramp:N` for N bytes i mod 251.
+pub fn contents(alloc: Global, text: &str) -> Result<Vec<u8>> {
+    if let Some(length) = text.strip_prefix("ramp:") {
+        return message(alloc, "ramp", number(length)?);
+    }
+    Ok(hex::decode(alloc, if text == "-" { "" } else { text })?)
+}
+
 /// A text, in which `\\n` is a newline.
 fn written(alloc: Global, text: &str, length: u64) -> Result<Vec<u8>> {
     let text = text.replace(alloc, "\\n", "\n")?;
@@ -129,17 +137,18 @@ pub fn secrets_of(rule: &str) -> Result<Secrets> {
         bail!("no secrets by the rule {rule}");
     };
     Ok(match name {
-        "seed" => Secrets {
+        "make" => Secrets {
             three: v1::RapidSecrets::seed(number(words)?),
             seven: v3::RapidSecrets::seed(number(words)?),
         },
-        "cpp" => Secrets {
+        "word" => Secrets {
             three: v1::RapidSecrets::seed_cpp(number(words)?),
             seven: v3::RapidSecrets::seed_cpp(number(words)?),
         },
         "words" => drawn(number(words)?),
         "made" => made(words)?,
         "bare" => bare(words)?,
+        "own" => own(words)?,
         _ => bail!("no secrets by the rule {rule}"),
     })
 }
@@ -178,6 +187,18 @@ fn bare(words: &str) -> Result<Secrets> {
                 }
                 all[place + 1] = number(value)?;
             }
+        }
+    }
+    Ok(of_words(all))
+}
+
+/// A seed and secrets as numbers between commas: those of V1 are fewer.
+fn own(words: &str) -> Result<Secrets> {
+    let mut all = [0; 8];
+    for (place, word) in words.split(",").enumerate() {
+        match all.get_mut(place) {
+            Some(one) => *one = number(word)?,
+            None => bail!("more than 8 words"),
         }
     }
     Ok(of_words(all))

@@ -11,11 +11,8 @@ use test_definitions::{
     source_start,
 };
 
-/// The columns of a file of secrets.
-pub const COLUMNS: &str = "form\tcall\tnumber\texpected";
-
-/// The columns of a file of V1's `reseed`.
-pub const RESEED_COLUMNS: &str = "number\texpected";
+/// The columns of a file of secrets that `reseed` makes of those of `seed`.
+pub const RESEED_COLUMNS: &str = "form\tnumber\texpected";
 
 /// The columns of a file of made secrets.
 pub const MADE_COLUMNS: &str = "random_word\texpected";
@@ -34,33 +31,33 @@ fn listed(alloc: Global, seed: u64, secrets: &[u64]) -> Result<Vec<u64>, AllocEr
 /// The results of the library's calls.
 fn made(alloc: Global, form: &str, call: &str, number: u64) -> Result<Vec<u64>> {
     let seven = match (form, call) {
-        ("v1", "seed") => {
+        ("v1", "make") => {
             let made = v1::RapidSecrets::seed(number);
             return Ok(listed(alloc, made.seed, &made.secrets)?);
         }
-        ("v1", "seed_cpp") => {
+        ("v1", "word") => {
             let made = v1::RapidSecrets::seed_cpp(number);
             if v1::RapidSecrets::seed_of_word(number) != made.seed {
                 bail!("two seeds");
             }
             return Ok(listed(alloc, made.seed, &made.secrets)?);
         }
-        ("v1", "seed then reseed") => {
+        ("v1", "reseed") => {
             let made = v1::RapidSecrets::seed(number).reseed();
             return Ok(listed(alloc, made.seed, &made.secrets)?);
         }
-        ("v2", "seed") => v2::RapidSecrets::seed(number),
-        ("v2", "seed_cpp") => v2::RapidSecrets::seed_cpp(number),
-        ("v2", "seed then reseed") => v2::RapidSecrets::seed(number).reseed(),
-        ("v3", "seed") => v3::RapidSecrets::seed(number),
-        ("v3", "seed_cpp") => {
+        ("v2", "make") => v2::RapidSecrets::seed(number),
+        ("v2", "word") => v2::RapidSecrets::seed_cpp(number),
+        ("v2", "reseed") => v2::RapidSecrets::seed(number).reseed(),
+        ("v3", "make") => v3::RapidSecrets::seed(number),
+        ("v3", "word") => {
             let made = v3::RapidSecrets::seed_cpp(number);
             if v3::RapidSecrets::seed_of_word(number) != made.seed {
                 bail!("two seeds");
             }
             made
         }
-        ("v3", "seed then reseed") => v3::RapidSecrets::seed(number).reseed(),
+        ("v3", "reseed") => v3::RapidSecrets::seed(number).reseed(),
         _ => bail!("no call {call} of {form}"),
     };
     Ok(listed(alloc, seven.seed, &seven.secrets)?)
@@ -70,12 +67,12 @@ fn made(alloc: Global, form: &str, call: &str, number: u64) -> Result<Vec<u64>> 
 fn defined(alloc: Global, form: &str, call: &str, number: u64) -> Result<Vec<u64>, AllocError> {
     let default = v3::DEFAULT_RAPID_SECRETS.secrets;
     let (count, first, last) = if form == "v1" { (3, 0, 2) } else { (7, 2, 6) };
-    if call == "seed_cpp" {
+    if call == "word" {
         return listed(alloc, cpp_seeded(number, first), &default[..count]);
     }
     let seed = seeded(number);
     let mut words = Vec::new(alloc);
-    words.push(if call == "seed" {
+    words.push(if call == "make" {
         seed
     } else {
         reseeded(seed, last)
@@ -100,22 +97,21 @@ pub fn agreement(expected: &[u64], defined: &[u64], made: &[u64]) -> Agreement {
     Agreement::new(defined == expected, made == expected)
 }
 
-/// Replays a call that makes secrets of a number.
-pub fn replay(alloc: Global, line: &str) -> Result<Agreement> {
-    let fields: Vec<&str> = line.split("\t").collect(alloc)?;
-    let [form, call, of, expected] = fields.as_slice() else {
-        bail!("no four fields");
+/// Replays the rule of secrets: `make:K` or `word:K`.
+pub fn replay(alloc: Global, form: &str, rule: &str, expected: &str) -> Result<Agreement> {
+    let Some((call, of)) = rule.split_once(":") else {
+        bail!("no secrets by the rule {rule}");
     };
     compare(alloc, form, call, of, expected)
 }
 
-/// Replays V1's `reseed`.
+/// Replays `reseed`.
 pub fn replay_reseed(alloc: Global, line: &str) -> Result<Agreement> {
     let fields: Vec<&str> = line.split("\t").collect(alloc)?;
-    let [of, expected] = fields.as_slice() else {
-        bail!("no two fields");
+    let [form, of, expected] = fields.as_slice() else {
+        bail!("no three fields");
     };
-    compare(alloc, "v1", "seed then reseed", of, expected)
+    compare(alloc, form, "reseed", of, expected)
 }
 
 fn compare(alloc: Global, form: &str, call: &str, of: &str, expected: &str) -> Result<Agreement> {

@@ -7,62 +7,40 @@ use rapidhash::fingerprints::{add, fingerprint, remove};
 use rapidhash::shards::{bucket, first_hash, shard};
 use std::alloc::Global;
 
-/// The columns of a file of shards: the shard, its first hash, and the bucket, or `-` above 2^32.
-pub const COLUMNS: &str = "hash\tcount\texpected";
-
-/// The columns of a file of fingerprints.
-pub const FINGERPRINT_COLUMNS: &str = "hashes\texpected";
-
 /// Returns the agreement of the library alone: the definitions are these calls.
 fn of_body(agrees: bool) -> Agreement {
-    Agreement {
-        definition: None,
-        words: None,
-        body: Some(agrees),
-        compact: None,
-        steps: None,
+    let mut agreement = Agreement::none();
+    agreement.body = Some(agrees);
+    agreement
+}
+
+/// Returns what a call returns for two numbers, unless they are outside its preconditions.
+fn called(kind: &str, first: u64, count: u64) -> Option<u64> {
+    match kind {
+        "shard" if count > 0 => Some(shard(first, count)),
+        "first_hash" if first < count => Some(first_hash(first, count)),
+        "bucket" if count > 0 => Some(u64::from(bucket(first, u32::try_from(count).ok()?))),
+        _ => None,
     }
 }
 
-/// Returns whether the bucket is the one in a text.
-fn is_bucket(hash: u64, count: u64, text: &str) -> Result<bool> {
-    match u32::try_from(count) {
-        Ok(count) if count > 0 => Ok(number(text)? == u64::from(bucket(hash, count))),
-        _ => Ok(text == "-"),
-    }
-}
-
-/// Replays the shard and the bucket of a hash.
-pub fn replay(alloc: Global, line: &str) -> Result<Agreement> {
-    let columns: Vec<&str> = line.split("\t").collect(alloc)?;
-    let [hash, count, expected] = columns.as_slice() else {
-        bail!("no three fields");
+/// Replays a shard, the first hash of a shard, or a bucket.
+pub fn replay(alloc: Global, kind: &str, argument: &str, value: &str) -> Result<Agreement> {
+    let words: Vec<&str> = argument.split(" ").collect(alloc)?;
+    let [first, count] = words.as_slice() else {
+        bail!("no two numbers");
     };
-    let (hash, count) = (number(hash)?, number(count)?);
-    let numbers: Vec<&str> = expected.split(" ").collect(alloc)?;
-    let [own, first, bucket] = numbers.as_slice() else {
-        bail!("no three numbers");
-    };
-    if count == 0 {
-        bail!("a count of 0");
-    }
-    let found = shard(hash, count);
-    Ok(of_body(
-        number(own)? == found
-            && number(first)? == first_hash(found, count)
-            && is_bucket(hash, count, bucket)?,
-    ))
+    Ok(of_body(match called(kind, number(first)?, number(count)?) {
+        Some(found) => found == number(value)?,
+        None => value == "refused",
+    }))
 }
 
 /// Replays the fingerprint of hashes, also hash by hash.
-pub fn replay_fingerprint(alloc: Global, line: &str) -> Result<Agreement> {
-    let columns: Vec<&str> = line.split("\t").collect(alloc)?;
-    let [texts, expected] = columns.as_slice() else {
-        bail!("no two fields");
-    };
+pub fn replay_fingerprint(alloc: Global, argument: &str, expected: u64) -> Result<Agreement> {
     let mut hashes = Vec::new(alloc);
     let mut sum = 0u64;
-    for text in texts.split_whitespace() {
+    for text in argument.split_whitespace().filter(|text| *text != "-") {
         let hash = number(text)?;
         hashes.push(hash)?;
         sum = add(sum, hash);
@@ -71,5 +49,5 @@ pub fn replay_fingerprint(alloc: Global, line: &str) -> Result<Agreement> {
     for hash in &hashes {
         sum = remove(sum, *hash);
     }
-    Ok(of_body(number(expected)? == whole && sum == 0))
+    Ok(of_body(expected == whole && sum == 0))
 }

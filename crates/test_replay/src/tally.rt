@@ -18,15 +18,23 @@ pub struct Agreement {
 }
 
 impl Agreement {
-    /// Returns the agreement of a definition and of the library, which has no compact code for it.
-    pub fn new(definition: bool, body: bool) -> Agreement {
+    /// Returns the agreement of a case without values.
+    pub fn none() -> Agreement {
         Agreement {
-            definition: Some(definition),
+            definition: None,
             words: None,
-            body: Some(body),
+            body: None,
             compact: None,
             steps: None,
         }
+    }
+
+    /// Returns the agreement of a definition and of the library, which has no compact code for it.
+    pub fn new(definition: bool, body: bool) -> Agreement {
+        let mut agreement = Agreement::none();
+        agreement.definition = Some(definition);
+        agreement.body = Some(body);
+        agreement
     }
 }
 

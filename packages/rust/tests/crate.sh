@@ -1,4 +1,5 @@
 #!/usr/bin/env bash
+# reads: packages/rust packages/tools crates scripts docs
 # Checks that the sources of the Rust crate in packages/rust/ are current. Tests its layout and lints, the package that
 # cargo builds, the README's program in its own directory, and the commands of docs/BINDINGS.md. Runs its tests and
 # examples with the machine's compiler and with Debian's, which is the oldest.

@@ -1,4 +1,5 @@
 #!/usr/bin/env python3
+# reads: packages/rust scripts crates
 """Tests scripts/eraser.py with text that no source contains: braces in clauses, text to keep, and text to refuse. Then
 compares each source of the Rust crate with its Rattle source, using separate patterns. Without the known ghost forms
 and the rows of scripts/rust_crate, both must have the same tokens."""

@@ -45,7 +45,7 @@ impl Draws {
     fn secrets(&mut self) -> Result<Secrets> {
         match self.below(4) {
             0 => secrets_of("default"),
-            1 => secrets_of(&format!("seed:{}", self.word())),
+            1 => secrets_of(&format!("make:{}", self.word())),
             _ => Ok(self.words()),
         }
     }

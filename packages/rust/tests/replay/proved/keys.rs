@@ -4,14 +4,11 @@
 
 use crate::replay::kit::*;
 
-use super::rules::{number, secrets_of};
+use super::rules::secrets_of;
 use super::tally::Agreement;
 use crate::replay::proved::definitions::bodies::{Tested, defined};
 use crate::replay::proved::form::{Options, Version};
 use rapidhash::key::{Field, rapidhash_v3_key, rapidhash_v3_key_seeded};
-
-/// The columns of a file of keys.
-pub const COLUMNS: &str = "key\tsecrets\texpected";
 
 /// A field whose bytes are its own.
 #[derive(Clone, Debug)]
@@ -58,17 +55,11 @@ impl Part {
     }
 }
 
-/// Replays the hash of a key.
-pub fn replay(line: &str) -> Result<Agreement> {
-    let columns: Vec<&str> = line.split("\t").collect();
-    let (key, rule, expected) = if let [key, rule, expected] = columns.as_slice() {
-        (key, rule, expected)
-    } else {
-        bail!("no three fields");
-    };
+/// Replays the hash of a key, whose fields are between spaces, or `()` for none.
+pub fn replay(rule: &str, key: &str, expected: u64) -> Result<Agreement> {
     let mut parts = Vec::new();
     let mut message = Vec::new();
-    for text in key.split_whitespace() {
+    for text in key.split_whitespace().filter(|text| *text != "()") {
         let part = Part::new(text)?;
         part.encode(&mut message)?;
         parts.push(part);
@@ -78,13 +69,12 @@ pub fn replay(line: &str) -> Result<Agreement> {
         fields.push(part.field());
     }
     let secrets = secrets_of(rule)?;
-    let expected = number(expected)?;
     let options = Options {
         avalanche: true,
         protected: false,
     };
     let v3 = Tested::Named(Version::V3);
-    let default = *rule != "default" || rapidhash_v3_key(fields.as_slice()) == expected;
+    let default = rule != "default" || rapidhash_v3_key(fields.as_slice()) == expected;
     let seeded = rapidhash_v3_key_seeded(fields.as_slice(), &secrets.seven);
     Ok(Agreement::new(
         defined(v3, options, &secrets, message.as_slice()) == expected,

@@ -9,9 +9,11 @@
 use crate::replay::kit::*;
 
 pub mod bulk;
+pub mod cases;
 pub mod compare;
 pub mod definitions;
 pub mod draws;
+pub mod forged;
 pub mod form;
 pub mod hashers;
 pub mod items;
@@ -34,19 +36,15 @@ use tally::{Agreement, Tally};
 pub fn replay_line(columns: &str, line: &str) -> Result<Agreement> {
     match columns {
         bulk::COLUMNS => bulk::replay(line),
+        cases::COLUMNS => cases::replay(line),
         bulk::MEMORY_COLUMNS => bulk::replay_memory(line),
         hashers::COLUMNS => hashers::replay(line),
-        keys::COLUMNS => keys::replay(line),
         readers::COLUMNS => readers::replay(line),
         streams::COLUMNS => streams::replay(line),
         streams::LANES_COLUMNS => streams::replay_with_lanes(line),
-        saved::COLUMNS => saved::replay(line),
-        seeds::COLUMNS => seeds::replay(line),
         seeds::RESEED_COLUMNS => seeds::replay_reseed(line),
         seeds::MADE_COLUMNS => seeds::replay_made(line),
         seeds::SOURCE_COLUMNS => seeds::replay_source(line),
-        shards::COLUMNS => shards::replay(line),
-        shards::FINGERPRINT_COLUMNS => shards::replay_fingerprint(line),
         draws::COLUMNS => draws::replay(line),
         draws::TIME_COLUMNS => draws::replay_time(line),
         draws::STEPS_COLUMNS => draws::replay_steps(line),

@@ -13,11 +13,8 @@ use crate::replay::proved::definitions::{
 use rapidhash::inner::{GlobalSecrets, SeedSource};
 use rapidhash::{v1, v2, v3};
 
-/// The columns of a file of secrets.
-pub const COLUMNS: &str = "form\tcall\tnumber\texpected";
-
-/// The columns of a file of V1's `reseed`.
-pub const RESEED_COLUMNS: &str = "number\texpected";
+/// The columns of a file of secrets that `reseed` makes of those of `seed`.
+pub const RESEED_COLUMNS: &str = "form\tnumber\texpected";
 
 /// The columns of a file of made secrets.
 pub const MADE_COLUMNS: &str = "random_word\texpected";
@@ -36,27 +33,27 @@ fn listed(seed: u64, secrets: &[u64]) -> Result<Vec<u64>, AllocError> {
 /// The results of the library's calls.
 fn made(form: &str, call: &str, number: u64) -> Result<Vec<u64>> {
     let seven = match (form, call) {
-        ("v1", "seed") => {
+        ("v1", "make") => {
             let made = v1::RapidSecrets::seed(number);
             return Ok(listed(made.seed, &made.secrets)?);
         }
-        ("v1", "seed_cpp") => {
+        ("v1", "word") => {
             let made = v1::RapidSecrets::seed_cpp(number);
             return Ok(listed(made.seed, &made.secrets)?);
         }
-        ("v1", "seed then reseed") => {
+        ("v1", "reseed") => {
             let made = v1::RapidSecrets::seed(number).reseed();
             return Ok(listed(made.seed, &made.secrets)?);
         }
-        ("v2", "seed") => v2::RapidSecrets::seed(number),
-        ("v2", "seed_cpp") => v2::RapidSecrets::seed_cpp(number),
-        ("v2", "seed then reseed") => v2::RapidSecrets::seed(number).reseed(),
-        ("v3", "seed") => v3::RapidSecrets::seed(number),
-        ("v3", "seed_cpp") => {
+        ("v2", "make") => v2::RapidSecrets::seed(number),
+        ("v2", "word") => v2::RapidSecrets::seed_cpp(number),
+        ("v2", "reseed") => v2::RapidSecrets::seed(number).reseed(),
+        ("v3", "make") => v3::RapidSecrets::seed(number),
+        ("v3", "word") => {
             let made = v3::RapidSecrets::seed_cpp(number);
             made
         }
-        ("v3", "seed then reseed") => v3::RapidSecrets::seed(number).reseed(),
+        ("v3", "reseed") => v3::RapidSecrets::seed(number).reseed(),
         _ => bail!("no call {call} of {form}"),
     };
     Ok(listed(seven.seed, &seven.secrets)?)
@@ -66,12 +63,12 @@ fn made(form: &str, call: &str, number: u64) -> Result<Vec<u64>> {
 fn defined(form: &str, call: &str, number: u64) -> Result<Vec<u64>, AllocError> {
     let default = v3::DEFAULT_RAPID_SECRETS.secrets;
     let (count, first, last) = if form == "v1" { (3, 0, 2) } else { (7, 2, 6) };
-    if call == "seed_cpp" {
+    if call == "word" {
         return listed(cpp_seeded(number, first), &default[..count]);
     }
     let seed = seeded(number);
     let mut words = Vec::new();
-    words.push(if call == "seed" {
+    words.push(if call == "make" {
         seed
     } else {
         reseeded(seed, last)
@@ -96,26 +93,25 @@ pub fn agreement(expected: &[u64], defined: &[u64], made: &[u64]) -> Agreement {
     Agreement::new(defined == expected, made == expected)
 }
 
-/// Replays a call that makes secrets of a number.
-pub fn replay(line: &str) -> Result<Agreement> {
-    let fields: Vec<&str> = line.split("\t").collect();
-    let (form, call, of, expected) = if let [form, call, of, expected] = fields.as_slice() {
-        (form, call, of, expected)
+/// Replays the rule of secrets: `make:K` or `word:K`.
+pub fn replay(form: &str, rule: &str, expected: &str) -> Result<Agreement> {
+    let (call, of) = if let Some((call, of)) = rule.split_once(":") {
+        (call, of)
     } else {
-        bail!("no four fields");
+        bail!("no secrets by the rule {rule}");
     };
     compare(form, call, of, expected)
 }
 
-/// Replays V1's `reseed`.
+/// Replays `reseed`.
 pub fn replay_reseed(line: &str) -> Result<Agreement> {
     let fields: Vec<&str> = line.split("\t").collect();
-    let (of, expected) = if let [of, expected] = fields.as_slice() {
-        (of, expected)
+    let (form, of, expected) = if let [form, of, expected] = fields.as_slice() {
+        (form, of, expected)
     } else {
-        bail!("no two fields");
+        bail!("no three fields");
     };
-    compare("v1", "seed then reseed", of, expected)
+    compare(form, "reseed", of, expected)
 }
 
 fn compare(form: &str, call: &str, of: &str, expected: &str) -> Result<Agreement> {

@@ -9,68 +9,44 @@ use super::tally::Agreement;
 use rapidhash::fingerprints::{add, fingerprint, remove};
 use rapidhash::shards::{bucket, first_hash, shard};
 
-/// The columns of a file of shards: the shard, its first hash, and the bucket, or `-` above 2^32.
-pub const COLUMNS: &str = "hash\tcount\texpected";
-
-/// The columns of a file of fingerprints.
-pub const FINGERPRINT_COLUMNS: &str = "hashes\texpected";
-
 /// Returns the agreement of the library alone: the definitions are these calls.
 fn of_body(agrees: bool) -> Agreement {
-    Agreement {
-        definition: None,
-        words: None,
-        body: Some(agrees),
-        compact: None,
-        steps: None,
+    let mut agreement = Agreement::none();
+    agreement.body = Some(agrees);
+    agreement
+}
+
+/// Returns what a call returns for two numbers, unless they are outside its preconditions.
+fn called(kind: &str, first: u64, count: u64) -> Option<u64> {
+    match kind {
+        "shard" if count > 0 => Some(shard(first, count)),
+        "first_hash" if first < count => Some(first_hash(first, count)),
+        "bucket" if count > 0 => Some(u64::from(bucket(first, u32::try_from(count).ok()?))),
+        _ => None,
     }
 }
 
-/// Returns whether the bucket is the one in a text.
-fn is_bucket(hash: u64, count: u64, text: &str) -> Result<bool> {
-    match u32::try_from(count) {
-        Ok(count) if count > 0 => Ok(number(text)? == u64::from(bucket(hash, count))),
-        _ => Ok(text == "-"),
-    }
-}
-
-/// Replays the shard and the bucket of a hash.
-pub fn replay(line: &str) -> Result<Agreement> {
-    let columns: Vec<&str> = line.split("\t").collect();
-    let (hash, count, expected) = if let [hash, count, expected] = columns.as_slice() {
-        (hash, count, expected)
+/// Replays a shard, the first hash of a shard, or a bucket.
+pub fn replay(kind: &str, argument: &str, value: &str) -> Result<Agreement> {
+    let words: Vec<&str> = argument.split(" ").collect();
+    let (first, count) = if let [first, count] = words.as_slice() {
+        (first, count)
     } else {
-        bail!("no three fields");
+        bail!("no two numbers");
     };
-    let (hash, count) = (number(hash)?, number(count)?);
-    let numbers: Vec<&str> = expected.split(" ").collect();
-    let (own, first, bucket) = if let [own, first, bucket] = numbers.as_slice() {
-        (own, first, bucket)
-    } else {
-        bail!("no three numbers");
-    };
-    if count == 0 {
-        bail!("a count of 0");
-    }
-    let found = shard(hash, count);
     Ok(of_body(
-        number(own)? == found
-            && number(first)? == first_hash(found, count)
-            && is_bucket(hash, count, bucket)?,
+        match called(kind, number(first)?, number(count)?) {
+            Some(found) => found == number(value)?,
+            None => value == "refused",
+        },
     ))
 }
 
 /// Replays the fingerprint of hashes, also hash by hash.
-pub fn replay_fingerprint(line: &str) -> Result<Agreement> {
-    let columns: Vec<&str> = line.split("\t").collect();
-    let (texts, expected) = if let [texts, expected] = columns.as_slice() {
-        (texts, expected)
-    } else {
-        bail!("no two fields");
-    };
+pub fn replay_fingerprint(argument: &str, expected: u64) -> Result<Agreement> {
     let mut hashes = Vec::new();
     let mut sum = 0u64;
-    for text in texts.split_whitespace() {
+    for text in argument.split_whitespace().filter(|text| *text != "-") {
         let hash = number(text)?;
         hashes.push(hash);
         sum = add(sum, hash);
@@ -79,5 +55,5 @@ pub fn replay_fingerprint(line: &str) -> Result<Agreement> {
     for hash in &hashes {
         sum = remove(sum, *hash);
     }
-    Ok(of_body(number(expected)? == whole && sum == 0))
+    Ok(of_body(expected == whole && sum == 0))
 }
