@@ -93,11 +93,6 @@ copy_sources() {
   mkdir "$1" && (cd "$top" && git ls-files -z | xargs -0 cp --parents -t "$1")
 }
 
-# Writes rapidhash_vectors.tsv, the vectors of all packages: DIRECTORY
-write_vectors() {
-  python3 "$top/scripts/vectors.py" "$top/crates/test_replay/data" >"$1/rapidhash_vectors.tsv"
-}
-
 # Builds a C program of every call with the flags from pkg-config and runs it with the shared library. In the flags, a
 # backslash escapes a character for the shell: LIBRARY-DIRECTORY
 builds_by_pkg_config() {
@@ -111,8 +106,7 @@ builds_by_pkg_config() {
 # Checks that C and C++ programs find an installed library with CMake and use it as shared library, archive, and header:
 # PREFIX
 builds_by_cmake() {
-  write_vectors "$room" && cmake -S "$top/packages/c/tests/cmake" -B "$room/cmake" -D CMAKE_PREFIX_PATH="$1" \
-    -D VECTORS="$room/rapidhash_vectors.tsv" &&
+  cmake -S "$top/packages/c/tests/cmake" -B "$room/cmake" -D CMAKE_PREFIX_PATH="$1" &&
     grep "^rapidhash_c_DIR:PATH=$1/" "$room/cmake/CMakeCache.txt" &&
     cmake -S "$top/packages/c/tests/cmake" -B "$room/beside" -D CMAKE_PREFIX_PATH="$1" -D BESIDE="$top/packages/c" &&
     cmake --build "$room/cmake" && (cd "$room/cmake" && ctest | tee /dev/stderr | grep '100%.* out of 6$')

@@ -1,4 +1,5 @@
 #!/usr/bin/env bash
+# reads: .ci tests
 # Tests what judges the cases: tests/cases.sh, tests/cases.py, tests/release/must_fail.py, and .ci/run. Each must report
 # every failure.
 . "$(dirname "$0")/cases.sh"
@@ -110,7 +111,7 @@ for bad in 'touch "$top"/{LICENSE-{MIT,APACHE},NOTICE} LICENSE-{MIT,APACHE}; try
   "commands='echo 1 # YERVOUND'; $page; try bad works_as_its_page_says \$PWD/page" \
   "commands='rt; echo $hello # YERVOUND'; $page; try bad works_as_its_page_says \$PWD/page" \
   "commands='echo $hello # YERVOUND'; $page; echo >\$top/docs/BINDINGS.md; try bad works_as_its_page_says \$PWD/page" \
-  'write_vectors() { :; }; cmake() { mkdir -p "$room/cmake" && echo "rapidhash_c_DIR:PATH=a/" >"$room/cmake/CMakeCache.txt"; }
+  'cmake() { mkdir -p "$room/cmake" && echo "rapidhash_c_DIR:PATH=a/" >"$room/cmake/CMakeCache.txt"; }
   ctest() { echo "100% tests passed, 0 tests failed out of 5"; }; try bad builds_by_cmake a'; do
   try "a_failure_of ${bad:0:60}" ends 1 $'not ok - bad\n1..1' "$start; $bad; finish"
 done

@@ -21,7 +21,6 @@ dist:
 	install -m 644 packages/archive/README.md build/$(name)/README.md
 	$(if $(unpacked),printf '\nLeft out because the tools to build them were missing: %s\n' '$(unpacked)' | \
 	  tee -a build/$(name)/README.md >&2)
-	install -m 644 packages/c/tests/c_library.c build/$(name)/check_vectors.c
-	python3 scripts/vectors.py crates/test_replay/data >build/$(name)/rapidhash_vectors.tsv
+	install -m 644 packages/c/tests/cases.c crates/test_replay/data/cases.tsv build/$(name)
 	umask 022 && tar -C build --mode=$(readable) -czf build/$(name).tar.gz $(name)
 	rm -rf build/$(name)

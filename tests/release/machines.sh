@@ -153,11 +153,10 @@ has_the_tools() {
 
 # Compares the values of the C header on a machine, with the compiler in `cc` and the emulator in `run`: [OPTION]
 has_the_values() {
-  "${cc[@]}" -O2 ${1:+"$1"} -I"$top/packages/c/include" "$top/packages/c/tests/c_library.c" -o "$room/$name.c" &&
-    "${run[@]}" "$room/$name.c" "$room/vectors" "$top/crates/test_replay/data/secrets.tsv"
+  "${cc[@]}" -O2 ${1:+"$1"} -I"$top/packages/c/include" "$top/packages/c/tests/cases.c" -o "$room/$name.c" &&
+    "${run[@]}" "$room/$name.c" <"$top/crates/test_replay/data/cases.tsv"
 }
 
-python3 "$top/scripts/vectors.py" "$top/crates/test_replay/data" >"$room/vectors"
 fetch_compiler >"$room/compiler.log" 2>&1 && touch "$room/compiler"
 for row in "${machines[@]}"; do
   while [ "$(jobs -rp | wc -l)" -ge "$jobs" ]; do wait -n; done

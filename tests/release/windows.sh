@@ -5,10 +5,6 @@
 # libstd-rust-dev-windows, cargo and golang-go.
 . "$(dirname "$0")/../cases.sh"
 tests=$top/packages/c/tests
-secrets=$top/crates/test_replay/data/secrets.tsv
-keys=$top/crates/test_replay/data/keys.tsv
-saved=$top/crates/test_replay/data/saved.tsv
-shards=$top/crates/test_replay/data/shards.tsv
 rust=$room/rust/x86_64-pc-windows-gnu/release
 wine=/usr/lib/wine/wine64
 export WINEPREFIX=$room/prefix WINEDEBUG=-all LC_ALL=C.UTF-8
@@ -39,13 +35,11 @@ build_by_msvc() {
 
 # Runs a program of the header with all vectors, and the properties: ARGUMENT..
 has_the_values() {
-  build "$@" -DIS_FAST=0 "$tests/c_library.c" -o "$room/values.exe" &&
-    "$wine" "$room/values.exe" "$room/rapidhash_vectors.tsv" "$secrets" &&
+  build "$@" "$tests/c_library.c" -o "$room/values.exe" && "$wine" "$room/values.exe" &&
+    build "$@" -DIS_FAST=0 "$tests/cases.c" -o "$room/cases.exe" &&
+    "$wine" "$room/cases.exe" <"$top/crates/test_replay/data/cases.tsv" &&
     build "$@" "$tests/properties.c" -o "$room/properties.exe" &&
-    "$wine" "$room/properties.exe" product && "$wine" "$room/properties.exe" streams &&
-    build "$@" "$tests/keys.c" -o "$room/keys.exe" && "$wine" "$room/keys.exe" <"$keys" &&
-    build "$@" "$tests/saved.c" -o "$room/saved.exe" && "$wine" "$room/saved.exe" <"$saved" &&
-    build "$@" "$tests/shards.c" -o "$room/shards.exe" && "$wine" "$room/shards.exe" <"$shards"
+    "$wine" "$room/properties.exe" product && "$wine" "$room/properties.exe" streams
 }
 
 # The same with the object that clang compiled, whose loads, product and shard have other names.
@@ -65,9 +59,7 @@ compiles_by_msvc() {
 passes_go() {
   cd "$top/packages/go" &&
     GOOS=windows GOARCH=amd64 CGO_ENABLED=0 GOCACHE=$room/go GOPROXY=off go test -c -o "$room/go.exe" . &&
-    RAPIDHASH_VECTORS=$room/rapidhash_vectors.tsv RAPIDHASH_SECRETS=$secrets RAPIDHASH_KEYS=$keys \
-      RAPIDHASH_SAVED=$saved \
-      "$wine" "$room/go.exe" -test.v -test.timeout 0 >"$room/go.log" &&
+    "$wine" "$room/go.exe" -test.v -test.timeout 0 >"$room/go.log" &&
     grep '^PASS' "$room/go.log" && ! grep -e '--- SKIP' "$room/go.log"
 }
 
@@ -122,7 +114,6 @@ names_what_is_refused() {
 
 has x86_64-w64-mingw32-gcc || skip_all 'no x86_64-w64-mingw32-gcc (gcc-mingw-w64-x86-64)'
 has "$wine" || skip_all "no $wine (wine64)"
-prepare_by write_vectors "$room"
 try windows_c has_the_values
 try_with windows_c_msvc clang has_the_values_by_msvc
 try_with windows_c_msvc_arm64 'clang llvm-objdump' compiles_by_msvc aarch64 umulh

@@ -1,4 +1,5 @@
 #!/usr/bin/env bash
+# reads: packages Makefile scripts docs
 # Builds the archive for users without the kit, unpacks it in a temporary directory, and uses its contents. Without the
 # kit, make must refuse to build it.
 . "$(dirname "$0")/../../../tests/cases.sh"
@@ -12,27 +13,15 @@ makes_the_archive() {
     has_the_licences "$room/unpacked"
 }
 
-# Compiles the check of the library and runs it with a vector file, with the command on the archive's page: FILE
-checks_vectors() {
-  (cd "$room/unpacked" && blocks README.md sh check_vectors | sed -n "s|rapidhash_vectors.tsv|'$1'|p" >../commands &&
+# Compiles the check of the library and replays a file of cases, with the command on the archive's page: FILE
+replays() {
+  (cd "$room/unpacked" && blocks README.md sh cases.c | sed -n "s|cases.tsv|'$1'|p" >../commands &&
     [ -s ../commands ] && bash -e ../commands)
 }
 
-# Checks that every case of the vector file agrees. Each of the eight calls has 445 cases up to 8193 bytes.
-agrees_with_the_vectors() {
-  checks_vectors "$room/unpacked/rapidhash_vectors.tsv" &&
-    awk -F '\t' '
-      /^#/ || $4 == "hash" || $3 ~ /^zeros/ { next }
-      { cases[$1]++ }
-      length($3) / 2 > longest[$1] { longest[$1] = length($3) / 2 }
-      END { for (call in cases) full += cases[call] == 445 && longest[call] == 8193; exit full != 8 }
-    ' "$room/unpacked/rapidhash_vectors.tsv"
-}
-
 # Checks that the program reports a wrong hash in the file.
-tells_a_wrong_vector() {
-  sed '$ s/[0-8]$/9/; t; $ s/9$/8/' "$room/unpacked/rapidhash_vectors.tsv" >"$room/turned" &&
-    ! checks_vectors "$room/turned"
+tells_a_wrong_case() {
+  sed '$ s/[0-8]$/9/; t; $ s/9$/8/' "$room/unpacked/cases.tsv" >"$room/turned" && ! replays "$room/turned"
 }
 
 # Checks that a program finds the Rust crate in the unpacked archive.
@@ -184,8 +173,8 @@ try archive makes_the_archive
 try results_of_make has_what_make_builds
 try_with names_of_the_page 'sqlite3 /usr/include/sqlite3.h /usr/lib/python3/dist-packages/pip' has_what_its_page_names
 try program prints_the_known_hash "$room/unpacked"
-try vectors agrees_with_the_vectors
-try wrong_vector tells_a_wrong_vector
+try cases replays "$room/unpacked/cases.tsv"
+try wrong_case tells_a_wrong_case
 # The files for pkg-config and CMake find the library in the unpacked archive.
 try library builds_by_pkg_config "$room/unpacked/lib"
 try_with cmake cmake builds_by_cmake "$room/unpacked"

@@ -1,11 +1,12 @@
 #!/usr/bin/env bash
+# reads: packages/c packages/rust crates docs/C.md docs/CPP.md Makefile
 # Tests the header by each compiler, standard and option with all vectors; the libraries that the kit and cc build, and
 # their names; the manual; and the hashes beside those of the Rust crate. Without the kit, the library is cc's alone.
 . "$(dirname "$0")/../../../tests/cases.sh"
 include=$top/packages/c/include
 header=$include/rapidhash_c.h
 tests=$top/packages/c/tests
-vectors=("$room/rapidhash_vectors.tsv" "$top/crates/test_replay/data/secrets.tsv")
+cases_of_all=$top/crates/test_replay/data/cases.tsv
 
 # Begins a long command, which runs beside the cases, in a directory of its own with the files so far: NAME COMMAND..
 declare -A begun
@@ -24,11 +25,17 @@ ended() {
   return "$status"
 }
 
-# Compiles a program of every call, with an archive if `linked` names one, and compares its values with the vectors. A
-# second file of the program includes the header too: COMPILER ARGUMENT..
+# Compiles a program of every call, with an archive if `linked` names one, and compares its values with known ones. A
+# second file of the program includes the header too. Then replays the cases: COMPILER ARGUMENT..
 has_the_values() {
   "$@" "-I$include" "$tests/c_library.c" "$room/second.c" ${linked:+-x none "$linked"} \
-    -o "$room/c_library" && "$room/c_library" "${vectors[@]}"
+    -o "$room/c_library" && "$room/c_library" && replays cases.c "$@"
+}
+
+# Compiles a program that replays the cases, and runs it, perhaps under the program in `under`: SOURCE COMPILER ARGUMENT..
+replays() {
+  "${@:2}" "-I$include" "$tests/$1" ${linked:+-x none "$linked"} -o "$room/replay" &&
+    ${under-} "$room/replay" <"$cases_of_all"
 }
 
 # Prints the names that the header declares but does not define if a program links the library.
@@ -78,44 +85,17 @@ has_the_properties() {
   done
 }
 
-# Compares the hashes of keys, or saved streams, with those of a file: SOURCE FILE COMPILER ARGUMENT..
-has_those_of() {
-  "${@:3}" -Wall -Wextra -Werror "-I$include" "$tests/$1" ${linked:+"$linked"} -o "$room/of_a_file" &&
-    ${under-} "$room/of_a_file" <"$top/crates/test_replay/data/$2.tsv"
-}
-
-# Compares what hashes decide, by each path of the product and as declarations without a library: COMPILER ARGUMENT..
-decides_by_each_path() {
-  local options name
-  for options in -DRAPIDHASH_NO_INT128 -DRAPIDHASH_LINK "-U__SIZEOF_INT128__ -D_MSC_VER=1930 -D_M_X64 -I$tests/msvc" \
-    "-U__SIZEOF_INT128__ -D_MSC_VER=1930 -D_M_ARM64 -I$tests/msvc"; do
-    for name in shards fingerprints; do
-      # shellcheck disable=SC2086 # These are several arguments.
-      has_those_of shards.c "$name" "$@" $options || { echo "$options" && return 1; }
-    done
-  done
-}
-
-# Compares what hashes decide by the C++ header, from C++14 on also as constants: COMPILER
-decides_in_cpp() {
-  local standard name
-  for standard in c++11 c++14 c++20; do
-    for name in shards fingerprints; do
-      has_those_of shards.c "$name" "$1" -x c++ "-std=$standard" -O2 -Wpedantic -Wconversion || return 1
-    done
-  done
-}
-
 # Compiles such a program with the archive, whose code it must contain: COMPILER ARGUMENT..
 calls_from_c() {
   linked=$archive has_the_values "$@" -DRAPIDHASH_LINK -O2 -Wall -Wextra -Werror &&
     nm --defined-only "$room/c_library" | grep ' T rapidhash_v3$'
 }
 
-# Tests the whole C++ header with the vectors, in a program without exceptions: COMPILER STANDARD ARGUMENT..
+# Tests the whole C++ header and replays the cases, in programs without exceptions: COMPILER STANDARD ARGUMENT..
 calls_from_cpp() {
-  "$1" "-std=$2" "${@:3}" -O2 -Wall -Wextra -Wpedantic -Werror -fno-exceptions "-I$include" "$tests"/cpp_*.cpp \
-    -o "$room/cpp_header" && "$room/cpp_header" "$room/rapidhash_vectors.tsv"
+  local build=("$1" "-std=$2" "${@:3}" -O2 -Wall -Wextra -Wpedantic -Wconversion -Werror -fno-exceptions)
+  "${build[@]}" "-I$include" "$tests"/cpp_*.cpp -o "$room/cpp_header" && "$room/cpp_header" &&
+    replays cases.cpp "${build[@]}"
 }
 
 # Checks the names that a shared library of the header exports: all with -fvisibility=hidden, and none of them with a
@@ -125,7 +105,7 @@ is_as_visible_as_asked() {
   "${build[@]}" -fvisibility=hidden && defines_the_header '' -D "$room/visible.so" &&
     "${build[@]}" '-DRAPIDHASH_API=__attribute__((visibility("hidden")))' &&
     ! nm -D --defined-only "$room/visible.so" | grep rapidhash &&
-    "$1" -std=c99 -O0 "-I$include" -c "$tests/keys.c" -o "$room/inlined.o" && nm "$room/inlined.o" | grep ' t rapidhash_' &&
+    "$1" -std=c99 -O0 "-I$include" -c "$tests/cases.c" -o "$room/inlined.o" && nm "$room/inlined.o" | grep ' t rapidhash_' &&
     ! nm --extern-only --defined-only "$room/inlined.o" | grep rapidhash_ &&
     [ "$("$1" -E -P -DRAPIDHASH_DLL -DRAPIDHASH_LINK "$header" | grep -c '__declspec(dllimport).* rapidhash_')" -gt 20 ] &&
     [ "$("$1" -E -P -DRAPIDHASH_DLL -DRAPIDHASH_IMPLEMENTATION "$header" | grep -c '__declspec(dllexport).* rapidhash_')" -gt 20 ]
@@ -500,12 +480,10 @@ test_library() {
   try_with "$1names_of_the_shared_library" "$2" defines_the_header @@RAPIDHASH_1 -D "$shared"
   try_with "$1archive" "$2" calls_from_c cc -std=c99
   try_with "$1cpp_archive" "$2 c++" calls_from_c c++ -x c++ -DIS_FAST=0
-  linked=$archive try_with "$1saved_streams" "$2" has_those_of saved.c saved cc -DRAPIDHASH_LINK -O2
   try_with "$1random_messages" "$2 cargo rustc" random_messages
   try_with "$1code_and_data" "$2" keeps_code_and_data_apart
 }
 
-prepare_by write_vectors "$room"
 echo '#include <rapidhash_c.h>' >"$room/second.c"
 multilib='/usr/lib/gcc/x86_64-linux-gnu/*/32'
 fuzzer='/usr/lib/llvm-*/lib/clang/*/lib/linux/libclang_rt.fuzzer-x86_64.a'
@@ -557,20 +535,14 @@ try_with properties_32_bits "gcc $multilib/libgcc.a" has_the_properties "$both" 
 for machine in _M_X64 _M_ARM64; do
   try_with "properties_msvc$machine" gcc has_the_properties "$both" gcc -O2 -U__SIZEOF_INT128__ -D_MSC_VER=1930 \
     "-D$machine" "-I$tests/msvc"
+  try_with "replay_msvc$machine" gcc replays cases.c gcc -O2 -DIS_FAST=0 -U__SIZEOF_INT128__ -D_MSC_VER=1930 \
+    "-D$machine" "-I$tests/msvc"
 done
 s390x='clang s390x-linux-gnu-ld /usr/lib/gcc-cross/s390x-linux-gnu/*/libgcc.a /usr/s390x-linux-gnu/include/stdio.h'
 under=qemu-s390x try_with properties_s390x "$s390x qemu-s390x" \
   has_the_properties "$both" clang --target=s390x-linux-gnu -static -O2
-for name in keys saved shards fingerprints; do
-  source=${name/fingerprints/shards}.c
-  try "$name" has_those_of "$source" "$name" cc -std=c99 -O2
-  try_with "${name}_32_bits" "gcc $multilib/libgcc.a" has_those_of "$source" "$name" gcc -m32 -O2
-  under=qemu-s390x try_with "${name}_s390x" "$s390x qemu-s390x" has_those_of "$source" "$name" \
-    clang --target=s390x-linux-gnu -static -O2
-done
-try_with shards_by_each_path gcc decides_by_each_path gcc -O2
-for compiler in g++ clang++; do try_with "shards_$compiler" "$compiler" decides_in_cpp "$compiler"; done
-try_with cpp_saved c++ has_those_of saved.cpp saved c++ -std=c++11 -fno-exceptions -O2
+under=qemu-s390x try_with replay_s390x "$s390x qemu-s390x" \
+  replays cases.c clang --target=s390x-linux-gnu -static -O2 -DIS_FAST=0
 under='valgrind -q --error-exitcode=9' try_with content 'valgrind /usr/include/valgrind/memcheck.h' \
   has_the_properties content cc -O2 -DTEST_CONTENT
 # Without optimization each branch of the source is one, also where the compiler would have found code without it.

@@ -1,7 +1,6 @@
-/* Calls every function of the C library and compares the results with those of the Rust crate rapidhash 4.5.1. Also
- * compares the values of two files, the arguments: one that scripts/vectors.py wrote, and the file of secrets in
- * crates/test_replay/data. Prints each value that differs. The last line counts the values, and the exit status is 1 if
- * one differs. */
+/* Calls every function of the C library and compares the results with those of the Rust crate rapidhash 4.5.1: cases.c
+ * has more values. Prints each value that differs. The last line counts the values, and the exit status is 1 if one
+ * differs. */
 #include <inttypes.h>
 #include <stdio.h>
 #include <stdlib.h>
@@ -205,155 +204,7 @@ static void check_canonical(void)
     compare("canonical bytes", "read", rapidhash_from_canonical(known), 0xf01ed23cb45a9678u);
 }
 
-/* The cases of each version, and of others. */
-static int cases_of[FORMS + 1];
-
-/* Without optimizations, most versions take a minute for a message above 4 GiB, and V3 alone hashes one. */
-#ifndef IS_FAST
-#ifdef __OPTIMIZE__
-#define IS_FAST 1
-#else
-#define IS_FAST 0
-#endif
-#endif
-
-/* Compares a key of bytes, in a stream, with its encoding: a tag, the length as 8 bytes, and the bytes. */
-static void check_key(const void *message, size_t len, struct rapidhash_stream *stream)
-{
-    unsigned char head[9] = {2};
-    uint64_t known;
-    int at;
-
-    for (at = 1; at < 9; at++)
-        head[at] = (unsigned char)((uint64_t)len >> (8 * at - 8) & 255);
-    rapidhash_stream_reset(stream);
-    rapidhash_stream_write(stream, head, sizeof head);
-    rapidhash_stream_write(stream, message, len);
-    known = rapidhash_stream_finish(stream);
-    rapidhash_stream_reset(stream);
-    rapidhash_key_bytes(stream, message, len);
-    compare("key", "of bytes", rapidhash_stream_finish(stream), known);
-}
-
-/* Compares the hash of a single piece that a stream of a version gets, if it has streams. */
-static void check_piece(const char *name, const void *message, size_t len, uint64_t known)
-{
-    struct rapidhash_secrets secrets;
-    struct rapidhash_stream stream;
-    size_t i;
-
-    rapidhash_seed_secrets(0, &secrets);
-    for (i = 0; i < STREAMS; i++) {
-        if (strcmp(stream_forms[i].name, name) != 0)
-            continue;
-        stream_forms[i].start(&stream, &secrets);
-        rapidhash_stream_write(&stream, message, len);
-        compare(name, "in one piece", rapidhash_stream_finish(&stream), known);
-        if (strcmp(name, "v3") == 0)
-            check_key(message, len, &stream);
-    }
-}
-
-/* Compares the hashes of a case by its form and by the rule of its secrets: those by default also by its other calls,
- * above 4 GiB in V3 alone. */
-static void check_case(const char *name, const char *rule, const void *message, size_t len, uint64_t known)
-{
-    const char *at = strchr(rule, ':');
-    const bool is_default = strcmp(rule, "default") == 0;
-    const struct form *form = forms;
-    uint64_t words[8] = {0};
-    size_t i;
-
-    while (form < forms + FORMS && strcmp(form->name, name) != 0)
-        form++;
-    cases_of[form - forms]++;
-    if (form == forms + FORMS)
-        return;
-    for (i = 0; at != NULL && i < 8; i++) {
-        words[i] = strtoull(at + 1, NULL, 10);
-        at = strchr(at + 1, ',');
-    }
-    if (is_default) {
-        compare(name, rule, form->hash(message, len), known);
-        words[0] = form->is_v1 ? 0xbdd89aa982704029u : 0;
-        if (len <= sizeof large || (IS_FAST && strcmp(name, "v3") == 0))
-            check_piece(name, message, len, known);
-        if (len > sizeof large && (!IS_FAST || strcmp(name, "v3") != 0))
-            return;
-    }
-    if (is_default || strncmp(rule, "word:", 5) == 0)
-        compare(name, rule, form->with_seed(message, len, words[0]), known);
-    if (strncmp(rule, "own:", 4) != 0)
-        derive(form->is_v1, strncmp(rule, "make:", 5) == 0, words[0], words);
-    compare(name, rule, form->seeded(message, len, words), known);
-}
-
-/* Compares the cases of a file. Each message is in memory of its length, so that a tool sees each read past its end.
- * Bytes of 0 that nobody writes need no memory. */
-static void check_vectors(const char *path)
-{
-    static char line[20000], name[20], secrets[200], digits[17000];
-    uint64_t known, cases = 0;
-    size_t i;
-    FILE *const file = fopen(path, "r");
-
-    while (file != NULL && fgets(line, sizeof line, file) != NULL) {
-        unsigned long long len;
-        unsigned char *message;
-        unsigned byte;
-
-        if (line[0] == '#' || sscanf(line, "%19s %199s %16999s %" SCNu64, name, secrets, digits, &known) != 4)
-            continue;
-        cases++;
-        if (sscanf(digits, "zeros:%llu", &len) != 1)
-            len = strlen(digits) / 2;
-        message = NULL;
-        if (len <= SIZE_MAX && (IS_FAST || len < sizeof line || strcmp(name, "v3") == 0))
-            message = (unsigned char *)calloc((size_t)len, 1);
-        if (message == NULL && len > 0) {
-            printf("skipped %s of %s: no memory or no time for it\n", name, digits);
-            continue;
-        }
-        for (i = 0; sscanf(digits + 2 * i, "%2x", &byte) == 1; i++)
-            message[i] = (unsigned char)byte;
-        check_case(name, secrets, message, (size_t)len, known);
-        free(message);
-    }
-    compare(path, "cases", cases, 3568);
-    for (i = 0; i <= FORMS; i++)
-        compare(path, "cases of each version and of no other", cases_of[i] > 0, i < FORMS);
-    if (file != NULL)
-        fclose(file);
-}
-
-/* Compares the seed and secrets of each case of a file that the library has a call for. */
-static void check_file_of_secrets(const char *path)
-{
-    static char line[500], call[24];
-    uint64_t number, cases = 0;
-    FILE *const file = fopen(path, "r");
-
-    while (file != NULL && fgets(line, sizeof line, file) != NULL) {
-        const bool is_v1 = strncmp(line, "v1", 2) == 0;
-        uint64_t words[8];
-        char *text;
-        int i, read = 0;
-
-        if (sscanf(line, "%*[^\t]\t%23[^\t]\t%" SCNu64 "%n", call, &number, &read) != 2
-            || (strcmp(call, "seed") != 0 && strcmp(call, "seed_cpp") != 0))
-            continue;
-        derive(is_v1, strcmp(call, "seed") == 0, number, words);
-        text = line + read;
-        for (i = 0; i < (is_v1 ? 4 : 8); i++)
-            compare("secrets", line, words[i], strtoull(text, &text, 10));
-        cases++;
-    }
-    compare(path, "cases", cases, 411);
-    if (file != NULL)
-        fclose(file);
-}
-
-int main(int count, char **words)
+int main(void)
 {
     size_t i;
 
@@ -374,10 +225,6 @@ int main(int count, char **words)
     check_hashes_of_large();
     check_copied_bytes();
     check_canonical();
-    if (count > 1)
-        check_vectors(words[1]);
-    if (count > 2)
-        check_file_of_secrets(words[2]);
     printf("%d passed, %d failed\n", passed, failed);
     return failed != 0;
 }

@@ -1,5 +1,5 @@
 /* Checks keys and hashers of rapidhash.hpp by fields of each type. This is a file of the program of cpp_header.cpp. The
- * values are those of tests/model.py; some are in crates/test_replay/data/keys.tsv too. */
+ * values are those of tests/model.py; some are in crates/test_replay/data/cases.tsv too. */
 #include <rapidhash.hpp>
 
 #include <array>

@@ -1,4 +1,5 @@
 #!/usr/bin/env bash
+# reads: packages Makefile scripts/install
 # Builds the Debian packages. Installs, uses, and removes them in a root that contains only the C library. It is skipped
 # if not run as root, or without the programs that build and check packages.
 . "$(dirname "$0")/../../../tests/cases.sh"
@@ -29,7 +30,7 @@ packs_readable_sources() (
 # Checks that a builder who asks for no tests runs none.
 builds_without_tests() {
   local tested="make -sn -f debian/rules override_dh_auto_test"
-  cd "$packages/source" && $tested | grep c_library && [ -z "$(DEB_BUILD_OPTIONS=nocheck $tested)" ]
+  cd "$packages/source" && $tested | grep cases.tsv && [ -z "$(DEB_BUILD_OPTIONS=nocheck $tested)" ]
 }
 
 # Runs dpkg in the root with all packed files, even those that the machine omits from its own packages: ARGUMENT..
