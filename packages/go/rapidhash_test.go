@@ -25,37 +25,6 @@ func compare(t *testing.T, name string, value, known uint64) {
 	}
 }
 
-func TestDefaultSecrets(t *testing.T) {
-	for name, call := range calls {
-		compare(t, name, call.Sum64(data()[:call.size]), call.known)
-	}
-	compare(t, "v1 of a line", V1.Sum64([]byte("something\n")), 15965596575264898037)
-	compare(t, "v3 of nothing", V3.Sum64(nil), 232177599295442350)
-	compare(t, "Sum64", Sum64(data()), 7088138960297660729)
-	compare(t, "Sum64String", Sum64String(string(data())), 7088138960297660729)
-	stream := New()
-	stream.Write(data())
-	compare(t, "New", stream.Sum64(), 7088138960297660729)
-}
-
-func TestUnevenPieces(t *testing.T) {
-	for name, version := range streams {
-		stream, value := version.NewWithSecrets(&own), version.Sum64WithSecrets(data(), &own)
-		stream.Write(data()[:100])
-		stream.Reset()
-		rest := data()
-		for size := 1; len(rest) > 0; size++ {
-			if size > len(rest) {
-				size = len(rest)
-			}
-			stream.Write(rest[:size])
-			rest = rest[size:]
-		}
-		compare(t, name, stream.Sum64(), value)
-		compare(t, name+", the same again", stream.Sum64(), value)
-	}
-}
-
 // TestEqualStreams checks that streams of the same message are equal, so none keeps a pointer to its own secrets.
 func TestEqualStreams(t *testing.T) {
 	first, second := V3.NewWithSecrets(&own), V3.NewWithSecrets(&own)

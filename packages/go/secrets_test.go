@@ -1,9 +1,7 @@
 package rapidhash
 
 import (
-	"bufio"
 	"fmt"
-	"os"
 	"strings"
 	"testing"
 )
@@ -18,57 +16,6 @@ func TestDefaultSeeds(t *testing.T) {
 			t.Error("two calls share their secrets")
 		}
 	}
-}
-
-// TestKnownSecrets compares the secrets of the Rust crate, for numbers up to 2^64 - 1. RAPIDHASH_SECRETS names their
-// file: crates/test_replay/data/secrets.tsv.
-func TestKnownSecrets(t *testing.T) {
-	name, isNamed := os.LookupEnv("RAPIDHASH_SECRETS")
-	if !isNamed {
-		t.Skip("RAPIDHASH_SECRETS names no file")
-	}
-	file, err := os.Open(name)
-	if err != nil {
-		t.Fatal(err)
-	}
-	defer file.Close()
-	count := 0
-	for lines := bufio.NewScanner(file); lines.Scan(); {
-		words := strings.Split(lines.Text(), "\t")
-		var number uint64
-		if strings.HasPrefix(words[0], "#") || words[0] == "form" || words[1] == "seed then reseed" {
-			continue
-		}
-		if _, err := fmt.Sscan(words[2], &number); err != nil {
-			t.Fatal(err)
-		}
-		secrets, size := secretsOf(words[0], map[bool]string{true: "make"}[words[1] == "seed"], number), 7
-		if words[0] == "v1" {
-			size = 3
-		}
-		found := strings.Trim(fmt.Sprint(append([]uint64{secrets.Seed}, secrets.Secrets[:size]...)), "[]")
-		if found != words[3] {
-			t.Errorf("%s %s of %d: %s, and %s is known", words[0], words[1], number, found, words[3])
-		}
-		count++
-	}
-	if count < 360 {
-		t.Errorf("%d lines, and 360 are known", count)
-	}
-}
-
-// secretsOf returns the secrets of a version that MakeSecrets makes from a number, or else those of a seed word. V1 has the
-// first three.
-func secretsOf(version, rule string, number uint64) *Secrets {
-	secrets, secretsV1 := SeedSecrets(number), SeedSecretsV1(number)
-	if rule == "make" {
-		secrets, secretsV1 = MakeSecrets(number), MakeSecretsV1(number)
-	}
-	if version == "v1" {
-		secrets = &Secrets{Seed: secretsV1.Seed}
-		copy(secrets.Secrets[:], secretsV1.Secrets[:])
-	}
-	return secrets
 }
 
 // TestHiddenWords checks that fmt shows no word of secrets by any verb, also in values that hold them, and by those of %v

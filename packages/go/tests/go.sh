@@ -1,9 +1,8 @@
 #!/usr/bin/env bash
-# Tests the Go package over all vectors, also under emulation on other machines, and by the commands on its page.
+# reads: packages/go crates/test_replay/data docs/BINDINGS.md
+# Tests the Go package over all cases, also under emulation on other machines, and by the commands on its page.
 . "$(dirname "$0")/../../../tests/cases.sh"
 export GOCACHE=$room/go GOPROXY=off
-export RAPIDHASH_VECTORS=$room/rapidhash_vectors.tsv RAPIDHASH_SECRETS=$top/crates/test_replay/data/secrets.tsv
-export RAPIDHASH_KEYS=$top/crates/test_replay/data/keys.tsv RAPIDHASH_SAVED=$top/crates/test_replay/data/saved.tsv
 
 # Checks that an example, which go test runs, has each line of the page.
 runs_the_page() {
@@ -50,7 +49,7 @@ clones() {
     go test -tags go1.25 -overlay "$room/overlay" -run TestClone -v . | grep '^--- PASS: TestClone'
 }
 
-# Checks that all tests pass, of which none may skip itself: without their files, those of the vectors do.
+# Checks that all tests pass, of which none may skip itself.
 passes_every_test() {
   CGO_ENABLED=0 go test -v -timeout 0 -count 1 . >"$room/tests" 2>&1 || { grep -v '^ *\(=== \|--- PASS\)' "$room/tests" && return 1; }
   ! grep -A 1 -e '--- SKIP' "$room/tests"
@@ -58,7 +57,6 @@ passes_every_test() {
 
 needs go
 cd "$top/packages/go" || exit 1
-prepare_by write_vectors "$room"
 try licences has_the_licences .
 try version requires_the_go_of_the_page
 try layout bash -c '[ -z "$(gofmt -l .)" ]'
