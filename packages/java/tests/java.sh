@@ -1,4 +1,5 @@
 #!/usr/bin/env bash
+# reads: packages/java crates/test_replay/data scripts/java_buffers docs/BINDINGS.md
 # Builds the jar of the Java package with `make jar`, and tests it as a module, with JUnit over all vectors, and by the
 # commands on its page. Also compiles the program that computes formulas.
 . "$(dirname "$0")/../../../tests/cases.sh"
@@ -6,10 +7,6 @@ folder=$top/packages/java
 jar=$top/build/yervound-rapidhash-1.0.0.jar
 junit=/usr/share/java/junit4.jar:/usr/share/java/hamcrest.jar
 package=example.yervound.rapidhash
-export RAPIDHASH_VECTORS=$room/rapidhash_vectors.tsv RAPIDHASH_SECRETS=$top/crates/test_replay/data/secrets.tsv
-export RAPIDHASH_KEYS=$top/crates/test_replay/data/keys.tsv RAPIDHASH_SAVED=$top/crates/test_replay/data/saved.tsv
-export RAPIDHASH_SHARDS=$top/crates/test_replay/data/shards.tsv
-export RAPIDHASH_FINGERPRINTS=$top/crates/test_replay/data/fingerprints.tsv
 
 # Compiles all sources in directories, without a warning: OUTPUT CLASSPATH DIRECTORY..
 compile() {
@@ -57,10 +54,9 @@ JAVA
     [ "$(java -p "$jar:$room/module" -m first/first.First)" = 3327445792987248966 ]
 }
 
-# Tests the classes in the jar, where the encoding of texts is not UTF-8. Without the variables, tests would skip their
-# files: TEST
+# Tests the classes in the jar, where the encoding of texts is not UTF-8: TEST
 passes() {
-  [ "$(env | grep -c '^RAPIDHASH_')" -eq 6 ] &&
+  cd "$folder" &&
     java -ea -Dfile.encoding=US-ASCII -cp "$jar:$room/tests:$junit" org.junit.runner.JUnitCore "$package.$1"
 }
 
@@ -111,18 +107,18 @@ adds_the_later_product() {
     make -s -C "$room/later" later=99 jar 2>&1 | diff - <(echo "$said") &&
     ! jar -tf "$jar" | grep versions &&
     touch "$room/later/packages/java/pom.xml" && make -s -C "$room/later" later=17 jar &&
-    has_the_later_product "$jar" && passes VectorsTest
+    has_the_later_product "$jar" && passes CasesTest
 }
 
-# Builds and tests the package by Maven with Debian's plugins, offline and without the files of vectors: the six tests
-# that read one are skipped. The jar must have the values, and with the profile of later JDKs their class.
+# Builds and tests the package by Maven with Debian's plugins, offline, below the file of cases. No test may skip itself.
+# With the profile of later JDKs the jar must have their class.
 builds_by_maven() {
   local jar=$room/maven/target/yervound-rapidhash-1.0.0.jar
-  cp -rs /usr/share/maven-repo "$room/maven-repo" && cp -r "$folder" "$room/maven" && cd "$room/maven" &&
-    env -u RAPIDHASH_VECTORS -u RAPIDHASH_SECRETS -u RAPIDHASH_KEYS -u RAPIDHASH_SAVED -u RAPIDHASH_SHARDS \
-      -u RAPIDHASH_FINGERPRINTS mvn -o -B -Dmaven.repo.local="$room/maven-repo" package &&
+  cp -rs /usr/share/maven-repo "$room/maven-repo" && cp -r "$folder" "$room/maven" &&
+    install -D -t "$room/crates/test_replay/data" "$top/crates/test_replay/data/cases.tsv" && cd "$room/maven" &&
+    mvn -o -B -Dmaven.repo.local="$room/maven-repo" package &&
     [ "$(cat target/surefire-reports/*.xml | grep -c '<testcase ')" -eq "$(grep -rhE '^ *@Test' src/test | wc -l)" ] &&
-    [ "$(cat target/surefire-reports/*.xml | grep -c '<skipped')" -eq 6 ] &&
+    [ "$(cat target/surefire-reports/*.xml | grep -c '<skipped')" -eq 0 ] &&
     runs_as_a_module && is_for_the_jdk_of_the_page && stub_later_product "$room/maven" &&
     mvn -o -B -Dmaven.repo.local="$room/maven-repo" -P later -Dlater=17 -Dmaven.test.skip=true package &&
     has_the_later_product "$jar"
@@ -139,7 +135,7 @@ runs_the_page() {
 # Compiles the function for Guava, which is not in the jar, and runs its test and the calls on its page.
 works_with_guava() {
   local guava=$junit:/usr/share/java/guava.jar:/usr/share/java/error_prone_annotations.jar
-  compile "$room/guava" "$jar:$guava" "$folder/src/guava" && ! jar -tf "$jar" | grep -i guava &&
+  compile "$room/guava" "$jar:$guava" "$folder/src/guava" && ! jar -tf "$jar" | grep -i guava && cd "$top" &&
     java -ea -cp "$jar:$room/guava:$guava" org.junit.runner.JUnitCore "$package.guava.RapidhashFunctionTest" &&
     runs_the_page RapidhashFunction RapidhashFunctionTest
 }
@@ -233,7 +229,6 @@ loads_whole_words() {
 
 needs javac java jar /usr/share/java/junit4.jar
 prepare_by make -s -C "$top" jar
-prepare_by write_vectors "$room"
 prepare_by compile "$room/tests" "$jar:$junit" "$folder/src/test"
 
 try java_licences contains_the_licences

@@ -3,49 +3,17 @@ package example.yervound.rapidhash;
 import static org.junit.Assert.assertEquals;
 import static org.junit.Assert.assertNotEquals;
 import static org.junit.Assert.assertThrows;
-import static org.junit.Assume.assumeNotNull;
 
-import java.io.IOException;
 import java.math.BigInteger;
 import java.nio.ByteBuffer;
 import java.nio.CharBuffer;
 import java.nio.charset.StandardCharsets;
-import java.nio.file.Files;
-import java.nio.file.Path;
-import java.util.Arrays;
 import java.util.List;
 import org.junit.Test;
 
-/** Tests keys of several fields. */
+/** Tests the kinds of fields, and what is no field. */
 public class RapidhashKeyTest {
     private static final long USER = Long.parseUnsignedLong("14742763072502883419");
-
-    private static Object fieldOf(String text) {
-        if (text.equals("-")) {
-            return null;
-        }
-        return text.startsWith("x") ? VectorsTest.bytesOf(text.substring(1)) : (Object) Long.parseLong(text);
-    }
-
-    /** Compares the hashes of the file of keys, which an environment variable names. */
-    @Test
-    public void keys() throws IOException {
-        String name = System.getenv("RAPIDHASH_KEYS");
-        assumeNotNull(name);
-        List<String> lines = Files.readAllLines(Path.of(name));
-        assertEquals(123, lines.size());
-        for (String line : lines.subList(3, lines.size())) {
-            String[] columns = line.split("\t");
-            Object[] fields = Arrays.stream(columns[0].split(" ")).filter(text -> !text.isEmpty())
-                .map(RapidhashKeyTest::fieldOf).toArray();
-            String[] rule = columns[1].split(":");
-            long number = rule.length == 1 ? 0 : Long.parseUnsignedLong(rule[1]);
-            long hash = rule[0].equals("cpp") ? RapidhashKey.hashWithSeed(number, fields)
-                : rule[0].equals("seed") ? RapidhashKey.hashWithSecrets(Secrets.make(number), fields)
-                : RapidhashKey.hash(fields);
-            assertEquals(line, columns[2], Long.toUnsignedString(hash));
-        }
-    }
 
     @Test
     public void kindsOfFields() {

@@ -2,65 +2,13 @@ package example.yervound.rapidhash;
 
 import static org.junit.Assert.assertEquals;
 import static org.junit.Assert.assertThrows;
-import static org.junit.Assume.assumeNotNull;
 
-import java.io.IOException;
-import java.nio.file.Files;
-import java.nio.file.Path;
-import java.util.Arrays;
-import java.util.List;
 import java.util.stream.LongStream;
 import org.junit.Test;
 import org.junit.function.ThrowingRunnable;
 
-/** Tests shards, buckets and fingerprints. */
+/** Tests what shards, buckets and fingerprints refuse. */
 public class RapidhashShardsTest {
-    /** Returns the rows of a file that an environment variable names, after its line of names. */
-    private static List<String> rows(String variable, String names) throws IOException {
-        String name = System.getenv(variable);
-        assumeNotNull(name);
-        List<String> lines = Files.readAllLines(Path.of(name));
-        lines.removeIf(line -> line.startsWith("#"));
-        assertEquals(names, lines.get(0));
-        return lines.subList(1, lines.size());
-    }
-
-    private static String text(long number) {
-        return Long.toUnsignedString(number);
-    }
-
-    /** Compares the shards, their first hashes and the buckets of the file of shards. */
-    @Test
-    public void shards() throws IOException {
-        List<String> rows = rows("RAPIDHASH_SHARDS", "hash\tcount\texpected");
-        assertEquals(328, rows.size());
-        for (String row : rows) {
-            String[] columns = row.split("\t");
-            long hash = Long.parseUnsignedLong(columns[0]);
-            long count = Long.parseUnsignedLong(columns[1]);
-            long shard = RapidhashShards.shard(hash, count);
-            long first = RapidhashShards.firstHash(shard, count);
-            boolean hasBucket = count > 0 && count >>> 32 == 0;
-            String bucket = hasBucket ? text(RapidhashShards.bucket(hash, count)) : "-";
-            assertEquals(row, columns[2], text(shard) + " " + text(first) + " " + bucket);
-            assertEquals(row, shard, RapidhashShards.shard(first, count));
-        }
-    }
-
-    /** Compares the fingerprints of the file of fingerprints. */
-    @Test
-    public void fingerprints() throws IOException {
-        List<String> rows = rows("RAPIDHASH_FINGERPRINTS", "hashes\texpected");
-        assertEquals(16, rows.size());
-        for (String row : rows) {
-            String[] columns = row.split("\t");
-            long[] hashes = Arrays.stream(columns[0].split(" ")).filter(text -> !text.isEmpty())
-                .mapToLong(Long::parseUnsignedLong).toArray();
-            assertEquals(row, columns[1], text(RapidhashShards.fingerprint(hashes)));
-            assertEquals(row, columns[1], text(RapidhashShards.fingerprint(LongStream.of(hashes))));
-        }
-    }
-
     private static void refuses(String why, ThrowingRunnable call) {
         assertEquals(why, assertThrows(IllegalArgumentException.class, call).getMessage());
     }

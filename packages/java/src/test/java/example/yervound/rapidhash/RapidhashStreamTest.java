@@ -7,6 +7,10 @@ import static org.junit.Assert.assertThrows;
 import java.io.ByteArrayInputStream;
 import java.io.IOException;
 import java.nio.ByteBuffer;
+import java.nio.channels.FileChannel;
+import java.nio.file.Files;
+import java.nio.file.Path;
+import java.nio.file.StandardOpenOption;
 import java.util.List;
 import java.util.zip.CheckedInputStream;
 import java.util.zip.Checksum;
@@ -113,5 +117,32 @@ public class RapidhashStreamTest {
         assertEquals(version + " has no stream", refused.getMessage());
         assertThrows(UnsupportedOperationException.class, () -> version.stream(1));
         assertThrows(UnsupportedOperationException.class, () -> version.stream(Messages.own(version)));
+    }
+
+    /**
+     * Compares the hashes of the longest buffer, a file without blocks. The known ones are those of the C header with
+     * gcc, by rapidhash_v3(zeros, INT_MAX) and so on in the order of the versions.
+     */
+    @Test
+    public void longestBuffer() throws IOException {
+        long[] known = {
+            0x129f5d6af9054732L, 0xf089650b239214f1L, 0xf089650b239214f1L, 0xf089650b239214f1L,
+            0x9fe6f80d0f340458L, 0x506ff0c3da32b34dL, 0x3416f0e231584072L, 0xf49912f7374e55a5L
+        };
+        Path file = Files.createTempFile("zeros", null);
+        try (FileChannel channel = FileChannel.open(file, StandardOpenOption.READ, StandardOpenOption.WRITE)) {
+            channel.write(ByteBuffer.allocate(1), Integer.MAX_VALUE - 1L);
+            ByteBuffer zeros = channel.map(FileChannel.MapMode.READ_ONLY, 0, Integer.MAX_VALUE);
+            for (Rapidhash<?> version : Rapidhash.ALL) {
+                assertEquals(version.toString(), known[Rapidhash.ALL.indexOf(version)], version.hash(zeros));
+            }
+            for (Rapidhash<Secrets> version : STREAMED) {
+                RapidhashStream stream = version.stream();
+                stream.update(zeros.rewind());
+                assertEquals(version.toString(), known[Rapidhash.ALL.indexOf(version)], stream.getValue());
+            }
+        } finally {
+            Files.delete(file);
+        }
     }
 }

@@ -32,23 +32,23 @@ public class RapidhashFunctionTest {
     private static final byte[] HELLO = "hello".getBytes(UTF_8);
     private static final HashFunction V3 = new RapidhashFunction(Rapidhash.V3, Secrets.ofSeed(0));
 
-    /** Compares the vectors of V3 that the default secrets have. */
+    /** Compares the cases of V3 that the default secrets have. */
     @Test
     public void vectors() throws IOException {
         int count = 0;
-        for (String line : Files.readAllLines(Path.of(System.getenv("RAPIDHASH_VECTORS")))) {
+        for (String line : Files.readAllLines(Path.of("crates", "test_replay", "data", "cases.tsv"))) {
             String[] columns = line.split("\t");
-            if (columns[0].equals("v3") && columns[1].equals("default") && !columns[2].startsWith("zeros:")) {
-                byte[] message = bytesOf(columns[2].replace("-", ""));
+            if (line.startsWith("hash\tv3\tdefault\t") && !columns[3].contains(":")) {
+                byte[] message = bytesOf(columns[3].replace("-", ""));
                 int half = message.length / 2;
-                HashCode known = HashCode.fromLong(Long.parseUnsignedLong(columns[3]));
+                HashCode known = HashCode.fromLong(Long.parseUnsignedLong(columns[4]));
                 assertEquals(known, V3.hashBytes(message));
                 assertEquals(known, V3.newHasher().putBytes(message, 0, half)
                     .putBytes(message, half, message.length - half).hash());
                 count++;
             }
         }
-        assertEquals(72, count);
+        assertEquals(67, count);
     }
 
     private static byte[] bytesOf(String digits) {
