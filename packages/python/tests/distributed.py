@@ -1,4 +1,5 @@
 #!/usr/bin/python3
+# reads: packages/python packages/c/include
 """Runs the example over worker processes on 300,000 rows in six parts, and compares its shards and duplicates with
 those of GROUP BY in SQLite and PostgreSQL over the same rows, and the shard of each key with Java's and Go's."""
 

@@ -1,11 +1,12 @@
 #!/usr/bin/env bash
+# reads: packages/python packages/c/include crates/test_replay/data
 # Builds the Python package from source, installs it in fresh environments without a network, and tests the installed
 # copy. The interpreters that RAPIDHASH_TEST_PYTHONS names, with setuptools and wheel, also build and test the source
 # distribution. Missing programs are named, and their cases are not counted.
 . "$(dirname "$0")/../../../tests/cases.sh"
 # The Python for which Debian has the packages that build wheels.
 python=/usr/bin/python3
-names=(rapidhash package buffers columns keys shards missing arrow saved vectors)
+names=(rapidhash package buffers columns keys shards missing arrow saved cases)
 unset PYTHONPATH
 export PIP_NO_INDEX=1 PIP_DISABLE_PIP_VERSION_CHECK=1 CFLAGS='-Wall -Wextra -Werror'
 
@@ -38,7 +39,7 @@ lay_out() {
   mkdir -p "$room/source" "$room/tests" && cd "$top" && cp LICENSE-* NOTICE "$room/source" &&
     git ls-files packages/python packages/c/include | xargs cp --parents -t "$room/source" &&
     (cd "$room/source" && find . | sort) >"$room/listed" && cp packages/python/tests/test_*.py "$room/tests" &&
-    cp crates/test_replay/data/{keys,saved,shards,fingerprints}.tsv "$room/tests" && write_vectors "$room/tests"
+    cp crates/test_replay/data/cases.tsv "$room/tests"
 }
 
 leaves_nothing() {

@@ -84,7 +84,7 @@ class Columns(unittest.TestCase):
                 self.assertEqual(list(rapidhash.each_row(data, half)), [rapidhash.v3(left), rapidhash.v3(right)])
             encoding = rapidhash.V3(b"\2" + len(data).to_bytes(8, "little")).update(data)
             self.assertEqual(rapidhash.v3_key(data), encoding.intdigest())
-        self.assertEqual(rapidhash.v3(bytes(2**32 + 5)), 8938949028826169308)  # As in scripts/vectors.py.
+        self.assertEqual(rapidhash.v3(bytes(2**32 + 5)), 8938949028826169308)  # As upstream's.
 
     def test_nothing_to_hash(self):
         empty = array.array("Q")

@@ -3,25 +3,9 @@
 import array
 import ctypes
 import unittest
-from pathlib import Path
 
 import rapidhash
 from test_buffers import lets_others_run
-
-TABLE = Path(__file__).with_name("keys.tsv")
-
-
-def field(text):
-    if text == "-":
-        return None
-    return bytes.fromhex(text[1:]) if text[0] == "x" else int(text)
-
-
-def words(rule):
-    name, _, number = rule.partition(":")
-    if name == "default":
-        return {}
-    return {"seed": int(number)} if name == "cpp" else {"secrets": rapidhash.make_secrets(int(number))}
 
 
 class Buffer(ctypes.Structure):
@@ -33,17 +17,6 @@ class Buffer(ctypes.Structure):
 
 
 class Keys(unittest.TestCase):
-    @unittest.skipUnless(TABLE.exists(), "the source distribution has no file of keys")
-    def test_the_file_of_keys(self):
-        rows = [line.split("\t") for line in TABLE.read_text().splitlines()[3:]]
-        self.assertEqual(len(rows), 120)
-        for key, rule, known in rows:
-            fields = [field(text) for text in key.split()]
-            self.assertEqual(rapidhash.v3_key(*fields, **words(rule)), int(known), (key, rule))
-            if fields:
-                columns = [[value] * 2 for value in fields]
-                self.assertEqual(list(rapidhash.each_key(*columns, **words(rule))), [int(known)] * 2, (key, rule))
-
     def test_kinds_of_fields(self):
         user = 14742763072502883419
         for text in ("user", b"user", bytearray(b"user"), memoryview(b"user"), array.array("B", b"user")):

@@ -3,37 +3,15 @@
 import array
 import copy
 import pickle
-import struct
 import unittest
-from pathlib import Path
 
 import rapidhash
 from test_rapidhash import DATA, STREAMS
 
-TABLE = Path(__file__).with_name("saved.tsv")
-KINDS = dict(zip("753", STREAMS))
 FORMAT = "saved is no saved hasher, or one of another version of the format"
 CHANGED = "the saved hasher was changed, or has another seed or other secrets"
 
 
-def rows():
-    """Yields the class, the start, the message, and the saved bytes of each row of the file."""
-    for line in TABLE.read_text().splitlines()[3:]:
-        lanes, content, length, rule, digits = line.split("\t")
-        name, _, number = rule.partition(":")
-        start = {"secrets": rapidhash.make_secrets(int(number))} if name == "seed" else {"seed": int(number or 0)}
-        message = bytes((i * i + 7 * i + int(length)) % 251 for i in range(int(length)))
-        if content.startswith("bytes:"):
-            message = bytes.fromhex(content[6:])
-        yield KINDS[lanes], start, message, bytes.fromhex(digits)
-
-
-def secrets_of(start):
-    """Returns the secrets of a start as words, also of a seed."""
-    return start.get("secrets") or rapidhash.Secrets(rapidhash.V3(**start)._words())
-
-
-@unittest.skipUnless(TABLE.exists(), "the source distribution has no file of saved streams")
 class SavedStreams(unittest.TestCase):
     def refuse(self, hasher, saved, reason):
         before = hasher.intdigest()
@@ -41,50 +19,20 @@ class SavedStreams(unittest.TestCase):
             hasher._restore(saved)
         self.assertEqual((str(caught.exception), hasher.intdigest()), (reason, before))
 
-    def test_the_file_of_saved_streams(self):
-        self.assertEqual(len(list(rows())), 102)
-        for kind, start, message, known in rows():
-            hasher = kind(DATA, **start)
-            hasher.reset()
-            self.assertEqual(hasher.update(message).save(), known)
+    def test_what_restores(self):
+        for kind in STREAMS:
+            known = kind(DATA, seed=7).save()
             for saved in (known, bytearray(known), memoryview(known)):
-                restored = kind.restore(saved, **start)
-                self.assertIs(type(restored), kind)
-                self.assertEqual(restored.save(), known)
-                self.assertEqual(restored.update(DATA).intdigest(), STREAMS[kind](message + DATA, **start))
+                self.assertEqual(kind.restore(saved, seed=7).save(), known)
 
-    def test_changed_bytes_and_other_secrets(self):
-        for kind, start, _, known in rows():
-            hasher, saved = kind(DATA, **start), bytearray(known)
-            for at in (at for at in range(208) if at not in (8, 9)):
-                for bit in range(8):
-                    saved[at] ^= 1 << bit
-                    self.refuse(hasher, saved, FORMAT if at < 8 else CHANGED)
-                    saved[at] ^= 1 << bit
-            for at in (0, 2):
-                words = list(struct.unpack("=8Q", secrets_of(start)))
-                words[at] ^= 1
-                self.refuse(kind(secrets=rapidhash.Secrets(struct.pack("=8Q", *words))), known, CHANGED)
-
-    def test_bytes_that_no_hasher_saves_with_the_right_check(self):
-        for kind, start, _, known in rows():
-            hasher, secrets = kind(DATA, **start), secrets_of(start)
-            lanes, flag, rest = known[8], known[10], known[11]
-
-            def forge(at, byte):
-                state = known[:at] + bytes([byte]) + known[at + 1:200]
-                check = rapidhash.v3(state, secrets=secrets) ^ rapidhash.v3_protected(state, secrets=secrets)
-                return state + check.to_bytes(8, "little")
-
-            for at in range(12, 200):
-                if flag and (16 <= at < 16 + 8 * lanes or 72 <= at < 88) or 88 <= at < 88 + rest:
-                    hasher._restore(forge(at, known[at] ^ 1))
-                else:
-                    self.refuse(hasher, forge(at, known[at] ^ 1), CHANGED)
-            for byte in (2, 255, 2 * (1 - flag)):
-                self.refuse(hasher, forge(10, byte), CHANGED)
-            for byte in (16 * lanes + 1, 255):
-                self.refuse(hasher, forge(11, byte), CHANGED)
+    def test_reasons(self):
+        hasher, saved = rapidhash.V3(DATA), bytearray(rapidhash.V3(DATA).save())
+        for at, reason in (0, FORMAT), (7, FORMAT), (10, CHANGED), (199, CHANGED), (207, CHANGED):
+            saved[at] ^= 1
+            self.refuse(hasher, saved, reason)
+            saved[at] ^= 1
+        for other in rapidhash.V3(seed=1), rapidhash.V3(secrets=rapidhash.make_secrets(1)):
+            self.refuse(other, saved, CHANGED)
 
     def test_other_bytes(self):
         saved = rapidhash.V3Micro(DATA).save()

@@ -1,44 +1,10 @@
-"""Tests shards, buckets and fingerprints with an installed copy of the package, over the files that all languages have."""
+"""Tests columns and errors of shards, buckets and fingerprints with an installed copy of the package."""
 
 import unittest
 from array import array
-from pathlib import Path
 
 import rapidhash
 from rapidhash import bucket, fingerprint, first_hash, shard
-
-FOLDER = Path(__file__).parent
-
-
-def rows(name):
-    lines = (FOLDER / name).read_text().splitlines()
-    return [line.split("\t") for line in lines if not line.startswith("#")][1:]
-
-
-@unittest.skipUnless((FOLDER / "shards.tsv").exists(), "the source distribution has no file of shards")
-class Files(unittest.TestCase):
-    def test_the_file_of_shards(self):
-        cases = rows("shards.tsv")
-        self.assertEqual(len(cases), 328)
-        for hash, count, expected in cases:
-            own, first, known = expected.split()
-            self.assertEqual(shard(int(hash), int(count)), int(own))
-            self.assertEqual(shard(array("Q", [int(hash)]), int(count)), array("Q", [int(own)]))
-            self.assertEqual(first_hash(int(own), int(count)), int(first))
-            if known == "-":
-                self.assertRaises(ValueError, bucket, int(hash), int(count))
-            else:
-                self.assertEqual(bucket(int(hash), int(count)), int(known))
-                self.assertEqual(bucket(array("Q", [int(hash)] * 2), int(count)), array("Q", [int(known)] * 2))
-
-    def test_the_file_of_fingerprints(self):
-        cases = rows("fingerprints.tsv")
-        self.assertEqual(len(cases), 16)
-        for texts, expected in cases:
-            hashes = [int(text) for text in texts.split()]
-            for column in (hashes, iter(hashes), array("Q", hashes), memoryview(array("Q", hashes[::-1]))[::-1]):
-                self.assertEqual(fingerprint(column), int(expected))
-
 
 class Shards(unittest.TestCase):
     def test_columns(self):
