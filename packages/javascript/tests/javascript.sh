@@ -1,4 +1,5 @@
 #!/usr/bin/env bash
+# reads: packages/javascript packages/c/include crates/test_replay/data
 # Builds the JavaScript package, installs it from an empty directory with the commands on its page, and tests the
 # installed copy. The cases cover Node, the types, and browsers, with the page packages/javascript/page. Missing
 # programs are named, and their cases are not counted.
@@ -19,7 +20,7 @@ has_its_files() {
 # Lays out the tests beside the installed package, with the files that they read.
 lay_out() {
   cp "$top"/packages/javascript/tests/*.m* "$top/build/rapidhash.wasm" "$room/first" &&
-    cp "$top"/crates/test_replay/data/{keys,saved,shards,fingerprints}.tsv "$room/first" && write_vectors "$room/first" &&
+    cp "$top/crates/test_replay/data/cases.tsv" "$room/first" &&
     seq 1 20000000 | head -c 100000000 >"$room/first/large"
 }
 
@@ -105,7 +106,7 @@ try install works_as_its_page_says "$top/packages/javascript/README.md"
 try files has_its_files
 try lay_out lay_out
 try page runs_the_page
-for name in known refused keys saved shards shared vectors node; do
+for name in known refused keys saved shards shared cases node; do
   try "node_$name" runs_in_node "$name"
 done
 try changed_files refuses_changed_files

@@ -1,6 +1,5 @@
-// Tests keys of several fields: the file of keys, kinds of fields, and what is no field.
+// Tests keys of several fields: kinds of fields, and what is no field. The file of cases has values.
 import assert from "node:assert/strict";
-import { readFileSync } from "node:fs";
 import { test } from "node:test";
 
 import { loadSync } from "yervound-rapidhash";
@@ -8,26 +7,6 @@ import { loadSync } from "yervound-rapidhash";
 const library = loadSync();
 const { v3, v3Key, v3KeyWith } = library;
 const user = 14742763072502883419n;
-
-/** Returns the field of a text: `-`, a decimal integer, or x and hexadecimal digits. */
-function fieldOf(text) {
-  if (text === "-") return null;
-  return text[0] === "x" ? Uint8Array.from(Buffer.from(text.slice(1), "hex")) : BigInt(text);
-}
-
-test("the file of keys", () => {
-  const lines = readFileSync(new URL("keys.tsv", import.meta.url), "utf8").trimEnd().split("\n").slice(3);
-  assert.equal(lines.length, 120);
-  for (const line of lines) {
-    const [key, rule, known] = line.split("\t");
-    const fields = key.split(" ").filter((text) => text !== "").map(fieldOf);
-    const [name, number] = rule.split(":");
-    const options = name === "cpp" ? { seed: BigInt(number) }
-      : name === "seed" ? { secrets: library.makeSecrets(BigInt(number)) } : {};
-    assert.equal(v3KeyWith(options, ...fields), BigInt(known), line);
-    if (name === "default") assert.equal(v3Key(...fields), BigInt(known), line);
-  }
-});
 
 test("kinds of fields", () => {
   const bytes = new TextEncoder().encode("user");

@@ -1,37 +1,8 @@
-// Compares shards, buckets and fingerprints with those of the files, and tests what is refused.
+// Tests what shards, buckets and fingerprints refuse. The file of cases has values.
 import assert from "node:assert/strict";
-import { readFileSync } from "node:fs";
 import { test } from "node:test";
 
 import { bucket, fingerprint, firstHash, shard } from "yervound-rapidhash";
-
-function rows(name) {
-  const lines = readFileSync(new URL(name, import.meta.url), "utf8").trimEnd().split("\n");
-  return lines.filter((line) => line[0] !== "#").slice(1).map((line) => line.split("\t"));
-}
-
-test("the file of shards", () => {
-  const cases = rows("shards.tsv");
-  assert.equal(cases.length, 328);
-  for (const [hash, count, expected] of cases) {
-    const [own, first, known] = expected.split(" ");
-    assert.equal(shard(BigInt(hash), BigInt(count)), BigInt(own), hash);
-    assert.equal(firstHash(BigInt(own), BigInt(count)), BigInt(first), hash);
-    if (known === "-") assert.throws(() => bucket(BigInt(hash), BigInt(count)), RangeError);
-    else assert.equal(bucket(BigInt(hash), Number(count)), Number(known), hash);
-    if (known !== "-") assert.equal(shard(BigInt(hash), Number(count)), Number(own), hash);
-  }
-});
-
-test("the file of fingerprints", () => {
-  const cases = rows("fingerprints.tsv");
-  assert.equal(cases.length, 16);
-  for (const [texts, expected] of cases) {
-    const hashes = texts.split(" ").filter((text) => text !== "").map(BigInt);
-    assert.equal(fingerprint(hashes), BigInt(expected), texts);
-    assert.equal(fingerprint(new BigUint64Array(hashes)), BigInt(expected), texts);
-  }
-});
 
 test("no shards", () => {
   for (const [call, message] of [

@@ -197,7 +197,7 @@ test("the package in a browser", async () => {
   await browser.open(`${SERVER}/first/suite.html`);
   const results = await waitFor("the suite", 120, () => browser.run("return window.results"));
   assert.deepEqual(results.filter(({ fault }) => fault), []);
-  const files = ["known", "refused", "saved", "shared", "vectors"];
+  const files = ["known", "refused", "saved", "shared", "cases"];
   const tests = files.flatMap((name) => readFileSync(`${name}.mjs`, "utf8").match(/^test\(/gm));
   assert.equal(results.length, tests.length);
 });
