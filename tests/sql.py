@@ -46,68 +46,80 @@ def pieces(message):
         at, size = at + size, size + 1
 
 
-def vector_queries(literal, integer):
-    """Yields a query for each vector that SQL has a call for, whose result must be true. A message is an argument as
-    bytes, and if it has 8 of them also as an integer. If the version has an aggregate, a further query hashes the
-    message in pieces. SQL has no calls with secrets of one's own, and no message above 4 GiB."""
-    _, text = shell("python3 scripts/vectors.py crates/test_replay/data")
-    lines = [line.split("\t") for line in text.splitlines() if not line.startswith(("#", "version\t"))]
-    known = [line for line in lines if not line[1].startswith("own:") and not line[2].startswith("zeros:")]
-    names = re.findall(r"X\((\w+),", re.search(r"define RAPIDHASH_C_VERSIONS\(X\)((?:.*\\\n)*.*)", HEADER)[1])
-    compare("versions_with_vectors", {version for version, *_ in known}, set(names))
-    compare("vectors_without_a_call", len(lines) - len(known), 528 + 8)
-    count = 0
-    for version, rule, digits, number in known:
-        name = f"rapidhash_{version}" + "_with_secrets" * rule.startswith("make:")
-        seed = "".join(f", {signed(int(word))}" for word in rule.split(":")[1:])
-        message, wanted = bytes.fromhex(digits.strip("-")), signed(int(number))
-        calls = [f"{name}({literal(message)}{seed}) AS hash"]
-        if len(message) == 8:
-            calls.append(f"{name}({integer(int.from_bytes(message, 'little', signed=True))}{seed}) AS hash")
-        if name[10:] in STREAMS and message:
-            rows = ", ".join(f"({literal(piece)})" for piece in pieces(message))
-            calls.append(f"{name}_agg(column1{seed}) AS hash FROM (VALUES {rows}) AS pieces")
-        for call in calls:
-            count += 1
-            yield (f"SELECT (hash, rapidhash_hex(hash)) = ({wanted}, '{wanted % 2**64:016x}') "
-                   f"FROM (SELECT {call}) AS found;")
-    compare("count_of_vectors", count, 3032 + 16 + 717)
-
-
-def key_queries(literal, integer):
-    """Yields a query for each key with fields in the file of keys, whose result must be true."""
-    lines = (TOP / "crates/test_replay/data/keys.tsv").read_text().splitlines()[3:]
-    compare("count_of_keys", len(lines), 120)
-    for key, rule, number in (line.split("\t") for line in lines):
-        fields = ["NULL" if text == "-" else literal(bytes.fromhex(text[1:])) if text[0] == "x" else integer(int(text))
-                  for text in key.split()]
-        name, _, word = rule.partition(":")
-        name = {"default": "", "cpp": "_with_seed", "seed": "_with_secrets"}[name]
-        words = [integer(signed(int(word)))] if word else []
-        if fields:
-            yield f"SELECT rapidhash_v3_key{name}({', '.join(words + fields)}) = {signed(int(number))};"
-
-
-def shard_queries(integer):
-    """Yields a query for each row of the files of shards and fingerprints, whose result must be true. SQL has no count
-    above 2^63 - 1."""
-    data, skipped = TOP / "crates/test_replay/data", 0
-    lines = [line.split("\t") for line in (data / "shards.tsv").read_text().splitlines()[3:]]
-    for hash, count, expected in lines:
-        if int(count) >= 2**63:
-            skipped += 1
+def rows():
+    """Yields the cases that every language has, but those of kinds for which SQL has no calls: secrets and streams. It
+    has no calls with secrets of one's own, no count above 2^63 - 1, and no statement with a message of a megabyte."""
+    for line in (TOP / "crates/test_replay/data/cases.tsv").read_text().splitlines():
+        kind, _, rest = line.partition("\t")
+        if kind == "kind" or line.startswith("#"):
             continue
-        own, first, bucket = expected.split()
-        calls = [f"rapidhash_shard({integer(signed(int(hash)))}, {integer(int(count))}) = {own}",
-                 f"rapidhash_first_hash({integer(int(own))}, {integer(int(count))}) = {signed(int(first))}"]
-        calls += [f"rapidhash_bucket({integer(signed(int(hash)))}, {integer(int(count))}) = {bucket}"] * (bucket != "-")
-        yield f"SELECT {' AND '.join(calls)};"
-    compare("count_of_shards", (len(lines), skipped), (328, 43))
-    lines = [line.split("\t") for line in (data / "fingerprints.tsv").read_text().splitlines()[2:]]
-    compare("count_of_fingerprints", len(lines), 16)
-    for hashes, expected in lines:
-        rows = ", ".join(f"({integer(signed(int(hash)))})" for hash in ["0", *hashes.split()])
-        yield f"SELECT rapidhash_fingerprint(column1) = {signed(int(expected))} FROM (VALUES {rows}) AS hashes;"
+        version, rule, argument, value = rest.split("\t")
+        is_left_out = rule.startswith("own:") or argument.startswith("zeros:") or argument in ("ramp:100003", "ramp:1000001")
+        is_left_out |= version == "-" and kind != "fingerprint" and int(argument.split()[1]) >= 2**63
+        if kind not in ("secrets", "stream") and not is_left_out:
+            yield kind, version, rule, argument, value
+
+
+def hash_queries(literal, integer, version, rule, argument, value):
+    """Yields queries for a hash. A message is an argument as bytes, and if it has 8 of them also as an integer. If the
+    version has an aggregate, a further query hashes the message in pieces."""
+    name = f"rapidhash_{version}" + "_with_secrets" * rule.startswith("make:")
+    seed = "".join(f", {signed(int(word))}" for word in rule.split(":")[1:])
+    is_ramp = argument.startswith("ramp:")
+    message = bytes(at % 251 for at in range(int(argument[5:]))) if is_ramp else bytes.fromhex(argument.strip("-"))
+    calls = [f"{name}({literal(message)}{seed}) AS hash"]
+    if len(message) == 8:
+        calls.append(f"{name}({integer(int.from_bytes(message, 'little', signed=True))}{seed}) AS hash")
+    if name[10:] in STREAMS and message:
+        values = ", ".join(f"({literal(piece)})" for piece in pieces(message))
+        calls.append(f"{name}_agg(column1{seed}) AS hash FROM (VALUES {values}) AS pieces")
+    wanted = signed(int(value))
+    for call in calls:
+        yield (f"SELECT (hash, rapidhash_hex(hash)) = ({wanted}, '{wanted % 2**64:016x}') "
+               f"FROM (SELECT {call}) AS found;")
+
+
+def key_query(literal, integer, rule, argument, value):
+    """Returns a query for a key."""
+    fields = ["NULL" if text == "-" else literal(bytes.fromhex(text[1:])) if text[0] == "x" else integer(int(text))
+              for text in argument.split()]
+    name, _, word = rule.partition(":")
+    name = {"default": "", "word": "_with_seed", "make": "_with_secrets"}[name]
+    words = [integer(signed(int(word)))] if word else []
+    return f"SELECT rapidhash_v3_key{name}({', '.join(words + fields)}) = {signed(int(value))};"
+
+
+def decision(integer, kind, argument):
+    """Returns a call for a shard, the first hash of one, or a bucket."""
+    first, count = map(int, argument.split())
+    return f"rapidhash_{kind}({integer(signed(first) if kind != 'first_hash' else first)}, {integer(count)})"
+
+
+def case_queries(literal, integer):
+    """Yields a query for each case that SQL has a call for, whose result must be true."""
+    names = re.findall(r"X\((\w+),", re.search(r"define RAPIDHASH_C_VERSIONS\(X\)((?:.*\\\n)*.*)", HEADER)[1])
+    count, versions = 0, set()
+    for kind, version, rule, argument, value in rows():
+        count += 1
+        if kind == "hash":
+            versions.add(version)
+            yield from hash_queries(literal, integer, version, rule, argument, value)
+        elif kind == "fingerprint":
+            values = ", ".join(f"({integer(signed(int(hash)))})" for hash in ["0", *argument.strip("-").split()])
+            yield f"SELECT rapidhash_fingerprint(column1) = {signed(int(value))} FROM (VALUES {values}) AS hashes;"
+        elif kind == "key" and argument != "()":
+            yield key_query(literal, integer, rule, argument, value)
+        elif kind in ("shard", "bucket", "first_hash") and value != "refused":
+            yield f"SELECT {decision(integer, kind, argument)} = {signed(int(value))};"
+        elif kind != "key" and value != "refused":
+            raise ValueError(kind)
+    compare("versions_with_cases", versions, set(names))
+    tell("count_of_cases", *[count] * (count < 3700))
+
+
+def refused_calls(integer):
+    """Returns the calls of the cases that are refused."""
+    return [decision(integer, kind, argument) for kind, _, _, argument, value in rows() if value == "refused"]
 
 
 def lines_with_results(page):

@@ -1,4 +1,5 @@
 #!/usr/bin/env python3
+# reads: packages/postgresql packages/c/include tests/sql.py crates/test_replay/data docs/BINDINGS.md
 """Builds the PostgreSQL extension with the commands on its page and installs it into a copy of the server. Starts the
 copy as a user without rights and tests each function. The machine's own server is not affected. The values are those of
 the Rust crate."""
@@ -11,8 +12,8 @@ from pathlib import Path
 sys.path += [str(Path(__file__).parents[3] / "tests"), str(Path(__file__).parent)]
 from cases import ROOM, TOP, blocks, compare, finish, needs, shell, tell  # noqa: E402
 from fields import encodings, types  # noqa: E402
-from sql import (BINDINGS, DATA, HELLO, SERVER, STREAMS, ask, key_queries, lines_with_results, shard_queries,  # noqa: E402
-                 signed, start_server, unpack, vector_queries)
+from sql import (BINDINGS, DATA, HELLO, SERVER, STREAMS, ask, case_queries, lines_with_results,  # noqa: E402
+                 refused_calls, signed, start_server, unpack)
 
 PAGE = "packages/postgresql/README.md"
 FUNCTIONS = """SELECT prokind, proisstrict, count(*), count(*) FILTER (WHERE proargnames && '{seed,number}'), bool_and(provolatile = 'i' AND proparallel = 's')
@@ -44,16 +45,15 @@ def unpacked_archive():
     tell("unpacked_archive", *[printed[-600:]] * (status != 0 or names[0] != names[1]))
 
 
-def vectors():
-    queries = [*vector_queries(lambda message: f"'\\x{message.hex()}'::bytea", "'{}'::bigint".format)]
+def cases():
+    queries = [*case_queries(lambda message: f"'\\x{message.hex()}'::bytea", "'{}'::bigint".format)]
     found = ask("\n".join(queries))
-    tell("vectors", *[query[:200] for query, line in zip_longest(queries, found, fillvalue="") if line != "t"])
+    tell("cases", *[query[:200] for query, line in zip_longest(queries, found, fillvalue="") if line != "t"])
+    calls = refused_calls("'{}'::bigint".format)
+    tell("refused_cases", *[call for call in calls if "ERROR:  the " not in "".join(ask(f"SELECT {call}"))])
 
 
 def keys():
-    queries = [*key_queries(lambda message: f"'\\x{message.hex()}'::bytea", "'{}'::bigint".format)]
-    found = ask("\n".join(queries))
-    tell("keys", *[query[:200] for query, line in zip_longest(queries, found, fillvalue="") if line != "t"])
     user = signed(14742763072502883419)
     for fields in ("'user', 4711, NULL", "'user'::text, 4711::smallint, NULL::text", "'user'::varchar, 4711::information_schema.cardinal_number, NULL"):
         compare(f"key of {fields}", ask(f"SELECT rapidhash_v3_key({fields})"), [str(user)])
@@ -67,9 +67,6 @@ def keys():
 
 
 def shards():
-    queries = [*shard_queries("'{}'::bigint".format)]
-    found = ask("\n".join(queries))
-    tell("shards", *[query[:200] for query, line in zip_longest(queries, found, fillvalue="") if line != "t"])
     rows = "(VALUES (1, 5), (2, NULL), (3, -7), (4, 9)) AS rows(place, hash)"
     found = ask(f"SELECT rapidhash_fingerprint(hash) OVER (ORDER BY place ROWS 1 PRECEDING) FROM {rows}")
     compare("fingerprints_of_windows", found, ["5", "5", "-7", "2"])
@@ -207,7 +204,7 @@ def rest():
 needs("cc", *SERVER)
 stop = start_server()
 try:
-    for step in (install, installcheck, unpacked_archive, vectors, keys, shards, encodings, types, storages, aggregates, partitions,
+    for step in (install, installcheck, unpacked_archive, cases, keys, shards, encodings, types, storages, aggregates, partitions,
                  hash_partitions, rest):
         step()
 finally:

@@ -1,7 +1,7 @@
 #!/usr/bin/python3
-"""Builds the SQLite extension with the commands on its page, loads it, and tests each function. The cases cover the
-vectors, types, errors, aggregates, the examples on the page, and each failing allocation. The values are those of the
-Rust crate."""
+# reads: packages/sqlite packages/c/include tests/sql.py crates/test_replay/data docs/BINDINGS.md
+"""Builds the SQLite extension with the commands on its page, loads it, and tests each function. Replays the cases of every
+language. Others cover types, errors, aggregates, the examples on the page, and each failing allocation."""
 
 import sqlite3
 import sys
@@ -10,7 +10,7 @@ from pathlib import Path
 sys.path.append(str(Path(__file__).parents[3] / "tests"))
 from cases import ROOM, TOP, blocks, compare, finish, needs, shell, skip_all, tell  # noqa: E402
 from sql import BINDINGS, DIGITS, HELLO, NOTHING, TEXT, TEXT_HASH  # noqa: E402
-from sql import key_queries, lines_with_results, shard_queries, signed, unpack, vector_queries  # noqa: E402
+from sql import case_queries, lines_with_results, refused_calls, signed, unpack  # noqa: E402
 
 PAGE = "packages/sqlite/README.md"
 REAL = "a REAL cannot be hashed: cast it to TEXT, BLOB or INTEGER"
@@ -66,22 +66,26 @@ def ask(database, query, *values):
     return database.execute(query, values).fetchall()
 
 
-def vectors(database):
-    queries = vector_queries(lambda message: f"x'{message.hex()}'", str)
-    tell("vectors", *[query[:200] for query in queries if ask(database, query) != [(1,)]])
+def is_refused(database, call):
+    try:
+        return not ask(database, f"SELECT {call}")
+    except sqlite3.OperationalError:
+        return True
+
+
+def cases(database):
+    queries = case_queries(lambda message: f"x'{message.hex()}'", str)
+    tell("cases", *[query[:200] for query in queries if ask(database, query) != [(1,)]])
+    tell("refused_cases", *[call for call in refused_calls(str) if not is_refused(database, call)])
 
 
 def keys(database):
-    queries = key_queries(lambda message: f"x'{message.hex()}'", str)
-    tell("keys", *[query[:200] for query in queries if ask(database, query) != [(1,)]])
     found = ask(database, """SELECT rapidhash_v3_key(), rapidhash_v3_key('user', 4711, NULL),
         rapidhash_v3_key_with_seed(7, x'75736572', 4711, NULL), rapidhash_v3_key_with_seed(NULL, 1)""")
     compare("keys_of_each_type", found, [(NOTHING, signed(14742763072502883419), 4558979304646042975, None)])
 
 
 def shards(database):
-    queries = shard_queries(str)
-    tell("shards", *[query[:200] for query in queries if ask(database, query) != [(1,)]])
     rows = "(SELECT column1 AS place, column2 AS hash FROM (VALUES (1, 5), (2, NULL), (3, -7), (4, 9)))"
     found = ask(database, f"""SELECT rapidhash_fingerprint(hash) OVER (ORDER BY place ROWS 1 PRECEDING) FROM {rows}""")
     compare("fingerprints_of_windows", found, [(5,), (5,), (-7,), (2,)])
@@ -167,7 +171,7 @@ if not hasattr(sqlite3.Connection, "enable_load_extension"):
 commands()
 loaded = opened()
 loaded.execute("CREATE TABLE many (place INTEGER, part INTEGER, word TEXT)")
-vectors(loaded)
+cases(loaded)
 keys(loaded)
 shards(loaded)
 types(loaded, "types")

@@ -1,4 +1,5 @@
 #!/usr/bin/env bash
+# reads: packages/tools packages/rust crates
 # Runs crates/rapidsum and sha256sum. In each case, both print the same lines except the hashes, print the same
 # messages except the program's name and that no file of a list matched, and exit with the same status. Further cases
 # test features that sha256sum does not have.
@@ -150,11 +151,11 @@ tell each_malformed_line_is_named $?
 
 # The values of the Rust crate for 57, 58 and 128 bytes, with the default seed and with seed words, and for a file above
 # 4 GiB, which is read in pieces.
-write_vectors "$room"
-grep -E '^v[^p]+\s(default|word:[0-9]+)\s(.{114}|.{116}|.{256}|zeros:.*)\s' "$room/rapidhash_vectors.tsv" >vectors
+grep -E '^hash\sv[^p]+\s(default|word:[0-9]+)\s(.{114}|.{116}|.{256}|zeros:.*)\s' \
+  "$top/crates/test_replay/data/cases.tsv" >vectors
 [ "$(grep -c zeros: vectors)" -eq "$("$program" --help | sed -n 's/.*values://p' | wc -w)" ]
 tell vectors_of_all_versions $?
-while IFS=$'\t' read -r version rule message hash; do
+while IFS=$'\t' read -r _ version rule message hash; do
   version=${version/2_/2.} version=${version/3_/3-} word=${rule#word:} file=of_${#message} hash=$(printf %016x "$hash")
   case $message in
     zeros:*) truncate -s "${message#zeros:}" "$file" ;;
