@@ -1,4 +1,5 @@
 #!/usr/bin/env python3
+# reads: bench
 """Tests what the benches measure and what bench/figures shows of it, over programs and figures whose results are known.
 Each figure is the least of its repeats, in the row of its work and the column of its library."""
 

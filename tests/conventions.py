@@ -1,4 +1,5 @@
 #!/usr/bin/env python3
+# reads: docs/BINDINGS.md packages
 """Takes the expressions out of the table of docs/BINDINGS.md that converts other values to fields of a key, and runs
 each in its language. The keys are compared with those of the model, for fields that this script states."""
 

@@ -1,4 +1,5 @@
 #!/usr/bin/env bash
+# reads: tests/quality.sh bench packages/c crates
 # Checks the statistics of all portable hashes with small samples (bench/quality.c; docs/QUALITY.md has large ones): the
 # avalanche of messages and seeds, collisions and buckets. The same limits must refuse FNV-1a, by each kind of measure, and
 # V3 with a fault in a few bits.

@@ -1,4 +1,5 @@
 #!/usr/bin/env python3
+# reads: README.md docs packages Makefile
 """Runs the programs and each command of the shell blocks of README.md, the commands of docs/COMMANDS.md, and the program
 of docs/RATTLE.md in a new repository with a copy of the library. The numbers in docs/PROVED.md are those that the
 checker prints. The values are those of the Rust crate. Without the kit, it runs the first programs, and the commands

@@ -1,4 +1,5 @@
 #!/usr/bin/env bash
+# reads: .
 # Refuses lines over 100 columns in source files, which the layout tool accepts. Checks the scripts with the linters of
 # their languages, and the newest commits. With the kit, also refuses contracts that name a private field, which the
 # checker accepts, although no caller can see the field.
@@ -45,6 +46,15 @@ can_be_run() {
   done >"$room/found" && cat "$room/found" && [ ! -s "$room/found" ]
 }
 
+# Checks that the second line of each script of the gate states the paths that it reads, its own package among them.
+tells_what_it_reads() {
+  find packages/*/tests tests -type f -perm -u+x ! -path 'tests/release/*' | while read -r script; do
+    reads=$(sed -n '2 s/^# reads: //p' "$script")
+    for path in ${reads:-nothing}; do [ -e "$path" ] || echo "$script: no $path"; done
+    case " $reads " in *" ${script%/tests/*} "* | *' . '* | *' packages '*) ;; *) [[ $script == tests/* ]] || echo "$script"; esac
+  done >"$room/found" && cat "$room/found" && [ ! -s "$room/found" ]
+}
+
 scripts_in() {
   git grep -lE "^#!.*$1|^# shellcheck shell=$1" -- . ':!*.md'
 }
@@ -80,6 +90,7 @@ try columns narrow
 try even_lines even
 try_with rust_programs rustfmt formatted_rust
 try executable_scripts can_be_run
+try scripts_and_paths tells_what_it_reads
 try_with shell_scripts shellcheck lints_shell
 try_with python_scripts pyflakes3 lints_python
 try verbs begins_with_verbs

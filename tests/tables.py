@@ -1,4 +1,5 @@
 #!/usr/bin/python3
+# reads: docs/TABLES.md docs/BINDINGS.md packages/python packages/sqlite packages/postgresql packages/c/include
 """Runs the queries of docs/TABLES.md over the same rows in PostgreSQL, SQLite and pandas, and finds a changed, a lost and
 a doubled row. ROWS is the number of rows."""
 

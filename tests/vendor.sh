@@ -1,4 +1,5 @@
 #!/usr/bin/env bash
+# reads: scripts/vendor crates Makefile
 # Copies the library into other repositories with scripts/vendor. The cases are copies that succeed, are refused, or
 # fail halfway.
 #

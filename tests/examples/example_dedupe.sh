@@ -1,4 +1,5 @@
 #!/usr/bin/env bash
+# reads: crates tests/examples
 # Runs crates/example_dedupe as its users do: on directories, compared with fdupes if it is installed, with refused
 # arguments, and with failing reads, writes, and memory.
 . "$(dirname "$0")/room.sh"

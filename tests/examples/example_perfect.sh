@@ -1,4 +1,5 @@
 #!/usr/bin/env bash
+# reads: crates tests/examples
 # Runs crates/example_perfect as its users do, on valid and invalid input.
 . "$(dirname "$0")/room.sh"
 

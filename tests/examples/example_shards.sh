@@ -1,4 +1,5 @@
 #!/usr/bin/env bash
+# reads: crates tests/examples docs/EXAMPLES.md
 # Runs crates/example_shards as its users do: on lines, with refused arguments, and with failures of reads, writes, and
 # memory.
 . "$(dirname "$0")/room.sh"

@@ -1,4 +1,5 @@
 #!/usr/bin/env python3
+# reads: tests/formulas packages/c packages/go packages/java packages/rust crates
 """Compares each implementation of the hashes with the definition as formulas: see tests/formulas/main.rs. The
 definition is the program of crates/test_definitions, which is proved equal to it, without its contracts and over random
 loads and a random product. Fails if their number is not that of the lengths in docs/PROVED.md. The arguments select

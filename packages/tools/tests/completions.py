@@ -1,4 +1,5 @@
 #!/usr/bin/python3
+# reads: packages/tools packages/rust crates scripts/install
 """Presses the tab key in bash, zsh, and fish after lines that begin with rapidhash and rapidsum, and compares the
 completed line or the offers. A shell that is not installed has no cases."""
 

@@ -1,4 +1,5 @@
 #!/usr/bin/env bash
+# reads: packages/tools packages/c packages/rust crates Makefile scripts/install bin
 # Installs the programs and the C library into a temporary directory, uses each installed file, and removes the files
 # again. Further cases set each directory. Without the kit, cc and cargo build them; without cargo, cc the library alone.
 . "$(dirname "$0")/../../../tests/cases.sh"

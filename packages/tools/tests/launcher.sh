@@ -1,4 +1,5 @@
 #!/usr/bin/env bash
+# reads: packages/tools bin Makefile
 # Runs bin/rapidhash in a small copy of the repository. A script instead of rt builds a program that prints the sources
 # and its arguments, so no case needs a proof.
 . "$(dirname "$0")/../../../tests/cases.sh"

@@ -1,4 +1,5 @@
 #!/usr/bin/env bash
+# reads: packages/tools packages/rust crates docs/COMMANDS.md
 # Runs crates/rapidhash_cli as its users do and compares its output and exit status. The cases cover the hashes of each
 # version, the kinds of input, the arguments, the help, and failures of reads, writes, and memory. The numbers are those
 # of the Rust crate.
