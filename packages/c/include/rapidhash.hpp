@@ -201,30 +201,30 @@ inline std::uint64_t from_canonical(const std::array<unsigned char, 8> &stored) 
 
 /* Return what a hash decides among `count`, which is at least 1: its shard, the first hash of a shard, or its bucket.
  * rapidhash_c.h describes them. From C++14 on, the results can be constants of gcc and clang. */
-RAPIDHASH_CONSTANT inline std::uint64_t shard(std::uint64_t hash, std::uint64_t count) noexcept
+RAPIDHASH_CONSTANT_ inline std::uint64_t shard(std::uint64_t hash, std::uint64_t count) noexcept
 {
     return ::rapidhash_shard(hash, count);
 }
 
-RAPIDHASH_CONSTANT inline std::uint64_t first_hash(std::uint64_t shard, std::uint64_t count) noexcept
+RAPIDHASH_CONSTANT_ inline std::uint64_t first_hash(std::uint64_t shard, std::uint64_t count) noexcept
 {
     return ::rapidhash_first_hash(shard, count);
 }
 
-RAPIDHASH_CONSTANT inline std::uint32_t bucket(std::uint64_t hash, std::uint32_t count) noexcept
+RAPIDHASH_CONSTANT_ inline std::uint32_t bucket(std::uint64_t hash, std::uint32_t count) noexcept
 {
     return ::rapidhash_bucket(hash, count);
 }
 
 /* Returns the fingerprint of a table, from the hashes of its rows in any order. */
-RAPIDHASH_CONSTANT inline std::uint64_t fingerprint(const std::uint64_t *hashes, std::size_t count) noexcept
+RAPIDHASH_CONSTANT_ inline std::uint64_t fingerprint(const std::uint64_t *hashes, std::size_t count) noexcept
 {
     return ::rapidhash_fingerprint(hashes, count);
 }
 
 /* Returns the same of a range, as a std::vector of hashes. */
 template <class Hashes>
-RAPIDHASH_CONSTANT std::uint64_t fingerprint(const Hashes &hashes) noexcept
+RAPIDHASH_CONSTANT_ std::uint64_t fingerprint(const Hashes &hashes) noexcept
 {
     std::uint64_t sum = 0;
     for (const auto &hash : hashes) {

@@ -56,24 +56,24 @@
 /* Inlined functions and tables. In C++ all files of a program share them, as the functions that call them need, and so
  * must define the same macros of this header. A shared library exports none. Before C++17 each file has its tables. */
 #ifndef __cplusplus
-#define RAPIDHASH_SHARED static
+#define RAPIDHASH_SHARED_ static
 #elif defined(__ELF__) && defined(__GNUC__)
-#define RAPIDHASH_SHARED __attribute__((visibility("hidden")))
+#define RAPIDHASH_SHARED_ __attribute__((visibility("hidden")))
 #else
-#define RAPIDHASH_SHARED
+#define RAPIDHASH_SHARED_
 #endif
-#define RAPIDHASH_INLINE RAPIDHASH_SHARED inline
+#define RAPIDHASH_INLINE_ RAPIDHASH_SHARED_ inline
 #if defined(__cplusplus) && __cplusplus >= 201703L
-#define RAPIDHASH_TABLE RAPIDHASH_SHARED inline constexpr
+#define RAPIDHASH_TABLE_ RAPIDHASH_SHARED_ inline constexpr
 #else
-#define RAPIDHASH_TABLE static const
+#define RAPIDHASH_TABLE_ static const
 #endif
 
 /* From C++14 on, a function with this can be a constant of gcc and clang, unless a test replaces the product. */
 #if defined(__cplusplus) && __cplusplus >= 201402L && defined(__GNUC__)
-#define RAPIDHASH_CONSTANT constexpr
+#define RAPIDHASH_CONSTANT_ constexpr
 #else
-#define RAPIDHASH_CONSTANT
+#define RAPIDHASH_CONSTANT_
 #endif
 
 /* The functions are inlined by default and only declared with RAPIDHASH_LINK. With RAPIDHASH_IMPLEMENTATION they are
@@ -82,7 +82,7 @@
  * define RAPIDHASH_DLL too. */
 #ifdef RAPIDHASH_API
 #elif !defined(RAPIDHASH_LINK) && !defined(RAPIDHASH_IMPLEMENTATION)
-#define RAPIDHASH_API RAPIDHASH_INLINE
+#define RAPIDHASH_API RAPIDHASH_INLINE_
 #elif defined(RAPIDHASH_DLL) && defined(RAPIDHASH_LINK)
 #define RAPIDHASH_API extern __declspec(dllimport)
 #elif defined(RAPIDHASH_DLL)
@@ -96,11 +96,11 @@
 /* Calls of the library. A hash reads memory and changes none, so that a compiler may join equal calls. It may warn of
  * NULL. If the code is inlined, the compiler sees both for itself. */
 #if defined(RAPIDHASH_LINK) && defined(__GNUC__)
-#define RAPIDHASH_PURE RAPIDHASH_API __attribute__((pure))
-#define RAPIDHASH_NONNULL(...) __attribute__((nonnull(__VA_ARGS__)))
+#define RAPIDHASH_PURE_ RAPIDHASH_API __attribute__((pure))
+#define RAPIDHASH_NONNULL_(...) __attribute__((nonnull(__VA_ARGS__)))
 #else
-#define RAPIDHASH_PURE RAPIDHASH_API
-#define RAPIDHASH_NONNULL(...)
+#define RAPIDHASH_PURE_ RAPIDHASH_API
+#define RAPIDHASH_NONNULL_(...)
 #endif
 #if defined(__cplusplus) && (defined(RAPIDHASH_LINK) || defined(RAPIDHASH_IMPLEMENTATION))
 extern "C" {
@@ -135,58 +135,58 @@ struct rapidhash_secrets {
  * collisions must be hard to predict. Make the secrets once and reuse them.
  *
  * `secrets` must not be NULL. Its previous contents are ignored, and nothing else may access it during the call. */
-RAPIDHASH_API RAPIDHASH_NONNULL(2) void rapidhash_v1_make_secrets(
+RAPIDHASH_API RAPIDHASH_NONNULL_(2) void rapidhash_v1_make_secrets(
     uint64_t number, struct rapidhash_v1_secrets *secrets);
-RAPIDHASH_API RAPIDHASH_NONNULL(2) void rapidhash_make_secrets(uint64_t number, struct rapidhash_secrets *secrets);
+RAPIDHASH_API RAPIDHASH_NONNULL_(2) void rapidhash_make_secrets(uint64_t number, struct rapidhash_secrets *secrets);
 
 /* Sets the default secrets and a seed derived from the word `seed`, as the Rust crate's RapidSecrets::seed_cpp does.
  * According to that crate, the C++ library derives its seed in the same way. The default seed is that of word 0, and in
  * V1 that of 0xbdd89aa982704029. The preconditions are those of rapidhash_make_secrets.
  *
  * Security: a seed word does not stop an attacker, since the default secrets are public. */
-RAPIDHASH_API RAPIDHASH_NONNULL(2) void rapidhash_v1_seed_secrets(uint64_t seed, struct rapidhash_v1_secrets *secrets);
-RAPIDHASH_API RAPIDHASH_NONNULL(2) void rapidhash_seed_secrets(uint64_t seed, struct rapidhash_secrets *secrets);
+RAPIDHASH_API RAPIDHASH_NONNULL_(2) void rapidhash_v1_seed_secrets(uint64_t seed, struct rapidhash_v1_secrets *secrets);
+RAPIDHASH_API RAPIDHASH_NONNULL_(2) void rapidhash_seed_secrets(uint64_t seed, struct rapidhash_secrets *secrets);
 
 /* Returns the hash with the default seed and secrets. In the Rust crate: rapidhash_v1, rapidhash_v2_inline (with the
  * minor number and AVALANCHE), rapidhash_v3, and the inline functions of micro and nano. */
-RAPIDHASH_PURE uint64_t rapidhash_v1(const void *bytes, size_t len);
-RAPIDHASH_PURE uint64_t rapidhash_v2_0(const void *bytes, size_t len);
-RAPIDHASH_PURE uint64_t rapidhash_v2_1(const void *bytes, size_t len);
-RAPIDHASH_PURE uint64_t rapidhash_v2_2(const void *bytes, size_t len);
-RAPIDHASH_PURE uint64_t rapidhash_v3(const void *bytes, size_t len);
-RAPIDHASH_PURE uint64_t rapidhash_v3_micro(const void *bytes, size_t len);
-RAPIDHASH_PURE uint64_t rapidhash_v3_nano(const void *bytes, size_t len);
+RAPIDHASH_PURE_ uint64_t rapidhash_v1(const void *bytes, size_t len);
+RAPIDHASH_PURE_ uint64_t rapidhash_v2_0(const void *bytes, size_t len);
+RAPIDHASH_PURE_ uint64_t rapidhash_v2_1(const void *bytes, size_t len);
+RAPIDHASH_PURE_ uint64_t rapidhash_v2_2(const void *bytes, size_t len);
+RAPIDHASH_PURE_ uint64_t rapidhash_v3(const void *bytes, size_t len);
+RAPIDHASH_PURE_ uint64_t rapidhash_v3_micro(const void *bytes, size_t len);
+RAPIDHASH_PURE_ uint64_t rapidhash_v3_nano(const void *bytes, size_t len);
 
 /* Returns the hash with the default secrets and a seed derived from the word `seed`, as in rapidhash_seed_secrets.
  * Messages can be found that collide under every seed word. */
-RAPIDHASH_PURE uint64_t rapidhash_v1_with_seed(const void *bytes, size_t len, uint64_t seed);
-RAPIDHASH_PURE uint64_t rapidhash_v2_0_with_seed(const void *bytes, size_t len, uint64_t seed);
-RAPIDHASH_PURE uint64_t rapidhash_v2_1_with_seed(const void *bytes, size_t len, uint64_t seed);
-RAPIDHASH_PURE uint64_t rapidhash_v2_2_with_seed(const void *bytes, size_t len, uint64_t seed);
-RAPIDHASH_PURE uint64_t rapidhash_v3_with_seed(const void *bytes, size_t len, uint64_t seed);
-RAPIDHASH_PURE uint64_t rapidhash_v3_micro_with_seed(const void *bytes, size_t len, uint64_t seed);
-RAPIDHASH_PURE uint64_t rapidhash_v3_nano_with_seed(const void *bytes, size_t len, uint64_t seed);
+RAPIDHASH_PURE_ uint64_t rapidhash_v1_with_seed(const void *bytes, size_t len, uint64_t seed);
+RAPIDHASH_PURE_ uint64_t rapidhash_v2_0_with_seed(const void *bytes, size_t len, uint64_t seed);
+RAPIDHASH_PURE_ uint64_t rapidhash_v2_1_with_seed(const void *bytes, size_t len, uint64_t seed);
+RAPIDHASH_PURE_ uint64_t rapidhash_v2_2_with_seed(const void *bytes, size_t len, uint64_t seed);
+RAPIDHASH_PURE_ uint64_t rapidhash_v3_with_seed(const void *bytes, size_t len, uint64_t seed);
+RAPIDHASH_PURE_ uint64_t rapidhash_v3_micro_with_seed(const void *bytes, size_t len, uint64_t seed);
+RAPIDHASH_PURE_ uint64_t rapidhash_v3_nano_with_seed(const void *bytes, size_t len, uint64_t seed);
 
 /* Returns the hash with the caller's seed and secrets. */
-RAPIDHASH_PURE RAPIDHASH_NONNULL(3) uint64_t rapidhash_v1_with_secrets(
+RAPIDHASH_PURE_ RAPIDHASH_NONNULL_(3) uint64_t rapidhash_v1_with_secrets(
     const void *bytes, size_t len, const struct rapidhash_v1_secrets *own);
-RAPIDHASH_PURE RAPIDHASH_NONNULL(3) uint64_t rapidhash_v2_0_with_secrets(
+RAPIDHASH_PURE_ RAPIDHASH_NONNULL_(3) uint64_t rapidhash_v2_0_with_secrets(
     const void *bytes, size_t len, const struct rapidhash_secrets *own);
-RAPIDHASH_PURE RAPIDHASH_NONNULL(3) uint64_t rapidhash_v2_1_with_secrets(
+RAPIDHASH_PURE_ RAPIDHASH_NONNULL_(3) uint64_t rapidhash_v2_1_with_secrets(
     const void *bytes, size_t len, const struct rapidhash_secrets *own);
-RAPIDHASH_PURE RAPIDHASH_NONNULL(3) uint64_t rapidhash_v2_2_with_secrets(
+RAPIDHASH_PURE_ RAPIDHASH_NONNULL_(3) uint64_t rapidhash_v2_2_with_secrets(
     const void *bytes, size_t len, const struct rapidhash_secrets *own);
-RAPIDHASH_PURE RAPIDHASH_NONNULL(3) uint64_t rapidhash_v3_with_secrets(
+RAPIDHASH_PURE_ RAPIDHASH_NONNULL_(3) uint64_t rapidhash_v3_with_secrets(
     const void *bytes, size_t len, const struct rapidhash_secrets *own);
-RAPIDHASH_PURE RAPIDHASH_NONNULL(3) uint64_t rapidhash_v3_micro_with_secrets(
+RAPIDHASH_PURE_ RAPIDHASH_NONNULL_(3) uint64_t rapidhash_v3_micro_with_secrets(
     const void *bytes, size_t len, const struct rapidhash_secrets *own);
-RAPIDHASH_PURE RAPIDHASH_NONNULL(3) uint64_t rapidhash_v3_nano_with_secrets(
+RAPIDHASH_PURE_ RAPIDHASH_NONNULL_(3) uint64_t rapidhash_v3_nano_with_secrets(
     const void *bytes, size_t len, const struct rapidhash_secrets *own);
 
 /* Returns the protected V3 hash, which XORs the factors into each product. It differs from V3. */
-RAPIDHASH_PURE uint64_t rapidhash_v3_protected(const void *bytes, size_t len);
-RAPIDHASH_PURE uint64_t rapidhash_v3_protected_with_seed(const void *bytes, size_t len, uint64_t seed);
-RAPIDHASH_PURE RAPIDHASH_NONNULL(3) uint64_t rapidhash_v3_protected_with_secrets(
+RAPIDHASH_PURE_ uint64_t rapidhash_v3_protected(const void *bytes, size_t len);
+RAPIDHASH_PURE_ uint64_t rapidhash_v3_protected_with_seed(const void *bytes, size_t len, uint64_t seed);
+RAPIDHASH_PURE_ RAPIDHASH_NONNULL_(3) uint64_t rapidhash_v3_protected_with_secrets(
     const void *bytes, size_t len, const struct rapidhash_secrets *own);
 
 /* A streaming hasher for V3, micro, or nano: hashes a message in pieces. Call a _start function before any other, and
@@ -202,18 +202,18 @@ struct rapidhash_stream {
 };
 
 /* Appends the next `len` bytes to the message. */
-RAPIDHASH_API RAPIDHASH_NONNULL(1) void rapidhash_stream_write(
+RAPIDHASH_API RAPIDHASH_NONNULL_(1) void rapidhash_stream_write(
     struct rapidhash_stream *stream, const void *bytes, size_t len);
 
 /* Returns the hash of the message so far, as rapidhash_v3_with_secrets, or that of micro or nano, hashes it as a whole.
  * Does not modify the stream: more bytes may follow. */
-RAPIDHASH_PURE RAPIDHASH_NONNULL(1) uint64_t rapidhash_stream_finish(const struct rapidhash_stream *stream);
+RAPIDHASH_PURE_ RAPIDHASH_NONNULL_(1) uint64_t rapidhash_stream_finish(const struct rapidhash_stream *stream);
 
 /* Empties the message but keeps the secrets and the version. */
-RAPIDHASH_API RAPIDHASH_NONNULL(1) void rapidhash_stream_reset(struct rapidhash_stream *stream);
+RAPIDHASH_API RAPIDHASH_NONNULL_(1) void rapidhash_stream_reset(struct rapidhash_stream *stream);
 
 /* Starts a stream with 7, 5, or 3 lanes. Its name is private: call one of the three functions below. */
-RAPIDHASH_INLINE void rapidhash_stream_start_(
+RAPIDHASH_INLINE_ void rapidhash_stream_start_(
     struct rapidhash_stream *stream, size_t lanes, const struct rapidhash_secrets *secrets)
 {
     memset(stream, 0, sizeof *stream);
@@ -223,28 +223,29 @@ RAPIDHASH_INLINE void rapidhash_stream_start_(
 }
 
 /* Starts an empty stream, whose hash will be that of rapidhash_v3_with_secrets, or of micro or nano. */
-RAPIDHASH_INLINE void rapidhash_v3_start(struct rapidhash_stream *stream, const struct rapidhash_secrets *secrets)
+RAPIDHASH_INLINE_ void rapidhash_v3_start(struct rapidhash_stream *stream, const struct rapidhash_secrets *secrets)
 { rapidhash_stream_start_(stream, 7, secrets); }
-RAPIDHASH_INLINE void rapidhash_v3_micro_start(struct rapidhash_stream *stream, const struct rapidhash_secrets *secrets)
+RAPIDHASH_INLINE_ void rapidhash_v3_micro_start(
+    struct rapidhash_stream *stream, const struct rapidhash_secrets *secrets)
 { rapidhash_stream_start_(stream, 5, secrets); }
-RAPIDHASH_INLINE void rapidhash_v3_nano_start(struct rapidhash_stream *stream, const struct rapidhash_secrets *secrets)
+RAPIDHASH_INLINE_ void rapidhash_v3_nano_start(struct rapidhash_stream *stream, const struct rapidhash_secrets *secrets)
 { rapidhash_stream_start_(stream, 3, secrets); }
 
 /* Append a field of a key to the message of a V3 stream: nothing (as SQL's NULL), an integer, or bytes (a text is its
  * UTF-8). The hash after the last field is that of the key in every language. docs/ALGORITHM.md has the encoding, in
  * which different keys are different messages. The preconditions are those of rapidhash_stream_write. */
-RAPIDHASH_INLINE void rapidhash_key_nothing(struct rapidhash_stream *stream) { rapidhash_stream_write(stream, "", 1); }
-RAPIDHASH_INLINE void rapidhash_put8_(uint64_t word, unsigned char *bytes)
+RAPIDHASH_INLINE_ void rapidhash_key_nothing(struct rapidhash_stream *stream) { rapidhash_stream_write(stream, "", 1); }
+RAPIDHASH_INLINE_ void rapidhash_put8_(uint64_t word, unsigned char *bytes)
 { for (int at = 0; at < 8; at++, word >>= 8) bytes[at] = (unsigned char)(word & 255); }
-RAPIDHASH_INLINE void rapidhash_key_number_(struct rapidhash_stream *stream, unsigned char tag, uint64_t number)
+RAPIDHASH_INLINE_ void rapidhash_key_number_(struct rapidhash_stream *stream, unsigned char tag, uint64_t number)
 {
     unsigned char field[9] = {tag};
     rapidhash_put8_(number, field + 1);
     rapidhash_stream_write(stream, field, sizeof field);
 }
-RAPIDHASH_INLINE void rapidhash_key_integer(struct rapidhash_stream *stream, int64_t value)
+RAPIDHASH_INLINE_ void rapidhash_key_integer(struct rapidhash_stream *stream, int64_t value)
 { rapidhash_key_number_(stream, 1, (uint64_t)value); }
-RAPIDHASH_INLINE void rapidhash_key_bytes(struct rapidhash_stream *stream, const void *bytes, size_t len)
+RAPIDHASH_INLINE_ void rapidhash_key_bytes(struct rapidhash_stream *stream, const void *bytes, size_t len)
 {
     rapidhash_key_number_(stream, 2, len);
     rapidhash_stream_write(stream, bytes, len);
@@ -253,7 +254,7 @@ RAPIDHASH_INLINE void rapidhash_key_bytes(struct rapidhash_stream *stream, const
 /* Saves a stream as RAPIDHASH_STREAM_SAVED bytes, for which `saved` must have room. They are the same on every machine
  * and in every language (docs/BINDINGS.md, "Saved streams"), and contain bytes of the message but no secrets. */
 #define RAPIDHASH_STREAM_SAVED 208
-RAPIDHASH_INLINE void rapidhash_stream_save(const struct rapidhash_stream *stream, unsigned char *saved)
+RAPIDHASH_INLINE_ void rapidhash_stream_save(const struct rapidhash_stream *stream, unsigned char *saved)
 {
     const size_t carried = stream->has_rows ? 16 : 0, lanes = stream->has_rows ? stream->lanes : 0;
     memset(saved, 0, RAPIDHASH_STREAM_SAVED);
@@ -271,7 +272,7 @@ RAPIDHASH_INLINE void rapidhash_stream_save(const struct rapidhash_stream *strea
 
 /* Replaces the message of a started stream by that of a saved one. Returns false and does not modify the stream if
  * rapidhash_stream_save did not write these `len` bytes for a stream of the same version, seed and secrets. */
-RAPIDHASH_INLINE bool rapidhash_stream_restore(struct rapidhash_stream *stream, const unsigned char *saved, size_t len)
+RAPIDHASH_INLINE_ bool rapidhash_stream_restore(struct rapidhash_stream *stream, const unsigned char *saved, size_t len)
 {
     struct rapidhash_stream restored = *stream;
     unsigned char again[RAPIDHASH_STREAM_SAVED];
@@ -292,11 +293,11 @@ RAPIDHASH_INLINE bool rapidhash_stream_restore(struct rapidhash_stream *stream, 
 }
 
 /* Writes a hash as 8 bytes, most significant first, the same on every machine. `bytes` must have room for 8 bytes. */
-RAPIDHASH_INLINE void rapidhash_to_canonical(uint64_t hash, unsigned char *bytes)
+RAPIDHASH_INLINE_ void rapidhash_to_canonical(uint64_t hash, unsigned char *bytes)
 { for (int at = 7; at >= 0; at--, hash >>= 8) bytes[at] = (unsigned char)(hash & 255); }
 
 /* Returns the hash that rapidhash_to_canonical wrote into these 8 bytes. */
-RAPIDHASH_INLINE uint64_t rapidhash_from_canonical(const unsigned char *bytes)
+RAPIDHASH_INLINE_ uint64_t rapidhash_from_canonical(const unsigned char *bytes)
 {
     uint64_t hash = 0;
     for (int at = 0; at < 8; at++) hash = hash << 8 | bytes[at];
@@ -307,18 +308,18 @@ RAPIDHASH_INLINE uint64_t rapidhash_from_canonical(const unsigned char *bytes)
  * A function with FORCE_INLINE is inlined into a caller whose constant arguments choose its code. Messages above 16
  * bytes leave the caller for a function with NOINLINE; those with rows, which need all registers, for another one. */
 #if defined(__GNUC__)
-#define RAPIDHASH_FORCE_INLINE RAPIDHASH_INLINE __attribute__((always_inline))
+#define RAPIDHASH_FORCE_INLINE_ RAPIDHASH_INLINE_ __attribute__((always_inline))
 #ifdef __cplusplus
-#define RAPIDHASH_NOINLINE RAPIDHASH_INLINE __attribute__((noinline))
+#define RAPIDHASH_NOINLINE_ RAPIDHASH_INLINE_ __attribute__((noinline))
 #else
-#define RAPIDHASH_NOINLINE static __attribute__((noinline, unused))
+#define RAPIDHASH_NOINLINE_ static __attribute__((noinline, unused))
 #endif
 #elif defined(_MSC_VER)
-#define RAPIDHASH_FORCE_INLINE RAPIDHASH_SHARED __forceinline
-#define RAPIDHASH_NOINLINE RAPIDHASH_SHARED __declspec(noinline) inline
+#define RAPIDHASH_FORCE_INLINE_ RAPIDHASH_SHARED_ __forceinline
+#define RAPIDHASH_NOINLINE_ RAPIDHASH_SHARED_ __declspec(noinline) inline
 #else
-#define RAPIDHASH_FORCE_INLINE RAPIDHASH_INLINE
-#define RAPIDHASH_NOINLINE RAPIDHASH_INLINE
+#define RAPIDHASH_FORCE_INLINE_ RAPIDHASH_INLINE_
+#define RAPIDHASH_NOINLINE_ RAPIDHASH_INLINE_
 #endif
 
 /* A debug build may define this as assert. It states the bounds that every load and copy relies on. */
@@ -328,41 +329,41 @@ RAPIDHASH_INLINE uint64_t rapidhash_from_canonical(const unsigned char *bytes)
 /* Loads and the product. They depend on the machine, and nothing else does. A test replaces them by those of a file. */
 #if defined(RAPIDHASH_PRIMITIVES) && !defined(__CPPCHECK__)
 #include RAPIDHASH_PRIMITIVES
-#undef RAPIDHASH_CONSTANT
-#define RAPIDHASH_CONSTANT
+#undef RAPIDHASH_CONSTANT_
+#define RAPIDHASH_CONSTANT_
 #else
 #if defined(_MSC_VER) || (defined(__BYTE_ORDER__) && __BYTE_ORDER__ == __ORDER_LITTLE_ENDIAN__)
-#define RAPIDHASH_C_LITTLE(bits, word) word
+#define RAPIDHASH_C_LITTLE_(bits, word) word
 #elif defined(__GNUC__) && defined(__BYTE_ORDER__) && __BYTE_ORDER__ == __ORDER_BIG_ENDIAN__
-#define RAPIDHASH_C_LITTLE(bits, word) __builtin_bswap##bits(word)
+#define RAPIDHASH_C_LITTLE_(bits, word) __builtin_bswap##bits(word)
 #endif
 
 /* Reads 4 bytes as a little-endian number, one at a time if the compiler does not define the byte order. */
-RAPIDHASH_FORCE_INLINE uint64_t rapidhash_load4_(const uint8_t *p)
+RAPIDHASH_FORCE_INLINE_ uint64_t rapidhash_load4_(const uint8_t *p)
 {
-#ifdef RAPIDHASH_C_LITTLE
+#ifdef RAPIDHASH_C_LITTLE_
     uint32_t word;
     memcpy(&word, p, sizeof word);
-    return RAPIDHASH_C_LITTLE(32, word);
+    return RAPIDHASH_C_LITTLE_(32, word);
 #else
     return p[0] | (uint64_t)p[1] << 8 | (uint64_t)p[2] << 16 | (uint64_t)p[3] << 24;
 #endif
 }
 
 /* Returns the little-endian number of 8 bytes. */
-RAPIDHASH_FORCE_INLINE uint64_t rapidhash_load8_(const uint8_t *p)
+RAPIDHASH_FORCE_INLINE_ uint64_t rapidhash_load8_(const uint8_t *p)
 {
-#ifdef RAPIDHASH_C_LITTLE
+#ifdef RAPIDHASH_C_LITTLE_
     uint64_t word;
     memcpy(&word, p, sizeof word);
-    return RAPIDHASH_C_LITTLE(64, word);
+    return RAPIDHASH_C_LITTLE_(64, word);
 #else
     return rapidhash_load4_(p) | rapidhash_load4_(p + 4) << 32;
 #endif
 }
 
 /* Sets the halves of the 128-bit product. WebAssembly has a 128-bit type, but its product is a call. */
-RAPIDHASH_FORCE_INLINE RAPIDHASH_CONSTANT void rapidhash_multiply_(
+RAPIDHASH_FORCE_INLINE_ RAPIDHASH_CONSTANT_ void rapidhash_multiply_(
     uint64_t a, uint64_t b, uint64_t *low, uint64_t *high)
 {
 #if defined(__SIZEOF_INT128__) && !defined(__wasm__) && !defined(RAPIDHASH_NO_INT128)
@@ -394,7 +395,7 @@ RAPIDHASH_FORCE_INLINE RAPIDHASH_CONSTANT void rapidhash_multiply_(
  * Returns the shard of a hash, below `count`: the integer part of hash * count / 2^64. Each shard has 2^64 / count
  * hashes or one more. They follow one another, so that a database can have a shard as a range. Multiplying the count
  * splits each shard. The hashes of a shard share their highest bits: inside it, use the lowest bits. */
-RAPIDHASH_INLINE RAPIDHASH_CONSTANT uint64_t rapidhash_shard(uint64_t hash, uint64_t count)
+RAPIDHASH_INLINE_ RAPIDHASH_CONSTANT_ uint64_t rapidhash_shard(uint64_t hash, uint64_t count)
 {
     uint64_t low = 0, high = 0;
     rapidhash_multiply_(hash, count, &low, &high);
@@ -403,7 +404,7 @@ RAPIDHASH_INLINE RAPIDHASH_CONSTANT uint64_t rapidhash_shard(uint64_t hash, uint
 
 /* Returns the first hash of a shard, which is below `count`; otherwise returns 0. The shard has the hashes from it to
  * before the first of the next shard. */
-RAPIDHASH_INLINE RAPIDHASH_CONSTANT uint64_t rapidhash_first_hash(uint64_t shard, uint64_t count)
+RAPIDHASH_INLINE_ RAPIDHASH_CONSTANT_ uint64_t rapidhash_first_hash(uint64_t shard, uint64_t count)
 {
     uint64_t rest = shard, quotient = 0;
     if (shard >= count) return 0;
@@ -418,7 +419,7 @@ RAPIDHASH_INLINE RAPIDHASH_CONSTANT uint64_t rapidhash_first_hash(uint64_t shard
 
 /* Returns the bucket of a hash, below `count`, by jump consistent hashing in integers: among more buckets a hash keeps
  * its bucket or goes to a new one. The time grows with the logarithm of the count: some 14 steps for a million. */
-RAPIDHASH_INLINE RAPIDHASH_CONSTANT uint32_t rapidhash_bucket(uint64_t hash, uint32_t count)
+RAPIDHASH_INLINE_ RAPIDHASH_CONSTANT_ uint32_t rapidhash_bucket(uint64_t hash, uint32_t count)
 {
     uint64_t at = 0, next = 0;
     while (next < count) {
@@ -434,7 +435,7 @@ RAPIDHASH_INLINE RAPIDHASH_CONSTANT uint32_t rapidhash_bucket(uint64_t hash, uin
  * chance of one in 2^64. That does not hold against someone who chooses the rows, nor if rows are repeated very often.
  *
  * `hashes` points to `count` words. If `count` is 0, it may be any pointer. */
-RAPIDHASH_INLINE RAPIDHASH_CONSTANT uint64_t rapidhash_fingerprint(const uint64_t *hashes, size_t count)
+RAPIDHASH_INLINE_ RAPIDHASH_CONSTANT_ uint64_t rapidhash_fingerprint(const uint64_t *hashes, size_t count)
 {
     uint64_t sum = 0;
     for (size_t at = 0; at < count; at++) sum += hashes[at];
@@ -443,12 +444,12 @@ RAPIDHASH_INLINE RAPIDHASH_CONSTANT uint64_t rapidhash_fingerprint(const uint64_
 
 #ifndef RAPIDHASH_LINK
 /* The default secrets, and the default seeds of V1 and of the other versions. */
-RAPIDHASH_TABLE uint64_t rapidhash_default_secrets_[7] = {
+RAPIDHASH_TABLE_ uint64_t rapidhash_default_secrets_[7] = {
     UINT64_C(0x2d358dccaa6c78a5), UINT64_C(0x8bb84b93962eacc9), UINT64_C(0x4b33a62ed433d4a3),
     UINT64_C(0x4d5a2da51de1aa47), UINT64_C(0xa0761d6478bd642f), UINT64_C(0xe7037ed1a0b428db),
     UINT64_C(0x90ed1765281c388c)};
-RAPIDHASH_TABLE uint64_t rapidhash_v1_default_seed_ = UINT64_C(0x763305bbe7bea536);
-RAPIDHASH_TABLE uint64_t rapidhash_default_seed_ = UINT64_C(0x422765567d8fbfd6);
+RAPIDHASH_TABLE_ uint64_t rapidhash_v1_default_seed_ = UINT64_C(0x763305bbe7bea536);
+RAPIDHASH_TABLE_ uint64_t rapidhash_default_seed_ = UINT64_C(0x422765567d8fbfd6);
 
 /* The parameters of a version. Each caller of the kernel passes constant ones, so the compiler resolves every test. */
 struct rapidhash_form_ {
@@ -466,7 +467,7 @@ struct rapidhash_form_ {
 };
 
 /* The form of each version, as in crates/rapidhash_portable/specs/Form.antt. */
-RAPIDHASH_TABLE struct rapidhash_form_
+RAPIDHASH_TABLE_ struct rapidhash_form_
     rapidhash_v1_form_           = {3,  48, 0, 0, {2, 2},             {2, 2},             56, 1, 0, 1, 0},
     rapidhash_v2_0_form_         = {7,  56, 0, 1, {2, 2},             {0, 1, 0},          56, 1, 0, 0, 0},
     rapidhash_v2_1_form_         = {7,  64, 0, 1, {2, 2},             {0, 1, 0},          56, 1, 0, 0, 0},
@@ -477,32 +478,39 @@ RAPIDHASH_TABLE struct rapidhash_form_
     rapidhash_v3_protected_form_ = {7, 112, 1, 0, {2, 2, 1, 1, 2, 1}, {2, 2, 1, 1, 2, 1}, 45, 0, 1, 0, 1};
 
 /* Returns the XOR of both halves of a product. With `protect`, the factors are XORed into it. */
-RAPIDHASH_FORCE_INLINE uint64_t rapidhash_mix_(bool protect, uint64_t a, uint64_t b)
+RAPIDHASH_FORCE_INLINE_ uint64_t rapidhash_mix_(bool protect, uint64_t a, uint64_t b)
 {
     uint64_t low, high;
     rapidhash_multiply_(a, b, &low, &high);
     return protect ? low ^ a ^ high ^ b : low ^ high;
 }
 
-/* Folds a pair of words into a lane. */
-RAPIDHASH_FORCE_INLINE uint64_t rapidhash_fold_(bool protect, const uint8_t *p, uint64_t secret, uint64_t lane)
-{ return rapidhash_mix_(protect, rapidhash_load8_(p) ^ secret, rapidhash_load8_(p + 8) ^ lane); }
+/* Folds a pair of words into a lane. In the first factor it costs clang an instruction less, and gcc one more. */
+RAPIDHASH_FORCE_INLINE_ uint64_t rapidhash_fold_(bool protect, const uint8_t *p, uint64_t secret, uint64_t lane)
+{
+    const uint64_t first = rapidhash_load8_(p) ^ secret, second = rapidhash_load8_(p + 8) ^ lane;
+#ifdef __clang__
+    return rapidhash_mix_(protect, second, first);
+#else
+    return rapidhash_mix_(protect, first, second);
+#endif
+}
 
 /* Folds `count` rows, 1 or 2, of 3, 5, or 7 lanes. */
-RAPIDHASH_FORCE_INLINE void rapidhash_fold_rows_(
+RAPIDHASH_FORCE_INLINE_ void rapidhash_fold_rows_(
     size_t lanes, int count, bool protect, uint64_t *lane, const uint8_t *p, const uint64_t *s)
 {
-#define RAPIDHASH_C_LANE(i) \
+#define RAPIDHASH_C_LANE_(i) \
     lane[i] = rapidhash_fold_(protect, p + 16 * i, s[i], lane[i]); \
     if (count == 2) lane[i] = rapidhash_fold_(protect, p + 16 * (lanes + i), s[i], lane[i])
-    RAPIDHASH_C_LANE(0); RAPIDHASH_C_LANE(1); RAPIDHASH_C_LANE(2);
-    if (lanes > 3) { RAPIDHASH_C_LANE(3); RAPIDHASH_C_LANE(4); }
-    if (lanes > 5) { RAPIDHASH_C_LANE(5); RAPIDHASH_C_LANE(6); }
-#undef RAPIDHASH_C_LANE
+    RAPIDHASH_C_LANE_(0); RAPIDHASH_C_LANE_(1); RAPIDHASH_C_LANE_(2);
+    if (lanes > 3) { RAPIDHASH_C_LANE_(3); RAPIDHASH_C_LANE_(4); }
+    if (lanes > 5) { RAPIDHASH_C_LANE_(5); RAPIDHASH_C_LANE_(6); }
+#undef RAPIDHASH_C_LANE_
 }
 
 /* Folds all rows that at least `least` bytes follow. Returns the position after them; `n` becomes the rest's length. */
-RAPIDHASH_FORCE_INLINE const uint8_t *rapidhash_fold_all_rows_(
+RAPIDHASH_FORCE_INLINE_ const uint8_t *rapidhash_fold_all_rows_(
     size_t lanes, size_t least, bool protect, uint64_t *lane, const uint8_t *p, size_t *n, const uint64_t *s)
 {
     const size_t row = 16 * lanes;
@@ -520,7 +528,7 @@ RAPIDHASH_FORCE_INLINE const uint8_t *rapidhash_fold_all_rows_(
 }
 
 /* Returns the XOR of all lanes. */
-RAPIDHASH_FORCE_INLINE uint64_t rapidhash_join_(size_t lanes, const uint64_t *lane)
+RAPIDHASH_FORCE_INLINE_ uint64_t rapidhash_join_(size_t lanes, const uint64_t *lane)
 {
     const uint64_t three = lane[0] ^ lane[1] ^ lane[2], five = lanes > 3 ? three ^ lane[3] ^ lane[4] : three;
     return lanes > 5 ? five ^ lane[5] ^ lane[6] : five;
@@ -528,7 +536,7 @@ RAPIDHASH_FORCE_INLINE uint64_t rapidhash_join_(size_t lanes, const uint64_t *la
 
 /* Returns the hash from the factors of the close, for a message of n bytes. The avalanche mixes `mask` into the high
  * half of the product. */
-RAPIDHASH_FORCE_INLINE uint64_t rapidhash_close_(
+RAPIDHASH_FORCE_INLINE_ uint64_t rapidhash_close_(
     const struct rapidhash_form_ *form, uint64_t a, uint64_t b, size_t n, uint64_t mask, const uint64_t *s)
 {
     const bool protect = form->protect;
@@ -539,7 +547,7 @@ RAPIDHASH_FORCE_INLINE uint64_t rapidhash_close_(
 }
 
 /* Returns the hash of a message up to 16 bytes. */
-RAPIDHASH_FORCE_INLINE uint64_t rapidhash_close_short_(
+RAPIDHASH_FORCE_INLINE_ uint64_t rapidhash_close_short_(
     const struct rapidhash_form_ *form, const uint8_t *p, size_t n, uint64_t seed, const uint64_t *s)
 {
     uint64_t a = 0, b = 0;
@@ -559,7 +567,7 @@ RAPIDHASH_FORCE_INLINE uint64_t rapidhash_close_short_(
 }
 
 /* Returns the hash from the tail: the last t of n bytes, before which a longer message has rows. */
-RAPIDHASH_FORCE_INLINE uint64_t rapidhash_close_tail_(
+RAPIDHASH_FORCE_INLINE_ uint64_t rapidhash_close_tail_(
     const struct rapidhash_form_ *form, bool has_rows, const uint8_t *p, size_t t, size_t n, uint64_t seed,
     const uint64_t *s)
 {
@@ -568,19 +576,19 @@ RAPIDHASH_FORCE_INLINE uint64_t rapidhash_close_tail_(
     uint64_t secret;
     RAPIDHASH_ASSERT(t >= form->least && t <= most);
     if (form->is_v1 && t > 16) seed ^= s[1];
-#define RAPIDHASH_C_PAIR(i) \
+#define RAPIDHASH_C_PAIR_(i) \
     if (most > 16 * (i + 1) && t > 16 * (i + 1)) \
         seed = rapidhash_fold_(form->protect, p + 16 * i, s[indices[i]], seed)
-    RAPIDHASH_C_PAIR(0); RAPIDHASH_C_PAIR(1); RAPIDHASH_C_PAIR(2);
-    RAPIDHASH_C_PAIR(3); RAPIDHASH_C_PAIR(4); RAPIDHASH_C_PAIR(5);
-#undef RAPIDHASH_C_PAIR
+    RAPIDHASH_C_PAIR_(0); RAPIDHASH_C_PAIR_(1); RAPIDHASH_C_PAIR_(2);
+    RAPIDHASH_C_PAIR_(3); RAPIDHASH_C_PAIR_(4); RAPIDHASH_C_PAIR_(5);
+#undef RAPIDHASH_C_PAIR_
     p += t;
     secret = form->tail_length ? s[1] ^ t : s[1];
     return rapidhash_close_(form, rapidhash_load8_(p - 16) ^ secret, rapidhash_load8_(p - 8) ^ seed, n, secret, s);
 }
 
 /* Returns the hash of a message with rows. */
-RAPIDHASH_FORCE_INLINE uint64_t rapidhash_with_rows_(
+RAPIDHASH_FORCE_INLINE_ uint64_t rapidhash_with_rows_(
     const struct rapidhash_form_ *form, const uint8_t *p, size_t n, uint64_t seed, const uint64_t *s)
 {
     uint64_t lane[7] = {seed, seed, seed, seed, seed, seed, seed}, others = 0;
@@ -598,7 +606,7 @@ RAPIDHASH_FORCE_INLINE uint64_t rapidhash_with_rows_(
 }
 
 /* Returns the premix of a word with the default secret `i`. */
-RAPIDHASH_FORCE_INLINE uint64_t rapidhash_premix_(uint64_t x, int i)
+RAPIDHASH_FORCE_INLINE_ uint64_t rapidhash_premix_(uint64_t x, int i)
 {
     x ^= rapidhash_mix_(false, x ^ rapidhash_default_secrets_[2], rapidhash_default_secrets_[i]);
     x |= (x & UINT64_C(0xffff) << 48) == 0 ? UINT64_C(1) << 63 : 0;
@@ -608,7 +616,7 @@ RAPIDHASH_FORCE_INLINE uint64_t rapidhash_premix_(uint64_t x, int i)
 }
 
 /* Sets `count` secrets, the first made from the seed and each other from the one before. Returns the seed. */
-RAPIDHASH_FORCE_INLINE uint64_t rapidhash_chain_(uint64_t number, int count, uint64_t *secrets)
+RAPIDHASH_FORCE_INLINE_ uint64_t rapidhash_chain_(uint64_t number, int count, uint64_t *secrets)
 {
     const uint64_t seed = rapidhash_premix_(number, 0);
     for (int i = 0; i < count; i++) secrets[i] = rapidhash_premix_(i == 0 ? seed : secrets[i - 1], i);
@@ -616,37 +624,37 @@ RAPIDHASH_FORCE_INLINE uint64_t rapidhash_chain_(uint64_t number, int count, uin
 }
 
 /* Returns the seed of a seed word. V1 mixes it with secret 0, and the other versions with secret 2. */
-RAPIDHASH_FORCE_INLINE uint64_t rapidhash_v1_seed_(uint64_t word)
+RAPIDHASH_FORCE_INLINE_ uint64_t rapidhash_v1_seed_(uint64_t word)
 { return word ^ rapidhash_mix_(false, word ^ rapidhash_default_secrets_[0], rapidhash_default_secrets_[1]); }
-RAPIDHASH_FORCE_INLINE uint64_t rapidhash_seed_(uint64_t word)
+RAPIDHASH_FORCE_INLINE_ uint64_t rapidhash_seed_(uint64_t word)
 { return word ^ rapidhash_mix_(false, word ^ rapidhash_default_secrets_[2], rapidhash_default_secrets_[1]); }
 
 /* Returns the hash of a message with rows by V2, whose minor versions share this code. */
-RAPIDHASH_NOINLINE uint64_t rapidhash_v2_with_rows_(const uint8_t *p, size_t n, uint64_t seed, const uint64_t *s)
+RAPIDHASH_NOINLINE_ uint64_t rapidhash_v2_with_rows_(const uint8_t *p, size_t n, uint64_t seed, const uint64_t *s)
 { return rapidhash_with_rows_(&rapidhash_v2_2_form_, p, n, seed, s); }
 
 /* Hides a constant seed from clang for x86-64, which would join it with a secret in a vector and move both back. */
 #if defined(__clang__) && defined(__x86_64__)
-#define RAPIDHASH_C_HIDE(word) __asm__("" : "+r"(word))
+#define RAPIDHASH_C_HIDE_(word) __asm__("" : "+r"(word))
 #else
-#define RAPIDHASH_C_HIDE(word) ((void)0)
+#define RAPIDHASH_C_HIDE_(word) ((void)0)
 #endif
 
 /* Defines the code of a version and its three hashes. */
-#define RAPIDHASH_C_DEFINE(version, names) \
-    RAPIDHASH_NOINLINE uint64_t rapidhash_##version##_with_rows_( \
+#define RAPIDHASH_C_DEFINE_(version, names) \
+    RAPIDHASH_NOINLINE_ uint64_t rapidhash_##version##_with_rows_( \
         const uint8_t *p, size_t n, uint64_t seed, const uint64_t *s) \
     { return rapidhash_with_rows_(&rapidhash_##version##_form_, p, n, seed, s); } \
-    RAPIDHASH_NOINLINE uint64_t rapidhash_##version##_long_( \
+    RAPIDHASH_NOINLINE_ uint64_t rapidhash_##version##_long_( \
         const uint8_t *p, size_t n, uint64_t seed, const uint64_t *s) \
     { \
-        RAPIDHASH_C_HIDE(seed); \
+        RAPIDHASH_C_HIDE_(seed); \
         if (n <= rapidhash_##version##_form_.limit) \
             return rapidhash_close_tail_(&rapidhash_##version##_form_, false, p, n, n, seed, s); \
         return rapidhash_##version##_form_.threes ? rapidhash_v2_with_rows_(p, n, seed, s) \
                                                   : rapidhash_##version##_with_rows_(p, n, seed, s); \
     } \
-    RAPIDHASH_FORCE_INLINE uint64_t rapidhash_##version##_( \
+    RAPIDHASH_FORCE_INLINE_ uint64_t rapidhash_##version##_( \
         const void *bytes, size_t n, uint64_t seed, const uint64_t *s) \
     { \
         const uint8_t *const p = (const uint8_t *)bytes; \
@@ -661,7 +669,7 @@ RAPIDHASH_NOINLINE uint64_t rapidhash_v2_with_rows_(const uint8_t *p, size_t n, 
     RAPIDHASH_API uint64_t rapidhash_##version##_with_secrets( \
         const void *bytes, size_t len, const struct names##_secrets *own) \
     { return rapidhash_##version##_(bytes, len, own->seed, own->secrets); }
-RAPIDHASH_C_VERSIONS(RAPIDHASH_C_DEFINE)
+RAPIDHASH_C_VERSIONS(RAPIDHASH_C_DEFINE_)
 
 RAPIDHASH_API uint32_t rapidhash_c_version(void) { return RAPIDHASH_C_VERSION_NUMBER; }
 RAPIDHASH_API void rapidhash_v1_make_secrets(uint64_t number, struct rapidhash_v1_secrets *secrets)
@@ -687,17 +695,17 @@ RAPIDHASH_API void rapidhash_seed_secrets(uint64_t seed, struct rapidhash_secret
 #pragma GCC diagnostic ignored "-Wstringop-overread"
 #endif
 /* Copies up to 128 bytes: the first and the last of them, which may overlap. Copies of fixed sizes need no call. */
-RAPIDHASH_FORCE_INLINE void rapidhash_copy_(uint8_t *to, const uint8_t *from, size_t n)
+RAPIDHASH_FORCE_INLINE_ void rapidhash_copy_(uint8_t *to, const uint8_t *from, size_t n)
 {
-#define RAPIDHASH_C_ENDS(size) (memcpy(to, from, size), memcpy(to + n - size, from + n - size, size))
+#define RAPIDHASH_C_ENDS_(size) (memcpy(to, from, size), memcpy(to + n - size, from + n - size, size))
     RAPIDHASH_ASSERT(n <= 128);
-    if (n > 64) RAPIDHASH_C_ENDS(64);
-    else if (n > 32) RAPIDHASH_C_ENDS(32);
-    else if (n > 16) RAPIDHASH_C_ENDS(16);
-    else if (n >= 8) RAPIDHASH_C_ENDS(8);
-    else if (n >= 4) RAPIDHASH_C_ENDS(4);
+    if (n > 64) RAPIDHASH_C_ENDS_(64);
+    else if (n > 32) RAPIDHASH_C_ENDS_(32);
+    else if (n > 16) RAPIDHASH_C_ENDS_(16);
+    else if (n >= 8) RAPIDHASH_C_ENDS_(8);
+    else if (n >= 4) RAPIDHASH_C_ENDS_(4);
     else if (n > 0) to[0] = from[0], to[n / 2] = from[n / 2], to[n - 1] = from[n - 1];
-#undef RAPIDHASH_C_ENDS
+#undef RAPIDHASH_C_ENDS_
 }
 #if defined(__GNUC__) && !defined(__clang__) && __GNUC__ >= 11
 #pragma GCC diagnostic pop
@@ -705,7 +713,7 @@ RAPIDHASH_FORCE_INLINE void rapidhash_copy_(uint8_t *to, const uint8_t *from, si
 
 /* Appends a piece that does not fit: fills the buffer and folds it, then folds in place each row of the piece that a
  * further byte follows. The buffer then has the last 16 folded bytes and the rest. */
-RAPIDHASH_FORCE_INLINE void rapidhash_write_slow_(
+RAPIDHASH_FORCE_INLINE_ void rapidhash_write_slow_(
     const struct rapidhash_form_ *form, struct rapidhash_stream *stream, const uint8_t *p, size_t n)
 {
     const size_t lanes = form->lanes, row = 16 * lanes, room = row - stream->len;
@@ -728,11 +736,11 @@ RAPIDHASH_FORCE_INLINE void rapidhash_write_slow_(
 }
 
 /* Defines the parts of a version's streams. A message without a folded row is in the buffer as a whole. */
-#define RAPIDHASH_C_STREAM(version, count) \
-    RAPIDHASH_NOINLINE void rapidhash_##version##_write_slow_( \
+#define RAPIDHASH_C_STREAM_(version, count) \
+    RAPIDHASH_NOINLINE_ void rapidhash_##version##_write_slow_( \
         struct rapidhash_stream *stream, const uint8_t *p, size_t n) \
     { rapidhash_write_slow_(&rapidhash_##version##_form_, stream, p, n); } \
-    RAPIDHASH_FORCE_INLINE uint64_t rapidhash_##version##_finish_(const struct rapidhash_stream *stream) \
+    RAPIDHASH_FORCE_INLINE_ uint64_t rapidhash_##version##_finish_(const struct rapidhash_stream *stream) \
     { \
         const uint8_t *const p = stream->buffer + 16; \
         const uint64_t *const s = stream->secrets->secrets; \
@@ -741,7 +749,7 @@ RAPIDHASH_FORCE_INLINE void rapidhash_write_slow_(
                                                         rapidhash_join_(count, stream->lane), s) \
                                 : rapidhash_##version##_(p, stream->len, stream->secrets->seed, s); \
     }
-RAPIDHASH_C_STREAMS(RAPIDHASH_C_STREAM)
+RAPIDHASH_C_STREAMS(RAPIDHASH_C_STREAM_)
 
 RAPIDHASH_API void rapidhash_stream_write(struct rapidhash_stream *stream, const void *bytes, size_t len)
 {
