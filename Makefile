@@ -15,7 +15,10 @@
 # make dist        packs everything that a user without the toolchain needs into a single archive in build/. It needs
 #                  the toolchain. PARTIAL=yes leaves out and names the packages whose build tools are missing
 # make deb         builds the Debian source package and its packages in build/debian, by Debian's tools alone
-# make release     makes the archive, the packages and their checksums in build/release, from a tree without changes
+# make release     makes everything that is published, and its checksums, in build/release, from a tree without changes:
+#                  the same bytes of the same commit
+# make installcheck replays the cases with what is installed under PREFIX
+# make help        prints these lines
 # make vendor      copies the library into another Rattle repository: make vendor INTO=FOLDER
 # make test-vendor runs the merge gate of such a repository, which proves everything from scratch
 # make clean       removes all build results
@@ -44,7 +47,7 @@ tools = $(if $(cargo),build/cargo/release/rapidhash build/cargo/release/rapidsum
 endif
 name = yervound-1.0-x86_64-linux
 
-.PHONY: all built tool sums library wasm npm page wheel jar sqlite postgresql deb check check-source quick test fmt bench \
+.PHONY: help installcheck sources crate javadoc gomodule all built tool sums library wasm npm page wheel jar sqlite postgresql deb check check-source quick test fmt bench \
   install uninstall clean dist vendor release products test-edits test-machines test-windows test-debian test-dieharder \
   test-source test-vendor rapidhash_c rapidhash_cli rapidsum example_bloom example_perfect example_shards example_dedupe
 .DELETE_ON_ERROR:
@@ -101,8 +104,12 @@ needs_the_kit = [ -n '$(kit)' ] || { echo 'make $(1): rt, the command of the Rat
 unproved = $(if $(said),:,$(eval said := yes)echo 'make: $(if $(shell command -v rt),,rt is \
   not on PATH: )building with $(if $(tools),cc and cargo,cc the library alone), which is not the proved build' >&2)
 
-# The modes of what is packed, which others unpack, whatever the umask is.
+# The modes of what is packed, which others unpack, whatever the umask is. The dates are that of the commit, so that it
+# has the same bytes everywhere.
 readable = u=rwX,go=rX
+export SOURCE_DATE_EPOCH ?= $(shell git log -1 --format=%ct 2>/dev/null || date +%s)
+# Packs directories without their owners and in the order of their names: DIRECTORY-ABOVE NAME
+packs = tar -C $(1) --sort=name --mtime=@$(SOURCE_DATE_EPOCH) --owner=0 --group=0 --numeric-owner --mode=$(readable) -cf - $(2) | gzip -n9
 
 include packages/*/make.mk
 
@@ -151,6 +158,19 @@ install:
 uninstall:
 	@scripts/install --remove
 
+# Replays the cases with the installed library, and asks the installed programs for a known hash.
+installcheck:
+	@mkdir -p build && cc -O2 -DRAPIDHASH_LINK -I'$(DESTDIR)$(INCLUDEDIR)' packages/c/tests/cases.c \
+	  -L'$(DESTDIR)$(LIBDIR)' -Wl,-rpath,'$(DESTDIR)$(LIBDIR)' -lrapidhash_c -o build/installcheck
+	@build/installcheck <crates/test_replay/data/cases.tsv
+	@if [ -e '$(DESTDIR)$(BINDIR)/rapidsum' ]; then \
+	  [ "$$(echo something | '$(DESTDIR)$(BINDIR)/rapidhash' --v1)" = 15965596575264898037 ] && \
+	  [ "$$(echo something | '$(DESTDIR)$(BINDIR)/rapidsum')" = 'a1266b469390773a  -' ] && echo 'the programs have known hashes'; \
+	else echo 'no programs are installed'; fi
+
+help:
+	@sed -n '/^# /!q; s/^# //p' Makefile
+
 vendor:
 	@scripts/vendor "$(INTO)"
 
@@ -163,11 +183,25 @@ release:
 	@[ -z "$$(git status --porcelain)" ] || { echo 'make release: the tree has changes: commit them first' >&2; exit 2; }
 	@{ grep -qxF "| commit | $$(git rev-parse HEAD) |" build/gate.md && grep -q '^| result | .*, 0 failed |$$' build/gate.md; } 2>/dev/null || \
 	  { echo 'make release: build/gate.md has no gate of this commit that passed: run make check first' >&2; exit 2; }
-	@$(MAKE) -s dist deb
+	@$(MAKE) -s dist deb sources crate javadoc gomodule
 	@rm -rf build/release && mkdir build/release && git rev-parse HEAD >build/release/COMMIT
-	@cp build/gate.md build/*.t*gz build/*.jar build/wheels/*.* build/debian/*.deb build/debian/*.dsc build/debian/*.tar.xz build/release
+	@cp build/gate.md packages/archive/RELEASE.md build/*.t*gz build/*.crate build/*.zip build/*.jar build/wheels/*.* \
+	  build/debian/*.deb build/debian/*.dsc build/debian/*.tar.xz build/release
 	@chmod -R $(readable) build/release
 	@cd build/release && sha256sum -- * >SHA256SUMS
+
+# What registries take, and the sources of the commit.
+sources:
+	@mkdir -p build && git archive --format=tar --prefix=yervound-1.0.0/ HEAD | gzip -n9 >build/yervound-1.0.0.tar.gz
+
+crate:
+	@cd packages/rust && cargo package --quiet --offline --no-verify --target-dir ../../build/package
+	@cp build/package/package/yervound-rapidhash-1.0.0.crate build
+
+gomodule:
+	@mkdir -p build && commit=$$(GIT_AUTHOR_DATE=@$(SOURCE_DATE_EPOCH) GIT_COMMITTER_DATE=@$(SOURCE_DATE_EPOCH) \
+	  git -c user.name=go -c user.email=go commit-tree -m go HEAD:packages/go) && TZ=UTC git archive --format=zip \
+	  --prefix=yervound.example/rapidhash@v1.0.0/ -o build/yervound-rapidhash-go-1.0.0.zip "$$commit"
 
 # The next seven are not part of the gate, because they take some additional minutes.
 test-edits:

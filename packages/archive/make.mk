@@ -22,5 +22,5 @@ dist:
 	$(if $(unpacked),printf '\nLeft out because the tools to build them were missing: %s\n' '$(unpacked)' | \
 	  tee -a build/$(name)/README.md >&2)
 	install -m 644 packages/c/tests/cases.c crates/test_replay/data/cases.tsv build/$(name)
-	umask 022 && tar -C build --mode=$(readable) -czf build/$(name).tar.gz $(name)
+	$(call packs,build,$(name)) >build/$(name).tar.gz
 	rm -rf build/$(name)

@@ -91,7 +91,7 @@ refuses_to_release() {
 # Checks that a release has the page of its gate, each product of make, for which empty files stand in, its commit and
 # all checksums. Without a page, or with that of another commit or of a gate that failed, there is none.
 releases_a_commit() {
-  local gate file files=(gate.md a.tar.gz a.tgz a.jar wheels/a.whl wheels/b.tar.gz debian/a.deb debian/b.deb debian/a.dsc debian/a.tar.xz)
+  local gate file files=(gate.md a.tar.gz a.tgz a.crate a.zip a.jar wheels/a.whl wheels/b.tar.gz debian/a.deb debian/b.deb debian/a.dsc debian/a.tar.xz)
   git clone -q -s "$top" "$room/released" && cd "$room/released" || return
   for file in "${files[@]}" wheels/made debian/log; do install -D /dev/null "build/$file" || return; done
   rm build/gate.md && refuses_to_release || return
@@ -101,9 +101,21 @@ releases_a_commit() {
   done
   printf '| %s |\n' "commit | $(git rev-parse HEAD)" 'result | 9 passed, 0 failed' >build/gate.md
   make -s MAKE=true kit=yes release && cd build/release && git rev-parse HEAD | diff - COMMIT &&
-    diff <(printf '%s\n' COMMIT SHA256SUMS "${files[@]##*/}" | sort) <(printf '%s\n' * | sort) &&
-    sha256sum --check SHA256SUMS | grep -c ': OK$' | grep -x "$((${#files[@]} + 1))"
+    diff <(printf '%s\n' COMMIT RELEASE.md SHA256SUMS "${files[@]##*/}" | sort) <(printf '%s\n' * | sort) &&
+    sha256sum --check SHA256SUMS | grep -c ': OK$' | grep -x "$((${#files[@]} + 2))"
 }
+
+# Checks that two copies of a commit have the same packages, byte for byte, in other directories, times, masks and locales.
+packs_the_same_bytes() (
+  local place
+  for place in one 'a place'; do
+    git clone -q -s "$top" "$room/$place" && make -s -C "$room/$place" npm wheel jar javadoc sources crate gomodule || return
+    (cd "$room/$place/build" && sha256sum -- *.t*gz *.crate *.zip *.jar wheels/*.*) >"$room/$place.sums"
+    export TZ=Asia/Tokyo LC_ALL=C.UTF-8
+    umask 077
+  done
+  [ "$(wc -l <"$room/one.sums")" -eq 9 ] && diff "$room/one.sums" "$room/a place.sums"
+)
 
 # Checks that a bench that fails leaves its figures as they were, and one that succeeds replaces them.
 keeps_the_figures() {
@@ -168,6 +180,7 @@ try next_version carries_the_version
 needs rt esbuild wasm-ld clang npm javac /usr/lib/python3/dist-packages/{setuptools,wheel}
 try release_of_a_changed_tree refuses_changes
 try readable_files packs_readable_files
+try_with same_bytes cargo packs_the_same_bytes
 try partial_archive packs_a_part
 try archive makes_the_archive
 try results_of_make has_what_make_builds
