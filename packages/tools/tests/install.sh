@@ -243,6 +243,7 @@ try build make -s -C "$top"
 try build_again builds_nothing_anew
 try install installs PREFIX="$prefix"
 try_with program "$builder" prints_the_known_hash "$prefix"
+try installcheck make -s -C "$top" installcheck PREFIX="$prefix"
 try_with program_of_sums "$builder" prints_and_checks_a_sum
 try_with shared_library pkg-config builds_by_pkg_config "$prefix/lib"
 try_with first_program 'pkg-config c++' runs_as_the_pages_say
