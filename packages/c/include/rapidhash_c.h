@@ -487,14 +487,11 @@ RAPIDHASH_FORCE_INLINE_ uint64_t rapidhash_mix_(bool protect, uint64_t a, uint64
 
 /* Folds a pair of words into a lane. In the first factor it costs clang an instruction less, and gcc one more. */
 RAPIDHASH_FORCE_INLINE_ uint64_t rapidhash_fold_(bool protect, const uint8_t *p, uint64_t secret, uint64_t lane)
-{
-    const uint64_t first = rapidhash_load8_(p) ^ secret, second = rapidhash_load8_(p + 8) ^ lane;
 #ifdef __clang__
-    return rapidhash_mix_(protect, second, first);
+{ return rapidhash_mix_(protect, rapidhash_load8_(p + 8) ^ lane, rapidhash_load8_(p) ^ secret); }
 #else
-    return rapidhash_mix_(protect, first, second);
+{ return rapidhash_mix_(protect, rapidhash_load8_(p) ^ secret, rapidhash_load8_(p + 8) ^ lane); }
 #endif
-}
 
 /* Folds `count` rows, 1 or 2, of 3, 5, or 7 lanes. */
 RAPIDHASH_FORCE_INLINE_ void rapidhash_fold_rows_(

@@ -152,7 +152,8 @@ static void check_moves()
         streams.back().update(message.data(), 60);
     }
     for (std::uint64_t number = 0; number < 20; number++)
-        compare("a stream in a vector", streams[number].update(message.data() + 60, 60).finish(),
+        compare("a stream in a vector",
+                streams[static_cast<std::size_t>(number)].update(message.data() + 60, 60).finish(),
                 rapidhash::hash(message, rapidhash::make_secrets(number)));
 }
 
