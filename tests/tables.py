@@ -11,7 +11,7 @@ import random
 import sqlite3
 import subprocess
 
-from cases import ROOM, TOP, blocks, compare, finish, lacks, needs, shell, skip_all
+from cases import ROOM, TOP, blocks, compare, finish, lacks, needs, shell, skip, skip_all
 from sql import SERVER, ask, start_server, unpack
 
 PAGE = "docs/TABLES.md"
@@ -68,6 +68,54 @@ print(json.dumps([list(shards), whole]))"""
     return json.loads(said.stdout) if said.returncode == 0 else said.stderr
 
 
+def in_go():
+    """Returns what the page's lines in Go print for the file of rows, or nothing without Go."""
+    [lines] = blocks(PAGE, "go")
+    folder = ROOM / "go"
+    folder.mkdir()
+    (folder / "go.mod").write_text("module people\n\ngo 1.19\n\nrequire yervound.example/rapidhash v1.0.0\n\n"
+                                   f"replace yervound.example/rapidhash => {TOP}/packages/go\n")
+    (folder / "main.go").write_text(f"""package main
+import (
+    "encoding/csv"
+    "fmt"
+    "os"
+    "strconv"
+    "yervound.example/rapidhash"
+)
+func text(word string) rapidhash.Field {{
+    if word == `\\N` {{
+        return rapidhash.Nothing()
+    }}
+    return rapidhash.Text(word)
+}}
+func number(word string) rapidhash.Field {{
+    if word == `\\N` {{
+        return rapidhash.Nothing()
+    }}
+    value, _ := strconv.ParseInt(word, 10, 64)
+    return rapidhash.Integer(value)
+}}
+func main() {{
+    rows, _ := csv.NewReader(os.Stdin).ReadAll()
+    {lines}
+}}
+""")
+    return shell("go run . <../people.csv", folder, GOPROXY="off", GOCACHE=str(ROOM / "gocache"), GOFLAGS="-mod=mod")
+
+
+def partitions(commands, whole):
+    """Tests the page's table of ranges: the rows of each partition are those of a shard, and a plan has one of them."""
+    ask(commands + "INSERT INTO spread SELECT id, name FROM people")
+    found = ask("SELECT tableoid::regclass, count(*), bool_and(tableoid::regclass::text = 'spread' || "
+                "rapidhash_shard(rapidhash_v3_key(id, name), 4)) FROM spread GROUP BY 1 ORDER BY 1")
+    compare("ranges", [line.split("|")[0::2] for line in found], [[f"spread{shard}", "t"] for shard in range(4)])
+    compare("rows_of_ranges", sum(int(line.split("|")[1]) for line in found), whole)
+    plan = "".join(ask("EXPLAIN SELECT * FROM spread WHERE rapidhash_v3_key(id, name) = rapidhash_v3_key(77, 'Bob')"))
+    compare("pruned_ranges", [f"spread{shard}" in plan for shard in range(4)].count(True), 1)
+    ask("DROP TABLE spread")
+
+
 def differing(database, query):
     """Returns the shards whose rows differ between the two databases."""
     return {line.split("|")[0] for line in set(ask(query)) ^ set(in_sqlite(database, query))}
@@ -98,7 +146,7 @@ try:
     loaded.load_extension(str(TOP / "build/rapidhash"))
     rows = people()
     fill(loaded, rows)
-    by_shards, sample, equal, by_shard = blocks(PAGE, "sql")
+    by_shards, sample, equal, by_shard, ranges = blocks(PAGE, "sql")
     shards, whole = in_pandas(rows)
     counts = [f"{shard}|{shards.count(shard)}" for shard in range(16)]
     compare("shards", (ask(by_shards), in_sqlite(loaded, by_shards)), (counts, counts))
@@ -106,6 +154,11 @@ try:
     [found] = ask(equal)
     compare("equal_tables", in_sqlite(loaded, equal), [found])
     compare("equal_frame", [whole[0], whole[1] - (whole[1] >> 63 << 64)], [*map(int, found.split("|"))])
+    if lacks("go"):
+        skip("equal_csv", lacks("go"))
+    else:
+        compare("equal_csv", in_go(), (0, f"{whole[0]} {whole[1]}\n"))
+    partitions(ranges, COUNT)
     compare("no_shard_differs", differing(loaded, by_shard), set())
     finds(loaded, "a_changed_row", "UPDATE people SET price = '10000' WHERE id = 77", by_shard)
     finds(loaded, "a_lost_row", "DELETE FROM people WHERE id = 77", by_shard)
