@@ -276,7 +276,7 @@ def bands():
 
 # The files of figures that have the numbers of a text of bench/figures, as they are or as the ratio of two in a row.
 SOURCES = {"slower": "rust", "languages": "rust c packages java", "sizes": "size", "machines": "machines",
-           "quality": "quality", "maps": "growth", "tools": "tool", "sums": "sums", "extremes": "rust xxh3 growth"}
+           "quality": "quality", "maps": "growth", "sums": "sums", "extremes": "rust xxh3 growth"}
 FIGURE = re.compile(r"(?<![\w.])(\d[\d,]*\.\d+)(?![\w.])|^(\d+,\d+)(?= \()|^(\d[\d,]*)$")
 # A measurement in a sentence, or a number with a point in a cell of its own.
 MEASURED = re.compile(r"(?<![\w.])\d[\d.,]* ?(?:ns|ms|µs|s|GB/s|MB/s|%)(?!\w)|(?<=\| )\d[\d,]*\.\d+(?= \|)|"
