@@ -141,7 +141,6 @@ TIMES = {"ours": 2, "rust": 2, "header": 2, "crate": 3, "xxh3": 5, "sha256": 7, 
 SECOND = re.compile("throughput|, miss|, insert|fat LTO|this machine|clang|text of 100|run 2")
 # The texts of bench/figures over these: the distinct rows of a table without the first cell, or the text.
 TABLES = {
-    "keys": ["1.50 | 15.00"],
     "languages": ["2.00 | 32,768 | rapidhash 4.5.1 | 3.00 | 21,845", "2.00 | 32,768 | XXH3 (SSE2) | 5.00 | 13,107",
                   "2.00 | 524,288 | XXH64 | 5.00 | 209,715", "2.00 | 524,288 | lz4-java's XXH64 | 37.0 | 28,340",
                   "2.00 | 524,288 | Guava's farmhash | 41.0 | 25,575",
@@ -149,7 +148,6 @@ TABLES = {
                   "2.00 | 524,288 | XXH3 (SSE2) | 5.00 | 209,715", "2.00 | 524,288 |  |  |"],
     "sizes": ["47.0 | 53.0 | 2.00 | 3.00", "|  | 2.00 | 3.00"],
     "bands": ["1.50 | 9.50 | 11.50 | 14.50", "1.50 at 0 | 9.50 at 0 | 11.50 at 0 | 14.50 at 0"],
-    "growth": ["15.00 | 25.00 | 55.00 | 65.00"],
     "maps": ["2.00 | 1.50 | 5.50 | 6.50 | 8.50"],
     "extremes": [*(f"{n} at 65,536 bytes | {n} at 0 bytes" for n in ("1.50", "9.50", "11.50", "14.50")),
                  "8.50 at 100,000 u64 keys | 8.50 at 1,000 texts keys"],
