@@ -173,20 +173,14 @@ def statements():
             yield f"{page} shows {len(shown)} blocks"
 
 
-def sizes():
-    """Checks the sizes of a filter in docs/EXAMPLES.md by the rule above its table, and the odds in docs/CHOOSING.md: of n
-    random hashes, two are equal with a chance of about n * n / 2^65."""
-    page = (TOP / "docs" / "EXAMPLES.md").read_text()
-    rows = re.findall(r"^\| ([\d,]+) \| (\d+) \| (\d+) \| ([\d,]+) \|$", page, re.M)
-    for one_in, marks, bits, keys in ([int(cell.replace(",", "")) for cell in row] for row in rows):
-        if not 2 ** (marks - 1) < one_in <= 2**marks or bits != math.ceil(1.4427 * marks) or keys != 2**32 // bits:
-            yield f"a wrong size for one in {one_in}"
+def odds_of_equal_hashes():
+    """Checks the odds in docs/CHOOSING.md: of n random hashes, two are equal with a chance of about n * n / 2^65."""
     odds = re.findall(r"^\| ([\d,]+) \| ([\d,]+) \|$", (TOP / "docs" / "CHOOSING.md").read_text(), re.M)
     for keys, one_in in ([int(cell.replace(",", "")) for cell in row] for row in odds):
         if float(f"{2**65 / keys**2:.1e}") != one_in:
             yield f"wrong odds for {keys} messages"
-    if (len(rows), len(odds)) != (3, 4):
-        yield f"{len(rows)} sizes and {len(odds)} odds"
+    if len(odds) != 4:
+        yield f"{len(odds)} odds"
 
 
 def made_by(script):
@@ -317,7 +311,7 @@ def commits():
                     if shell(f"git merge-base --is-ancestor {commit} HEAD")[0] != 0)
 
 
-for check in (links, paths, variables, limits, names, values, layers, edits, vectors, statements, sizes, clauses,
+for check in (links, paths, variables, limits, names, values, layers, edits, vectors, statements, odds_of_equal_hashes, clauses,
               pictures, means, bands, measurements, commits):
     tell(check.__name__, *check())
 for made, maker in (("calls", "scripts/api"), ("public", "scripts/public"), ("version", "scripts/version"), ("figures", "bench/figures")):

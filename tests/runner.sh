@@ -197,7 +197,7 @@ layers docs/ARCHITECTURE.md s|`in_memory`|`memory`|
 edits crates/rapidhash_portable/must-fail/micro_has_seven_lanes.edit s|rapidhash_v3_micro_inline|rapidhash_v3_m_inline|
 vectors crates/test_replay/data/README.md s|`v3.tsv`|`v5.tsv`|
 statements docs/PROVED.md s|= value form|= value from|
-sizes docs/EXAMPLES.md s/390,451,572/390,451,573/
+odds_of_equal_hashes docs/CHOOSING.md s/370,000/380,000/
 clauses docs/api/v3.md 0,/^Proved:.*≡/s|≡|≤|
 pictures docs/images/lanes.svg s|prefers-color-scheme: dark|prefers-color-scheme: light|
 calls docs/api/v3.md $a one more
