@@ -77,6 +77,21 @@ def limits():
             yield f"{place} has {len(line)} columns"
 
 
+def sentences():
+    """Checks that no sentence of a page has more than 25 words. Code is one word, and a cell of a table has sentences of
+    its own."""
+    for page in (page for page in PAGES if page.parent != MADE):
+        text = re.sub(r"^```.*?^```$", "", page.read_text(), flags=re.M | re.S)
+        text = re.sub(r"<!-- (\w+) -->.*?<!-- end -->", "text", text, flags=re.S)
+        cells = [cell for line in text.splitlines() if line.startswith("|") for cell in line.split("|")]
+        rest = re.sub(r"^(\||#|!\[).*", "", text, flags=re.M)
+        for part in cells + re.split(r"\n\s*\n|\n(?=\s*(?:[-*] |\d+\. ))", rest):
+            part = re.sub(r"\]\([^)]*\)", "]", re.sub(r"`[^`]*`", "code", " ".join(part.split())))
+            for sentence in re.split(r"(?<=[.!?:;])\s+", part):
+                if (count := sum(re.search(r"\w", word) is not None for word in sentence.split())) > 25:
+                    yield f"{page.relative_to(TOP)} has a sentence of {count} words: {sentence[:60]}"
+
+
 def names():
     """Checks that each name on a page is that of a file, or in the code: not only in tests, benches, edits or compat. On
     pages that name what the tests have, or what programs call, it may be in any file. Names of other libraries are in
@@ -311,7 +326,7 @@ def commits():
                     if shell(f"git merge-base --is-ancestor {commit} HEAD")[0] != 0)
 
 
-for check in (links, paths, variables, limits, names, values, layers, edits, vectors, statements, odds_of_equal_hashes, clauses,
+for check in (links, paths, variables, limits, sentences, names, values, layers, edits, vectors, statements, odds_of_equal_hashes, clauses,
               pictures, means, bands, measurements, commits):
     tell(check.__name__, *check())
 for made, maker in (("calls", "scripts/api"), ("public", "scripts/public"), ("version", "scripts/version"), ("figures", "bench/figures")):

@@ -192,6 +192,7 @@ links README.md s|(docs/PROVED.md|(docs/PROVEN.md|
 paths CONTRIBUTING.md s|`tests/style.sh`|`tests/stile.sh`|
 variables docs/PERFORMANCE.md s/RAPIDHASH_CRATE/&S/
 limits docs/TABLES.md 3s|.*|& & &|
+sentences docs/PERFORMANCE.md s/^Speed is measured, not proved,/Speed is measured and is not proved and is not promised for any other machine than this one, and it is/
 names docs/PROVED.md s|`test_\(replay\)`|`best_\1`|g
 layers docs/ARCHITECTURE.md s|`in_memory`|`memory`|
 edits crates/rapidhash_portable/must-fail/micro_has_seven_lanes.edit s|rapidhash_v3_micro_inline|rapidhash_v3_m_inline|
