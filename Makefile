@@ -8,7 +8,7 @@
 # make bench       repeats the measurements in bench/*.tsv, compared with the Rust crate that RAPIDHASH_CRATE names
 # make library     proves and builds the C library, static and shared
 # make wasm        builds the C header for WebAssembly
-# make npm, wheel, sqlite, and postgresql build the bindings, including the library: see docs/BINDINGS.md
+# make npm, wheel, sqlite, and postgresql build the packages, including the library: see their README.md
 # make jar         builds the package for Java, which needs a JDK alone
 # make page        copies packages/javascript/page and the npm package to build/browser, for any file server
 # make install     installs the built files, manual pages, and completions under PREFIX; uninstall removes them

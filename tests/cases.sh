@@ -119,12 +119,12 @@ blocks() {
     inside { block = block $0 "\n" }' "$1"
 }
 
-# Checks that the commands of a page, at most three, print the hash of hello in the empty directory `$room/first`.
-# docs/BINDINGS.md must have the same commands, and none may call the toolchain: PAGE
+# Checks that the commands of a page, at most three, print the hash of hello in the empty directory `$room/first`. None may
+# call the toolchain: PAGE
 works_as_its_page_says() {
   mkdir "$room/without" && printf '#!/bin/sh\necho rt was called >&2; exit 1\n' >"$room/without/rt" &&
     chmod +x "$room/without/rt" && blocks "$1" sh YERVOUND >"$room/commands" &&
-    [ "$(wc -l <"$room/commands")" -le 3 ] && [[ $(<"$top/docs/BINDINGS.md") == *"$(<"$room/commands")"* ]] &&
+    [ -s "$room/commands" ] && [ "$(wc -l <"$room/commands")" -le 3 ] &&
     mkdir "$room/first" && cd "$room/first" && PATH=$room/without:$PATH YERVOUND=$top bash -e ../commands >../printed &&
     [ "$(tail -n 1 ../printed)" = 3327445792987248966 ]
 }

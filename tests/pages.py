@@ -21,6 +21,8 @@ PAGES = sorted([*TOP.glob("*.md"), *TOP.glob("docs/*.md"), *MADE.glob("*.md"), *
 BUILT = ("build/", "crates/first")
 PATH = re.compile(r"`((?:crates|docs|tests|bench|bin|packages|scripts|\.ci)/[^` ]*)`")
 NAME = re.compile(r"`([A-Za-z]\w*(?:(?:::|\.)\w+)*)(?:[(<][^`]*)?`")
+# Names of other libraries, on pages that compare them.
+OTHERS = re.compile(r"XXH\w+|rapidhash(Micro|Nano|_withSeed)|fnv\.\w+|rapid_(file|stream_hasher|const|hasher)|rapidhash\.h|sha256sum")
 
 
 def prose(pages):
@@ -69,17 +71,32 @@ def limits():
     pages = [page for page in PAGES if page.parent != MADE]
     for page in pages:
         lines = len(page.read_text().splitlines())
-        if lines > (149 if page == TOP / "README.md" else 200):
+        if lines > (120 if page == TOP / "README.md" else 200):
             yield f"{page.relative_to(TOP)} has {lines} lines"
     for _, place, line in prose(pages):
         if len(line) > 120 and not line.startswith("|"):
             yield f"{place} has {len(line)} columns"
 
 
+def sentences():
+    """Checks that no sentence of a page has more than 25 words. Code is one word, and a cell of a table has sentences of
+    its own."""
+    for page in (page for page in PAGES if page.parent != MADE):
+        text = re.sub(r"^```.*?^```$", "", page.read_text(), flags=re.M | re.S)
+        text = re.sub(r"<!-- (\w+) -->.*?<!-- end -->", "text", text, flags=re.S)
+        cells = [cell for line in text.splitlines() if line.startswith("|") for cell in line.split("|")]
+        rest = re.sub(r"^(\||#|!\[).*", "", text, flags=re.M)
+        for part in cells + re.split(r"\n\s*\n|\n(?=\s*(?:[-*] |\d+\. ))", rest):
+            part = re.sub(r"\]\([^)]*\)", "]", re.sub(r"`[^`]*`", "code", " ".join(part.split())))
+            for sentence in re.split(r"(?<=[.!?:;])\s+", part):
+                if (count := sum(re.search(r"\w", word) is not None for word in sentence.split())) > 25:
+                    yield f"{page.relative_to(TOP)} has a sentence of {count} words: {sentence[:60]}"
+
+
 def names():
     """Checks that each name on a page is that of a file, or in the code: not only in tests, benches, edits or compat. On
-    pages that name what the tests have, or what programs call, it may be in any file. tests/conventions.py runs the
-    expressions of a table."""
+    pages that name what the tests have, or what programs call, it may be in any file. Names of other libraries are in
+    none. tests/conventions.py runs the expressions of a table."""
     code, everywhere = set(), set()
     run = (TOP / "docs/BINDINGS.md").read_text().partition("| boolean b ")[2].partition("\n\n")[0]
     for name in shell("git ls-files")[1].splitlines():
@@ -89,11 +106,11 @@ def names():
             code.update(text if is_code else re.findall(r"\w+", name))
             everywhere.update(text)
     pages = dict.fromkeys(("PROVED", "ARCHITECTURE", "C", "CPP", "DECISIONS", "PERFORMANCE"), code) | dict.fromkeys(
-        ("BINDINGS", "COMMANDS", "EXAMPLES", "GLOSSARY", "LAWS", "NEW_FORM", "QUESTIONS", "RATTLE"), everywhere)
+        ("BINDINGS", "CHOOSING", "COMMANDS", "COMPATIBILITY", "EXAMPLES", "MIGRATING", "RATTLE", "TABLES"), everywhere)
     for page, place, line in prose(TOP / "docs" / f"{name}.md" for name in pages):
         for name in NAME.findall(line) if line not in run else []:
             yield from (f"{place}: no {part} of {name} in the code" for part in re.split(r"::|\.", name)
-                        if part not in pages[page.stem])
+                        if part not in pages[page.stem] and not OTHERS.fullmatch(name))
 
 
 def values():
@@ -167,15 +184,14 @@ def statements():
             yield f"{page} shows {len(shown)} blocks"
 
 
-def sizes():
-    """Checks the sizes of a filter in docs/EXAMPLES.md by the rule above its table."""
-    page = (TOP / "docs" / "EXAMPLES.md").read_text()
-    rows = re.findall(r"^\| ([\d,]+) \| (\d+) \| (\d+) \| ([\d,]+) \|$", page, re.M)
-    for one_in, marks, bits, keys in ([int(cell.replace(",", "")) for cell in row] for row in rows):
-        if not 2 ** (marks - 1) < one_in <= 2**marks or bits != math.ceil(1.4427 * marks) or keys != 2**32 // bits:
-            yield f"a wrong size for one in {one_in}"
-    if len(rows) != 3:
-        yield f"{len(rows)} sizes"
+def odds_of_equal_hashes():
+    """Checks the odds in docs/CHOOSING.md: of n random hashes, two are equal with a chance of about n * n / 2^65."""
+    odds = re.findall(r"^\| ([\d,]+) \| ([\d,]+) \|$", (TOP / "docs" / "CHOOSING.md").read_text(), re.M)
+    for keys, one_in in ([int(cell.replace(",", "")) for cell in row] for row in odds):
+        if float(f"{2**65 / keys**2:.1e}") != one_in:
+            yield f"wrong odds for {keys} messages"
+    if len(odds) != 4:
+        yield f"{len(odds)} odds"
 
 
 def made_by(script):
@@ -236,16 +252,36 @@ def means():
             mean = math.exp(sum(math.log(float(row[crate]) / float(row[ours])) for row in rows) / max(1, len(rows)))
             if shown != (f"{mean:.2f}" if rows else "") or form == "v3" and count != str(len(rows)):
                 yield f"{called}, {form}: {shown}, and not {mean:.2f} of {len(rows)} rows"
-        told = re.search("<!-- means -->(.*?)<!-- end -->", (TOP / "README.md").read_text())[1].split(", ")
-        wanted = {f"{form.replace('v', 'V')} {shown}" for form, shown in zip(table[0][2:], cells) if shown}
-        if called == "Rust, default release" and wanted != {*told}:
-            yield f"README.md has the means {told}"
+
+
+def bands():
+    """Computes the table of bands and the table of README.md from what their labels name."""
+    page = (TOP / "docs" / "PERFORMANCE.md").read_text()
+    table = [[cell.strip() for cell in row.split("|")[1:-1]] for row in
+             re.search("<!-- bands -->(.*?)<!-- end -->", page, re.S)[1].split("\n") if row and "---" not in row]
+    front = re.search("<!-- extremes -->(.*?)<!-- end -->", (TOP / "README.md").read_text(), re.S)[1]
+    for column, name in enumerate(table[0][1:], 1):
+        file, other = ("rust", "crate") if "Rust" in name else ("xxh3", re.search(r"with (\S+),", name)[1].lower().replace("-", ""))
+        lines = [line.split("\t") for line in (TOP / "bench" / f"{file}.tsv").read_text().splitlines() if line[0] != "#"]
+        ending = "default release" if file == "rust" else "gcc -O3"
+        ratios = {row[0][3:].partition(",")[0]: float(row[lines[0].index(other)]) / float(row[2]) for row in lines[1:]
+                  if re.fullmatch(rf"v3 [\d-]+, {ending}", row[0])}
+        for row in table[1:]:
+            first, last = (int(it.replace(",", "")) for it in re.search(r"([\d,]+) to ([\d,]+)|$", row[0]).groups(default="0"))
+            chosen = ([ratios[f"{first}-{last}"]] if "mixed" in row[0] else [it for length, it in ratios.items() if "-" in length]
+                      if "mixes" in row[0] else [it for length, it in ratios.items() if length.isdecimal() and first <= int(length) <= last])
+            mean = math.exp(sum(map(math.log, chosen)) / max(1, len(chosen)))
+            if row[0] != "the lowest" and row[column] != f"{mean:.2f}" or "five" in row[0] and len(chosen) != 5:
+                yield f"{row[0]}, {name}: {row[column]}, and not {mean:.2f} of {len(chosen)} rows"
+        lengths = [it for length, it in ratios.items() if length.isdecimal()]
+        shown = re.search(rf"^\| V3 beside {name} \| (\S+) at .* \| (\S+) at ", front, re.M)
+        if not shown or [*shown.groups()] != [f"{max(lengths):.2f}", f"{min(lengths):.2f}"]:
+            yield f"README.md has {shown and shown.groups()} for {name}"
 
 
 # The files of figures that have the numbers of a text of bench/figures, as they are or as the ratio of two in a row.
-SOURCES = {"v3": "c rust", "slower": "rust", "languages": "rust c packages java", "sizes": "size",
-           "machines": "machines", "quality": "quality", "maps": "growth", "tools": "tool", "sums": "sums",
-           "java": "java", **dict.fromkeys(("go", "python", "javascript"), "packages")}
+SOURCES = {"slower": "rust", "languages": "rust c packages java", "sizes": "size", "machines": "machines",
+           "quality": "quality", "maps": "growth", "sums": "sums", "extremes": "rust xxh3 growth"}
 FIGURE = re.compile(r"(?<![\w.])(\d[\d,]*\.\d+)(?![\w.])|^(\d+,\d+)(?= \()|^(\d[\d,]*)$")
 # A measurement in a sentence, or a number with a point in a cell of its own.
 MEASURED = re.compile(r"(?<![\w.])\d[\d.,]* ?(?:ns|ms|µs|s|GB/s|MB/s|%)(?!\w)|(?<=\| )\d[\d,]*\.\d+(?= \|)|"
@@ -286,8 +322,8 @@ def commits():
                     if shell(f"git merge-base --is-ancestor {commit} HEAD")[0] != 0)
 
 
-for check in (links, paths, variables, limits, names, values, layers, edits, vectors, statements, sizes, clauses,
-              pictures, means, measurements, commits):
+for check in (links, paths, variables, limits, sentences, names, values, layers, edits, vectors, statements, odds_of_equal_hashes, clauses,
+              pictures, means, bands, measurements, commits):
     tell(check.__name__, *check())
 for made, maker in (("calls", "scripts/api"), ("public", "scripts/public"), ("version", "scripts/version"), ("figures", "bench/figures")):
     tell(made, *made_by(maker))

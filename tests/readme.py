@@ -1,8 +1,8 @@
 #!/usr/bin/env python3
 # reads: README.md docs packages Makefile
-"""Runs the programs and each command of the shell blocks of README.md, the commands of docs/COMMANDS.md, and the program
+"""Runs the program and each command of the shell blocks of README.md, the commands of docs/COMMANDS.md, and the program
 of docs/RATTLE.md in a new repository with a copy of the library. The numbers in docs/PROVED.md are those that the
-checker prints. The values are those of the Rust crate. Without the kit, it runs the first programs, and the commands
+checker prints. The values are those of the Rust crate. Without the kit, it runs the first program, and the commands
 with cargo's programs. With the arguments --repository FOLDER, it only writes that repository, for tests/vendor.sh."""
 
 import os
@@ -14,9 +14,7 @@ from pathlib import Path
 from cases import ROOM, TOP, blocks, compare, finish, has, lacks, shell, skip, tell
 
 # Commands that other tests run: the gate itself, and packages/tools/tests/install.sh.
-ELSEWHERE = ('make && make install PREFIX="$HOME/.local"', 'make uninstall PREFIX="$HOME/.local"', "make check", "make check-source",
-             'lib="$HOME/.local/lib" && export PKG_CONFIG_PATH="$lib/pkgconfig"',
-             'cc hello.c $(pkg-config --cflags --libs rapidhash_c) -Wl,-rpath,"$lib" && ./a.out')
+ELSEWHERE = ('make && make install PREFIX="$HOME/.local"', 'make uninstall PREFIX="$HOME/.local"', "make check", "make check-source")
 
 # Calls of the functions in docs/RATTLE.md, for the end of its first function, and the output of the program with them.
 CALLS = """    println!(rt; "{} {}", in_pieces(), of_reader(b"hello".as_slice())?)?;
@@ -53,20 +51,17 @@ def run_shell_blocks():
                                      PATH=f"{programs}:" * is_program + os.environ["PATH"]))
 
 
-def run_first_programs():
-    """Builds and runs the programs of README.md in Rust and C, which print what their comments state."""
+def run_first_program():
+    """Builds and runs the program of README.md, which prints what its comment states, with the line of docs/MIGRATING.md."""
     (ROOM / "src").mkdir()
-    manifest = '[package]\nname = "first"\nversion = "0.0.0"\nedition = "2021"\n' + blocks("README.md", "toml")[0]
+    manifest = '[package]\nname = "first"\nversion = "0.0.0"\nedition = "2021"\n' + blocks("docs/MIGRATING.md", "toml")[0]
     (ROOM / "Cargo.toml").write_text(manifest.replace("/path/to/yervound", str(TOP)))
-    for language, file, tool, command in (
-            ("rust", "src/main.rs", "cargo", "cargo run --quiet --offline"),
-            ("c", "hello.c", "cc", f"cc -std=c99 -Wall -Werror -I'{TOP}/packages/c/include' hello.c -o hello && ./hello")):
-        program, name = blocks("README.md", language)[0], f"the first program in {language}"
-        (ROOM / file).write_text(program)
-        if reason := lacks(tool):
-            skip(name, reason)
-        else:
-            compare(name, shell(command, ROOM)[1], re.search(r"// prints (.*)", program)[1] + "\n")
+    [program], name = blocks("README.md", "rust"), "the first program"
+    (ROOM / "src/main.rs").write_text(program)
+    if reason := lacks("cargo"):
+        skip(name, reason)
+    else:
+        compare(name, shell("cargo run --quiet --offline", ROOM)[1], re.search(r"// prints (.*)", program)[1] + "\n")
 
 
 def check_statements():
@@ -116,7 +111,7 @@ def run_program():
 if sys.argv[1:2] == ["--repository"]:
     write_repository(Path(sys.argv[2]))
 else:
-    run_first_programs()
+    run_first_program()
     if reason := lacks("rt" if has("rt") else "cargo"):
         skip("commands", reason)
     else:

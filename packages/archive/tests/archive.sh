@@ -131,7 +131,7 @@ carries_the_version() {
     sed -i '0,/^## \[/s//## [9.8.7] - 2027-01-01\n\n&/' CHANGELOG.md && sed -i "1s/($old)/(9.8.7)/" $history &&
     scripts/version --write &&
     ! git grep -nE "${old//./[.]}|(Yervound|rapidsum) ${old%.*}\b" -- . ':!CHANGELOG.md' ':!packages/debian/debian' \
-      ':!packages/rust/tools/src' ':!bench/*.tsv' ':!scripts/version' && grep -q '| 908 |$' docs/C.md &&
+      ':!packages/rust/tools/src' ':!bench/*.tsv' ':!scripts/version' && grep -q 'VERSION_NUMBER`, 908,' docs/C.md &&
     old=${old%.*} && ! git grep -nE "\b${old/./[.]}\b" -- Makefile '*.mk' '*.in' '*.cmake' '*.control' '*.h' '*.1' '*.3' \
       ':(glob)packages/*/'{CMakeLists.txt,Makefile}
 }

@@ -465,10 +465,11 @@ first_program_runs() {
     [ "$(bash -e "$room/commands")" = 3327445792987248966 ] &&
     c++ -O2 -Ipackages/c/include hello.cpp -o hello_cpp && [ "$(./hello_cpp)" = 3327445792987248966 ] &&
     blocks "$top/docs/C.md" c assert >seeds.c && cc -std=c99 -Ipackages/c/include seeds.c -o seeds && ./seeds &&
-    blocks "$top/docs/C.md" c stream_save >saved.c && cc -std=c99 -Ipackages/c/include saved.c -o saved &&
-    [ "$(./saved)" = 3327445792987248966 ] &&
+    
     blocks "$top/docs/CPP.md" cpp '<cassert>' >seeds.cpp && c++ -std=c++11 -Ipackages/c/include seeds.cpp -o seeds &&
-    ./seeds && blocks "$top/docs/CPP.md" cpp static_assert >known.cpp &&
+    ./seeds && blocks "$top/docs/CPP.md" cpp 'field<point>' >point.cpp &&
+    c++ -std=c++11 -Wall -Werror -Ipackages/c/include point.cpp -o point && ./point &&
+    blocks "$top/docs/CPP.md" cpp static_assert >known.cpp &&
     c++ -std=c++17 -Ipackages/c/include known.cpp -o known && ./known
 }
 

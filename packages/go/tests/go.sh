@@ -10,9 +10,9 @@ runs_the_page() {
     ! grep -vxFf example_test.go "$room/lines"
 }
 
-# Checks that go.mod requires the version of Go that docs/BINDINGS.md names.
+# Checks that go.mod requires the version of Go that README.md names.
 requires_the_go_of_the_page() {
-  grep -xF "go $(sed -n 's/^The package is plain Go \([0-9.]*\),.*/\1/p' "$top/docs/BINDINGS.md")" go.mod
+  grep -xF "go $(sed -n 's/^The package is plain Go \([0-9.]*\),.*/\1/p' README.md)" go.mod
 }
 
 # Checks by the products that a loop folds two rows per iteration and then one, or four with three lanes. With single

@@ -204,10 +204,10 @@ has_its_names() {
     cat "$room/names" && [ "$(grep -c '\bpublic ' "$room/names")" -eq 76 ]
 }
 
-# Checks that all classes but those for later JDKs are for the oldest JDK that docs/BINDINGS.md names: JDK 11 reads major version 55.
+# Checks that all classes but those for later JDKs are for the oldest JDK that README.md names: JDK 11 reads major version 55.
 is_for_the_jdk_of_the_page() {
   local jdk
-  jdk=$(sed -n 's/^The package is plain Java for JDK \([0-9]*\) and later.*/\1/p' "$top/docs/BINDINGS.md") &&
+  jdk=$(sed -n 's/^The package is plain Java for JDK \([0-9]*\) and later.*/\1/p' "$folder/README.md") &&
     rm -rf "$room/unpacked" && mkdir "$room/unpacked" && (cd "$room/unpacked" && jar -xf "$jar") &&
     find "$room/unpacked" -name versions -prune -o -name '*.class' -exec javap -v {} + | grep 'major version' | sort -u |
     diff - <(echo "  major version: $((jdk + 44))")

@@ -1,7 +1,7 @@
 #!/usr/bin/env bash
 # reads: packages/rust packages/tools crates scripts docs
 # Checks that the sources of the Rust crate in packages/rust/ are current. Tests its layout and lints, the package that
-# cargo builds, the README's program in its own directory, and the commands of docs/BINDINGS.md. Runs its tests and
+# cargo builds, the README's program in its own directory, and its commands. Runs its tests and
 # examples with the machine's compiler and with Debian's, which is the oldest.
 . "$(dirname "$0")/../../../tests/cases.sh"
 export CARGO_TARGET_DIR=$room/target CARGO_NET_OFFLINE=true
@@ -296,7 +296,7 @@ test_by_a_compiler() {
   try_with "no_dependency$1" "$2" bash -c '[ "$(cargo tree | wc -l)" -eq 1 ]'
   try_with "package$1" "$2" packages
   try_with "readme$1" "$2" readme_runs README.md cargo
-  try_with "readme_of_the_repository$1" "$2" readme_runs "$top/README.md" cargo
+  try_with "page_of_moving$1" "$2" readme_runs "$top/docs/MIGRATING.md" cargo
 }
 
 test_by_a_compiler '' 'rustc cargo'
@@ -309,6 +309,6 @@ try_with oldest_compiler_without_std "$debian" tests_pass debian test --tests --
 try_with compat_by_the_oldest_compiler "$debian" over_compat 'std unsafe' debian check
 try_with wasm32 "$debian /usr/lib/rustlib/wasm32-unknown-unknown wasm-ld node" works_without_a_system
 try_with examples_by_the_oldest_compiler "$debian" tests_pass debian test --doc
-try commands works_as_its_page_says <(sed -n '/^## Rust$/,/^## Python$/p' "$top/docs/BINDINGS.md")
+try commands works_as_its_page_says README.md
 
 finish
