@@ -76,6 +76,9 @@ def limits():
     for _, place, line in prose(pages):
         if len(line) > 120 and not line.startswith("|"):
             yield f"{place} has {len(line)} columns"
+    for page in pages:  # A row behind an empty line has no head.
+        yield from (f"{page.name}: a row without a head: {row[:40]}" for row in
+                    re.findall(r"\n\n(\|.*)\n(?!\|[-:| ]+\|\n)", page.read_text()))
 
 
 def sentences():

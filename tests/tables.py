@@ -146,7 +146,7 @@ try:
     loaded.load_extension(str(TOP / "build/rapidhash"))
     rows = people()
     fill(loaded, rows)
-    by_shards, sample, equal, by_shard, ranges = blocks(PAGE, "sql")
+    by_shards, ranges, sample, equal, by_shard = blocks(PAGE, "sql")
     shards, whole = in_pandas(rows)
     counts = [f"{shard}|{shards.count(shard)}" for shard in range(16)]
     compare("shards", (ask(by_shards), in_sqlite(loaded, by_shards)), (counts, counts))
