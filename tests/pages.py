@@ -8,14 +8,12 @@ import math
 import os
 import re
 import sys
-import textwrap
 from pathlib import Path
 from xml.etree import ElementTree
 
 from cases import TOP, blocks, finish, shell, tell
 
-MADE = TOP / "docs" / "api"
-PAGES = sorted([*TOP.glob("*.md"), *TOP.glob("docs/*.md"), *MADE.glob("*.md"), *TOP.glob("*/NOTES.md"),
+PAGES = sorted([*TOP.glob("*.md"), *TOP.glob("docs/*.md"), *TOP.glob("*/NOTES.md"),
                 *TOP.glob("packages/*/README.md"), *TOP.glob("packages/rust/*/README.md")])
 # Directories that builds create, and paths that exist only in an archive or in an installed copy.
 BUILT = ("build/", "crates/first")
@@ -68,15 +66,14 @@ def variables():
 
 
 def limits():
-    pages = [page for page in PAGES if page.parent != MADE]
-    for page in pages:
+    for page in PAGES:
         lines = len(page.read_text().splitlines())
         if lines > (120 if page == TOP / "README.md" else 200):
             yield f"{page.relative_to(TOP)} has {lines} lines"
-    for _, place, line in prose(pages):
+    for _, place, line in prose(PAGES):
         if len(line) > 120 and not line.startswith("|"):
             yield f"{place} has {len(line)} columns"
-    for page in pages:  # A row behind an empty line has no head.
+    for page in PAGES:  # A row behind an empty line has no head.
         yield from (f"{page.name}: a row without a head: {row[:40]}" for row in
                     re.findall(r"\n\n(\|.*)\n(?!\|[-:| ]+\|\n)", page.read_text()))
 
@@ -84,7 +81,7 @@ def limits():
 def sentences():
     """Checks that no sentence of a page has more than 25 words. Code is one word, and a cell of a table has sentences of
     its own."""
-    for page in (page for page in PAGES if page.parent != MADE):
+    for page in PAGES:
         text = re.sub(r"^```.*?^```$", "", page.read_text(), flags=re.M | re.S)
         text = re.sub(r"<!-- (\w+) -->.*?<!-- end -->", "text", text, flags=re.S)
         cells = [cell for line in text.splitlines() if line.startswith("|") for cell in line.split("|")]
@@ -203,30 +200,6 @@ def made_by(script):
     return said.splitlines() or [f"{script} ended with status {status}"] if status else []
 
 
-def clauses():
-    """Checks that the pages of the calls have each clause of the items that they show."""
-    shown = "".join(page.read_text() for page in MADE.glob("*.md"))
-    item = re.compile(r"^( *pub (?:const )?fn .*?\n)( *(?:requires|ensures).*?)^ *\{", re.M | re.S)
-    for file in TOP.glob("crates/rapidhash*/src/**/*.rt"):
-        for head, contract in item.findall(file.read_text()):
-            head, contract = f"```rust\n{textwrap.dedent(head)}```\n\n", " ".join(contract.split())
-            counts = [len(re.findall(rf"\b{kind}\b", contract)) for kind in ("requires", "ensures")]
-            entries = [re.split("\n##+ `", entry)[0] for entry in shown.split(head)[1:]]
-            told = [[re.findall("`([^`]*)`", "".join(re.findall(rf"^{word}: (.*)", entry, re.M)))
-                     for word in ("Preconditions", "Proved")] for entry in entries]
-            if entries and not any(list(map(len, parts)) == counts and all(clause in contract for clause in sum(parts, []))
-                                   for parts in told):
-                yield f"{file.name}: the pages have {told} for {head}"
-    yield from (f"no method of {trait}" for trait in ("Hasher", "BuildHasher", "SeedableRng", "Rng")
-                if f"\nA method of `{trait}`.\n" not in shown)
-    specs = "".join(file.read_text() for file in TOP.glob("crates/rapidhash*/specs/*.antt"))
-    defined = set(re.findall(r"^-- .*\n.*\bpub (?:record )?(\w+)", specs, re.M))
-    for page in MADE.glob("*.md"):
-        needs = " ".join(re.findall("^Preconditions: (.*)", page.read_text(), re.M))
-        missing = defined & {*re.findall(r"\w+", needs)} - {*re.findall(r"^- `(\w+)`: ", page.read_text(), re.M)}
-        yield from (f"{page.name} does not define {name}" for name in missing)
-
-
 def pictures():
     """Checks that each picture is well-formed, has a title, and has colours for dark pages."""
     for file in TOP.glob("docs/images/*.svg"):
@@ -305,7 +278,7 @@ def numbers_in(files):
 def measurements():
     """Looks up the numbers of tables in the files of figures. Only texts of bench/figures have measurements."""
     made = re.compile("<!-- (\\w+) -->(.*?)<!-- end -->", re.S)
-    for page in (page for page in PAGES if page.parent != MADE and page.parent.name != "bench"):
+    for page in (page for page in PAGES if page.parent.name != "bench"):
         for name, text in made.findall(page.read_text()):
             known = numbers_in(SOURCES[name]) if name in SOURCES else None
             cells = [cell.strip() for line in text.splitlines() for cell in line.split("|")[2:] or [line]]
@@ -325,9 +298,9 @@ def commits():
                     if shell(f"git merge-base --is-ancestor {commit} HEAD")[0] != 0)
 
 
-for check in (links, paths, variables, limits, sentences, names, values, layers, edits, vectors, statements, odds_of_equal_hashes, clauses,
+for check in (links, paths, variables, limits, sentences, names, values, layers, edits, vectors, statements, odds_of_equal_hashes,
               pictures, means, bands, measurements, commits):
     tell(check.__name__, *check())
-for made, maker in (("calls", "scripts/api"), ("public", "scripts/public"), ("version", "scripts/version"), ("figures", "bench/figures")):
+for made, maker in (("public", "scripts/public"), ("version", "scripts/version"), ("figures", "bench/figures")):
     tell(made, *made_by(maker))
 finish()

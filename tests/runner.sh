@@ -200,9 +200,7 @@ edits crates/rapidhash_portable/must-fail/micro_has_seven_lanes.edit s|rapidhash
 vectors crates/test_replay/data/README.md s|`v3.tsv`|`v5.tsv`|
 statements docs/PROVED.md s|= value form|= value from|
 odds_of_equal_hashes docs/CHOOSING.md s/370,000/380,000/
-clauses docs/api/v3.md 0,/^Proved:.*≡/s|≡|≤|
 pictures docs/images/lanes.svg s|prefers-color-scheme: dark|prefers-color-scheme: light|
-calls docs/api/v3.md $a one more
 version packages/c/rapidhash_c.3 s|Yervound 1.0|Yervound 0.9|
 figures README.md s|<!-- extremes -->|<!-- extremes -->9 |
 bands docs/PERFORMANCE.md s/^. mixed, 1 to 300 . 1.00/| mixed, 1 to 300 | 1.01/

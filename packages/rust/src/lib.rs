@@ -14,6 +14,9 @@
 //! assert_eq!(stream.finish(), 3327445792987248966);
 //! ```
 //!
+//! What a call ensures stands under "Proved", in the words of its contract in Rattle: `x.now` is the value behind the
+//! reference `x`, and `x.old` and `x.new` are those before and after the call.
+//!
 //! # Choosing
 //!
 //! | for | use |

@@ -71,6 +71,8 @@ RUST = (
     (r"u64 : : from_le_bytes (\( \w+ \[ \w+ \. \. \w+ \+ )N ", r"u64 : : from_le_bytes \g<1>8 "),
     (r"u32 : : from_le_bytes (\( \w+ \[ \w+ \. \. \w+ \+ )N ", r"u32 : : from_le_bytes \g<1>4 "),
 )
+# What a contract ensures, which the comment repeats for Rust.
+PROVED = re.compile(r"^ *///\n *///[ ]# Proved\n *///\n((?: *///[ ]- `.*`\n)+)", re.M)
 # Preconditions, of which Rust's callers know only the panic.
 CHECKED = (r"In Rust, if (.*)\. Rattle's checker refuses such a call\.", r"If \1.")
 WORDS = re.compile(r'//[^\n]*|b?"(?:[^"\\]|\\.)*"|\'\\?.\'|\w+|\S', re.DOTALL)
@@ -98,14 +100,16 @@ def as_in_rattle(rust):
 
 def difference(rattle, rust, left_out):
     """Returns the lines in which Rattle's text, without its ghost forms and the omitted items, differs from Rust's."""
-    theirs = without(FORMS, words_of(re.sub(*CHECKED, rattle)))
+    theirs = without(FORMS, words_of(re.sub(*CHECKED, PROVED.sub("", rattle))))
     for begin in left_out:
         words = re.escape(words_of(begin).removesuffix("\n"))
         rest = "[^;]*; " if re.match(ITEM, begin) else rf"[^{{]*{GROUP}"
         theirs = without(rf"(?:///.* )*{words}\w* {rest}", theirs)
     # rustfmt decides whether a comma precedes a closing bracket.
-    texts = [without(r", (?=[]})>] )", text).splitlines() for text in (theirs, as_in_rattle(rust))]
-    return unified_diff(*texts, "Rattle", "Rust", lineterm="")
+    texts = [without(r", (?=[]})>] )", text).splitlines() for text in (theirs, as_in_rattle(PROVED.sub("", rust)))]
+    clauses, known = re.findall(r"/// - `(.*)`", "".join(PROVED.findall(rust))), " ".join(PROVED.sub("", rattle).split())
+    yield from (f"no contract ensures {clause}" for clause in clauses if f"{{ {clause} }}" not in known)
+    yield from unified_diff(*texts, "Rattle", "Rust", lineterm="")
 
 
 def rattle_of(crate, name):

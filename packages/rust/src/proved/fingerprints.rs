@@ -16,6 +16,11 @@
 /// assert_eq!(fingerprint(&rows), fingerprint(&[rows[1], rows[0]]));
 /// assert_eq!(fingerprint(&rows), add(fingerprint(&rows[..1]), rows[1]));
 /// ```
+///
+/// # Proved
+///
+/// - `result ≡ fingerprint_of hashes.now`
+/// - `FingerprintLaws hashes.now result`
 #[must_use]
 pub fn fingerprint(hashes: &[u64]) -> u64 {
     let mut sum: u64 = 0;
@@ -26,6 +31,10 @@ pub fn fingerprint(hashes: &[u64]) -> u64 {
 }
 
 /// Returns the fingerprint of two parts together. A part may be a single hash.
+///
+/// # Proved
+///
+/// - `(x y : List ℕ) → fingerprint ≡ fingerprint_of x → other ≡ fingerprint_of y → result ≡ fingerprint_of (x ++ y)`
 #[inline]
 #[must_use]
 pub const fn add(fingerprint: u64, other: u64) -> u64 {
@@ -39,6 +48,10 @@ pub const fn add(fingerprint: u64, other: u64) -> u64 {
 ///
 /// assert_eq!(remove(add(7, u64::MAX), u64::MAX), 7);
 /// ```
+///
+/// # Proved
+///
+/// - `(x y : List ℕ) → fingerprint ≡ fingerprint_of (x ++ y) → part ≡ fingerprint_of y → result ≡ fingerprint_of x`
 #[inline]
 #[must_use]
 pub const fn remove(fingerprint: u64, part: u64) -> u64 {

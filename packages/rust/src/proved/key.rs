@@ -30,6 +30,10 @@ pub enum Field<'d> {
 /// let key = [Field::Bytes(b"user"), Field::Integer(4711), Field::Nothing];
 /// let shard = shard(rapidhash_v3_key(&key), 64);
 /// ```
+///
+/// # Proved
+///
+/// - `result ≡ default_hash v3 standard (key_bytes fields.now)`
 #[must_use]
 pub fn rapidhash_v3_key(fields: &[Field<'_>]) -> u64 {
     rapidhash_v3_key_seeded(fields, RapidSecrets::default_ref())
@@ -45,6 +49,10 @@ pub fn rapidhash_v3_key(fields: &[Field<'_>]) -> u64 {
 /// let hash = rapidhash_v3_key_seeded(&[Field::Integer(1), Field::Nothing], &secrets);
 /// assert_ne!(hash, rapidhash_v3_key_seeded(&[Field::Nothing, Field::Integer(1)], &secrets));
 /// ```
+///
+/// # Proved
+///
+/// - `result ≡ seeded_hash v3 standard secrets.now (key_bytes fields.now)`
 #[must_use]
 pub fn rapidhash_v3_key_seeded(fields: &[Field<'_>], secrets: &RapidSecrets) -> u64 {
     let mut hasher = RapidStreamHasherV3::new(secrets);
@@ -55,6 +63,10 @@ pub fn rapidhash_v3_key_seeded(fields: &[Field<'_>], secrets: &RapidSecrets) -> 
 }
 
 /// Adds a field to the message of a stream hasher.
+///
+/// # Proved
+///
+/// - `Appends PROTECTED hasher.old hasher.new (field_bytes field.entry)`
 pub fn write_field<const LANES: usize, const AVALANCHE: bool, const PROTECTED: bool>(
     hasher: &mut RapidStreamHasherLanes<'_, LANES, AVALANCHE, PROTECTED>,
     field: Field<'_>,
@@ -67,6 +79,10 @@ pub fn write_field<const LANES: usize, const AVALANCHE: bool, const PROTECTED: b
 }
 
 /// Adds a field that is nothing.
+///
+/// # Proved
+///
+/// - `Appends PROTECTED hasher.old hasher.new (content_bytes Missing)`
 pub fn write_nothing<const LANES: usize, const AVALANCHE: bool, const PROTECTED: bool>(
     hasher: &mut RapidStreamHasherLanes<'_, LANES, AVALANCHE, PROTECTED>,
 ) {
@@ -74,6 +90,10 @@ pub fn write_nothing<const LANES: usize, const AVALANCHE: bool, const PROTECTED:
 }
 
 /// Adds a field that is an integer.
+///
+/// # Proved
+///
+/// - `Appends PROTECTED hasher.old hasher.new (content_bytes (Number number))`
 pub fn write_integer<const LANES: usize, const AVALANCHE: bool, const PROTECTED: bool>(
     hasher: &mut RapidStreamHasherLanes<'_, LANES, AVALANCHE, PROTECTED>,
     number: u64,
@@ -83,6 +103,10 @@ pub fn write_integer<const LANES: usize, const AVALANCHE: bool, const PROTECTED:
 }
 
 /// Adds a field of bytes.
+///
+/// # Proved
+///
+/// - `Appends PROTECTED hasher.old hasher.new (content_bytes (Text bytes.now))`
 pub fn write_bytes<const LANES: usize, const AVALANCHE: bool, const PROTECTED: bool>(
     hasher: &mut RapidStreamHasherLanes<'_, LANES, AVALANCHE, PROTECTED>,
     bytes: &[u8],

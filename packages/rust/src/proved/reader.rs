@@ -31,6 +31,11 @@ pub struct Source<R: Read> {
 
 impl<R: Read> Source<R> {
     /// Returns a source over a reader, with the flag cleared. It reads nothing.
+    ///
+    /// # Proved
+    ///
+    /// - `error_flag result ≡ false`
+    /// - `reader_of result ≡ reader`
     #[must_use]
     pub const fn new(reader: R) -> Self {
         Source {
@@ -44,6 +49,12 @@ impl<R: Read> Source<R> {
     /// # Errors
     ///
     /// The reader's own error. Each sets the flag, including that of an interrupted read.
+    ///
+    /// # Proved
+    ///
+    /// - `error_flag self.new ≡ (error_flag self.old || is_err result)`
+    /// - `ReadsAtMost result buf.new`
+    /// - `ReadConsumes (R.remaining (reader_of self.old)) (R.remaining (reader_of self.new)) result buf.new`
     pub fn read(&mut self, buf: &mut [u8]) -> io::Result<usize> {
         match read_once(&mut self.reader, buf) {
             Ok(n) => Ok(n),
@@ -58,17 +69,30 @@ impl<R: Read> Source<R> {
     }
 
     /// Clears the error flag.
+    ///
+    /// # Proved
+    ///
+    /// - `error_flag self.new ≡ false`
+    /// - `reader_of self.new ≡ reader_of self.old`
     pub fn clear(&mut self) {
         self.error_flag = false;
     }
 
     /// Returns whether the error flag is set.
+    ///
+    /// # Proved
+    ///
+    /// - `result ≡ error_flag self.now`
     #[must_use]
     pub fn failed(&self) -> bool {
         self.error_flag
     }
 
     /// Returns the reader, in its current state.
+    ///
+    /// # Proved
+    ///
+    /// - `result ≡ reader_of self`
     #[must_use]
     pub fn into_inner(self) -> R {
         self.reader

@@ -32,6 +32,11 @@ const MOMENT_SEED: u64 = 0xbdd8_9aa9_8270_4029;
 /// let second = rapidrng_fast(&mut state);
 /// assert_ne!(first, second);
 /// ```
+///
+/// # Proved
+///
+/// - `state.new ≡ state_after state.old 1`
+/// - `result ≡ word_at state.old 1`
 #[inline(always)]
 pub fn rapidrng_fast(state: &mut u64) -> u64 {
     let next = state.wrapping_add(STEP);
@@ -48,6 +53,11 @@ pub fn rapidrng_fast(state: &mut u64) -> u64 {
 /// let mut state = 42;
 /// let word = rapidrng_fast_not_portable(&mut state);
 /// ```
+///
+/// # Proved
+///
+/// - `state.new ≡ state_after state.old 1`
+/// - `result ≡ mix false (state_after state.old 1) s1`
 #[inline(always)]
 pub fn rapidrng_fast_not_portable(state: &mut u64) -> u64 {
     let next = state.wrapping_add(STEP);
@@ -69,6 +79,11 @@ pub fn rapidrng_fast_not_portable(state: &mut u64) -> u64 {
 /// # Panics
 ///
 /// If the nanoseconds are a second or more.
+///
+/// # Proved
+///
+/// - `seed.new ≡ seed_at_moment seed.old secs nanos`
+/// - `result ≡ word_at_moment seed.old secs nanos`
 pub fn rapidrng_time(seed: &mut u64, secs: u64, nanos: u32) -> u64 {
     prove!(
         nanos < 1_000_000_000,
@@ -96,6 +111,10 @@ pub struct RapidRng {
 
 impl RapidRng {
     /// Returns a generator whose state is `seed`. All generators share one cycle.
+    ///
+    /// # Proved
+    ///
+    /// - `result ≡ seed`
     #[inline]
     #[must_use]
     pub const fn new(seed: u64) -> RapidRng {
@@ -104,6 +123,10 @@ impl RapidRng {
 
     /// Returns a generator whose state is what [`rapidrng_time`] returns for a time and a fixed
     /// seed.
+    ///
+    /// # Proved
+    ///
+    /// - `result ≡ word_at_moment v1_number secs nanos`
     #[must_use]
     pub fn from_moment(time: Duration) -> RapidRng {
         let mut seed = MOMENT_SEED;
@@ -127,6 +150,11 @@ impl RapidRng {
     }
 
     /// Returns the next word.
+    ///
+    /// # Proved
+    ///
+    /// - `self.new ≡ state_after self.old 1`
+    /// - `result ≡ word_at self.old 1`
     #[inline]
     pub fn next(&mut self) -> u64 {
         rapidrng_fast(&mut self.seed)
@@ -143,6 +171,12 @@ impl RapidRng {
     /// later.next();
     /// assert_eq!(start.steps_to(&later), 1);
     /// ```
+    ///
+    /// # Proved
+    ///
+    /// - `result < 2 ^ 64`
+    /// - `state_after self.now result ≡ other.now`
+    /// - `(steps : ℕ) → state_after self.now steps ≡ other.now → steps % 2 ^ 64 ≡ result`
     #[must_use]
     pub const fn steps_to(&self, other: &RapidRng) -> u64 {
         let distance = other.seed.wrapping_sub(self.seed);

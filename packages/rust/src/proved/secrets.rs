@@ -32,6 +32,11 @@ impl RapidSecrets {
     /// let hash = rapidhash_v3_seeded(b"hello", RapidSecrets::default_ref());
     /// assert_eq!(hash, 3327445792987248966);
     /// ```
+    ///
+    /// # Proved
+    ///
+    /// - `result.now.seed ≡ default_seed`
+    /// - `result.now.secrets ≡ default_secrets`
     #[inline(always)]
     #[must_use]
     pub const fn default_ref() -> &'static Self {
@@ -47,6 +52,12 @@ impl RapidSecrets {
     /// let secrets = RapidSecrets::seed(0x1234_5678);
     /// let hash = rapidhash_v3_seeded(b"hello", &secrets);
     /// ```
+    ///
+    /// # Proved
+    ///
+    /// - `result.seed ≡ seeded seed`
+    /// - `result.secrets ≡ seeded_secrets 7 seed`
+    /// - `All IsGood (result.seed ∷ result.secrets)`
     #[must_use]
     pub const fn seed(seed: u64) -> Self {
         let seed = seed_of(seed);
@@ -66,6 +77,12 @@ impl RapidSecrets {
     /// assert_ne!(secrets.reseed().seed, secrets.seed);
     /// assert_eq!(secrets.reseed().secrets, secrets.secrets);
     /// ```
+    ///
+    /// # Proved
+    ///
+    /// - `result.seed ≡ reseeded self.now.seed 6`
+    /// - `result.secrets ≡ self.now.secrets`
+    /// - `IsGood result.seed`
     #[must_use]
     pub const fn reseed(&self) -> Self {
         RapidSecrets {
@@ -90,6 +107,11 @@ impl RapidSecrets {
     ///
     /// assert_eq!(RapidSecrets::seed_cpp(7).secrets, DEFAULT_RAPID_SECRETS.secrets);
     /// ```
+    ///
+    /// # Proved
+    ///
+    /// - `result.seed ≡ cpp_seeded seed 2`
+    /// - `result.secrets ≡ default_secrets`
     #[must_use]
     pub const fn seed_cpp(seed: u64) -> Self {
         RapidSecrets {

@@ -25,6 +25,12 @@ pub struct GlobalSecrets {
 impl GlobalSecrets {
     /// Returns the seed and secrets of a random word. Two calls with the same word return the same
     /// value.
+    ///
+    /// # Proved
+    ///
+    /// - `seed_of result ≡ global_seed random`
+    /// - `secrets_of_global result ≡ made_secrets random`
+    /// - `All IsGood (secrets_of_global result)`
     #[must_use]
     pub fn new(random: u64) -> Self {
         GlobalSecrets {
@@ -41,6 +47,10 @@ impl GlobalSecrets {
     }
 
     /// Returns the seed that was made beside the secrets.
+    ///
+    /// # Proved
+    ///
+    /// - `result ≡ seed_of self.now`
     #[inline]
     #[must_use]
     pub const fn get_global_seed(&self) -> u64 {
@@ -67,6 +77,11 @@ pub struct SeedSource {
 
 impl SeedSource {
     /// Returns the source of a seed and a second random word.
+    ///
+    /// # Proved
+    ///
+    /// - `counter_of result ≡ source_start (seed_of secrets.now) random`
+    /// - `random_of result ≡ random`
     #[must_use]
     pub const fn new(secrets: &GlobalSecrets, random: u64) -> Self {
         let first = random.wrapping_add(1) ^ DEFAULT_SECRETS[3];
@@ -75,6 +90,10 @@ impl SeedSource {
     }
 
     /// Returns the next seed.
+    ///
+    /// # Proved
+    ///
+    /// - `Draws self.old self.new result`
     pub fn next(&mut self) -> u64 {
         let counter = self.counter.wrapping_add(DEFAULT_SECRETS[0]);
         self.counter = counter;

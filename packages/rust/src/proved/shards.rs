@@ -22,6 +22,12 @@
 /// # Panics
 ///
 /// If `count` is 0.
+///
+/// # Proved
+///
+/// - `result ≡ shard_of hash count`
+/// - `result < count`
+/// - `ShardLaws hash count result`
 #[inline]
 #[must_use]
 pub const fn shard(hash: u64, count: u64) -> u64 {
@@ -43,6 +49,11 @@ pub const fn shard(hash: u64, count: u64) -> u64 {
 /// # Panics
 ///
 /// If `shard` is not below `count`.
+///
+/// # Proved
+///
+/// - `result ≡ first_hash_of shard count`
+/// - `FirstLaws shard count result`
 #[inline]
 #[must_use]
 pub const fn first_hash(shard: u64, count: u64) -> u64 {
@@ -67,6 +78,12 @@ pub const fn first_hash(shard: u64, count: u64) -> u64 {
 /// # Panics
 ///
 /// If `count` is 0.
+///
+/// # Proved
+///
+/// - `IsBucket hash count result`
+/// - `result < count`
+/// - `(more other : ℕ) → count ≤ more → IsBucket hash more other → (other ≡ result) ⊎ (count ≤ other)`
 #[must_use]
 pub fn bucket(hash: u64, count: u32) -> u32 {
     prove!(count > 0, "the count must be at least 1");

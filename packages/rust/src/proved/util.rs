@@ -17,6 +17,10 @@ pub(crate) const ALTERNATING_BITS: u64 = 0xaaaa_aaaa_aaaa_aaaa;
 ///
 /// assert_eq!(rapid_mum::<false>(u64::MAX, 2), (u64::MAX - 1, 1));
 /// ```
+///
+/// # Proved
+///
+/// - `result ≡ multiply PROTECTED a b`
 #[inline]
 #[must_use]
 pub const fn rapid_mum<const PROTECTED: bool>(a: u64, b: u64) -> (u64, u64) {
@@ -37,6 +41,10 @@ pub const fn rapid_mum<const PROTECTED: bool>(a: u64, b: u64) -> (u64, u64) {
 ///
 /// assert_eq!(rapid_mix::<false>(u64::MAX, 2), u64::MAX);
 /// ```
+///
+/// # Proved
+///
+/// - `result ≡ mix PROTECTED a b`
 #[inline]
 #[must_use]
 pub const fn rapid_mix<const PROTECTED: bool>(a: u64, b: u64) -> u64 {
@@ -56,6 +64,10 @@ const_fn! {
 /// # Panics
 ///
 /// If the 8 bytes do not lie in `bytes`.
+///
+/// # Proved
+///
+/// - `result ≡ word64 bytes.now offset`
 #[inline]
 #[must_use]
 pub const fn read_u64(bytes: &[u8], offset: usize) -> u64 {
@@ -75,6 +87,10 @@ const_fn! {
 /// # Panics
 ///
 /// If the 4 bytes do not lie in `bytes`.
+///
+/// # Proved
+///
+/// - `result ≡ word32 bytes.now offset`
 #[inline]
 #[must_use]
 pub const fn read_u32(bytes: &[u8], offset: usize) -> u32 {
@@ -95,6 +111,10 @@ const_fn! {
 /// # Panics
 ///
 /// If one of the two does not lie in `bytes`.
+///
+/// # Proved
+///
+/// - `result ≡ combined bytes.now top bot`
 #[inline]
 #[must_use]
 pub const fn read_u32_combined(bytes: &[u8], top: usize, bot: usize) -> u64 {

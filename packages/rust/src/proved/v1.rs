@@ -22,6 +22,10 @@ const_fn! {
 ///
 /// assert_eq!(rapidhash_v1(b"something\n"), 15965596575264898037);
 /// ```
+///
+/// # Proved
+///
+/// - `result ≡ default_hash (V1 false) standard bytes.now`
 #[inline(always)]
 #[must_use]
 pub const fn rapidhash_v1(bytes: &[u8]) -> u64 {
@@ -38,6 +42,10 @@ const_fn! {
 ///
 /// assert_eq!(rapidhash_v1_seeded(b"something\n", &DEFAULT_RAPID_SECRETS), 15965596575264898037);
 /// ```
+///
+/// # Proved
+///
+/// - `result ≡ seeded_hash_v1 false standard secrets.now bytes.now`
 #[inline(always)]
 #[must_use]
 pub const fn rapidhash_v1_seeded(bytes: &[u8], secrets: &RapidSecrets) -> u64 {
@@ -62,6 +70,10 @@ const_fn! {
 /// let hash = rapidhash_v1_inline::<true, false, false, false>(b"something\n", secrets);
 /// assert_eq!(hash, 15965596575264898037);
 /// ```
+///
+/// # Proved
+///
+/// - `result ≡ seeded_hash_v1 V1_BUG (options AVALANCHE PROTECTED) secrets.now bytes.now`
 #[inline(always)]
 #[must_use]
 pub const fn rapidhash_v1_inline<

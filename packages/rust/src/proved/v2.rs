@@ -22,6 +22,10 @@ const_fn! {
 /// let bytes: Vec<u8> = (0..60).collect();
 /// assert_eq!(rapidhash_v2_2(&bytes), 6181707366222537282);
 /// ```
+///
+/// # Proved
+///
+/// - `result ≡ default_hash (V2 2) standard bytes.now`
 #[inline(always)]
 #[must_use]
 pub const fn rapidhash_v2_2(bytes: &[u8]) -> u64 {
@@ -38,6 +42,10 @@ const_fn! {
 /// let secrets = RapidSecrets::seed(0x1234_5678);
 /// let hash = rapidhash_v2_2_seeded(b"hello", &secrets);
 /// ```
+///
+/// # Proved
+///
+/// - `result ≡ seeded_hash (V2 2) standard secrets.now bytes.now`
 #[inline(always)]
 #[must_use]
 pub const fn rapidhash_v2_2_seeded(bytes: &[u8], secrets: &RapidSecrets) -> u64 {
@@ -62,6 +70,10 @@ const_fn! {
 /// let hash = rapidhash_v2_inline::<0, true, false, false>(&bytes, &DEFAULT_RAPID_SECRETS);
 /// assert_eq!(hash, 13186137053657766175);
 /// ```
+///
+/// # Proved
+///
+/// - `result ≡ seeded_hash (V2 MINOR) (options AVALANCHE PROTECTED) secrets.now bytes.now`
 #[inline(always)]
 #[must_use]
 pub const fn rapidhash_v2_inline<

@@ -29,6 +29,10 @@ const_fn! {
 ///
 /// assert_eq!(rapidhash_v3(b"hello"), 3327445792987248966);
 /// ```
+///
+/// # Proved
+///
+/// - `result ≡ default_hash v3 standard bytes.now`
 #[inline(always)]
 #[must_use]
 pub const fn rapidhash_v3(bytes: &[u8]) -> u64 {
@@ -47,6 +51,10 @@ const_fn! {
 /// let secrets = RapidSecrets::seed(0x1234_5678);
 /// let hash = rapidhash_v3_seeded(b"hello", &secrets);
 /// ```
+///
+/// # Proved
+///
+/// - `result ≡ seeded_hash v3 standard secrets.now bytes.now`
 #[inline(always)]
 #[must_use]
 pub const fn rapidhash_v3_seeded(bytes: &[u8], secrets: &RapidSecrets) -> u64 {
@@ -69,6 +77,10 @@ const_fn! {
 /// let hash = rapidhash_v3_inline::<true, true, false>(b"hello", &DEFAULT_RAPID_SECRETS);
 /// assert_eq!(hash, 3327445792987248966);
 /// ```
+///
+/// # Proved
+///
+/// - `result ≡ seeded_hash v3 (options AVALANCHE PROTECTED) secrets.now bytes.now`
 #[inline(always)]
 #[must_use]
 pub const fn rapidhash_v3_inline<const AVALANCHE: bool, const COMPACT: bool, const PROTECTED: bool>(
@@ -89,6 +101,10 @@ const_fn! {
 /// let hash = rapidhash_v3_micro_inline::<true, false>(b"hello", &DEFAULT_RAPID_SECRETS);
 /// assert_eq!(hash, 3327445792987248966);
 /// ```
+///
+/// # Proved
+///
+/// - `result ≡ seeded_hash micro (options AVALANCHE PROTECTED) secrets.now bytes.now`
 #[inline(always)]
 #[must_use]
 pub const fn rapidhash_v3_micro_inline<const AVALANCHE: bool, const PROTECTED: bool>(
@@ -109,6 +125,10 @@ const_fn! {
 /// let hash = rapidhash_v3_nano_inline::<true, false>(b"hello", &DEFAULT_RAPID_SECRETS);
 /// assert_eq!(hash, 3327445792987248966);
 /// ```
+///
+/// # Proved
+///
+/// - `result ≡ seeded_hash nano (options AVALANCHE PROTECTED) secrets.now bytes.now`
 #[inline(always)]
 #[must_use]
 pub const fn rapidhash_v3_nano_inline<const AVALANCHE: bool, const PROTECTED: bool>(

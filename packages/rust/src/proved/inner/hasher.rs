@@ -54,6 +54,11 @@ impl<'s, const AVALANCHE: bool, const SPONGE: bool, const COMPACT: bool, const P
     /// hasher.write_u32(7);
     /// let hash = hasher.finish();
     /// ```
+    ///
+    /// # Proved
+    ///
+    /// - `secrets_of_hasher result ≡ default_secrets`
+    /// - `Represents result (cpp_seeded seed 2) []`
     #[inline(always)]
     #[must_use]
     pub const fn new(seed: u64) -> Self {
@@ -64,6 +69,11 @@ impl<'s, const AVALANCHE: bool, const SPONGE: bool, const COMPACT: bool, const P
     }
 
     /// Returns a hasher of the default seed and the default secrets: [`RapidHasher::new`] of 0.
+    ///
+    /// # Proved
+    ///
+    /// - `secrets_of_hasher result ≡ default_secrets`
+    /// - `Represents result default_seed []`
     #[inline(always)]
     #[must_use]
     pub const fn default_const() -> Self {

@@ -27,6 +27,11 @@ pub const DEFAULT_RAPID_SECRETS: RapidSecrets = RapidSecrets {
 
 impl RapidSecrets {
     /// Returns the default seed and secrets, [`DEFAULT_RAPID_SECRETS`], by reference.
+    ///
+    /// # Proved
+    ///
+    /// - `result.now.seed ≡ default_seed_v1`
+    /// - `result.now.secrets ≡ default_secrets_v1`
     #[inline(always)]
     #[must_use]
     pub const fn default_ref() -> &'static Self {
@@ -42,6 +47,12 @@ impl RapidSecrets {
     /// let secrets = RapidSecrets::seed(0x1234_5678);
     /// let hash = rapidhash_v1_seeded(b"hello", &secrets);
     /// ```
+    ///
+    /// # Proved
+    ///
+    /// - `result.seed ≡ seeded seed`
+    /// - `result.secrets ≡ seeded_secrets 3 seed`
+    /// - `All IsGood (result.seed ∷ result.secrets)`
     #[must_use]
     pub const fn seed(seed: u64) -> Self {
         let seed = seed_of(seed);
@@ -61,6 +72,12 @@ impl RapidSecrets {
     /// assert_ne!(secrets.reseed().seed, secrets.seed);
     /// assert_eq!(secrets.reseed().secrets, secrets.secrets);
     /// ```
+    ///
+    /// # Proved
+    ///
+    /// - `result.seed ≡ reseeded self.now.seed 2`
+    /// - `result.secrets ≡ self.now.secrets`
+    /// - `IsGood result.seed`
     #[must_use]
     pub const fn reseed(&self) -> Self {
         RapidSecrets {
@@ -85,6 +102,11 @@ impl RapidSecrets {
     ///
     /// assert_eq!(RapidSecrets::seed_cpp(7).secrets, DEFAULT_RAPID_SECRETS.secrets);
     /// ```
+    ///
+    /// # Proved
+    ///
+    /// - `result.seed ≡ cpp_seeded seed 0`
+    /// - `result.secrets ≡ default_secrets_v1`
     #[must_use]
     pub const fn seed_cpp(seed: u64) -> Self {
         RapidSecrets {

@@ -32,6 +32,11 @@ use std::io::Read;
 /// If the error flag is set after the call, the error is the reader's own, also for an interrupted
 /// read. Otherwise it is `ErrorKind::UnexpectedEof`: the reader had fewer bytes, and all of them
 /// were read.
+///
+/// # Proved
+///
+/// - `HashesNext (R.remaining (reader_of source.old)) (R.remaining (reader_of source.new)) len result (λ _. error_flag source.new) (seeded_hash (V2 MINOR) (options true PROTECTED) secrets.now)`
+/// - `FlagsFailures result (error_flag source.new) ErrorKind.UnexpectedEof`
 #[doc(hidden)]
 pub fn rapidhash_v2_source<R: Read, const MINOR: u8, const PROTECTED: bool>(
     source: &mut Source<R>,
@@ -59,6 +64,10 @@ pub fn rapidhash_v2_source<R: Read, const MINOR: u8, const PROTECTED: bool>(
 ///
 /// The reader's own error, also for an interrupted read, which is not repeated. It is
 /// `ErrorKind::UnexpectedEof` if the reader had fewer bytes.
+///
+/// # Proved
+///
+/// - `HashesNext (R.remaining «data».old) (R.remaining «data».new) len result (λ _. true) (default_hash (V2 2) standard)`
 pub fn rapidhash_v2_2_file<R: Read + ?Sized>(data: &mut R, len: u64) -> io::Result<u64> {
     rapidhash_v2_file_inline::<R, 2, false>(data, len, RapidSecrets::default_ref())
 }
@@ -78,6 +87,10 @@ pub fn rapidhash_v2_2_file<R: Read + ?Sized>(data: &mut R, len: u64) -> io::Resu
 /// # Errors
 ///
 /// Returns the errors of [`rapidhash_v2_2_file`].
+///
+/// # Proved
+///
+/// - `HashesNext (R.remaining «data».old) (R.remaining «data».new) len result (λ _. true) (seeded_hash (V2 2) standard secrets.now)`
 pub fn rapidhash_v2_2_file_seeded<R: Read + ?Sized>(
     data: &mut R,
     len: u64,
@@ -101,6 +114,10 @@ pub fn rapidhash_v2_2_file_seeded<R: Read + ?Sized>(
 /// # Errors
 ///
 /// Returns the errors of [`rapidhash_v2_2_file`].
+///
+/// # Proved
+///
+/// - `HashesNext (R.remaining «data».old) (R.remaining «data».new) len result (λ _. true) (seeded_hash (V2 MINOR) (options true PROTECTED) secrets.now)`
 pub fn rapidhash_v2_file_inline<R: Read + ?Sized, const MINOR: u8, const PROTECTED: bool>(
     data: &mut R,
     len: u64,

@@ -32,6 +32,11 @@ const BUFFER: usize = 8192;
 /// If the error flag is set after the call, the error is the reader's own, also for an interrupted
 /// read. Otherwise it is `ErrorKind::Other`: 2^64 - 1 reads returned bytes, and the hash gave up.
 /// After either error the bytes that were read are lost.
+///
+/// # Proved
+///
+/// - `HashesAll (R.remaining (reader_of source.old)) (R.remaining (reader_of source.new)) result (λ _. error_flag source.new) (seeded_hash v3 (options true PROTECTED) secrets.now)`
+/// - `FlagsFailures result (error_flag source.new) ErrorKind.Other`
 #[doc(hidden)]
 pub fn rapidhash_v3_source<R: Read, const PROTECTED: bool>(
     source: &mut Source<R>,
@@ -46,6 +51,11 @@ pub fn rapidhash_v3_source<R: Read, const PROTECTED: bool>(
 /// # Errors
 ///
 /// Returns the errors of [`rapidhash_v3_source`].
+///
+/// # Proved
+///
+/// - `HashesAll (R.remaining (reader_of source.old)) (R.remaining (reader_of source.new)) result (λ _. error_flag source.new) (seeded_hash v3 (options true PROTECTED) secrets.now)`
+/// - `FlagsFailures result (error_flag source.new) ErrorKind.Other`
 #[doc(hidden)]
 pub fn rapidhash_v3_source_sized<R: Read, const SIZE: usize, const PROTECTED: bool>(
     source: &mut Source<R>,
@@ -71,6 +81,11 @@ pub fn rapidhash_v3_source_sized<R: Read, const SIZE: usize, const PROTECTED: bo
 /// # Errors
 ///
 /// Returns the errors of [`rapidhash_v3_source`].
+///
+/// # Proved
+///
+/// - `HashesAll (R.remaining (reader_of source.old)) (R.remaining (reader_of source.new)) result (λ _. error_flag source.new) (seeded_hash (V3 LANES) (options true PROTECTED) secrets.now)`
+/// - `FlagsFailures result (error_flag source.new) ErrorKind.Other`
 #[doc(hidden)]
 pub fn rapidhash_v3_source_lanes<
     R: Read,
@@ -126,6 +141,10 @@ fn read_all<R: Read, const LANES: usize, const SIZE: usize, const PROTECTED: boo
 ///
 /// The reader's own error, also for an interrupted read, which is not repeated. Otherwise
 /// `ErrorKind::Other`, after 2^64 - 1 reads that returned bytes.
+///
+/// # Proved
+///
+/// - `HashesKnown (R.remaining «data») result (default_hash v3 standard)`
 pub fn rapidhash_v3_file<R: Read>(data: R) -> io::Result<u64> {
     rapidhash_v3_file_lanes::<R, 7, BUFFER, false>(data, RapidSecrets::default_ref())
 }
@@ -144,6 +163,10 @@ pub fn rapidhash_v3_file<R: Read>(data: R) -> io::Result<u64> {
 /// # Errors
 ///
 /// Returns the errors of [`rapidhash_v3_file`].
+///
+/// # Proved
+///
+/// - `HashesKnown (R.remaining «data») result (seeded_hash v3 standard secrets.now)`
 pub fn rapidhash_v3_file_seeded<R: Read>(data: R, secrets: &RapidSecrets) -> io::Result<u64> {
     rapidhash_v3_file_lanes::<R, 7, BUFFER, false>(data, secrets)
 }
@@ -162,6 +185,10 @@ pub fn rapidhash_v3_file_seeded<R: Read>(data: R, secrets: &RapidSecrets) -> io:
 /// # Errors
 ///
 /// Returns the errors of [`rapidhash_v3_file`].
+///
+/// # Proved
+///
+/// - `HashesKnown (R.remaining «data») result (seeded_hash v3 (options true PROTECTED) secrets.now)`
 pub fn rapidhash_v3_file_inline<R: Read, const PROTECTED: bool>(
     data: R,
     secrets: &RapidSecrets,
@@ -175,6 +202,10 @@ pub fn rapidhash_v3_file_inline<R: Read, const PROTECTED: bool>(
 /// # Errors
 ///
 /// Returns the errors of [`rapidhash_v3_file`].
+///
+/// # Proved
+///
+/// - `HashesKnown (R.remaining «data») result (seeded_hash v3 (options true PROTECTED) secrets.now)`
 #[doc(hidden)]
 pub fn rapidhash_v3_file_sized<R: Read, const SIZE: usize, const PROTECTED: bool>(
     data: R,
@@ -189,6 +220,10 @@ pub fn rapidhash_v3_file_sized<R: Read, const SIZE: usize, const PROTECTED: bool
 /// # Errors
 ///
 /// Returns the errors of [`rapidhash_v3_file`].
+///
+/// # Proved
+///
+/// - `HashesKnown (R.remaining «data») result (seeded_hash (V3 LANES) (options true PROTECTED) secrets.now)`
 #[doc(hidden)]
 pub fn rapidhash_v3_file_lanes<
     R: Read,

@@ -21,6 +21,10 @@ impl<'s, const AVALANCHE: bool, const SPONGE: bool, const COMPACT: bool, const P
     /// whole.write_u16(258);
     /// assert_eq!(parts.finish(), whole.finish());
     /// ```
+    ///
+    /// # Proved
+    ///
+    /// - `Absorbs self.old self.new (Num 8 value)`
     #[inline(always)]
     #[doc(hidden)]
     pub fn write_u8(&mut self, value: u8) {
@@ -28,6 +32,10 @@ impl<'s, const AVALANCHE: bool, const SPONGE: bool, const COMPACT: bool, const P
     }
 
     /// Absorbs an integer of 16 bits.
+    ///
+    /// # Proved
+    ///
+    /// - `Absorbs self.old self.new (Num 16 value)`
     #[inline(always)]
     #[doc(hidden)]
     pub fn write_u16(&mut self, value: u16) {
@@ -35,6 +43,10 @@ impl<'s, const AVALANCHE: bool, const SPONGE: bool, const COMPACT: bool, const P
     }
 
     /// Absorbs an integer of 32 bits.
+    ///
+    /// # Proved
+    ///
+    /// - `Absorbs self.old self.new (Num 32 value)`
     #[inline(always)]
     #[doc(hidden)]
     pub fn write_u32(&mut self, value: u32) {
@@ -42,6 +54,10 @@ impl<'s, const AVALANCHE: bool, const SPONGE: bool, const COMPACT: bool, const P
     }
 
     /// Absorbs an integer of 64 bits.
+    ///
+    /// # Proved
+    ///
+    /// - `Absorbs self.old self.new (Num 64 value)`
     #[inline(always)]
     #[doc(hidden)]
     pub fn write_u64(&mut self, value: u64) {
@@ -49,6 +65,10 @@ impl<'s, const AVALANCHE: bool, const SPONGE: bool, const COMPACT: bool, const P
     }
 
     /// Absorbs an integer of 64 bits, as [`RapidHasher::write_u64`], on every machine.
+    ///
+    /// # Proved
+    ///
+    /// - `Absorbs self.old self.new (Num 64 value)`
     #[inline(always)]
     #[doc(hidden)]
     pub fn write_usize(&mut self, value: usize) {
@@ -56,6 +76,10 @@ impl<'s, const AVALANCHE: bool, const SPONGE: bool, const COMPACT: bool, const P
     }
 
     /// Absorbs a signed integer of 8 bits, by its bits.
+    ///
+    /// # Proved
+    ///
+    /// - `Absorbs self.old self.new (Num 8 (cast_unsigned w8 value))`
     #[inline(always)]
     #[doc(hidden)]
     pub fn write_i8(&mut self, value: i8) {
@@ -63,6 +87,10 @@ impl<'s, const AVALANCHE: bool, const SPONGE: bool, const COMPACT: bool, const P
     }
 
     /// Absorbs a signed integer of 16 bits, by its bits.
+    ///
+    /// # Proved
+    ///
+    /// - `Absorbs self.old self.new (Num 16 (cast_unsigned w16 value))`
     #[inline(always)]
     #[doc(hidden)]
     pub fn write_i16(&mut self, value: i16) {
@@ -70,6 +98,10 @@ impl<'s, const AVALANCHE: bool, const SPONGE: bool, const COMPACT: bool, const P
     }
 
     /// Absorbs a signed integer of 32 bits, by its bits.
+    ///
+    /// # Proved
+    ///
+    /// - `Absorbs self.old self.new (Num 32 (cast_unsigned w32 value))`
     #[inline(always)]
     #[doc(hidden)]
     pub fn write_i32(&mut self, value: i32) {
@@ -77,6 +109,10 @@ impl<'s, const AVALANCHE: bool, const SPONGE: bool, const COMPACT: bool, const P
     }
 
     /// Absorbs a signed integer of 64 bits, by its bits.
+    ///
+    /// # Proved
+    ///
+    /// - `Absorbs self.old self.new (Num 64 (cast_unsigned w64 value))`
     #[inline(always)]
     #[doc(hidden)]
     pub fn write_i64(&mut self, value: i64) {
@@ -84,6 +120,10 @@ impl<'s, const AVALANCHE: bool, const SPONGE: bool, const COMPACT: bool, const P
     }
 
     /// Absorbs a signed integer of 64 bits, by its bits, on every machine.
+    ///
+    /// # Proved
+    ///
+    /// - `Absorbs self.old self.new (Num 64 (cast_unsigned w64 value))`
     #[inline(always)]
     #[doc(hidden)]
     pub fn write_isize(&mut self, value: isize) {
@@ -91,6 +131,10 @@ impl<'s, const AVALANCHE: bool, const SPONGE: bool, const COMPACT: bool, const P
     }
 
     /// Absorbs 128 bits in one step. The integers that wait in the sponge stay there.
+    ///
+    /// # Proved
+    ///
+    /// - `Absorbs self.old self.new (Wide value)`
     #[inline(always)]
     #[doc(hidden)]
     pub fn write_u128(&mut self, value: u128) {
@@ -98,6 +142,10 @@ impl<'s, const AVALANCHE: bool, const SPONGE: bool, const COMPACT: bool, const P
     }
 
     /// Absorbs 128 bits in one step, as [`RapidHasher::write_u128`] does.
+    ///
+    /// # Proved
+    ///
+    /// - `Absorbs self.old self.new (Wide (cast_unsigned w128 value))`
     #[inline(always)]
     #[doc(hidden)]
     pub fn write_i128(&mut self, value: i128) {
