@@ -163,6 +163,11 @@ for file in bin/make kit/rt packages/one/tests/one.py; do
 done
 # A setup that fails counts, but everything is proved and tested.
 try a_gate_in_which_setup_fails gate_ends '6 passed, 1 failed' "$two_cases" .ci/setup
+mode=packages/one/tests
+try a_run_of_what_reads_a_path gate_ends '2 passed, 0 failed, 0 skipped' $'# reads: docs packages/one\n'"$two_cases"
+! gate_ends '0 passed, 0 failed, 0 skipped' $'# reads: packages/two\n'"$two_cases" && try a_run_of_nothing grep -qx 'run: no script reads packages/one/tests' "$room/said"
+mode=packages/none
+! gate_ends '0 passed, 0 failed, 0 skipped' "$two_cases" && try a_path_that_is_not_there grep -q "'packages/none'" "$room/said"
 mode=source
 try a_gate_of_sources gate_ends '3 passed, 0 failed, 0 skipped' "command -v rt && exit 1; $two_cases"
 try a_gate_of_sources_without_a_tool gate_says 'missing: /no/go rt' '2 passed, 0 failed, 2 skipped' \
@@ -217,7 +222,7 @@ EDITS
 awk 'FNR == 1 { n = split(FILENAME, path, "/")
   printf "rt: must-fail %s/%s: refused, as it must be: `%s`\n", path[n - 2], path[n], $NF }' \
   "$top"/crates/*/must-fail/*.edit >"$room/proofs"
-for change in 'crates/rapidhash/must-fail/default_is_the_seed_1.edit 1s/, .*/, loop/' '../proofs 1s/refused.*/BAD EDIT/'; do
+for change in 'crates/rapidhash/must-fail/steps_to_counts_backwards.edit 1s/, .*/, loop/' '../proofs 1s/refused.*/BAD EDIT/'; do
   PROOFS=$room/proofs refuses tests/pages.py <<<"edits $change"
 done
 lints=$(command -v shellcheck && command -v pyflakes3) names=yes

@@ -188,7 +188,7 @@ static void refuse(struct rapidhash_stream *stream, const unsigned char *bytes, 
     expect("unchanged", memcmp(stream, &before, sizeof before) == 0);
 }
 
-/* Changes saved bytes from a place on and gives them the right check. They are then refused after ^, and not after +. */
+/* Changes saved bytes from a place on, with the right check. They are then refused after ^, and not after +. */
 static void forge(char kind, struct rapidhash_stream *stream, const unsigned char *saved, size_t at,
                   const unsigned char *bytes, size_t size)
 {

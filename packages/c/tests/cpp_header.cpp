@@ -1,6 +1,5 @@
-/* Calls everything in rapidhash.hpp and compares the results with those of the Rust crate rapidhash 4.5.1: cases.cpp has
- * more values. Prints each value that differs. The last line counts the values, and the exit status is 1 if one
- * differs. */
+/* Calls everything in rapidhash.hpp and compares the results with those of the Rust crate rapidhash 4.5.1. Prints each
+ * value that differs. The last line counts the values, and the exit status is 1 if one differs. cases.cpp has more. */
 #include <rapidhash.hpp>
 
 #include <cstdio>

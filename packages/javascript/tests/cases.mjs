@@ -16,7 +16,7 @@ function bytesOf(digits) {
   return Uint8Array.from(digits === "-" ? [] : digits.match(/../g) ?? [], (pair) => Number.parseInt(pair, 16));
 }
 
-/** Returns the message of digits or of a rule, or a number of bytes of 0 above what an array of each engine can have. */
+/** Returns the message of digits or of a rule, or the number of bytes of 0 that no array of some engines can have. */
 function messageOf(text) {
   const [rule, size] = text.split(":");
   if (rule === "zeros") return Number(size);

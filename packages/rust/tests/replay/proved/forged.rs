@@ -50,7 +50,7 @@ fn accepts<const LANES: usize>(
     Ok(is_restored::<LANES>(bytes.as_slice(), secrets))
 }
 
-/// Plays a change with the right check: `AT:DIGITS`, or `FIRST-LAST` for the lowest bit of each
+/// Replays a change with the right check: `AT:DIGITS`, or `FIRST-LAST` for the lowest bit of each
 /// byte. Returns whether the first is accepted, and all others are like it.
 fn forge<const LANES: usize>(
     saved: &[u8; SAVED_SIZE],
@@ -79,7 +79,7 @@ fn forge<const LANES: usize>(
     Ok(holds)
 }
 
-/// Plays an operation that leaves the hasher as it is. Returns whether it is as expected.
+/// Replays an operation that leaves the hasher as it is. Returns whether it is as expected.
 pub fn change<const LANES: usize>(
     saved: &[u8; SAVED_SIZE],
     secrets: &RapidSecrets,
