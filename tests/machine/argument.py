@@ -1,0 +1,210 @@
+"""Has the argument that a function returns the definition's hash for every length, in four steps.
+
+1. `check_short_lengths`: the lengths that do not reach the loop, one by one.
+2. `reach_the_head`: the lengths first + turn * turns, where `turns` is unknown: to the loop's head, and one turn more. From
+   the two states follows a guess of the state after `done` turns, with a fresh word for all that is not linear.
+3. `turn_once`: from that state with done < turns, a turn gives the same state for done + 1, and some fresh words have
+   become the definition's folds of themselves: these are the lanes, which were the definition's lanes at the start.
+4. `return_at_the_end`: from that state with done = turns, the function returns the definition's end from those lanes.
+
+The loop and the state are guessed from runs. A wrong guess leads to a refusal, and to nothing else."""
+
+from definition import Definition
+from terms import MASK, POOL, Known, Refusal, add, assume, byte, is_kind, known, linear, make, multiply, name, parts, \
+    signed, substitute, subtract, xor
+
+DEFAULT = (0x2D358DCCAA6C78A5, 0x8BB84B93962EACC9, 0x4B33A62ED433D4A3, 0x4D5A2DA51DE1AA47, 0xA0761D6478BD642F,
+           0xE7037ED1A0B428DB, 0x90ED1765281C388C)
+FORMS = "_with_secrets", "_with_seed", ""
+
+
+class Everywhere:
+    def __contains__(self, _):
+        return True
+
+
+class Hash:
+    """A function that hashes a message: how it is called, and what it must return."""
+    origin = 0  # the place of the first row
+
+    def __init__(self, machine, version, form, prefix="rapidhash_"):
+        is_v1 = version == "v1"
+        count = 3 if is_v1 else 7
+        self.machine, self.function, self.sizes = machine, prefix + version + form * bool(prefix), {}
+        secrets, arguments = DEFAULT[:count], []
+        seed = 0x763305BBE7BEA536 if is_v1 else 0x422765567D8FBFD6
+        if form == "_with_secrets":
+            seed, *secrets = (make("secret", 64, index) for index in range(count + 1))
+            arguments, self.sizes = [name("secrets")], {"secrets": 8 * count + 8}
+        elif form == "_with_seed":
+            word = make("seed", 64)
+            seed, arguments = xor(word, *multiply(xor(word, DEFAULT[0 if is_v1 else 2]), DEFAULT[1])), [word]
+        self.seed, self.arguments, self.definition = seed, arguments, Definition(version, secrets)
+
+    def begin(self, length, pointer=None):
+        pointer = name("message") if pointer is None else pointer
+        self.machine.begin(self.function, [pointer, length, *self.arguments], length, self.sizes)
+
+    def first_lanes(self, length):
+        return [self.definition.start(length, self.seed)] * self.definition.lanes
+
+    def check(self, length, lanes, place, rest):
+        """Compares what was returned with the definition, from lanes that have folded all before a place."""
+        wanted = self.definition.finish(length, lanes, place, rest)
+        if (found := self.machine.result()) != wanted:
+            raise Refusal(f"returns another term: {difference(found, wanted)}")
+
+
+def difference(found, wanted):
+    """Describes the smallest parts in which two terms differ."""
+    while is_kind(found, getattr(wanted, "kind", None)):
+        if wanted.kind == "xor":
+            pair = [xor(0, *(term.parts[1] - other.parts[1])) for term, other in ((found, wanted), (wanted, found))]
+            pair = pair if found.parts[0] == wanted.parts[0] else [found.parts[0], wanted.parts[0]]
+        else:
+            differ = [pair for pair in zip(found.parts, wanted.parts) if pair[0] != pair[1]]
+            pair = differ[0] if len(differ) == 1 else (None, None)
+        if not all(known(word) or hasattr(word, "kind") for word in pair) or pair[0] is found:
+            break
+        found, wanted = pair
+    return f"{found}, and not {wanted}"
+
+
+def find_loop(call, length=2000):
+    """Returns the head of the first loop, and the bytes of a turn: by how much an address in the message grows."""
+    machine, seen = call.machine, {}
+    assume(length)
+    call.begin(length)
+    while machine.at not in seen:
+        seen[machine.at] = machine.state()
+        if not machine.run(Everywhere()):
+            raise Refusal("no loop")
+    steps = {subtract(word, seen[machine.at][key]) for key, word in machine.state().items()
+             if is_kind(word, "linear") and "message" in parts(word)[1] and word != seen[machine.at].get(key)}
+    if len(steps) != 1 or steps & {0} or not known(*steps) or min(steps) % call.definition.row:
+        raise Refusal(f"turns of {steps} bytes")
+    return machine.at, steps.pop()
+
+
+def check_short_lengths(call, head):
+    """Step 1. Returns the least length that reaches the loop's head. An empty message may have any pointer."""
+    for length in range(10**4):
+        call.lengths = f"length {length}"
+        assume(length)
+        for pointer in (None, 0) if length == 0 else (None,):
+            call.begin(length, pointer)
+            if call.machine.run([head]):
+                return length
+            call.check(length, call.first_lanes(length), call.origin, length - call.origin)
+    raise Refusal("no length reaches the loop")
+
+
+def reach_the_head(call, head, turn, length, most):
+    """Step 2. Returns the general state, and what its fresh words are before the first turn."""
+    states = []
+    for least in (0, 1):
+        assume(length, least, most)
+        if least == 0:
+            call.begin(length)
+        if not call.machine.run([head]):
+            raise Refusal("does not reach the loop")
+        states.append(call.machine.state())
+    general = generalise(*states)
+    return general, match(general, states[0], 0)
+
+
+def word_of(value):
+    """Returns the word of which a byte of memory is a part, and the index of the byte; a register has no index."""
+    return value.parts if is_kind(value, "byte") else (value, None)
+
+
+def generalise(before, after):
+    """Guesses the state after `done` turns. What is equal stays, a linear word that grows by a constant has it times
+    `done`, and all else is a fresh word, the same for the same two words. Other bytes of memory are forgotten."""
+    general, fresh = {}, {}
+    for key, value in before.items():
+        (old, index), (new, other) = word_of(value), word_of(after.get(key, value))
+        if old == new and index == other:
+            general[key] = value
+        elif index == other and (index is not None or key[0] == "word"):
+            grows = None if parts(old) is None or parts(new) is None or known(old) else subtract(new, old)
+            if grows is not None and known(grows):
+                word = add(old, name("done"), signed(grows))
+            else:
+                word = fresh.setdefault((old, new), make("after", 64, len(fresh)))
+            general[key] = word if index is None else byte(word, index)
+    return general
+
+
+def general_at(general, done):
+    """Returns the general state after so many turns."""
+    state = {}
+    for key, value in general.items():
+        word, index = word_of(value)
+        word = substitute(word, "done", done)
+        state[key] = word if index is None else byte(word, index)
+    return state
+
+
+def match(general, actual, done):
+    """Returns what each fresh word stands for, if an actual state is the general one; else refuses."""
+    meaning = {}
+    for key, value in general_at(general, done).items():
+        (word, index), (found, other) = word_of(value), word_of(actual.get(key))
+        if is_kind(word, "after") and index == other:
+            word = meaning.setdefault(word, found)
+        if word != found or index != other:
+            raise Refusal(f"a turn does not keep the state: {key} is {found}, and not {word}")
+    return meaning
+
+
+def turn_once(call, head, turn, length, most, general, before):
+    """Step 3. Returns the fresh words that are the lanes."""
+    definition, done, lanes = call.definition, name("done"), []
+    assume(length, 1, most, is_turning=True)
+    call.machine.resume(general_at(general, done), head)
+    if not call.machine.run([head]):
+        raise Refusal("the loop ends early")
+    after = match(general, call.machine.state(), add(done, 1))
+    place = add(call.origin, done, turn)
+    for index, start in enumerate(call.first_lanes(length)):
+        def folded(word):
+            for row in range(turn // definition.row):
+                word = definition.fold(word, index, add(place, definition.row * row + 16 * index))
+            return word
+        found = [word for word in after if before[word] == start and after[word] == folded(word)]
+        if not found:
+            raise Refusal(f"no word is lane {index}, which folds the pair at {place} + {16 * index}")
+        lanes.append(found[0])
+    return lanes
+
+
+def return_at_the_end(call, head, turn, length, most, general, lanes, rest):
+    """Step 4."""
+    turns = name("turns")
+    assume(length, 0, most)
+    call.machine.resume(general_at(general, turns), head)
+    if call.machine.run():
+        raise Refusal("does not return")
+    call.check(length, lanes, add(call.origin, turns, turn), rest)
+
+
+def prove(make_call, longest=MASK):
+    """Shows that the function of a call is the definition for every length, or refuses. Returns what it did."""
+    call = make_call()
+    try:
+        call.lengths = "length 2000"
+        head, turn = find_loop(call)
+        least = check_short_lengths(call, head)
+        for first in range(least, least + turn):
+            POOL.clear()
+            call = make_call()
+            call.lengths = f"lengths {first} + {turn} * turns"
+            length = linear(first, {"turns": turn})
+            most = (min(Known.top - (1 << 12), longest) - first) // turn
+            general, before = reach_the_head(call, head, turn, length, most)
+            lanes = turn_once(call, head, turn, length, most, general, before)
+            return_at_the_end(call, head, turn, length, most, general, lanes, first - call.origin)
+    except Refusal as refusal:
+        raise Refusal(f"{call.function}, {call.lengths}: {refusal}") from None
+    return least, turn
