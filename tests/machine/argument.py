@@ -56,18 +56,16 @@ class Hash:
 
 
 def difference(found, wanted):
-    """Describes the smallest parts in which two terms differ."""
-    while is_kind(found, getattr(wanted, "kind", None)):
-        if wanted.kind == "xor":
-            pair = [xor(0, *(term.parts[1] - other.parts[1])) for term, other in ((found, wanted), (wanted, found))]
-            pair = pair if found.parts[0] == wanted.parts[0] else [found.parts[0], wanted.parts[0]]
-        else:
-            differ = [pair for pair in zip(found.parts, wanted.parts) if pair[0] != pair[1]]
-            pair = differ[0] if len(differ) == 1 else (None, None)
-        if not all(known(word) or hasattr(word, "kind") for word in pair) or pair[0] is found:
+    """Describes small parts in which two terms differ."""
+    while is_kind(found, getattr(wanted, "kind", None)) and found.kind in ("xor", "low", "high"):
+        ours, theirs = (set(term.parts[1] if term.kind == "xor" else term.parts) for term in (found, wanted))
+        if found.kind == "xor" and found.parts[0] != wanted.parts[0]:
+            return f"{found.parts[0]:#x} and not {wanted.parts[0]:#x} in {found}"
+        pair = [max(only, key=lambda word: getattr(word, "kind", ""), default=None) for only in (ours - theirs, theirs - ours)]
+        if None in pair:
             break
         found, wanted = pair
-    return f"{found}, and not {wanted}"
+    return f"{found} and not {wanted}"
 
 
 def find_loop(call, length=2000):

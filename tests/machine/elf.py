@@ -13,7 +13,7 @@ class Elf:
         for index in range(*struct.unpack_from("<H", data, 56)):
             kind, flags, at, address, _, size = struct.unpack_from("<IIQQQQ", data, program + 56 * index)
             if kind == 1:
-                self.segments.append((address, data[at:at + size], flags))
+                self.segments.append((address, data[at:at + size], flags, at))
         count, = struct.unpack_from("<H", data, 60)
         heads = [struct.unpack_from("<IIQQQQIIQQ", data, section + 64 * index) for index in range(count)]
         for _, kind, _, _, at, size, link, *_ in heads:
@@ -25,7 +25,12 @@ class Elf:
 
     def read(self, address, size, is_code):
         """Returns bytes at an address, of code or of constants; none if they are elsewhere or can be written."""
-        for start, data, flags in self.segments:
+        for start, data, flags, _ in self.segments:
             if start <= address < start + len(data) and not flags & WRITTEN and (flags & EXECUTED or not is_code):
                 return data[address - start:address - start + size]
         return b""
+
+    def offset(self, address):
+        """Returns where in the file an address of code is."""
+        return next(at + address - start for start, data, flags, at in self.segments
+                    if flags & EXECUTED and start <= address < start + len(data))

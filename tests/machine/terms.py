@@ -16,8 +16,13 @@ class Term:
     __slots__ = "kind", "parts", "width", "number"
 
     def __repr__(self):
-        text = " ".join(map(str, self.parts[:9])) if self.kind != "xor" else f"{self.parts[0]:#x} {set(self.parts[1])}"
-        return f"{self.kind}({text})"[:200]
+        """Shows the term, of large ones the beginning."""
+        if self.kind == "linear":
+            return " + ".join(f"{factor} {text}" for text, factor in (*self.parts[1], ("", self.parts[0])) if factor)
+        if self.kind in ("xor", "or"):
+            parts = [f"{self.parts[0]:#x}"] * (self.parts[0] != 0) if self.kind == "xor" else []
+            return (" ^ " if self.kind == "xor" else " | ").join(parts + sorted(map(str, self.parts[-1])))[:160]
+        return f"{self.kind}({', '.join(map(str, self.parts))})"[:160]
 
 
 def make(kind, width, *parts):
@@ -96,13 +101,15 @@ def value_at(word, corner):
 
 def bounds(word):
     """Returns the least and the greatest value of a linear word as an integer, before it is cut to 64 bits."""
-    constant, factors = parts(word)
+    return ends(*parts(word))
+
+
+def ends(constant, factors):
     low = high = 0
     for other in Known.fixed.keys() & factors.keys():
-        ends = [factors[other] * end for end in Known.fixed[other]]
-        low, high = low + min(ends), high + max(ends)
-        del factors[other]
-    values = [constant + sum(factor * corner[text] for text, factor in factors.items()) for corner in Known.corners]
+        both = [factors[other] * end for end in Known.fixed[other]]
+        low, high = low + min(both), high + max(both)
+    values = [constant + sum(factor * corner.get(text, 0) for text, factor in factors.items()) for corner in Known.corners]
     return low + min(values), high + max(values)
 
 
@@ -116,6 +123,14 @@ def number(word):
     if low < 0 or high > MASK:
         raise Refusal(f"a number that may leave 64 bits: {word}")
     return low, high
+
+
+def apart(first, second):
+    """Returns the bounds of first - second, of two words that decide a branch, as an integer that may be negative."""
+    for word in first, second:
+        number(word)
+    (one, factors), (two, others) = ((word, {}) if known(word) else parts(word) for word in (first, second))
+    return ends(one - two, {text: factors.get(text, 0) - others.get(text, 0) for text in {**factors, **others}})
 
 
 def below(word, bits):

@@ -4,7 +4,7 @@ import capstone
 from capstone.x86 import X86_OP_IMM, X86_OP_REG
 
 from memory import Memory
-from terms import (MASK, Refusal, add, bit_and, bit_or, bounds, join, known, low_bits, make, multiply, name, number, parts,
+from terms import (MASK, Refusal, add, apart, bit_and, bit_or, join, known, low_bits, make, multiply, name, number, parts,
                    shift_left, shift_right, split, subtract, xor)
 
 NAMES = ["rax eax ax al", "rcx ecx cx cl", "rdx edx dx dl", "rbx ebx bx bl", "rsp esp sp spl", "rbp ebp bp bpl",
@@ -61,9 +61,9 @@ class Place:
 OPPOSITES = {"ne": "e", "ae": "b", "a": "be", "ge": "l", "g": "le", "ns": "s"}
 
 
-def decided(yes, no, what):
+def decided(yes, no, first, relation, second=0):
     if yes == no:
-        raise Refusal(f"a branch that is not decided: {what}")
+        raise Refusal(f"a branch that is not decided: {first} {relation} {second}")
     return yes
 
 
@@ -77,14 +77,13 @@ def holds(machine, condition):
         raise Refusal(f"the condition {condition} of an instruction that sets no known flags")
     operation, first, second, result, bits = machine.flags
     if operation == "subtract" and condition in "eb":
-        (low1, high1), (low2, high2) = number(first), number(second)
-        low, high = bounds(subtract(first, second)) if bits == 64 else (low1 - high2, high1 - low2)
+        low, high = apart(first, second)
         if condition == "b":
-            return decided(high < 0, low >= 0, f"{first} < {second}")
-        return decided(low == high == 0, low > 0 or high < 0, f"{first} = {second}")
+            return decided(high < 0, low >= 0, first, "<", second)
+        return decided(low == high == 0, low > 0 or high < 0, first, "=", second)
     if condition == "e":
         low, high = number(result)
-        return decided(high == 0, low > 0, f"{result} = 0")
+        return decided(high == 0, low > 0, result, "=")
     if operation == "logic" and condition == "b":
         return False
     if not known(first, second, result):
