@@ -190,6 +190,7 @@ def return_at_the_end(call, head, turn, length, most, general, lanes, rest):
 def prove(make_call, longest=MASK):
     """Shows that the function of a call is the definition for every length, or refuses. Returns what it did."""
     call = make_call()
+    Known.top = call.machine.top
     try:
         call.lengths = "length 2000"
         head, turn = find_loop(call)

@@ -133,6 +133,13 @@ def apart(first, second):
     return ends(one - two, {text: factors.get(text, 0) - others.get(text, 0) for text in {**factors, **others}})
 
 
+def decided(yes, no, first, relation, second=0):
+    """Returns whether a relation holds for all values of the names; refuses if it holds for some of them."""
+    if yes == no:
+        raise Refusal(f"a branch that is not decided: {first} {relation} {second}")
+    return yes
+
+
 def below(word, bits):
     """Returns whether a term is below 2^bits."""
     if word.kind == "linear":

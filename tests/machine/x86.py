@@ -4,7 +4,7 @@ import capstone
 from capstone.x86 import X86_OP_IMM, X86_OP_REG
 
 from memory import Memory
-from terms import (MASK, Refusal, add, apart, bit_and, bit_or, join, known, low_bits, make, multiply, name, number, parts,
+from terms import (MASK, Refusal, add, apart, bit_and, bit_or, decided, join, known, low_bits, make, multiply, name, number, parts,
                    shift_left, shift_right, split, subtract, xor)
 
 NAMES = ["rax eax ax al", "rcx ecx cx cl", "rdx edx dx dl", "rbx ebx bx bl", "rsp esp sp spl", "rbp ebp bp bpl",
@@ -59,12 +59,6 @@ class Place:
 
 # Flags. A comparison keeps its operation, operands, result and bits; a condition asks for their bounds.
 OPPOSITES = {"ne": "e", "ae": "b", "a": "be", "ge": "l", "g": "le", "ns": "s"}
-
-
-def decided(yes, no, first, relation, second=0):
-    if yes == no:
-        raise Refusal(f"a branch that is not decided: {first} {relation} {second}")
-    return yes
 
 
 def holds(machine, condition):
@@ -200,6 +194,7 @@ for _condition in ("e", "b", "be", "l", "le", "s", *OPPOSITES):
 
 
 class Machine(Memory):
+    top = MASK
     reader = capstone.Cs(capstone.CS_ARCH_X86, capstone.CS_MODE_64)
     reader.detail = True
 
