@@ -25,8 +25,6 @@ class Everywhere:
 
 class Hash:
     """A function that hashes a message: how it is called, and what it must return."""
-    origin = 0  # the place of the first row
-
     def __init__(self, machine, version, form, prefix="rapidhash_"):
         is_v1 = version == "v1"
         count = 3 if is_v1 else 7
@@ -45,8 +43,11 @@ class Hash:
         pointer = name("message") if pointer is None else pointer
         self.machine.begin(self.function, [pointer, length, *self.arguments], length, self.sizes)
 
-    def first_lanes(self, length):
-        return [self.definition.start(length, self.seed)] * self.definition.lanes
+    def start(self, length):
+        """Returns the lanes, the place from which on bytes are to be folded, and their number."""
+        return [self.definition.start(length, self.seed)] * self.definition.lanes, 0, length
+
+    at_loop = start  # the same at the first turn of the loop
 
     def check(self, length, lanes, place, rest):
         """Compares what was returned with the definition, from lanes that have folded all before a place."""
@@ -77,9 +78,10 @@ def find_loop(call, length=2000):
         seen[machine.at] = machine.state()
         if not machine.run(Everywhere()):
             raise Refusal("no loop")
-    steps = {subtract(word, seen[machine.at][key]) for key, word in machine.state().items()
-             if is_kind(word, "linear") and "message" in parts(word)[1] and word != seen[machine.at].get(key)}
-    if len(steps) != 1 or steps & {0} or not known(*steps) or min(steps) % call.definition.row:
+    pairs = [(seen[machine.at].get(key), word) for key, word in machine.state().items()]
+    steps = {subtract(word, old) for old, word in pairs if word != old and
+             all(is_kind(one, "linear") and parts(one)[1].get("message") == 1 for one in (old, word))}
+    if len(steps) != 1 or not known(*steps) or min(steps) % call.definition.row:
         raise Refusal(f"turns of {steps} bytes")
     return machine.at, steps.pop()
 
@@ -93,7 +95,7 @@ def check_short_lengths(call, head):
             call.begin(length, pointer)
             if call.machine.run([head]):
                 return length
-            call.check(length, call.first_lanes(length), call.origin, length - call.origin)
+            call.check(length, *call.start(length))
     raise Refusal("no length reaches the loop")
 
 
@@ -159,13 +161,14 @@ def match(general, actual, done):
 def turn_once(call, head, turn, length, most, general, before):
     """Step 3. Returns the fresh words that are the lanes."""
     definition, done, lanes = call.definition, name("done"), []
+    starts, origin, _ = call.at_loop(length)
     assume(length, 1, most, is_turning=True)
     call.machine.resume(general_at(general, done), head)
     if not call.machine.run([head]):
         raise Refusal("the loop ends early")
     after = match(general, call.machine.state(), add(done, 1))
-    place = add(call.origin, done, turn)
-    for index, start in enumerate(call.first_lanes(length)):
+    place = add(origin, done, turn)
+    for index, start in enumerate(starts):
         def folded(word):
             for row in range(turn // definition.row):
                 word = definition.fold(word, index, add(place, definition.row * row + 16 * index))
@@ -177,14 +180,15 @@ def turn_once(call, head, turn, length, most, general, before):
     return lanes
 
 
-def return_at_the_end(call, head, turn, length, most, general, lanes, rest):
-    """Step 4."""
+def return_at_the_end(call, head, turn, length, most, general, lanes):
+    """Step 4. The bytes that remain after the last turn have a known number."""
     turns = name("turns")
+    _, origin, rest = call.at_loop(length)
     assume(length, 0, most)
     call.machine.resume(general_at(general, turns), head)
     if call.machine.run():
         raise Refusal("does not return")
-    call.check(length, lanes, add(call.origin, turns, turn), rest)
+    call.check(length, lanes, add(origin, turns, turn), subtract(rest, name("turns", turn)))
 
 
 def prove(make_call, longest=MASK):
@@ -203,7 +207,7 @@ def prove(make_call, longest=MASK):
             most = (min(Known.top - (1 << 12), longest) - first) // turn
             general, before = reach_the_head(call, head, turn, length, most)
             lanes = turn_once(call, head, turn, length, most, general, before)
-            return_at_the_end(call, head, turn, length, most, general, lanes, first - call.origin)
+            return_at_the_end(call, head, turn, length, most, general, lanes)
     except Refusal as refusal:
         raise Refusal(f"{call.function}, {call.lengths}: {refusal}") from None
     return least, turn
