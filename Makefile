@@ -46,7 +46,7 @@ name = yervound-1.0-x86_64-linux
 
 .PHONY: all built tool sums library wasm npm page wheel jar sqlite postgresql deb check check-source quick test fmt bench \
   install uninstall clean dist vendor release products test-edits test-machines test-windows test-debian test-dieharder \
-  test-source test-vendor rapidhash_c rapidhash_cli rapidsum example_bloom example_perfect example_shards example_dedupe
+  test-source test-vendor test-machine-code rapidhash_c rapidhash_cli rapidsum example_bloom example_perfect example_shards example_dedupe
 .DELETE_ON_ERROR:
 MAKEFLAGS += --no-builtin-rules
 
@@ -169,13 +169,17 @@ release:
 	@chmod -R $(readable) build/release
 	@cd build/release && sha256sum -- * >SHA256SUMS
 
-# The next seven are not part of the gate, because they take some additional minutes.
+# The next eight are not part of the gate, because they take some additional minutes.
 test-edits:
 	@tests/release/must_fail.py
 	@tests/release/failing_tests.py
 
 test-machines test-windows test-debian test-dieharder test-source: test-%:
 	@prove --verbose --exec '' tests/release/$*.sh
+
+# All versions, compilers, streams and packages, of which the gate checks V3 alone.
+test-machine-code:
+	@prove --verbose --exec '' tests/machine/machine.py :: all
 
 test-vendor:
 	@tests/vendor.sh ci

@@ -10,12 +10,13 @@
 The loop and the state are guessed from runs. A wrong guess leads to a refusal, and to nothing else."""
 
 from definition import Definition
-from terms import MASK, POOL, Known, Refusal, add, assume, byte, is_kind, known, linear, make, multiply, name, parts, \
-    signed, substitute, subtract, xor
+from terms import (MASK, POOL, Known, Refusal, add, assume, byte, is_kind, known, linear, make, multiply, name, parts, signed,
+                   substitute, subtract, xor)
 
 DEFAULT = (0x2D358DCCAA6C78A5, 0x8BB84B93962EACC9, 0x4B33A62ED433D4A3, 0x4D5A2DA51DE1AA47, 0xA0761D6478BD642F,
            0xE7037ED1A0B428DB, 0x90ED1765281C388C)
 FORMS = "_with_secrets", "_with_seed", ""
+FIRST = 2000  # the length of the run that finds the loop
 
 
 class Everywhere:
@@ -25,22 +26,21 @@ class Everywhere:
 
 class Hash:
     """A function that hashes a message: how it is called, and what it must return."""
-    def __init__(self, machine, version, form, prefix="rapidhash_"):
+    def __init__(self, machine, function, version, form):
         is_v1 = version == "v1"
         count = 3 if is_v1 else 7
-        self.machine, self.function, self.sizes = machine, prefix + version + form * bool(prefix), {}
-        secrets, arguments = DEFAULT[:count], []
-        seed = 0x763305BBE7BEA536 if is_v1 else 0x422765567D8FBFD6
+        self.machine, self.function, self.arguments, self.sizes = machine, function, [], {}
+        self.seed, *secrets = 0x763305BBE7BEA536 if is_v1 else 0x422765567D8FBFD6, *DEFAULT[:count]
         if form == "_with_secrets":
-            seed, *secrets = (make("secret", 64, index) for index in range(count + 1))
-            arguments, self.sizes = [name("secrets")], {"secrets": 8 * count + 8}
+            self.seed, *secrets = (make("secret", 64, index) for index in range(count + 1))
+            self.arguments, self.sizes = [name("secrets")], {"secrets": 8 * count + 8}
         elif form == "_with_seed":
             word = make("seed", 64)
-            seed, arguments = xor(word, *multiply(xor(word, DEFAULT[0 if is_v1 else 2]), DEFAULT[1])), [word]
-        self.seed, self.arguments, self.definition = seed, arguments, Definition(version, secrets)
+            self.seed = xor(word, *multiply(xor(word, DEFAULT[0 if is_v1 else 2]), DEFAULT[1]))
+            self.arguments = [word]
+        self.definition = Definition(version, secrets)
 
-    def begin(self, length, pointer=None):
-        pointer = name("message") if pointer is None else pointer
+    def begin(self, length, pointer):
         self.machine.begin(self.function, [pointer, length, *self.arguments], length, self.sizes)
 
     def start(self, length):
@@ -51,47 +51,45 @@ class Hash:
 
     def check(self, length, lanes, place, rest):
         """Compares what was returned with the definition, from lanes that have folded all before a place."""
-        wanted = self.definition.finish(length, lanes, place, rest)
-        if (found := self.machine.result()) != wanted:
-            raise Refusal(f"returns another term: {difference(found, wanted)}")
+        demand(self.machine.result(), self.definition.finish(length, lanes, place, rest), "the hash")
 
 
-def difference(found, wanted):
-    """Describes small parts in which two terms differ."""
-    while is_kind(found, getattr(wanted, "kind", None)) and found.kind in ("xor", "low", "high"):
+def demand(found, wanted, what):
+    """Refuses another term than the wanted one, and tells of a small part in which they differ."""
+    is_same = found == wanted
+    while not is_same and is_kind(found, "xor", "low", "high") and is_kind(wanted, found.kind):
         ours, theirs = (set(term.parts[1] if term.kind == "xor" else term.parts) for term in (found, wanted))
-        if found.kind == "xor" and found.parts[0] != wanted.parts[0]:
-            return f"{found.parts[0]:#x} and not {wanted.parts[0]:#x} in {found}"
-        pair = [max(only, key=lambda word: getattr(word, "kind", ""), default=None) for only in (ours - theirs, theirs - ours)]
-        if None in pair:
+        only = [max(part, key=lambda word: getattr(word, "kind", ""), default=None) for part in (ours - theirs, theirs - ours)]
+        if None in only:
             break
-        found, wanted = pair
-    return f"{found} and not {wanted}"
+        found, wanted = only
+    if not is_same:
+        raise Refusal(f"{what} is another term, with {found} and not {wanted}")
 
 
-def find_loop(call, length=2000):
+def find_loop(call):
     """Returns the head of the first loop, and the bytes of a turn: by how much an address in the message grows."""
     machine, seen = call.machine, {}
-    assume(length)
-    call.begin(length)
+    assume(FIRST)
+    call.begin(FIRST, name("message"))
     while machine.at not in seen:
         seen[machine.at] = machine.state()
         if not machine.run(Everywhere()):
             raise Refusal("no loop")
     pairs = [(seen[machine.at].get(key), word) for key, word in machine.state().items()]
-    steps = {subtract(word, old) for old, word in pairs if word != old and
+    turns = {subtract(word, old) for old, word in pairs if word != old and
              all(is_kind(one, "linear") and parts(one)[1].get("message") == 1 for one in (old, word))}
-    if len(steps) != 1 or not known(*steps) or min(steps) % call.definition.row:
-        raise Refusal(f"turns of {steps} bytes")
-    return machine.at, steps.pop()
+    if len(turns) != 1 or not known(*turns) or min(turns) % call.definition.row:
+        raise Refusal(f"turns of {turns} bytes")
+    return machine.at, turns.pop()
 
 
 def check_short_lengths(call, head):
     """Step 1. Returns the least length that reaches the loop's head. An empty message may have any pointer."""
-    for length in range(10**4):
+    for length in range(FIRST):
         call.lengths = f"length {length}"
         assume(length)
-        for pointer in (None, 0) if length == 0 else (None,):
+        for pointer in (name("message"), 0)[:1 + (length == 0)]:
             call.begin(length, pointer)
             if call.machine.run([head]):
                 return length
@@ -99,13 +97,13 @@ def check_short_lengths(call, head):
     raise Refusal("no length reaches the loop")
 
 
-def reach_the_head(call, head, turn, length, most):
+def reach_the_head(call, head, length, most):
     """Step 2. Returns the general state, and what its fresh words are before the first turn."""
+    assume(length, 0, most)
+    call.begin(length, name("message"))
     states = []
     for least in (0, 1):
         assume(length, least, most)
-        if least == 0:
-            call.begin(length)
         if not call.machine.run([head]):
             raise Refusal("does not reach the loop")
         states.append(call.machine.state())
@@ -124,26 +122,20 @@ def generalise(before, after):
     general, fresh = {}, {}
     for key, value in before.items():
         (old, index), (new, other) = word_of(value), word_of(after.get(key, value))
-        if old == new and index == other:
+        grows = subtract(new, old) if is_kind(old, "linear") and is_kind(new, "linear") else None
+        if value == after.get(key, value):
             general[key] = value
         elif index == other and (index is not None or key[0] == "word"):
-            grows = None if parts(old) is None or parts(new) is None or known(old) else subtract(new, old)
-            if grows is not None and known(grows):
-                word = add(old, name("done"), signed(grows))
-            else:
-                word = fresh.setdefault((old, new), make("after", 64, len(fresh)))
+            word = add(old, name("done"), signed(grows)) if known(grows) else \
+                fresh.setdefault((old, new), make("after", 64, len(fresh)))
             general[key] = word if index is None else byte(word, index)
     return general
 
 
 def general_at(general, done):
     """Returns the general state after so many turns."""
-    state = {}
-    for key, value in general.items():
-        word, index = word_of(value)
-        word = substitute(word, "done", done)
-        state[key] = word if index is None else byte(word, index)
-    return state
+    words = {key: (substitute(word_of(value)[0], "done", done), word_of(value)[1]) for key, value in general.items()}
+    return {key: word if index is None else byte(word, index) for key, (word, index) in words.items()}
 
 
 def match(general, actual, done):
@@ -160,20 +152,19 @@ def match(general, actual, done):
 
 def turn_once(call, head, turn, length, most, general, before):
     """Step 3. Returns the fresh words that are the lanes."""
-    definition, done, lanes = call.definition, name("done"), []
-    starts, origin, _ = call.at_loop(length)
+    definition, done, lanes, (starts, origin, _) = call.definition, name("done"), [], call.at_loop(length)
     assume(length, 1, most, is_turning=True)
     call.machine.resume(general_at(general, done), head)
     if not call.machine.run([head]):
         raise Refusal("the loop ends early")
-    after = match(general, call.machine.state(), add(done, 1))
-    place = add(origin, done, turn)
+    after, place = match(general, call.machine.state(), add(done, 1)), add(origin, done, turn)
     for index, start in enumerate(starts):
-        def folded(word):
-            for row in range(turn // definition.row):
-                word = definition.fold(word, index, add(place, definition.row * row + 16 * index))
-            return word
-        found = [word for word in after if before[word] == start and after[word] == folded(word)]
+        found = []
+        for word in (word for word in after if before[word] == start):
+            folded = word
+            for row in range(0, turn, definition.row):
+                folded = definition.fold(folded, index, add(place, row + 16 * index))
+            found += [word] * (after[word] == folded)
         if not found:
             raise Refusal(f"no word is lane {index}, which folds the pair at {place} + {16 * index}")
         lanes.append(found[0])
@@ -182,32 +173,28 @@ def turn_once(call, head, turn, length, most, general, before):
 
 def return_at_the_end(call, head, turn, length, most, general, lanes):
     """Step 4. The bytes that remain after the last turn have a known number."""
-    turns = name("turns")
-    _, origin, rest = call.at_loop(length)
+    turns, (_, origin, rest) = name("turns"), call.at_loop(length)
     assume(length, 0, most)
     call.machine.resume(general_at(general, turns), head)
     if call.machine.run():
         raise Refusal("does not return")
-    call.check(length, lanes, add(origin, turns, turn), subtract(rest, name("turns", turn)))
+    call.check(length, lanes, add(origin, turns, turn), add(rest, turns, -turn))
 
 
 def prove(make_call, longest=MASK):
     """Shows that the function of a call is the definition for every length, or refuses. Returns what it did."""
     call = make_call()
-    Known.top = call.machine.top
+    Known.low, Known.top, call.lengths = call.machine.low, call.machine.top, f"length {FIRST}"
     try:
-        call.lengths = "length 2000"
         head, turn = find_loop(call)
         least = check_short_lengths(call, head)
         for first in range(least, least + turn):
             POOL.clear()
-            call = make_call()
-            call.lengths = f"lengths {first} + {turn} * turns"
-            length = linear(first, {"turns": turn})
-            most = (min(Known.top - (1 << 12), longest) - first) // turn
-            general, before = reach_the_head(call, head, turn, length, most)
+            call, length = make_call(), linear(first, {"turns": turn})
+            call.lengths, most = f"lengths {length}", (min(Known.top - (1 << 12), longest) - first) // turn
+            general, before = reach_the_head(call, head, length, most)
             lanes = turn_once(call, head, turn, length, most, general, before)
             return_at_the_end(call, head, turn, length, most, general, lanes)
     except Refusal as refusal:
         raise Refusal(f"{call.function}, {call.lengths}: {refusal}") from None
-    return least, turn
+    return f"{least} lengths one by one, then {turn} classes of lengths"

@@ -9,37 +9,28 @@ LIMITS = {"v1": 48, "v2_0": 56, "v2_1": 64, "v2_2": 64}
 
 class Definition:
     def __init__(self, version, secrets, read=message):
-        self.family, self.version, self.lanes, self.read = version[:2], version, VERSIONS[version], read
-        self.row, self.secrets = 16 * self.lanes, secrets
-        self.limit = LIMITS.get(version, self.row)
+        self.version, self.family, self.lanes, self.secrets, self.read = version, version[:2], VERSIONS[version], secrets, read
+        self.row, self.limit = 16 * self.lanes, LIMITS.get(version, 16 * self.lanes)
 
     def product(self, first, second):
         low, high = multiply(first, second)
         return (xor(low, first), xor(high, second)) if self.version == "v3_protected" else (low, high)
 
-    def mix(self, first, second):
-        return xor(*self.product(first, second))
-
     def fold(self, lane, secret, place):
         """Returns a lane after the pair of words at a place."""
-        return self.mix(xor(self.read(place, 8), self.secrets[secret]), xor(self.read(add(place, 8), 8), lane))
-
-    def fold_row(self, lanes, place, count):
-        return [self.fold(lane, index, add(place, 16 * index)) if index < count else lane
-                for index, lane in enumerate(lanes)]
+        return xor(*self.product(xor(self.read(place, 8), self.secrets[secret]), xor(self.read(add(place, 8), 8), lane)))
 
     def fold_rows(self, lanes, place, rest):
         """Folds all rows of the last `rest` bytes. Returns the lanes, the place after them, and what then is the rest."""
-        least = 1 if self.family == "v3" else 0
-        for count in (self.lanes, 3) if self.family == "v2" else (self.lanes,):
-            while rest >= 16 * count + least:
-                lanes, place, rest = self.fold_row(lanes, place, count), add(place, 16 * count), rest - 16 * count
+        for count in (self.lanes, 3)[:1 + (self.family == "v2")]:
+            while rest >= 16 * count + (self.family == "v3"):
+                folded = [self.fold(lanes[index], index, add(place, 16 * index)) for index in range(count)]
+                lanes, place, rest = folded + lanes[count:], add(place, 16 * count), rest - 16 * count
         return lanes, place, rest
 
     def start(self, length, seed):
         """Returns the word that every lane starts from."""
-        is_mixed = known(length) and 4 <= length <= 16 if self.family == "v3" else True
-        return xor(seed, length) if is_mixed else seed
+        return xor(seed, length) if self.family != "v3" or known(length) and 4 <= length <= 16 else seed
 
     def hash(self, length, seed):
         return self.finish(length, [self.start(length, seed)] * self.lanes, 0, length)
@@ -49,36 +40,29 @@ class Definition:
         has_rows, secrets = not known(length) or length > self.limit, self.secrets
         if has_rows:
             lanes, place, rest = self.fold_rows(lanes, place, rest)
-        seed = xor(*lanes)
-        if self.version == "v1" and rest > 16:
-            seed = xor(seed, secrets[1])
+        seed = xor(*lanes, secrets[1] if self.version == "v1" and rest > 16 else 0)
         tail = (0, 1, int(self.version == "v2_2")) if self.family == "v2" and not has_rows else (2, 2, 1, 1, 2, 1)
         for pair in range(max(0, rest - 1) // 16):
             seed = self.fold(seed, tail[pair], add(place, 16 * pair))
         first, second = self.last_words(length)
-        if self.family == "v3" and (not known(length) or length > 16):
-            first = xor(first, rest)
-        low, high = self.product(xor(first, secrets[1]), xor(second, seed))
         if self.family == "v3":
-            return self.mix(xor(low, AA), xor(high, secrets[1], rest))
-        return self.mix(xor(low, secrets[0] if self.version == "v1" else AA, length), xor(high, secrets[1]))
+            first = xor(first, rest if not known(length) or length > 16 else 0)
+        low, high = self.product(xor(first, secrets[1]), xor(second, seed))
+        low = xor(low, secrets[0] if self.version == "v1" else AA, 0 if self.family == "v3" else length)
+        return xor(*self.product(low, xor(high, secrets[1], rest if self.family == "v3" else 0)))
 
     def last_words(self, length):
-        def read(place, size=8):
-            return self.read(place, size)
-
         if not known(length) or length > 16:
-            return read(add(length, -16)), read(add(length, -8))
+            return self.read(add(length, -16), 8), self.read(add(length, -8), 8)
         if length > 3 and self.version == "v1":
-            word = bit_or(shift_left(read(0, 4), 32), read(length - 4, 4))
-            return word, bit_or(shift_left(read(4, 4), 32), read(length - 8, 4)) if length > 7 else word
-        if length > 7:
-            return read(0), read(length - 8)
+            word = bit_or(shift_left(self.read(0, 4), 32), self.read(length - 4, 4))
+            return word, bit_or(shift_left(self.read(4, 4), 32), self.read(length - 8, 4)) if length > 7 else word
         if length > 3:
-            return read(0, 4), read(length - 4, 4)
+            size = 8 if length > 7 else 4
+            return self.read(0, size), self.read(length - size, size)
         if length == 0:
             return 0, 0
-        first, middle, last = (read(place, 1) for place in (0, length // 2, length - 1))
+        first, middle, last = (self.read(place, 1) for place in (0, length // 2, length - 1))
         if self.version in ("v1", "v2_0", "v2_1"):
             return bit_or(bit_or(shift_left(first, 56), shift_left(middle, 32)), last), 0
         return bit_or(shift_left(first, 56 if self.version == "v2_2" else 45), last), middle

@@ -1,6 +1,7 @@
 #!/usr/bin/python3
 """Shows that compiled hashes are the definition for every length (docs/MACHINE.md), and tests the tool that shows it. The
-gate checks V3 by gcc and by the kit; with the argument `all`, every version by every compiler, and the packages."""
+gate checks V3 by gcc and by the kit. The argument `all` adds all versions, compilers, streams, the WebAssembly module, and
+more faults; `tool` ends at the first failure of the tool's own tests; -v shows why each fault is refused."""
 
 import os
 import sys
@@ -9,30 +10,79 @@ from pathlib import Path
 
 TOP = Path(os.environ.get("YERVOUND", Path(__file__).parents[2]))
 sys.path.insert(0, str(TOP / "tests"))
-from cases import finish, needs, tell  # noqa: E402
+from cases import finish, lacks, needs, results, shell, skip, tell  # noqa: E402
 
-needs("gcc", "/usr/lib/python3/dist-packages/capstone")
+needs("gcc", "objdump", "/usr/lib/python3/dist-packages/capstone")
 import faults  # noqa: E402
 import tool  # noqa: E402
+import webassembly  # noqa: E402
 from argument import FORMS  # noqa: E402
+from definition import VERSIONS  # noqa: E402
+from streams import LANES, show_streams  # noqa: E402
+
+MODE = sys.argv[1] if len(sys.argv) > 1 else "gate"
+KIT = TOP / "crates/rapidhash_c/out/librapidhash_c.a"
+SETTINGS = "gcc -O1", "gcc -O3", "gcc -Os", "gcc -O2 -march=x86-64-v3", "clang -O1", "clang -O3", "clang -Os"
+detail = print if "-v" in sys.argv else None
 
 
-def check(by, file, versions):
-    for version in versions:
+def case(name, *findings, what=""):
+    """Prints a case. With the argument `tool` the script ends at the first that fails."""
+    tell(name, *findings)
+    if what:
+        print(f"# {what}")
+    if MODE == "tool" and not results[-1]:
+        finish()
+
+
+def check(by, file, versions=VERSIONS, forms=FORMS, **options):
+    for version, form in ((version, form) for version in versions for form in forms):
+        began = time.process_time()
+        how, reason = faults.shown(file, version, form, **options)
+        case(f"{version}{form} by {by}", *[reason] * (how is None), what=f"{how}: {time.process_time() - began:.1f} s")
+
+
+def check_streams(by, file):
+    for version in LANES:
+        began = time.process_time()
+        findings = list(show_streams(file, version))
+        case(f"streams of {version} by {by}", *findings, what=f"{time.process_time() - began:.1f} s")
+
+
+def check_everything():
+    """Checks what only a release needs."""
+    check("gcc", gcc, [version for version in VERSIONS if version != "v3"])
+    for command in ("clang -O2", *SETTINGS):
+        if reason := lacks(command.split()[0]):
+            skip(command, reason)
+        else:
+            check(command, faults.built(command), forms=FORMS if command == "clang -O2" else FORMS[:1])
+    if reason := lacks("clang", "wasm-ld", "wasm-validate"):
+        skip("WebAssembly", reason)
+    else:
+        shell("make -s wasm")
+        module = webassembly.Module(TOP / "build/rapidhash.wasm")
+        check("WebAssembly", module, forms=FORMS[:1], prefix="", machine=webassembly.Machine)
+    check_streams("gcc", gcc)
+    counts = {}
+    case("flipped bits of the code", *faults.in_bits(300, counts, 2), what=f"accepted or not: {counts}")
+    case("faults in the tool", *faults.in_the_tool(detail))
+
+
+gcc = faults.built("gcc -O2")
+case("rules for terms", *tool.rules_hold())
+case("instructions on this processor", *tool.processor_agrees([gcc]))
+case("definition", *tool.definition_agrees())
+check("gcc", gcc, ["v3"], FORMS if MODE != "tool" else FORMS[:1])
+case("faults in the header", *faults.in_the_header(detail))
+if MODE != "tool":
+    counts = {}
+    case("some flipped bits of the code", *faults.in_bits(20, counts), what=f"accepted or not: {counts}")
+    if KIT.exists():
+        check("the kit", faults.linked(KIT, "kit"), VERSIONS if MODE == "all" else ["v3"])
+    else:
         for form in FORMS:
-            began = time.process_time()
-            found, reason = faults.accepted(file, version, form)
-            tell(f"{version}{form} by {by}", *[reason] if reason else [])
-            if found:
-                print(f"# {found[0]} lengths, then {found[1]} classes of lengths: {time.process_time() - began:.1f} s")
-
-
-gcc = faults.compile_header("gcc -O2")
-tell("rules for terms", *tool.rules_hold(1))
-tell("instructions on this processor", *tool.processor_agrees([gcc], 3))
-tell("definition", *tool.definition_agrees())
-check("gcc", gcc, ["v3"])
-tell("faults in the header", *faults.planted())
-tell("flipped bits of the code", *faults.flipped(40))
-print(f"# {faults.BITS}")
+            skip(f"v3{form} by the kit", lacks("rt") or "make has not built the library")
+if MODE == "all":
+    check_everything()
 finish()

@@ -13,34 +13,29 @@ class Refusal(Exception):
 
 
 class Term:
-    __slots__ = "kind", "parts", "width", "number"
+    """A word that is no number. Its bits from `width` on are 0."""
+    def __init__(self, kind, width, parts):
+        self.kind, self.width, self.parts, self.age = kind, width, parts, len(POOL)
 
     def __repr__(self):
-        """Shows the term, of large ones the beginning."""
         if self.kind == "linear":
-            return " + ".join(f"{factor} {text}" for text, factor in (*self.parts[1], ("", self.parts[0])) if factor)
-        if self.kind in ("xor", "or"):
-            parts = [f"{self.parts[0]:#x}"] * (self.parts[0] != 0) if self.kind == "xor" else []
-            return (" ^ " if self.kind == "xor" else " | ").join(parts + sorted(map(str, self.parts[-1])))[:160]
+            return " + ".join([str(self.parts[0])] + [f"{factor} * {text}" for text, factor in self.parts[1]])
         return f"{self.kind}({', '.join(map(str, self.parts))})"[:160]
 
 
 def make(kind, width, *parts):
-    """Returns the term of this kind, whose bits from `width` on are 0."""
-    key = (kind, *parts)
-    found = POOL.get(key)
-    if found is None:
-        found = POOL[key] = Term()
-        found.kind, found.parts, found.width, found.number = kind, parts, width, len(POOL)
-    return found
+    key = kind, *parts
+    if key not in POOL:
+        POOL[key] = Term(kind, width, parts)
+    return POOL[key]
 
 
 def known(*words):
     return all(type(word) is int for word in words)
 
 
-def is_kind(word, kind):
-    return type(word) is Term and word.kind == kind
+def is_kind(word, *kinds):
+    return type(word) is Term and word.kind in kinds
 
 
 def width(word):
@@ -49,28 +44,25 @@ def width(word):
 
 def ordered(*words):
     """Sorts words: numbers first, then terms by their age."""
-    return sorted(words, key=lambda word: (0, word) if known(word) else (1, word.number))
+    return sorted(words, key=lambda word: (0, word) if known(word) else (1, word.age))
 
 
-# Linear words. The names and what is known of them: a message of `length` bytes ends at or before `top`. Of the `turns`
-# of a loop, `done` are done.
+# Linear words, and what is known of their names.
 class Known:
-    top = MASK
-    fixed = {}  # the bounds of other names, all addresses of memory that is not the message
-    corners = []
+    low, top = 1 << 20, MASK  # addresses: the message ends at `top` or before
+    fixed = {}  # the bounds of addresses of memory that is not the message
+    corners = []  # values of the other names
 
 
 def assume(length, least=0, most=0, is_turning=False):
     """Sets what is known: `turns` is from `least` to `most`, and `done` from 0 to turns - least if the loop is turning.
     The conditions are linear, so a linear word is least and greatest at corners of the room that they leave."""
-    Known.fixed = {"stack": (1 << 20, Known.top - (1 << 16)), "secrets": (1 << 12, Known.top - (1 << 12)),
-                   "stream": (1 << 12, Known.top - (1 << 12))}
-    counts = [(least, 0), (most, 0)] + [(most, most - least)] * is_turning
+    Known.fixed = dict.fromkeys(("stack", "secrets", "stream"), (Known.low, Known.top - (1 << 16)))
     Known.corners = []
-    for turns, done in counts:
+    for turns, done in [(least, 0), (most, 0)] + [(most, most - least)] * is_turning:
         corner = {"turns": turns, "done": done, "message": 0}
-        bytes_there = value_at(length, corner)
-        Known.corners += [dict(corner, message=place) for place in (1 << 12, Known.top - bytes_there)]
+        last = Known.top - value_at(length, corner)
+        Known.corners += [dict(corner, message=place) for place in (1 << 12, last)]
 
 
 def signed(number):
@@ -95,57 +87,56 @@ def parts(word):
 
 
 def value_at(word, corner):
-    constant, factors = (word, {}) if known(word) else parts(word)
-    return constant + sum(factor * corner[name] for name, factor in factors.items())
-
-
-def bounds(word):
-    """Returns the least and the greatest value of a linear word as an integer, before it is cut to 64 bits."""
-    return ends(*parts(word))
+    return word if known(word) else word.parts[0] + sum(factor * corner[text] for text, factor in word.parts[1])
 
 
 def ends(constant, factors):
-    low = high = 0
-    for other in Known.fixed.keys() & factors.keys():
-        both = [factors[other] * end for end in Known.fixed[other]]
-        low, high = low + min(both), high + max(both)
-    values = [constant + sum(factor * corner.get(text, 0) for text, factor in factors.items()) for corner in Known.corners]
+    """Returns the least and the greatest value of constant + factor * name + .. as an integer, not cut to 64 bits."""
+    low, high, others = constant, constant, []
+    for text, factor in factors.items():
+        if text in Known.fixed:
+            both = [factor * end for end in Known.fixed[text]]
+            low, high = low + min(both), high + max(both)
+        else:
+            others.append((text, factor))
+    values = [sum(factor * corner[text] for text, factor in others) for corner in Known.corners]
     return low + min(values), high + max(values)
 
 
-def number(word):
-    """Returns the bounds of a word that decides a branch: it must be linear and never leave 0 .. 2^64 - 1."""
-    if known(word):
-        return word, word
-    if word.kind != "linear":
-        raise Refusal(f"a branch depends on contents: {word}")
-    low, high = bounds(word)
-    if low < 0 or high > MASK:
-        raise Refusal(f"a number that may leave 64 bits: {word}")
-    return low, high
+def bounds(word):
+    return ends(*parts(word))
 
 
 def apart(first, second):
-    """Returns the bounds of first - second, of two words that decide a branch, as an integer that may be negative."""
+    """Returns the bounds of first - second, of two words that decide a branch. Each must be linear and never leave
+    0 .. 2^64 - 1."""
     for word in first, second:
-        number(word)
+        if not parts(word):
+            raise Refusal(f"a branch depends on contents: {word}")
+        if not known(word) and not 0 <= bounds(word)[0] <= bounds(word)[1] <= MASK:
+            raise Refusal(f"a number that may leave 64 bits: {word}")
     (one, factors), (two, others) = ((word, {}) if known(word) else parts(word) for word in (first, second))
     return ends(one - two, {text: factors.get(text, 0) - others.get(text, 0) for text in {**factors, **others}})
 
 
-def decided(yes, no, first, relation, second=0):
-    """Returns whether a relation holds for all values of the names; refuses if it holds for some of them."""
-    if yes == no:
-        raise Refusal(f"a branch that is not decided: {first} {relation} {second}")
-    return yes
+def less(first, second):
+    """Returns 1 or 0: whether first < second for all values of the names; refuses if for some of them."""
+    low, high = apart(first, second)
+    if low < 0 <= high:
+        raise Refusal(f"a branch that is not decided: {first} < {second}")
+    return int(high < 0)
+
+
+def equal(first, second=0):
+    low, high = apart(first, second)
+    if low <= 0 <= high and low != high:
+        raise Refusal(f"a branch that is not decided: {first} = {second}")
+    return int(low == high == 0)
 
 
 def below(word, bits):
-    """Returns whether a term is below 2^bits."""
-    if word.kind == "linear":
-        low, high = bounds(word)
-        return 0 <= low and high < 1 << bits
-    return word.width <= bits
+    """Returns whether a term is surely below 2^bits."""
+    return 0 <= bounds(word)[0] <= bounds(word)[1] < 1 << bits if word.kind == "linear" else word.width <= bits
 
 
 def substitute(word, text, value):
@@ -154,7 +145,7 @@ def substitute(word, text, value):
         return word
     constant, factors = parts(word)
     factor = factors.pop(text, 0)
-    return add(linear(constant, factors), value, factor) if factor else word
+    return add(linear(constant, factors), value, factor)
 
 
 # The operations. Each returns the word that the processor would compute, for all values of the unknown words.
@@ -179,12 +170,8 @@ def xor(*words):
     """Returns the XOR of words: of a number and of the terms that remain, each of which counts once."""
     constant, others = 0, frozenset()
     for word in words:
-        if known(word):
-            constant ^= word
-        elif word.kind == "xor":
-            constant, others = constant ^ word.parts[0], others ^ word.parts[1]
-        else:
-            others ^= {word}
+        number, terms = word.parts if is_kind(word, "xor") else (word, ()) if known(word) else (0, {word})
+        constant, others = constant ^ number, others.symmetric_difference(terms)
     if not others or constant == 0 and len(others) == 1:
         return next(iter(others), constant)
     return make("xor", max(map(width, (constant, *others))), constant, others)
@@ -192,10 +179,8 @@ def xor(*words):
 
 def multiply(first, second):
     """Returns the low and the high half of a product."""
-    if known(first, second):
-        return first * second & MASK, first * second >> 64
-    if 0 in (first, second):
-        return 0, 0
+    if known(first, second) or 0 in (first, second):
+        return (0, 0) if 0 in (first, second) else (first * second & MASK, first * second >> 64)
     return make("low", 64, *ordered(first, second)), make("high", 64, *ordered(first, second))
 
 
@@ -215,37 +200,30 @@ def shift_right(word, count):
         kept = xor(word.parts[0] >> count << count, *(part for part in word.parts[1] if not below(part, count)))
         if kept != word:
             return shift_right(kept, count)
-    if word.kind == "linear" and below(word, 64):
-        constant, factors = parts(word)
-        if not any(factor % (1 << count) for factor in factors.values()):
-            return linear(constant >> count, {text: factor >> count for text, factor in factors.items()})
+    if word.kind == "linear" and below(word, 64) and not any(factor % (1 << count) for _, factor in word.parts[1]):
+        return linear(word.parts[0] >> count, {text: factor >> count for text, factor in word.parts[1]})
     return make("shifted right", word.width - count, word, count) if word.width > count else 0
 
 
 def low_bits(word, bits):
-    if known(word):
-        return word & (1 << bits) - 1
-    if below(word, bits):
-        return word
-    if word.kind == "bytes" and bits % 8 == 0:
-        return join(word.parts[:bits // 8])
-    return make("low bits", bits, word, bits)
+    if known(word) or below(word, bits):
+        return word & (1 << bits) - 1 if known(word) else word
+    is_whole = word.kind == "bytes" and bits % 8 == 0
+    return join(word.parts[:bits // 8]) if is_whole else make("low bits", bits, word, bits)
 
 
 def bit_or(first, second):
-    if known(first, second):
-        return first | second
-    parts_of = [set(word.parts[0]) if is_kind(word, "or") else {word} for word in (first, second)]
-    either = frozenset(set.union(*parts_of) - {0})
-    return make("or", max(map(width, either)), either) if len(either) > 1 else next(iter(either))
+    terms = [word.parts[0] if is_kind(word, "or") else {word} for word in (first, second)]
+    either = frozenset().union(*terms) - {0}
+    if known(first, second) or len(either) == 1:
+        return first | second if known(first, second) else next(iter(either))
+    return make("or", max(map(width, either)), either)
 
 
 def bit_and(first, second):
     first, second = ordered(first, second)
-    if known(first, second):
-        return first & second
-    if known(first) and first & first + 1 == 0:
-        return low_bits(second, first.bit_length()) if first else 0
+    if known(first) and (known(second) or first & first + 1 == 0):
+        return first & second if known(second) else low_bits(second, first.bit_length()) if first else 0
     return second if first == second else make("and", min(width(first), width(second)), first, second)
 
 
@@ -256,10 +234,8 @@ def message(place, size):
 
 
 def byte(word, index):
-    if known(word):
-        return word >> 8 * index & 255
-    if word.width <= 8 * index:
-        return 0
+    if known(word) or word.width <= 8 * index:
+        return word >> 8 * index & 255 if known(word) else 0
     if word.kind == "message":
         return message(add(word.parts[0], index), 1)
     if word.kind == "bytes":
@@ -267,23 +243,19 @@ def byte(word, index):
     return word if index == 0 and word.width <= 8 else make("byte", 8, word, index)
 
 
-def join(these):
-    """Returns the word of these bytes."""
-    first = these[0]
-    if known(*these):
-        return int.from_bytes(bytes(these), "little")
-    if len(these) == 1:
-        return first
-    if is_kind(first, "message"):
-        whole = message(first.parts[0], len(these))
-        if all(one == byte(whole, index) for index, one in enumerate(these)):
-            return whole
-    if is_kind(first, "byte"):
-        word, start = first.parts
-        if all(start + index < 8 and one == byte(word, start + index) for index, one in enumerate(these)):
-            return low_bits(shift_right(word, 8 * start), 8 * len(these))
-    return make("bytes", 8 * len(these), *these)
-
-
 def split(word, size=8):
     return [byte(word, index) for index in range(size)]
+
+
+def join(these):
+    """Returns the word of these bytes."""
+    these, size = list(these), len(these)
+    if known(*these) or size == 1:
+        return int.from_bytes(bytes(these), "little") if known(*these) else these[0]
+    if is_kind(these[0], "message") and these == split(message(these[0].parts[0], size), size):
+        return message(these[0].parts[0], size)
+    if is_kind(these[0], "byte"):
+        word, start = these[0].parts
+        if these == split(word)[start:start + size]:
+            return low_bits(shift_right(word, 8 * start), 8 * size)
+    return make("bytes", 8 * size, *these)

@@ -1,18 +1,35 @@
-"""Runs x86-64 instructions over terms. RULES has every instruction that is known; all others are refused."""
+"""Runs x86-64 instructions of a file over terms. RULES has every instruction that is known; all others are refused."""
+
+import re
 
 import capstone
 from capstone.x86 import X86_OP_IMM, X86_OP_REG
 
+from cases import shell
 from memory import Memory
-from terms import (MASK, Refusal, add, apart, bit_and, bit_or, decided, join, known, low_bits, make, multiply, name, number, parts,
+from terms import (MASK, Refusal, add, bit_and, bit_or, equal, join, known, less, low_bits, make, multiply, name, parts,
                    shift_left, shift_right, split, subtract, xor)
 
 NAMES = ["rax eax ax al", "rcx ecx cx cl", "rdx edx dx dl", "rbx ebx bx bl", "rsp esp sp spl", "rbp ebp bp bpl",
          "rsi esi si sil", "rdi edi di dil"] + [f"r{index} r{index}d r{index}w r{index}b" for index in range(8, 16)]
 REGISTERS = {text: (index, bits) for index, row in enumerate(NAMES) for text, bits in zip(row.split(), (64, 32, 16, 8))}
 RAX, RCX, RDX, RSP, RSI, RDI = 0, 1, 2, 4, 6, 7
-ARGUMENTS = RDI, RSI, RDX, RCX
 SAVED = 3, 5, 12, 13, 14, 15
+
+
+class Elf:
+    """The segments and the symbols of a linked file, as readelf prints them."""
+    def __init__(self, path):
+        text, data = shell(f"readelf -lsW {path}")[1], path.read_bytes()
+        self.symbols = {label: int(at, 16) for at, label in re.findall(r": (\w+) +\w+ +\w+ +\w+ +\w+ +\d+ (\w+)$", text, re.M)}
+        loads = re.findall(r"LOAD +0x(\w+) 0x(\w+) 0x\w+ 0x(\w+) 0x\w+ (...)", text)
+        self.segments = [(int(address, 16), int(at, 16), data[int(at, 16):int(at, 16) + int(size, 16)], flags)
+                         for at, address, size, flags in loads]
+
+    def read(self, address, size, flag="R"):
+        """Returns bytes at an address, of code (flag E) or of constants; none if they are elsewhere or can be written."""
+        return next((data[address - start:address - start + size] for start, _, data, flags in self.segments
+                     if start <= address < start + len(data) and "W" not in flags and flag in flags), b"")
 
 
 # Operands. Each has `bits`, and reads and writes a word, or in 128 bits a list of bytes.
@@ -57,7 +74,7 @@ class Place:
         self.machine.store_bytes(self.address(), value if self.bits == 128 else split(value, self.bits // 8))
 
 
-# Flags. A comparison keeps its operation, operands, result and bits; a condition asks for their bounds.
+# Flags. A comparison keeps its operation, operands, result and bits, and a condition asks for their bounds.
 OPPOSITES = {"ne": "e", "ae": "b", "a": "be", "ge": "l", "g": "le", "ns": "s"}
 
 
@@ -70,28 +87,23 @@ def holds(machine, condition):
     if machine.flags is None:
         raise Refusal(f"the condition {condition} of an instruction that sets no known flags")
     operation, first, second, result, bits = machine.flags
-    if operation == "subtract" and condition in "eb":
-        low, high = apart(first, second)
-        if condition == "b":
-            return decided(high < 0, low >= 0, first, "<", second)
-        return decided(low == high == 0, low > 0 or high < 0, first, "=", second)
     if condition == "e":
-        low, high = number(result)
-        return decided(high == 0, low > 0, result, "=")
-    if operation == "logic" and condition == "b":
-        return False
+        return equal(first, second) if operation == "subtract" else equal(result)
+    if condition == "b" and operation != "add":
+        return operation == "subtract" and less(first, second)
     if not known(first, second, result):
         raise Refusal(f"the condition {condition} of {result}")
-    sign = result >> bits - 1 & 1
     differ = {"logic": 0, "subtract": (first ^ second) & (first ^ result), "add": ~(first ^ second) & (first ^ result)}
-    return bool({"b": result < first, "s": sign, "l": sign ^ differ[operation] >> bits - 1 & 1}[condition])
+    sign, overflow = result >> bits - 1 & 1, differ[operation] >> bits - 1 & 1
+    return bool({"b": result < first, "s": sign, "l": sign ^ overflow}[condition])
 
 
 # Instructions. A rule is called with the machine and the operands. It returns the next address if that is another.
 def calculation(operation, compute, is_kept=True):
+    """Returns the rule of an instruction that sets flags, and keeps its result or not."""
     def rule(machine, to, by):
         first, second = to.read(), by.read()
-        if compute is subtract and not is_kept and not (parts(first) and parts(second)):
+        if not is_kept and operation == "subtract" and not (parts(first) and parts(second)):
             raise Refusal(f"a comparison of contents: {first} and {second}")
         result = low_bits(compute(first, second), to.bits) if to.bits < 64 else compute(first, second)
         machine.flags = operation, first, second, result, to.bits
@@ -101,7 +113,7 @@ def calculation(operation, compute, is_kept=True):
 
 
 def change(compute):
-    """Returns the rule of an instruction that changes a word; no branch may follow from its flags."""
+    """Returns the rule of an instruction that changes a word, and after which no flag is known."""
     def rule(machine, to, *by):
         to.write(low_bits(compute(to.read(), *(operand.read() for operand in by)), to.bits))
         machine.flags = None
@@ -110,22 +122,19 @@ def change(compute):
 
 def shift(compute):
     def rule(machine, to, by):
-        count = by.read() & (63 if to.bits == 64 else 31) if known(by.read()) else 0
-        if not 0 < count < to.bits:
+        if not known(by.read()) or not 0 < by.read() < to.bits:
             raise Refusal("a shift by zero or by an unknown number of bits")
-        change(lambda word, _: compute(word, count))(machine, to, by)
+        change(compute)(machine, to, by)
     return rule
 
 
 def push(machine, operand):
-    word = operand.read()
-    machine.words[RSP] = add(machine.words[RSP], -8)
-    machine.store(machine.words[RSP], word, 8)
+    word, machine.words[RSP] = operand.read(), add(machine.words[RSP], -8)
+    machine.store_bytes(machine.words[RSP], split(word))
 
 
 def pop(machine, operand=None):
-    word = machine.load(machine.words[RSP], 8)
-    machine.words[RSP] = add(machine.words[RSP], 8)
+    word, machine.words[RSP] = machine.load(machine.words[RSP], 8), add(machine.words[RSP], 8)
     return operand.write(word) if operand else word
 
 
@@ -139,12 +148,6 @@ def product(machine, by):
     machine.flags = None
 
 
-def product_of_rdx(machine, high, low, by):
-    halves = multiply(machine.words[RDX], by.read())
-    low.write(halves[0])
-    high.write(halves[1])
-
-
 def move(machine, to, by):
     word = by.read()
     if to.bits == 128 and not isinstance(word, list):
@@ -153,62 +156,47 @@ def move(machine, to, by):
 
 
 def xor_vectors(machine, to, by):
-    words = [xor(join(to.read()[at:at + 8]), join(by.read()[at:at + 8])) for at in (0, 8)]
-    to.write(split(words[0]) + split(words[1]))
+    halves = [xor(join(to.read()[at:at + 8]), join(by.read()[at:at + 8])) for at in (0, 8)]
+    to.write(split(halves[0]) + split(halves[1]))
 
 
 def shuffle(machine, to, by, order):
-    quarters = [by.read()[4 * at:4 * at + 4] for at in range(4)]
-    to.write([one for index in range(4) for one in quarters[order.read() >> 2 * index & 3]])
+    to.write([one for index in range(4) for one in by.read()[4 * (order.read() >> 2 * index & 3):][:4]])
 
 
-RULES = {
-    "nop": lambda machine, *_: None,
-    "endbr64": lambda machine: None,
-    "mov": move, "movabs": move, "movzx": move,
-    "movdqu": move, "movups": move, "movdqa": move, "movaps": move, "movq": move,
-    "lea": lambda machine, to, of: to.write(of.address()),
-    "push": push, "pop": pop, "call": call, "ret": pop,
-    "jmp": lambda machine, target: target.read(),
-    "add": calculation("add", add), "sub": calculation("subtract", subtract),
-    "cmp": calculation("subtract", subtract, False), "test": calculation("logic", bit_and, False),
-    "xor": calculation("logic", xor), "and": calculation("logic", bit_and), "or": calculation("logic", bit_or),
-    "neg": change(lambda word: subtract(0, word)),
-    "inc": change(lambda word: add(word, 1)), "dec": change(lambda word: add(word, -1)),
-    "shl": shift(shift_left), "shr": shift(shift_right),
-    "mul": product, "mulx": product_of_rdx,
-    "pxor": xor_vectors, "xorps": xor_vectors, "pshufd": shuffle,
+RULES = dict.fromkeys("mov movabs movzx movdqu movups movdqa movaps movq".split(), move)
+RULES.update({
+    "nop": lambda machine, *_: None, "endbr64": lambda machine: None, "push": push, "pop": pop, "call": call, "ret": pop,
+    "lea": lambda machine, to, of: to.write(of.address()), "jmp": lambda machine, target: target.read(), "mul": product,
+    "add": calculation("add", add), "sub": calculation("subtract", subtract), "xor": calculation("logic", xor),
+    "and": calculation("logic", bit_and), "or": calculation("logic", bit_or), "test": calculation("logic", bit_and, False),
+    "cmp": calculation("subtract", subtract, False), "neg": change(lambda word: subtract(0, word)),
+    "inc": change(lambda word: add(word, 1)), "dec": change(lambda word: add(word, -1)), "shl": shift(shift_left),
+    "shr": shift(shift_right), "pxor": xor_vectors, "xorps": xor_vectors, "pshufd": shuffle,
     "punpcklqdq": lambda machine, to, by: to.write(to.read()[:8] + by.read()[:8]),
-}
-for _condition in ("e", "b", "be", "l", "le", "s", *OPPOSITES):
-    def _jump(machine, target, condition=_condition):
-        return target.read() if holds(machine, condition) else None
-
-    def _set(machine, to, condition=_condition):
-        to.write(int(holds(machine, condition)))
-
-    def _move(machine, to, by, condition=_condition):
-        to.write((by if holds(machine, condition) else to).read())
-
-    RULES.update({"j" + _condition: _jump, "set" + _condition: _set, "cmov" + _condition: _move})
+})
+for _one in ("e", "b", "be", "l", "le", "s", *OPPOSITES):
+    RULES.update({
+        f"j{_one}": lambda machine, target, one=_one: target.read() if holds(machine, one) else None,
+        f"set{_one}": lambda machine, to, one=_one: to.write(int(holds(machine, one))),
+        f"cmov{_one}": lambda machine, to, by, one=_one: to.write((by if holds(machine, one) else to).read())})
 
 
 class Machine(Memory):
-    top = MASK
-    reader = capstone.Cs(capstone.CS_ARCH_X86, capstone.CS_MODE_64)
+    low, top, reader = 1 << 20, MASK, capstone.Cs(capstone.CS_ARCH_X86, capstone.CS_MODE_64)
     reader.detail = True
 
     def __init__(self, file):
         self.file, self.decoded, self.count, self.used = file, {}, 0, set()
 
     def constant(self, address):
-        return next(iter(self.file.read(address, 1, False)), None)
+        return next(iter(self.file.read(address, 1)), None)
 
     def begin(self, function, arguments, length, sizes):
         """Begins a call: all registers are unknown words but for the arguments and the stack's pointer."""
         self.clear(length, sizes)
         self.resume({("word", index): make("register", 64, index) for index in range(16)}, self.file.symbols[function])
-        for index, word in zip(ARGUMENTS, arguments):
+        for index, word in zip((RDI, RSI, RDX), arguments):
             self.words[index] = word
         self.words[RSP], self.home = name("stack"), make("home", 64)
         self.entry = list(self.words)
@@ -221,14 +209,12 @@ class Machine(Memory):
         """Goes to a state, in which the flags and the vectors are unknown."""
         self.words = [state["word", index] for index in range(16)]
         self.memory = {key: one for key, one in state.items() if key[0] != "word"}
-        self.vectors = [split(make("vector", 64, index, 0)) + split(make("vector", 64, index, 1)) for index in range(16)]
+        self.vectors = [[make("vector", 8, index, at) for at in range(16)] for index in range(16)]
         self.flags, self.at = None, at
 
     def run(self, stops=(), limit=100_000):
         """Runs at least one instruction, until one of the stops, and returns whether the call has not returned."""
         for _ in range(limit):
-            if not known(self.at):
-                raise Refusal(f"a jump to {self.at}")
             if self.at not in self.decoded:
                 self.decoded[self.at] = self.decode(self.at)
             rule, operands, self.after, text = self.decoded[self.at]
@@ -239,50 +225,45 @@ class Machine(Memory):
                 raise Refusal(f"at {self.at:#x}, {text}: {refusal}") from None
             self.at = self.after if target is None else target
             if self.at == self.home:
-                return self.leave()
+                wrong = [NAMES[index].split()[0] for index in SAVED if self.words[index] != self.entry[index]]
+                if wrong or self.words[RSP] != add(name("stack"), 8):
+                    raise Refusal(f"registers are not restored: {wrong or 'rsp'}")
+                return False
+            if not known(self.at):
+                raise Refusal(f"a jump to {self.at}")
             if self.at in stops:
                 return True
         raise Refusal(f"no end after {limit} instructions")
-
-    def leave(self):
-        """Checks the registers of the caller."""
-        wrong = [NAMES[index].split()[0] for index in SAVED if self.words[index] != self.entry[index]]
-        if wrong or self.words[RSP] != add(name("stack"), 8):
-            raise Refusal(f"registers are not restored: {wrong or 'rsp'}")
-        return False
 
     def result(self):
         return self.words[RAX]
 
     def decode(self, at):
         """Returns the rule of an instruction, its operands, the next address, and its text."""
-        found = next(self.reader.disasm(self.file.read(at, 16, True), at), None)
-        if found is None:
-            raise Refusal(f"no instruction at {at:#x}")
-        text, after = f"{found.mnemonic} {found.op_str}", at + found.size
-        if found.mnemonic not in RULES:
+        found = next(self.reader.disasm(self.file.read(at, 16, "E"), at), None)
+        text = f"{found.mnemonic} {found.op_str}" if found else "bytes that are no instruction"
+        is_prefixed = found and (found.prefix[1] in (0x64, 0x65) or found.prefix[0] in (0xF0, 0xF2, 0xF3)
+                                 and found.mnemonic not in ("endbr64", "movdqu", "movq"))
+        if not found or found.mnemonic not in RULES or is_prefixed:
             raise Refusal(f"no rule for {text} at {at:#x}")
-        repeats = found.prefix[0] in (0xF0, 0xF2, 0xF3) and found.mnemonic not in ("endbr64", "movdqu", "movq")
-        if repeats or found.prefix[1] in (0x64, 0x65):
-            raise Refusal(f"a prefix of {text} at {at:#x}")
         self.used.add(found.mnemonic)
-        return RULES[found.mnemonic], [self.operand(found, one, after) for one in found.operands], after, text
+        return RULES[found.mnemonic], [self.operand(found, one, at + found.size) for one in found.operands], \
+            at + found.size, text
 
     def operand(self, instruction, operand, after):
-        bits = 8 * operand.size
         if operand.type == X86_OP_IMM:
-            return Number(operand.imm, bits)
+            return Number(operand.imm, 8 * operand.size)
         if operand.type == X86_OP_REG:
             text = instruction.reg_name(operand.reg)
-            if text[:3] == "xmm":
-                return Register(self, "vectors", int(text[3:]), 128)
-            return Register(self, "words", *REGISTERS[text])
-        terms, memory = [], operand.mem
+            place = ("vectors", int(text[3:]), 128) if text[:3] == "xmm" else ("words", *REGISTERS[text])
+            return Register(self, *place)
+        memory, terms, start = operand.mem, [], operand.mem.disp
         for register, scale in (memory.base, 1), (memory.index, memory.scale):
-            text = instruction.reg_name(register) if register else ""
-            if text and text != "rip":
-                if REGISTERS.get(text, (0, 0))[1] != 64:
-                    raise Refusal(f"an address of other registers than 64 bits: {instruction.op_str}")
+            text = instruction.reg_name(register) if register else "none"
+            if text == "rip":
+                start += after
+            elif register and REGISTERS.get(text, (0, 0))[1] != 64:
+                raise Refusal(f"an address of other registers than 64 bits: {instruction.op_str}")
+            elif register:
                 terms.append((REGISTERS[text][0], scale))
-        start = memory.disp + (after if memory.base and instruction.reg_name(memory.base) == "rip" else 0)
-        return Place(self, start, terms, bits)
+        return Place(self, start, terms, 8 * operand.size)
