@@ -10,8 +10,9 @@
 The loop and the state are guessed from runs. A wrong guess leads to a refusal, and to nothing else."""
 
 from definition import Definition
-from terms import (MASK, POOL, Known, Refusal, add, assume, byte, is_kind, known, linear, make, multiply, name, parts, signed,
-                   substitute, subtract, xor)
+from linear import (MASK, POOL, Known, Refusal, add, assume, is_kind, known, linear, make, name, parts, signed, substitute,
+                    subtract)
+from terms import byte, multiply, xor
 
 DEFAULT = (0x2D358DCCAA6C78A5, 0x8BB84B93962EACC9, 0x4B33A62ED433D4A3, 0x4D5A2DA51DE1AA47, 0xA0761D6478BD642F,
            0xE7037ED1A0B428DB, 0x90ED1765281C388C)

@@ -1,6 +1,7 @@
 """Has the hashes as docs/ALGORITHM.md defines them, over terms. A place in the message and its length may be linear."""
 
-from terms import add, bit_or, known, message, multiply, shift_left, xor
+from linear import add, known
+from terms import bit_or, message, multiply, shift_left, xor
 
 AA = 0xAAAAAAAAAAAAAAAA
 VERSIONS = {"v1": 3, "v2_0": 7, "v2_1": 7, "v2_2": 7, "v3": 7, "v3_micro": 5, "v3_nano": 3, "v3_protected": 7}

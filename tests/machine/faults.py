@@ -6,8 +6,9 @@ import random
 
 from argument import Hash, prove
 from cases import ROOM, TOP, shell
-from terms import Refusal
-from x86 import Elf, Machine
+from linear import Refusal
+from operands import Elf
+from x86 import Machine
 
 FOLDER = TOP / "tests" / "machine"
 HEADER = TOP / "packages/c/include/rapidhash_c.h"

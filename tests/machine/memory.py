@@ -1,7 +1,8 @@
 """Has the memory of a call: a message and secrets, which are only read, a stack, perhaps a stream, and the constants of
 the file. Each has an address of which nothing is known but that they do not overlap."""
 
-from terms import Refusal, add, bounds, byte, ends, join, linear, make, message, parts, split, subtract
+from linear import Refusal, add, bounds, ends, linear, make, parts, subtract
+from terms import byte, join, message, split
 
 STACK = 1 << 16  # the bytes that a function may use
 

@@ -3,7 +3,8 @@ lanes have folded all rows before the tail, and its buffer has the tail and, aft
 
 from argument import Refusal, demand, prove
 from definition import Definition
-from terms import POOL, Known, add, assume, join, make, message, name, split
+from linear import POOL, Known, add, assume, make, name
+from terms import join, message, split
 from x86 import Machine
 
 LANES = {"v3": 7, "v3_micro": 5, "v3_nano": 3}

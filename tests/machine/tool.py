@@ -8,11 +8,13 @@ import random
 
 from cases import ROOM, shell
 from definition import VERSIONS, Definition
+from linear import (MASK, POOL, Refusal, add, apart, assume, bounds, is_kind, known, linear, make, name, substitute, subtract,
+                    value_at)
 from model import hash_of
-from terms import (MASK, POOL, Refusal, add, apart, assume, bit_and, bit_or, bounds, byte, is_kind, join, known, linear,
-                   low_bits, make, message, multiply, name, shift_left, shift_right, split, substitute, subtract, value_at, xor)
+from operands import NAMES, Place
+from terms import bit_and, bit_or, byte, join, low_bits, message, multiply, shift_left, shift_right, split, xor
 from webassembly import schoolbook, summed
-from x86 import NAMES, RSP, RULES, Machine, Place, holds
+from x86 import RSP, RULES, Machine, holds
 
 # What terms are for numbers. `get` returns the number of a word.
 MEANING = {

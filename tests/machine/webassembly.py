@@ -4,9 +4,9 @@ below 2^32, or a linear word modulo 2^32 whose bounds are checked where its valu
 import re
 
 from cases import shell
+from linear import MASK, Refusal, add, apart, equal, is_kind, known, less, linear, parts, subtract
 from memory import Memory
-from terms import (MASK, Refusal, add, apart, bit_and, bit_or, equal, is_kind, known, less, linear, low_bits, multiply, parts,
-                   shift_left, shift_right, split, subtract, xor)
+from terms import bit_and, bit_or, low_bits, multiply, shift_left, shift_right, split, xor
 
 HALF = (1 << 32) - 1
 

@@ -1,77 +1,15 @@
 """Runs x86-64 instructions of a file over terms. RULES has every instruction that is known; all others are refused."""
 
-import re
-
 import capstone
 from capstone.x86 import X86_OP_IMM, X86_OP_REG
 
-from cases import shell
+from linear import MASK, Refusal, add, equal, known, less, make, name, parts, subtract
 from memory import Memory
-from terms import (MASK, Refusal, add, bit_and, bit_or, equal, join, known, less, low_bits, make, multiply, name, parts,
-                   shift_left, shift_right, split, subtract, xor)
+from operands import NAMES, REGISTERS, Number, Place, Register
+from terms import bit_and, bit_or, join, low_bits, multiply, shift_left, shift_right, split, xor
 
-NAMES = ["rax eax ax al", "rcx ecx cx cl", "rdx edx dx dl", "rbx ebx bx bl", "rsp esp sp spl", "rbp ebp bp bpl",
-         "rsi esi si sil", "rdi edi di dil"] + [f"r{index} r{index}d r{index}w r{index}b" for index in range(8, 16)]
-REGISTERS = {text: (index, bits) for index, row in enumerate(NAMES) for text, bits in zip(row.split(), (64, 32, 16, 8))}
-RAX, RCX, RDX, RSP, RSI, RDI = 0, 1, 2, 4, 6, 7
+RAX, RDX, RSP, RSI, RDI = 0, 2, 4, 6, 7
 SAVED = 3, 5, 12, 13, 14, 15
-
-
-class Elf:
-    """The segments and the symbols of a linked file, as readelf prints them."""
-    def __init__(self, path):
-        text, data = shell(f"readelf -lsW {path}")[1], path.read_bytes()
-        self.symbols = {label: int(at, 16) for at, label in re.findall(r": (\w+) +\w+ +\w+ +\w+ +\w+ +\d+ (\w+)$", text, re.M)}
-        loads = re.findall(r"LOAD +0x(\w+) 0x(\w+) 0x\w+ 0x(\w+) 0x\w+ (...)", text)
-        self.segments = [(int(address, 16), int(at, 16), data[int(at, 16):int(at, 16) + int(size, 16)], flags)
-                         for at, address, size, flags in loads]
-
-    def read(self, address, size, flag="R"):
-        """Returns bytes at an address, of code (flag E) or of constants; none if they are elsewhere or can be written."""
-        return next((data[address - start:address - start + size] for start, _, data, flags in self.segments
-                     if start <= address < start + len(data) and "W" not in flags and flag in flags), b"")
-
-
-# Operands. Each has `bits`, and reads and writes a word, or in 128 bits a list of bytes.
-class Number:
-    def __init__(self, value, bits):
-        self.value, self.bits = value & (1 << bits) - 1, bits
-
-    def read(self):
-        return self.value
-
-
-class Register:
-    def __init__(self, machine, file, index, bits):
-        self.machine, self.file, self.index, self.bits = machine, file, index, bits
-
-    def read(self):
-        word = getattr(self.machine, self.file)[self.index]
-        return word if self.bits >= 64 else low_bits(word, self.bits)
-
-    def write(self, value):
-        """Writes the register. A write of 32 bits clears the upper half; one of 8 or 16 bits keeps the other bytes."""
-        if self.bits < 32:
-            value = join(split(value, self.bits // 8) + split(self.machine.words[self.index])[self.bits // 8:])
-        getattr(self.machine, self.file)[self.index] = low_bits(value, 32) if self.bits == 32 else value
-
-
-class Place:
-    """An operand in memory: base + index * scale + displacement."""
-    def __init__(self, machine, displacement, terms, bits):
-        self.machine, self.displacement, self.terms, self.bits = machine, displacement & MASK, terms, bits
-
-    def address(self):
-        result = self.displacement
-        for index, scale in self.terms:
-            result = add(result, self.machine.words[index], scale)
-        return result
-
-    def read(self):
-        return (self.machine.load_bytes if self.bits == 128 else self.machine.load)(self.address(), self.bits // 8)
-
-    def write(self, value):
-        self.machine.store_bytes(self.address(), value if self.bits == 128 else split(value, self.bits // 8))
 
 
 # Flags. A comparison keeps its operation, operands, result and bits, and a condition asks for their bounds.
