@@ -22,7 +22,7 @@ from streams import LANES, show_streams  # noqa: E402
 
 MODE = sys.argv[1] if len(sys.argv) > 1 else "gate"
 KIT = TOP / "crates/rapidhash_c/out/librapidhash_c.a"
-SETTINGS = "gcc -O1", "gcc -O3", "gcc -Os", "gcc -O2 -march=x86-64-v3", "clang -O1", "clang -O3", "clang -Os"
+SETTINGS = "clang -O2", "gcc -O1", "gcc -O3", "gcc -Os", "gcc -O2 -march=x86-64-v3", "clang -O1", "clang -O3", "clang -Os"
 detail = print if "-v" in sys.argv else None
 
 
@@ -52,18 +52,21 @@ def check_streams(by, file):
 def check_everything():
     """Checks what only a release needs."""
     check("gcc", gcc, [version for version in VERSIONS if version != "v3"])
-    for command in ("clang -O2", *SETTINGS):
+    check_streams("gcc", gcc)
+    files = [gcc] + [faults.linked(KIT, "kit")] * KIT.exists()
+    for command in SETTINGS:
         if reason := lacks(command.split()[0]):
             skip(command, reason)
         else:
-            check(command, faults.built(command), forms=FORMS if command == "clang -O2" else FORMS[:1])
+            files.append(faults.built(command))
+            check(command, files[-1], forms=FORMS if command == "clang -O2" else FORMS[:1])
+    case("instructions of all of these", *tool.processor_agrees(files, 5))
     if reason := lacks("clang", "wasm-ld", "wasm-validate"):
         skip("WebAssembly", reason)
     else:
         shell("make -s wasm")
         module = webassembly.Module(TOP / "build/rapidhash.wasm")
         check("WebAssembly", module, forms=FORMS[:1], prefix="", machine=webassembly.Machine)
-    check_streams("gcc", gcc)
     counts = {}
     case("flipped bits of the code", *faults.in_bits(300, counts, 2), what=f"accepted or not: {counts}")
     case("faults in the tool", *faults.in_the_tool(detail))

@@ -159,7 +159,7 @@ class Machine(Memory):
             self.count += 1
             try:
                 target = rule(self, *operands)
-            except Refusal as refusal:
+            except (Refusal, AttributeError, TypeError) as refusal:  # the last two: a rule does not have such operands
                 raise Refusal(f"at {self.at:#x}, {text}: {refusal}") from None
             self.at = self.after if target is None else target
             if self.at == self.home:
@@ -193,8 +193,10 @@ class Machine(Memory):
             return Number(operand.imm, 8 * operand.size)
         if operand.type == X86_OP_REG:
             text = instruction.reg_name(operand.reg)
-            place = ("vectors", int(text[3:]), 128) if text[:3] == "xmm" else ("words", *REGISTERS[text])
-            return Register(self, *place)
+            if text[:3] != "xmm" and text not in REGISTERS:
+                raise Refusal(f"another register: {instruction.op_str}")
+            return Register(self, "vectors", int(text[3:]), 128) if text[:3] == "xmm" else \
+                Register(self, "words", *REGISTERS[text])
         memory, terms, start = operand.mem, [], operand.mem.disp
         for register, scale in (memory.base, 1), (memory.index, memory.scale):
             text = instruction.reg_name(register) if register else "none"
