@@ -3,7 +3,7 @@
 import re
 
 from cases import shell
-from linear import MASK, add
+from linear import MASK, Refusal, add
 from terms import join, low_bits, split
 
 NAMES = ["rax eax ax al", "rcx ecx cx cl", "rdx edx dx dl", "rbx ebx bx bl", "rsp esp sp spl", "rbp ebp bp bpl",
@@ -52,13 +52,16 @@ class Register:
 
 class Place:
     """An operand in memory: base + index * scale + displacement."""
-    def __init__(self, machine, displacement, terms, bits):
+    def __init__(self, machine, displacement, terms, bits, is_aligned):
         self.machine, self.displacement, self.terms, self.bits = machine, displacement & MASK, terms, bits
+        self.is_aligned = is_aligned and bits == 128
 
     def address(self):
         result = self.displacement
         for index, scale in self.terms:
             result = add(result, self.machine.words[index], scale)
+        if self.is_aligned and not self.machine.is_aligned(result):
+            raise Refusal(f"an address that may be no multiple of 16: {result}")
         return result
 
     def read(self):

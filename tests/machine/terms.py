@@ -87,7 +87,8 @@ def split(word, size=8):
 
 def join(these):
     """Returns the word of these bytes."""
-    these, size = list(these), len(these)
+    these = list(these)
+    size = len(these)
     if known(*these) or size == 1:
         return int.from_bytes(bytes(these), "little") if known(*these) else these[0]
     if is_kind(these[0], "message") and these == split(message(these[0].parts[0], size), size):

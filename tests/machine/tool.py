@@ -8,7 +8,7 @@ import random
 
 from cases import ROOM, shell
 from definition import VERSIONS, Definition
-from linear import (MASK, POOL, Refusal, add, apart, assume, bounds, is_kind, known, linear, make, name, substitute, subtract,
+from linear import (MASK, POOL, Refusal, add, apart, assume, bounds, equal, is_kind, known, less, linear, make, name, substitute, subtract,
                     value_at)
 from model import hash_of
 from operands import NAMES, Place
@@ -57,6 +57,17 @@ def evaluation(numbers, draw):
     return get
 
 
+def linear_is_right(word, numbers):
+    """Checks the bounds of a linear word, and that it is neither less than the greatest nor equal to the least of them."""
+    low, high = bounds(word)
+    if not low <= value_at(word, numbers) <= high or value_at(substitute(word, "turns", numbers["turns"]), numbers) & MASK != \
+            value_at(word, numbers) & MASK:
+        yield f"{word} has wrong bounds or parts"
+    for ask, end in ((less, high), (equal, low)) if 0 <= low < high <= MASK else ():
+        with contextlib.suppress(Refusal):
+            yield f"{word} is compared with {end}: {ask(word, end)}"
+
+
 def rules_hold(seed=1, rounds=200):
     """Compares each operation on random terms with the same on numbers. Yields what differs."""
     draw, count = random.Random(seed), 0
@@ -81,9 +92,7 @@ def rules_hold(seed=1, rounds=200):
                     yield f"{first} and {second} give {result}"
                 pool.append(result)
                 if is_kind(result, "linear"):
-                    low, high = bounds(result)
-                    if not low <= value_at(result, numbers) <= high or get(substitute(result, "turns", turns)) != get(result):
-                        yield f"{result} has wrong bounds or parts"
+                    yield from linear_is_right(result, numbers)
                 low, high = apart(result, second)
                 if not low <= get(result) - get(second) <= high:
                     yield f"{result} - {second} is not from {low} to {high}"
@@ -119,6 +128,9 @@ class Plain(Machine):
     def __init__(self, snippet, room):
         super().__init__(self)
         self.read, self.room = lambda at, size, flag: snippet[at:at + size], room
+
+    def is_aligned(self, address):
+        return address % 16 == 0
 
     def locate(self, address, size, is_write=False):
         if not self.room <= address <= self.room + SIZE - size:

@@ -66,12 +66,19 @@ def shift(compute):
     return rule
 
 
+def demand_64(operand):
+    if operand and operand.bits != 64:
+        raise Refusal(f"an operand of {operand.bits} bits")
+
+
 def push(machine, operand):
+    demand_64(operand)
     word, machine.words[RSP] = operand.read(), add(machine.words[RSP], -8)
     machine.store_bytes(machine.words[RSP], split(word))
 
 
 def pop(machine, operand=None):
+    demand_64(operand)
     word, machine.words[RSP] = machine.load(machine.words[RSP], 8), add(machine.words[RSP], 8)
     return operand.write(word) if operand else word
 
@@ -82,15 +89,22 @@ def call(machine, target):
 
 
 def product(machine, by):
+    demand_64(by)
     machine.words[RAX], machine.words[RDX] = multiply(machine.words[RAX], by.read())
     machine.flags = None
 
 
-def move(machine, to, by):
-    word = by.read()
-    if to.bits == 128 and not isinstance(word, list):
-        word = split(word) + [0] * 8
-    to.write(join(word[:8]) if to.bits == 64 and isinstance(word, list) else word)
+def product_of_rdx(machine, high, low, by):
+    demand_64(by)
+    halves = multiply(machine.words[RDX], by.read())
+    low.write(halves[0])
+    high.write(halves[1])
+
+
+def move_half(machine, to, by):
+    """Moves 64 bits to or from a vector, whose upper half becomes 0."""
+    low = by.read()[:8] if by.bits == 128 else split(by.read())
+    to.write(low + [0] * 8 if to.bits == 128 else join(low))
 
 
 def xor_vectors(machine, to, by):
@@ -102,10 +116,12 @@ def shuffle(machine, to, by, order):
     to.write([one for index in range(4) for one in by.read()[4 * (order.read() >> 2 * index & 3):][:4]])
 
 
-RULES = dict.fromkeys("mov movabs movzx movdqu movups movdqa movaps movq".split(), move)
+RULES = dict.fromkeys("mov movabs movzx movdqu movups movdqa movaps".split(), lambda machine, to, by: to.write(by.read()))
+UNALIGNED = "movdqu", "movups"  # all other instructions need an address of 128 bits that is a multiple of 16
 RULES.update({
     "nop": lambda machine, *_: None, "endbr64": lambda machine: None, "push": push, "pop": pop, "call": call, "ret": pop,
     "lea": lambda machine, to, of: to.write(of.address()), "jmp": lambda machine, target: target.read(), "mul": product,
+    "mulx": product_of_rdx, "movq": move_half,
     "add": calculation("add", add), "sub": calculation("subtract", subtract), "xor": calculation("logic", xor),
     "and": calculation("logic", bit_and), "or": calculation("logic", bit_or), "test": calculation("logic", bit_and, False),
     "cmp": calculation("subtract", subtract, False), "neg": change(lambda word: subtract(0, word)),
@@ -139,6 +155,11 @@ class Machine(Memory):
         self.words[RSP], self.home = name("stack"), make("home", 64)
         self.entry = list(self.words)
         self.memory = {("stack", index): one for index, one in enumerate(split(self.home))}
+
+    def is_aligned(self, address):
+        """Returns whether an address is a multiple of 16. The stack's is 8 more than one when a function begins."""
+        region, place = self.locate(address, 16)
+        return region == "stack" and place % 16 == 8 or region == "file" and place % 16 == 0
 
     def state(self):
         return {**{("word", index): word for index, word in enumerate(self.words)}, **self.memory}
@@ -180,7 +201,7 @@ class Machine(Memory):
         """Returns the rule of an instruction, its operands, the next address, and its text."""
         found = next(self.reader.disasm(self.file.read(at, 16, "E"), at), None)
         text = f"{found.mnemonic} {found.op_str}" if found else "bytes that are no instruction"
-        is_prefixed = found and (found.prefix[1] in (0x64, 0x65) or found.prefix[0] in (0xF0, 0xF2, 0xF3)
+        is_prefixed = found and (found.prefix[1] in (0x64, 0x65) or found.prefix[3] or found.prefix[0] in (0xF0, 0xF2, 0xF3)
                                  and found.mnemonic not in ("endbr64", "movdqu", "movq"))
         if not found or found.mnemonic not in RULES or is_prefixed:
             raise Refusal(f"no rule for {text} at {at:#x}")
@@ -206,4 +227,4 @@ class Machine(Memory):
                 raise Refusal(f"an address of other registers than 64 bits: {instruction.op_str}")
             elif register:
                 terms.append((REGISTERS[text][0], scale))
-        return Place(self, start, terms, 8 * operand.size)
+        return Place(self, start, terms, 8 * operand.size, instruction.mnemonic not in UNALIGNED)
