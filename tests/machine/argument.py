@@ -1,8 +1,8 @@
 """Has the argument that a function returns the definition's hash for every length, in four steps.
 
 1. `check_short_lengths`: the lengths that do not reach the loop, one by one.
-2. `reach_the_head`: the lengths first + turn * turns, where `turns` is unknown: to the loop's head, and one turn more. From
-   the two states follows a guess of the state after `done` turns, with a fresh word for all that is not linear.
+2. `reach_the_head`: the lengths first + turn * turns, where `turns` is unknown: to the loop's head, and one turn more.
+   From the two states follows a guess of the state after `done` turns, with a fresh word for all that is not linear.
 3. `turn_once`: from that state with done < turns, a turn gives the same state for done + 1, and some fresh words have
    become the definition's folds of themselves: these are the lanes, which were the definition's lanes at the start.
 4. `return_at_the_end`: from that state with done = turns, the function returns the definition's end from those lanes.
@@ -10,8 +10,8 @@
 The loop and the state are guessed from runs. A wrong guess leads to a refusal, and to nothing else."""
 
 from definition import Definition
-from linear import (MASK, POOL, Known, Refusal, add, assume, is_kind, known, linear, make, name, parts, signed, substitute,
-                    subtract)
+from linear import (MASK, POOL, Known, Refusal, add, assume, is_kind, known, linear, make, name, parts, signed,
+                    substitute, subtract)
 from terms import byte, multiply, xor
 
 DEFAULT = (0x2D358DCCAA6C78A5, 0x8BB84B93962EACC9, 0x4B33A62ED433D4A3, 0x4D5A2DA51DE1AA47, 0xA0761D6478BD642F,
@@ -60,7 +60,8 @@ def demand(found, wanted, what):
     is_same = found == wanted
     while not is_same and is_kind(found, "xor", "low", "high") and is_kind(wanted, found.kind):
         ours, theirs = (set(term.parts[1] if term.kind == "xor" else term.parts) for term in (found, wanted))
-        only = [max(part, key=lambda word: getattr(word, "kind", ""), default=None) for part in (ours - theirs, theirs - ours)]
+        only = [max(part, key=lambda word: getattr(word, "kind", ""), default=None)
+                for part in (ours - theirs, theirs - ours)]
         if None in only:
             break
         found, wanted = only

@@ -10,7 +10,8 @@ LIMITS = {"v1": 48, "v2_0": 56, "v2_1": 64, "v2_2": 64}
 
 class Definition:
     def __init__(self, version, secrets, read=message):
-        self.version, self.family, self.lanes, self.secrets, self.read = version, version[:2], VERSIONS[version], secrets, read
+        self.version, self.family, self.secrets, self.read = version, version[:2], secrets, read
+        self.lanes = VERSIONS[version]
         self.row, self.limit = 16 * self.lanes, LIMITS.get(version, 16 * self.lanes)
 
     def product(self, first, second):
@@ -19,10 +20,11 @@ class Definition:
 
     def fold(self, lane, secret, place):
         """Returns a lane after the pair of words at a place."""
-        return xor(*self.product(xor(self.read(place, 8), self.secrets[secret]), xor(self.read(add(place, 8), 8), lane)))
+        first, second = self.read(place, 8), self.read(add(place, 8), 8)
+        return xor(*self.product(xor(first, self.secrets[secret]), xor(second, lane)))
 
     def fold_rows(self, lanes, place, rest):
-        """Folds all rows of the last `rest` bytes. Returns the lanes, the place after them, and what then is the rest."""
+        """Folds all rows of the last `rest` bytes. Returns the lanes, the place after the rows, and the new rest."""
         for count in (self.lanes, 3)[:1 + (self.family == "v2")]:
             while rest >= 16 * count + (self.family == "v3"):
                 folded = [self.fold(lanes[index], index, add(place, 16 * index)) for index in range(count)]

@@ -1,5 +1,5 @@
-"""Plants the faults of faults.tsv in the header and in the tool, and flips bits of the code of V3. In the table `\\n` is the
-end of a line, and `&` at the beginning the old text."""
+"""Plants the faults of faults.tsv in the header and in the tool, and flips bits of the code of V3. In the table a
+backslash and n are the end of a line, and `&` at the beginning is the old text."""
 
 import csv
 import random
@@ -68,7 +68,7 @@ def in_the_header(tell=None):
 
 
 def in_bits(count, counts, seed=1):
-    """Flips random bits of V3's code, one at a time. Yields those that are accepted though the code hashes otherwise."""
+    """Flips random bits of V3's code, one at a time. Yields those that are accepted although the hash is another."""
     draw, path, copy = random.Random(seed), ROOM / "flip.so", ROOM / "flipped.so"
     status, said = shell(f"gcc -O2 -fPIC -shared -Wl,-Bsymbolic -I{HEADER.parent} packages/c/rapidhash_c.c -o {path}")
     assert status == 0, said

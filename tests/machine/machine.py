@@ -1,7 +1,7 @@
 #!/usr/bin/python3
-"""Shows that compiled hashes are the definition for every length (docs/MACHINE.md), and tests the tool that shows it. The
-gate checks V3 by gcc and by the kit. The argument `all` adds all versions, compilers, streams, the WebAssembly module, and
-more faults; `tool` ends at the first failure of the tool's own tests; -v shows why each fault is refused."""
+"""Shows that compiled hashes are the definition for every length (docs/MACHINE.md), and tests the tool that shows it.
+The gate checks V3 by gcc and by the kit. The argument `all` adds all versions, compilers, streams, the WebAssembly
+module, and more faults; `tool` ends at the first failure of the tool's own tests; -v shows why a fault is refused."""
 
 import os
 import sys
@@ -22,7 +22,8 @@ from streams import LANES, show_streams  # noqa: E402
 
 MODE = sys.argv[1] if len(sys.argv) > 1 else "gate"
 KIT = TOP / "crates/rapidhash_c/out/librapidhash_c.a"
-SETTINGS = "clang -O2", "gcc -O1", "gcc -O3", "gcc -Os", "gcc -O2 -march=x86-64-v3", "clang -O1", "clang -O3", "clang -Os"
+SETTINGS = ("clang -O2", "gcc -O1", "gcc -O3", "gcc -Os", "gcc -O2 -march=x86-64-v3", "clang -O1", "clang -O3",
+            "clang -Os")
 detail = print if "-v" in sys.argv else None
 
 

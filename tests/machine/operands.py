@@ -15,13 +15,14 @@ class Elf:
     """The segments and the symbols of a linked file, as readelf prints them."""
     def __init__(self, path):
         text, data = shell(f"readelf -lsW {path}")[1], path.read_bytes()
-        self.symbols = {label: int(at, 16) for at, label in re.findall(r": (\w+) +\w+ +\w+ +\w+ +\w+ +\d+ (\w+)$", text, re.M)}
+        symbols = re.findall(r": (\w+) +\w+ +\w+ +\w+ +\w+ +\d+ (\w+)$", text, re.M)
+        self.symbols = {label: int(at, 16) for at, label in symbols}
         loads = re.findall(r"LOAD +0x(\w+) 0x(\w+) 0x\w+ 0x(\w+) 0x\w+ (...)", text)
         self.segments = [(int(address, 16), int(at, 16), data[int(at, 16):int(at, 16) + int(size, 16)], flags)
                          for at, address, size, flags in loads]
 
     def read(self, address, size, flag="R"):
-        """Returns bytes at an address, of code (flag E) or of constants; none if they are elsewhere or can be written."""
+        """Returns bytes at an address, of code (flag E) or of constants; none that can be written."""
         return next((data[address - start:address - start + size] for start, _, data, flags in self.segments
                      if start <= address < start + len(data) and "W" not in flags and flag in flags), b"")
 

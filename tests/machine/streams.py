@@ -36,8 +36,8 @@ def compare(machine, *stream):
 
 
 class Write:
-    """A write of a piece to a stream that represents a message, of which it holds the last bytes. They are at the places
-    before 0, where the piece begins. The lanes and the flag are unknown."""
+    """A write of a piece to a stream that represents a message, of which it holds the last bytes. They are at the
+    places before 0, where the piece begins. The lanes and the flag are unknown."""
     function = "rapidhash_stream_write"
 
     def __init__(self, machine, version, held):
@@ -74,8 +74,8 @@ def check_finish(machine, version, held, has_rows):
     fill(machine, definition.lanes, lanes, int(has_rows), place, held)
     before = {key: one for key, one in machine.memory.items() if key[0] == "stream"}
     machine.run()
-    wanted = definition.finish(length, lanes[:definition.lanes], place, held) if has_rows else definition.hash(held, seed)
-    demand(machine.result(), wanted, "the hash")
+    folded = definition.finish(length, lanes[:definition.lanes], place, held) if has_rows else None
+    demand(machine.result(), folded if has_rows else definition.hash(held, seed), "the hash")
     if not before.items() <= machine.memory.items():
         raise Refusal("changes the stream")
 
@@ -89,7 +89,7 @@ def check_reset(machine, version):
 
 
 def show_streams(file, version):
-    """Checks reset, finish and write, for every number of bytes that a stream holds before. Yields why it is refused."""
+    """Checks reset, finish and write, for every number of bytes that a stream holds. Yields why it is refused."""
     machine, row = Machine(file), 16 * LANES[version]
     Known.low, Known.top, what = machine.low, machine.top, f"rapidhash_stream_reset of {version}"
     try:

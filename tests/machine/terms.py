@@ -1,5 +1,6 @@
-"""Has the operations on words. Each returns the word that the processor would compute, for all values of the unknown words.
-Contents, seeds and secrets are terms of which nothing is known. A product is two of them, its low and its high half."""
+"""Has the operations on words. Each returns the word that the processor would compute, for all values of the unknown
+words. Contents, seeds and secrets are terms of which nothing is known. A product is two terms, its low and its high
+half."""
 
 from linear import MASK, Refusal, add, below, is_kind, known, linear, make, ordered, parts, width
 

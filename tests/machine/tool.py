@@ -8,8 +8,8 @@ import random
 
 from cases import ROOM, shell
 from definition import VERSIONS, Definition
-from linear import (MASK, POOL, Refusal, add, apart, assume, bounds, equal, is_kind, known, less, linear, make, name, substitute, subtract,
-                    value_at)
+from linear import (MASK, POOL, Refusal, add, apart, assume, bounds, equal, is_kind, known, less, linear, make, name,
+                    substitute, subtract, value_at)
 from model import hash_of
 from operands import NAMES, Place
 from terms import bit_and, bit_or, byte, join, low_bits, message, multiply, shift_left, shift_right, split, xor
@@ -32,7 +32,8 @@ MEANING = {
     "message": lambda get, place, size: int.from_bytes(random.Random(1).randbytes(4096)[place:place + size], "little"),
 }
 OF_TWO = [
-    (xor, operator.xor), (add, operator.add), (subtract, operator.sub), (bit_or, operator.or_), (bit_and, operator.and_),
+    (xor, operator.xor), (add, operator.add), (subtract, operator.sub), (bit_or, operator.or_),
+    (bit_and, operator.and_),
     (lambda a, b: multiply(a, b)[0], operator.mul), (lambda a, b: multiply(a, b)[1], lambda a, b: a * b >> 64),
     (lambda a, b: join(split(a)[:3] + split(b)[3:]), lambda a, b: a & 0xFFFFFF | b >> 24 << 24), (summed, operator.add),
     (lambda a, b: summed(schoolbook(a, b), 0), lambda a, b: a * b >> 64),
@@ -58,10 +59,9 @@ def evaluation(numbers, draw):
 
 
 def linear_is_right(word, numbers):
-    """Checks the bounds of a linear word, and that it is neither less than the greatest nor equal to the least of them."""
-    low, high = bounds(word)
-    if not low <= value_at(word, numbers) <= high or value_at(substitute(word, "turns", numbers["turns"]), numbers) & MASK != \
-            value_at(word, numbers) & MASK:
+    """Checks the bounds of a linear word, and that it is neither surely less nor surely equal at its bounds."""
+    (low, high), value = bounds(word), value_at(word, numbers)
+    if not low <= value <= high or (value_at(substitute(word, "turns", numbers["turns"]), numbers) - value) & MASK:
         yield f"{word} has wrong bounds or parts"
     for ask, end in ((less, high), (equal, low)) if 0 <= low < high <= MASK else ():
         with contextlib.suppress(Refusal):
@@ -100,8 +100,8 @@ def rules_hold(seed=1, rounds=200):
         yield f"only {count} operations"
 
 
-# The processor. A function for each instruction loads the registers, compares r8 and r9, runs the instruction, and stores
-# the registers and the flags. `room` is the memory that the instruction uses.
+# The processor. A function for each instruction loads the registers, compares r8 and r9, runs the instruction, and
+# stores the registers and the flags. `room` is the memory that the instruction uses.
 COMPARE, SIZE = bytes.fromhex("4d39c8"), 256
 COMMON = """.intel_syntax noprefix
 begin: push rbx; push rbp; push r12; push r13; push r14; push r15; mov [rip + kept], rsp
@@ -120,7 +120,8 @@ MOVES += [(f"xmm{index}", f"[rip + vectors + {16 * index}]", "movdqu") for index
 BUFFERS = {"words": (16, ctypes.c_uint64), "vectors": (256, ctypes.c_ubyte), "room": (SIZE, ctypes.c_ubyte),
            "flags": (1, ctypes.c_uint64), "kept": (1, ctypes.c_uint64), "target": (1, ctypes.c_uint64)}
 FLAGS = {"b": lambda f: f & 1, "e": lambda f: f >> 6 & 1, "s": lambda f: f >> 7 & 1,
-         "l": lambda f: (f >> 7 ^ f >> 11) & 1, "be": lambda f: (f | f >> 6) & 1, "le": lambda f: (f >> 6 | f >> 7 ^ f >> 11) & 1}
+         "l": lambda f: (f >> 7 ^ f >> 11) & 1, "be": lambda f: (f | f >> 6) & 1,
+         "le": lambda f: (f >> 6 | f >> 7 ^ f >> 11) & 1}
 
 
 class Plain(Machine):
@@ -146,7 +147,8 @@ def assemble(files):
              and one.mnemonic not in ("call", "ret") and "rip" not in one.op_str}
     loads, stores = ("\n".join(f"{move} {pair[order]}, {pair[1 - order]}" for *pair, move in MOVES) for order in (0, 1))
     text = COMMON.format(loads=loads, stores=stores) + "".join(
-        FUNCTION.format(index=index, code=",".join(map(hex, COMPARE + code))) for index, code in enumerate(sorted(found)))
+        FUNCTION.format(index=index, code=",".join(map(hex, COMPARE + code)))
+        for index, code in enumerate(sorted(found)))
     text += ".bss\n" + "".join(f".globl {symbol}\n.balign 16\n{symbol}: .skip {count * ctypes.sizeof(kind)}\n"
                                for symbol, (count, kind) in BUFFERS.items())
     (ROOM / "tests.s").write_text(text)
@@ -170,7 +172,8 @@ def aim(machine, operands, draw):
 
 def compare(library, index, code, draw):
     """Runs an instruction of random words on the processor and by the table. Returns what differs."""
-    words, vectors, room, flags = ((kind * count).in_dll(library, symbol) for symbol, (count, kind) in [*BUFFERS.items()][:4])
+    words, vectors, room, flags = ((kind * count).in_dll(library, symbol)
+                                   for symbol, (count, kind) in [*BUFFERS.items()][:4])
     machine = Plain(COMPARE + code, ctypes.addressof(room))
     machine.words = [draw.choice([0, 1, MASK, 1 << 63, 1 << 31, 255, *map(draw.getrandbits, (64, 64, 64, 32, 8))])
                      for _ in range(16)]
@@ -201,9 +204,10 @@ def definition_agrees(lengths=(*range(450), 1000)):
     """Compares the definition on numbers with tests/model.py. Yields what differs."""
     draw = random.Random(1)
     for version in VERSIONS:
-        other = "V3" if version in ("v3", "v3_protected") else version.upper().replace("_", ".") if version < "v3" else version[3:]
+        protected, other = version == "v3_protected", version[3:] if version[3:] in ("micro", "nano") else \
+            version.upper().replace("_PROTECTED", "").replace("_", ".")
         for length in lengths:
-            content, secrets, seed = draw.randbytes(length), [draw.getrandbits(64) for _ in range(7)], draw.getrandbits(64)
+            content, (seed, *secrets) = draw.randbytes(length), [draw.getrandbits(64) for _ in range(8)]
             definition = Definition(version, secrets, lambda at, size: int.from_bytes(content[at:at + size], "little"))
-            if definition.hash(length, seed) != hash_of(other, content, seed, secrets, protected=version == "v3_protected"):
+            if definition.hash(length, seed) != hash_of(other, content, seed, secrets, protected=protected):
                 yield f"{version} of {length} bytes"

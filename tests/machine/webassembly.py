@@ -18,10 +18,12 @@ class Module:
         if status or "(import" in text:
             raise Refusal(f"{path} is no module without imports: {text[:200]}")
         self.symbols = {label: int(index) for label, index in re.findall(r'\(export "(\w+)" \(func (\d+)\)\)', text)}
-        self.functions = [self.function(body) for body in re.split(r"\n  \((?:table|memory)", text)[0].split("\n  (func ")[1:]]
+        bodies = re.split(r"\n  \((?:table|memory)", text)[0].split("\n  (func ")[1:]
+        self.functions = [self.function(body) for body in bodies]
 
     def function(self, text):
-        counts = [len(" ".join(re.findall(rf"\({kind} ([^)]*)\)", text)).split()) for kind in ("param", "result", "local")]
+        counts = [len(" ".join(re.findall(rf"\({kind} ([^)]*)\)", text)).split())
+                  for kind in ("param", "result", "local")]
         code, blocks = [], []
         for line in re.sub(r"\(local .*|\(;.*?;\)|;;.*|[()]|align=\d|offset=", "", text).splitlines()[1:]:
             if words := line.split():
@@ -66,8 +68,9 @@ def short(word):
     """Returns a word modulo 2^32."""
     if not is_kind(word, "linear"):
         return low_bits(word, 32)
-    constant, *factors = ((number + (1 << 31) & HALF) - (1 << 31) for number in (word.parts[0], *dict(word.parts[1]).values()))
-    return linear(constant, dict(zip(dict(word.parts[1]), factors)))
+    names, numbers = zip(*word.parts[1])
+    constant, *factors = ((number + (1 << 31) & HALF) - (1 << 31) for number in (word.parts[0], *numbers))
+    return linear(constant, dict(zip(names, factors)))
 
 
 def whole(word):
@@ -89,8 +92,10 @@ OF_TWO = {
     "i64.add": summed, "i64.sub": subtract, "i64.mul": low, "i64.xor": xor, "i64.and": bit_and, "i64.or": bit_or,
     "i64.shl": shift(shift_left, 64), "i64.shr_u": shift(shift_right, 64), "i32.shr_u": shift(shift_right, 32),
     "i32.add": lambda one, two: short(add(one, two)), "i32.sub": lambda one, two: short(subtract(one, two)),
-    "i32.lt_u": lambda one, two: less(whole(one), whole(two)), "i32.gt_u": lambda one, two: less(whole(two), whole(one)),
-    "i32.ge_u": lambda one, two: 1 - less(whole(one), whole(two)), "i32.eq": lambda one, two: equal(whole(one), whole(two)),
+    "i32.lt_u": lambda one, two: less(whole(one), whole(two)),
+    "i32.gt_u": lambda one, two: less(whole(two), whole(one)),
+    "i32.ge_u": lambda one, two: 1 - less(whole(one), whole(two)),
+    "i32.eq": lambda one, two: equal(whole(one), whole(two)),
 }
 OF_ONE = {"i32.eqz": lambda one: equal(whole(one)), "i32.wrap_i64": short, "i64.extend_i32_u": whole}
 SIZES = {"load": 8, "load32_u": 4, "load16_u": 2, "load8_u": 1, "store": 8, "store32": 4, "store16": 2, "store8": 1}
@@ -142,7 +147,8 @@ class Machine(Memory):
         """Goes to a state at a place where the machine has stopped before."""
         self.frames, self.memory = [], {key: one for key, one in state.items() if key[0] != "word"}
         for depth, (index, place, blocks) in enumerate(self.shapes[at]):
-            own, stack = ([word for key, word in state.items() if key[:3] == ("word", depth, kind)] for kind in ("locals", "stack"))
+            own, stack = ([word for key, word in state.items() if key[:3] == ("word", depth, kind)]
+                          for kind in ("locals", "stack"))
             self.frames.append(Frame(index, self.file.functions[index], own, place, stack, blocks))
 
     def run(self, stops=(), limit=1_000_000):

@@ -116,15 +116,18 @@ def shuffle(machine, to, by, order):
     to.write([one for index in range(4) for one in by.read()[4 * (order.read() >> 2 * index & 3):][:4]])
 
 
-RULES = dict.fromkeys("mov movabs movzx movdqu movups movdqa movaps".split(), lambda machine, to, by: to.write(by.read()))
+MOVES = "mov", "movabs", "movzx", "movdqu", "movups", "movdqa", "movaps"
 UNALIGNED = "movdqu", "movups"  # all other instructions need an address of 128 bits that is a multiple of 16
+RULES = dict.fromkeys(MOVES, lambda machine, to, by: to.write(by.read()))
 RULES.update({
-    "nop": lambda machine, *_: None, "endbr64": lambda machine: None, "push": push, "pop": pop, "call": call, "ret": pop,
+    "nop": lambda machine, *_: None, "endbr64": lambda machine: None,
+    "push": push, "pop": pop, "call": call, "ret": pop,
     "lea": lambda machine, to, of: to.write(of.address()), "jmp": lambda machine, target: target.read(), "mul": product,
     "mulx": product_of_rdx, "movq": move_half,
     "add": calculation("add", add), "sub": calculation("subtract", subtract), "xor": calculation("logic", xor),
-    "and": calculation("logic", bit_and), "or": calculation("logic", bit_or), "test": calculation("logic", bit_and, False),
-    "cmp": calculation("subtract", subtract, False), "neg": change(lambda word: subtract(0, word)),
+    "and": calculation("logic", bit_and), "or": calculation("logic", bit_or),
+    "test": calculation("logic", bit_and, False), "cmp": calculation("subtract", subtract, False),
+    "neg": change(lambda word: subtract(0, word)),
     "inc": change(lambda word: add(word, 1)), "dec": change(lambda word: add(word, -1)), "shl": shift(shift_left),
     "shr": shift(shift_right), "pxor": xor_vectors, "xorps": xor_vectors, "pshufd": shuffle,
     "punpcklqdq": lambda machine, to, by: to.write(to.read()[:8] + by.read()[:8]),
@@ -201,7 +204,8 @@ class Machine(Memory):
         """Returns the rule of an instruction, its operands, the next address, and its text."""
         found = next(self.reader.disasm(self.file.read(at, 16, "E"), at), None)
         text = f"{found.mnemonic} {found.op_str}" if found else "bytes that are no instruction"
-        is_prefixed = found and (found.prefix[1] in (0x64, 0x65) or found.prefix[3] or found.prefix[0] in (0xF0, 0xF2, 0xF3)
+        is_prefixed = found and (found.prefix[1] in (0x64, 0x65) or found.prefix[3]
+                                 or found.prefix[0] in (0xF0, 0xF2, 0xF3)
                                  and found.mnemonic not in ("endbr64", "movdqu", "movq"))
         if not found or found.mnemonic not in RULES or is_prefixed:
             raise Refusal(f"no rule for {text} at {at:#x}")
