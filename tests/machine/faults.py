@@ -30,9 +30,10 @@ def built(command, folder=HEADER.parent, target="library"):
 
 
 def linked(objects, target):
-    """Links objects to a file without relocations, in which undefined symbols are 0."""
-    status, said = shell(f"ld -e 0 --unresolved-symbols=ignore-all -o $ROOM/{target} --whole-archive {objects}")
-    assert status == 0, said
+    """Links objects to a file without relocations. The only symbol that may be undefined is memmove, which is at 0."""
+    status, said = shell(f"ld -e 0 --unresolved-symbols=ignore-all -o $ROOM/{target} --whole-archive {objects} &&"
+                         f" nm --undefined-only --format=just-symbols {objects} | grep -vE '^(memmove|.*:)?$' || true")
+    assert status == 0 and not said, said
     return Elf(ROOM / target)
 
 

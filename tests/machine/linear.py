@@ -48,6 +48,7 @@ def ordered(*words):
 # Linear words, and what is known of their names.
 class Known:
     low, top = 1 << 20, MASK  # addresses: the message ends at `top` or before
+    message = stream = None  # narrower bounds of their addresses
     fixed = {}  # the bounds of addresses of memory that is not the message
     corners = []  # values of the other names
 
@@ -56,11 +57,12 @@ def assume(length, least=0, most=0, is_turning=False):
     """Sets what is known: `turns` is from `least` to `most`, and `done` from 0 to turns - least if the loop is turning.
     The conditions are linear, so a linear word is least and greatest at corners of the room that they leave."""
     Known.fixed = dict.fromkeys(("stack", "secrets", "stream"), (Known.low, Known.top - (1 << 16)))
-    Known.corners = []
+    Known.fixed["stream"], Known.corners = Known.stream or Known.fixed["stream"], []
+    first, end = Known.message or (1 << 12, Known.top)
     for turns, done in [(least, 0), (most, 0)] + [(most, most - least)] * is_turning:
         corner = {"turns": turns, "done": done, "message": 0}
-        last = Known.top - value_at(length, corner)
-        Known.corners += [dict(corner, message=place) for place in (1 << 12, last)]
+        last = end - value_at(length, corner)
+        Known.corners += [dict(corner, message=place) for place in (first, last)]
 
 
 def signed(number):
@@ -106,15 +108,22 @@ def bounds(word):
 
 
 def apart(first, second):
-    """Returns the bounds of first - second, of two words that decide a branch. Each must be linear and never leave
-    0 .. 2^64 - 1."""
-    for word in first, second:
-        if not parts(word):
-            raise Refusal(f"a branch depends on contents: {word}")
-        if not known(word) and not 0 <= bounds(word)[0] <= bounds(word)[1] <= MASK:
-            raise Refusal(f"a number that may leave 64 bits: {word}")
-    (one, factors), (two, others) = ((word, {}) if known(word) else parts(word) for word in (first, second))
+    """Returns the bounds of first - second, of two words that decide a branch, as an integer that is not cut."""
+    (one, factors), (two, others) = exact(first), exact(second)
     return ends(one - two, {text: factors.get(text, 0) - others.get(text, 0) for text in {**factors, **others}})
+
+
+def exact(word):
+    """Returns the constant and the factors of a word as an integer from 0 to 2^64 - 1. A linear word that is always
+    negative is 2^64 more; one that is so for some values alone is refused."""
+    if known(word):
+        return word, {}
+    if word.kind != "linear":
+        raise Refusal(f"a branch depends on contents: {word}")
+    (constant, factors), (low, high) = parts(word), bounds(word)
+    if low < 0 <= high or low < -MASK - 1 or high > MASK:
+        raise Refusal(f"a number that may leave 64 bits: {word}")
+    return constant + (MASK + 1) * (high < 0), factors
 
 
 def less(first, second):

@@ -43,10 +43,10 @@ def check(by, file, versions=VERSIONS, forms=FORMS, **options):
         case(f"{version}{form} by {by}", *[reason] * (how is None), what=f"{how}: {time.process_time() - began:.1f} s")
 
 
-def check_streams(by, file):
+def check_streams(by, file, is_apart=False):
     for version in LANES:
         began = time.process_time()
-        findings = list(show_streams(file, version))
+        findings = list(show_streams(file, version, is_apart))
         case(f"streams of {version} by {by}", *findings, what=f"{time.process_time() - began:.1f} s")
 
 

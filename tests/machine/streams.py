@@ -3,7 +3,7 @@ lanes have folded all rows before the tail, and its buffer has the tail and, aft
 
 from argument import Refusal, demand, prove
 from definition import Definition
-from linear import POOL, Known, add, assume, make, name
+from linear import MASK, POOL, Known, add, assume, make, name
 from terms import join, message, split
 from x86 import Machine
 
@@ -88,9 +88,17 @@ def check_reset(machine, version):
     compare(machine, LANES[version], symbols("secret")[:1] * 7, 0, -112, 0)
 
 
-def show_streams(file, version):
-    """Checks reset, finish and write, for every number of bytes that a stream holds. Yields why it is refused."""
-    machine, row = Machine(file), 16 * LANES[version]
+def show_streams(file, version, is_apart=False):
+    """Checks reset, finish and write, for every number of bytes that a stream holds. Yields why it is refused. Code
+    that compares the addresses of the stream and a piece is shown for each order of the two, in parts of the memory."""
+    ranges = ((1 << 12, 1 << 62), (1 << 62, MASK - (1 << 16))), ((1 << 62, MASK), (1 << 20, (1 << 62) - (1 << 16)))
+    for Known.message, Known.stream in ranges if is_apart else ((None, None),):
+        yield from show_order(Machine(file), version)
+    Known.message = Known.stream = None
+
+
+def show_order(machine, version):
+    row = 16 * LANES[version]
     Known.low, Known.top, what = machine.low, machine.top, f"rapidhash_stream_reset of {version}"
     try:
         check_reset(machine, version)
@@ -99,6 +107,6 @@ def show_streams(file, version):
             what = f"{version}, {held} bytes held"
             for has_rows in (False, True)[:1 + (held > 0)]:
                 check_finish(machine, version, held, has_rows)
-            prove(lambda: Write(machine, version, held))
+            prove(lambda: Write(machine, version, held), 1 << 61 if Known.message else MASK)
     except Refusal as refusal:
         yield f"{what}: {refusal}"

@@ -116,6 +116,16 @@ def shuffle(machine, to, by, order):
     to.write([one for index in range(4) for one in by.read()[4 * (order.read() >> 2 * index & 3):][:4]])
 
 
+def memmove(machine):
+    """Runs the C library's function, the only one that a library calls. It may change what the caller must save."""
+    to = machine.words[RDI]
+    machine.store_bytes(to, machine.load_bytes(machine.words[RSI], machine.words[RDX]))
+    state = {("word", index): word if index in (RSP, *SAVED) else make("changed", 64, index, machine.count)
+             for index, word in enumerate(machine.words)}
+    machine.resume({**state, **machine.memory, ("word", RAX): to}, machine.at)
+    return pop(machine)
+
+
 MOVES = "mov", "movabs", "movzx", "movdqu", "movups", "movdqa", "movaps"
 UNALIGNED = "movdqu", "movups"  # all other instructions need an address of 128 bits that is a multiple of 16
 RULES = dict.fromkeys(MOVES, lambda machine, to, by: to.write(by.read()))
@@ -202,6 +212,8 @@ class Machine(Memory):
 
     def decode(self, at):
         """Returns the rule of an instruction, its operands, the next address, and its text."""
+        if at == 0:
+            return memmove, [], None, "memmove"
         found = next(self.reader.disasm(self.file.read(at, 16, "E"), at), None)
         text = f"{found.mnemonic} {found.op_str}" if found else "bytes that are no instruction"
         is_prefixed = found and (found.prefix[1] in (0x64, 0x65) or found.prefix[3]
