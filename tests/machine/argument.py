@@ -26,7 +26,7 @@ class Everywhere:
 
 
 class Hash:
-    """A function that hashes a message: how it is called, and what it must return."""
+    """Calls a function that hashes a message, and knows what it must return."""
     def __init__(self, machine, function, version, form):
         is_v1 = version == "v1"
         count = 3 if is_v1 else 7
@@ -87,7 +87,7 @@ def find_loop(call):
 
 
 def check_short_lengths(call, head):
-    """Step 1. Returns the least length that reaches the loop's head. An empty message may have any pointer."""
+    """Takes step 1. Returns the least length that reaches the loop. An empty message may have any pointer."""
     for length in range(FIRST):
         call.lengths = f"length {length}"
         assume(length)
@@ -100,7 +100,7 @@ def check_short_lengths(call, head):
 
 
 def reach_the_head(call, head, length, most):
-    """Step 2. Returns the general state, and what its fresh words are before the first turn."""
+    """Takes step 2. Returns the general state, and what its fresh words are before the first turn."""
     assume(length, 0, most)
     call.begin(length, name("message"))
     states = []
@@ -153,7 +153,7 @@ def match(general, actual, done):
 
 
 def turn_once(call, head, turn, length, most, general, before):
-    """Step 3. Returns the fresh words that are the lanes."""
+    """Takes step 3. Returns the fresh words that are the lanes."""
     definition, done, lanes, (starts, origin, _) = call.definition, name("done"), [], call.at_loop(length)
     assume(length, 1, most, is_turning=True)
     call.machine.resume(general_at(general, done), head)
@@ -174,7 +174,7 @@ def turn_once(call, head, turn, length, most, general, before):
 
 
 def return_at_the_end(call, head, turn, length, most, general, lanes):
-    """Step 4. The bytes that remain after the last turn have a known number."""
+    """Takes step 4. The bytes that remain after the last turn have a known number."""
     turns, (_, origin, rest) = name("turns"), call.at_loop(length)
     assume(length, 0, most)
     call.machine.resume(general_at(general, turns), head)

@@ -11,7 +11,7 @@ class Refusal(Exception):
 
 
 class Term:
-    """A word that is no number. Its bits from `width` on are 0."""
+    """Is a word that is no number. Its bits from `width` on are 0."""
     def __init__(self, kind, width, parts):
         self.kind, self.width, self.parts, self.age = kind, width, parts, len(POOL)
 

@@ -12,7 +12,7 @@ TOP = Path(os.environ.get("YERVOUND", Path(__file__).parents[2]))
 sys.path.insert(0, str(TOP / "tests"))
 from cases import finish, lacks, needs, results, shell, skip, tell  # noqa: E402
 
-needs("gcc", "objdump", "/usr/lib/python3/dist-packages/capstone")
+needs("gcc", "readelf", "/usr/lib/python3/dist-packages/capstone")
 import faults  # noqa: E402
 import tool  # noqa: E402
 import webassembly  # noqa: E402

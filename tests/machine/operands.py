@@ -12,7 +12,7 @@ REGISTERS = {text: (index, bits) for index, row in enumerate(NAMES) for text, bi
 
 
 class Elf:
-    """The segments and the symbols of a linked file, as readelf prints them."""
+    """Reads the segments and the symbols of a linked file, as readelf prints them."""
     def __init__(self, path):
         text, data = shell(f"readelf -lsW {path}")[1], path.read_bytes()
         symbols = re.findall(r": (\w+) +\w+ +\w+ +\w+ +\w+ +\d+ (\w+)$", text, re.M)
@@ -52,7 +52,7 @@ class Register:
 
 
 class Place:
-    """An operand in memory: base + index * scale + displacement."""
+    """Is an operand in memory: base + index * scale + displacement."""
     def __init__(self, machine, displacement, terms, bits, is_aligned):
         self.machine, self.displacement, self.terms, self.bits = machine, displacement & MASK, terms, bits
         self.is_aligned = is_aligned and bits == 128

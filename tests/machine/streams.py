@@ -36,8 +36,8 @@ def compare(machine, *stream):
 
 
 class Write:
-    """A write of a piece to a stream that represents a message, of which it holds the last bytes. They are at the
-    places before 0, where the piece begins. The lanes and the flag are unknown."""
+    """Writes a piece to a stream that represents a message, of which it holds the last bytes. They are at the places
+    before 0, where the piece begins. The lanes and the flag are unknown."""
     function = "rapidhash_stream_write"
 
     def __init__(self, machine, version, held):

@@ -125,10 +125,10 @@ FLAGS = {"b": lambda f: f & 1, "e": lambda f: f >> 6 & 1, "s": lambda f: f >> 7 
 
 
 class Plain(Machine):
-    """A machine whose code is a snippet, and whose memory is the room."""
+    """Runs a snippet, which begins at the address 16, with the room as its memory."""
     def __init__(self, snippet, room):
         super().__init__(self)
-        self.read, self.room = lambda at, size, flag: snippet[at:at + size], room
+        self.read, self.room = lambda at, size, flag: snippet[at - 16:at - 16 + size], room
 
     def is_aligned(self, address):
         return address % 16 == 0
@@ -178,12 +178,15 @@ def compare(library, index, code, draw):
     machine.words = [draw.choice([0, 1, MASK, 1 << 63, 1 << 31, 255, *map(draw.getrandbits, (64, 64, 64, 32, 8))])
                      for _ in range(16)]
     machine.vectors = [list(draw.randbytes(16)) for _ in range(16)]
-    decoded = [machine.decode(0), machine.decode(len(COMPARE))]
+    decoded = [machine.decode(16), machine.decode(16 + len(COMPARE))]
     aim(machine, decoded[1][1], draw)
     room[:], words[:], vectors[:] = draw.randbytes(SIZE), machine.words, sum(machine.vectors, [])
     machine.memory = {("room", machine.room + at): one for at, one in enumerate(room)}
-    for rule, operands, machine.after, _ in decoded:
-        rule(machine, *operands)
+    try:
+        for rule, operands, machine.after, _ in decoded:
+            rule(machine, *operands)
+    except Refusal as refusal:
+        return f"{decoded[1][3]} is refused: {refusal}"
     library[f"test{index}"]()
     if [*words, *vectors, *room] != machine.words + sum(machine.vectors, []) + list(machine.memory.values()):
         return f"{decoded[1][3]} differs"

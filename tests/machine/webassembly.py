@@ -102,7 +102,7 @@ SIZES = {"load": 8, "load32_u": 4, "load16_u": 2, "load8_u": 1, "store": 8, "sto
 
 
 class Frame:
-    """A function that runs: where it is, its locals, its operands, and the blocks around with their heights."""
+    """Keeps where a function is, its locals, its operands, and the blocks around with their heights."""
     def __init__(self, index, function, own, at=0, stack=(), blocks=()):
         _, self.results, _, self.code = function
         self.index, self.locals, self.at, self.stack, self.blocks = index, own, at, list(stack), list(blocks)
