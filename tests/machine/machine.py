@@ -54,13 +54,17 @@ def check_everything():
     """Checks what only a release needs."""
     check("gcc", gcc, [version for version in VERSIONS if version != "v3"])
     check_streams("gcc", gcc)
-    files = [gcc] + [faults.linked(KIT, "kit")] * KIT.exists()
+    if kit:
+        check_streams("the kit", kit, True)
+    files = [gcc] + [kit] * (kit is not None)
     for command in SETTINGS:
         if reason := lacks(command.split()[0]):
             skip(command, reason)
         else:
             files.append(faults.built(command))
             check(command, files[-1], forms=FORMS if command == "clang -O2" else FORMS[:1])
+            if command == "clang -O2":
+                check_streams(command, files[-1])
     case("instructions of all of these", *tool.processor_agrees(files, 5))
     if reason := lacks("clang", "wasm-ld", "wasm-validate"):
         skip("WebAssembly", reason)
@@ -74,16 +78,17 @@ def check_everything():
 
 
 gcc = faults.built("gcc -O2")
+kit = faults.linked(KIT, "kit") if KIT.exists() else None
 case("rules for terms", *tool.rules_hold())
-case("instructions on this processor", *tool.processor_agrees([gcc]))
+case("instructions on this processor", *tool.processor_agrees([gcc] + [kit] * (kit is not None)))
 case("definition", *tool.definition_agrees())
 check("gcc", gcc, ["v3"], FORMS if MODE != "tool" else FORMS[:1])
 case("faults in the header", *faults.in_the_header(detail))
 if MODE != "tool":
     counts = {}
     case("some flipped bits of the code", *faults.in_bits(20, counts), what=f"accepted or not: {counts}")
-    if KIT.exists():
-        check("the kit", faults.linked(KIT, "kit"), VERSIONS if MODE == "all" else ["v3"])
+    if kit:
+        check("the kit", kit, VERSIONS if MODE == "all" else ["v3"])
     else:
         for form in FORMS:
             skip(f"v3{form} by the kit", lacks("rt") or "make has not built the library")

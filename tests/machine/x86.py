@@ -8,8 +8,9 @@ from memory import Memory
 from operands import NAMES, REGISTERS, Number, Place, Register
 from terms import bit_and, bit_or, join, low_bits, multiply, shift_left, shift_right, split, xor
 
-RAX, RDX, RSP, RSI, RDI = 0, 2, 4, 6, 7
-SAVED = 3, 5, 12, 13, 14, 15
+RAX, RDX, RSP, RSI, RDI, SAVED = 0, 2, 4, 6, 7, (3, 5, 12, 13, 14, 15)
+VECTORS = [("word", "vector", index, half) for index in range(16) for half in (0, 1)]
+KEYS = [("word", index) for index in range(16)] + VECTORS  # of the words of a state
 
 
 # Flags. A comparison keeps its operation, operands, result and bits, and a condition asks for their bounds.
@@ -120,9 +121,9 @@ def memmove(machine):
     """Runs the C library's function, the only one that a library calls. It may change what the caller must save."""
     to = machine.words[RDI]
     machine.store_bytes(to, machine.load_bytes(machine.words[RSI], machine.words[RDX]))
-    state = {("word", index): word if index in (RSP, *SAVED) else make("changed", 64, index, machine.count)
-             for index, word in enumerate(machine.words)}
-    machine.resume({**state, **machine.memory, ("word", RAX): to}, machine.at)
+    state = {**machine.state(), **{key: make("changed", 64, key, machine.count) for key in KEYS}}
+    state.update({("word", index): machine.words[index] for index in (RSP, *SAVED)})
+    machine.resume({**state, ("word", RAX): to}, machine.at)
     return pop(machine)
 
 
@@ -141,6 +142,8 @@ RULES.update({
     "inc": change(lambda word: add(word, 1)), "dec": change(lambda word: add(word, -1)), "shl": shift(shift_left),
     "shr": shift(shift_right), "pxor": xor_vectors, "xorps": xor_vectors, "pshufd": shuffle,
     "punpcklqdq": lambda machine, to, by: to.write(to.read()[:8] + by.read()[:8]),
+    "punpckhqdq": lambda machine, to, by: to.write(to.read()[8:] + by.read()[8:]),
+    "pextrq": lambda machine, to, by, half: to.write(join(by.read()[8 * (half.read() & 1):][:8])),
 })
 for _one in ("e", "b", "be", "l", "le", "s", *OPPOSITES):
     RULES.update({
@@ -162,7 +165,7 @@ class Machine(Memory):
     def begin(self, function, arguments, length, sizes):
         """Begins a call: all registers are unknown words but for the arguments and the stack's pointer."""
         self.clear(length, sizes)
-        self.resume({("word", index): make("register", 64, index) for index in range(16)}, self.file.symbols[function])
+        self.resume({key: make("register", 64, key) for key in KEYS}, self.file.symbols[function])
         for index, word in zip((RDI, RSI, RDX), arguments):
             self.words[index] = word
         self.words[RSP], self.home = name("stack"), make("home", 64)
@@ -175,13 +178,14 @@ class Machine(Memory):
         return region == "stack" and place % 16 == 8 or region == "file" and place % 16 == 0
 
     def state(self):
-        return {**{("word", index): word for index, word in enumerate(self.words)}, **self.memory}
+        halves = [join(vector[at:at + 8]) for vector in self.vectors for at in (0, 8)]
+        return {**dict(zip(KEYS, self.words + halves)), **self.memory}
 
     def resume(self, state, at):
-        """Goes to a state, in which the flags and the vectors are unknown."""
+        """Goes to a state, in which the flags are unknown."""
         self.words = [state["word", index] for index in range(16)]
         self.memory = {key: one for key, one in state.items() if key[0] != "word"}
-        self.vectors = [[make("vector", 8, index, at) for at in range(16)] for index in range(16)]
+        self.vectors = [split(state[low]) + split(state[high]) for low, high in zip(VECTORS[::2], VECTORS[1::2])]
         self.flags, self.at = None, at
 
     def run(self, stops=(), limit=100_000):
