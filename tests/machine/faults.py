@@ -59,7 +59,7 @@ def in_the_header(tell=None):
     for file, fault, old, new in rows(True):
         text = HEADER.read_text()
         assert old in text, fault
-        (ROOM / file).write_text(text.replace(old, new, 1).replace(FLAG, "int rapidhash_flag_;\n" + FLAG, 1))
+        (ROOM / file).write_text(text.replace(old, new, 1).replace(FLAG, "int rapidhash_flag_ = 3;\n" + FLAG, 1))
         code = built("gcc -O2 -w", ROOM, "planted")
         how, reason = shown(code) if fault != "a changed secret" else shown(code, form="")
         if how or not reason.startswith("rapidhash_v3") or ", length" not in reason:
