@@ -152,9 +152,10 @@ def assemble(files):
     text += ".bss\n" + "".join(f".globl {symbol}\n.balign 16\n{symbol}: .skip {count * ctypes.sizeof(kind)}\n"
                                for symbol, (count, kind) in BUFFERS.items())
     (ROOM / "tests.s").write_text(text)
-    status, said = shell("gcc -shared -Wl,-Bsymbolic -z noexecstack -o $ROOM/tests.so $ROOM/tests.s")
+    path = ROOM / f"tests{len([*ROOM.glob('tests*.so')])}.so"  # a loaded file is not written again
+    status, said = shell(f"gcc -shared -Wl,-Bsymbolic -z noexecstack -o {path} $ROOM/tests.s")
     assert status == 0, said
-    return ctypes.CDLL(ROOM / "tests.so"), sorted(found)
+    return ctypes.CDLL(path), sorted(found)
 
 
 def aim(machine, operands, draw):
