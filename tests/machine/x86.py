@@ -220,8 +220,7 @@ class Machine(Memory):
             return memmove, [], None, "memmove"
         found = next(self.reader.disasm(self.file.read(at, 16, "E"), at), None)
         text = f"{found.mnemonic} {found.op_str}" if found else "bytes that are no instruction"
-        is_prefixed = found and (found.prefix[1] in (0x64, 0x65) or found.prefix[3]
-                                 or found.prefix[0] in (0xF0, 0xF2, 0xF3)
+        is_prefixed = found and (found.prefix[1] in (0x64, 0x65) or found.prefix[3] or found.prefix[0]
                                  and found.mnemonic not in ("endbr64", "movdqu", "movq"))
         if not found or found.mnemonic not in RULES or is_prefixed:
             raise Refusal(f"no rule for {text} at {at:#x}")
