@@ -49,7 +49,7 @@ name = yervound-1.0-x86_64-linux
 
 .PHONY: help installcheck sources crate javadoc gomodule all built tool sums library wasm npm page wheel jar sqlite postgresql deb check check-source quick test fmt bench \
   install uninstall clean dist vendor release products test-edits test-machines test-windows test-debian test-dieharder \
-  test-source test-vendor rapidhash_c rapidhash_cli rapidsum example_bloom example_perfect example_shards example_dedupe
+  test-source test-vendor test-machine-code rapidhash_c rapidhash_cli rapidsum example_bloom example_perfect example_shards example_dedupe
 .DELETE_ON_ERROR:
 MAKEFLAGS += --no-builtin-rules
 
@@ -203,13 +203,17 @@ gomodule:
 	  git -c user.name=go -c user.email=go commit-tree -m go HEAD:packages/go) && TZ=UTC git archive --format=zip \
 	  --prefix=yervound.example/rapidhash@v1.0.0/ -o build/yervound-rapidhash-go-1.0.0.zip "$$commit"
 
-# The next seven are not part of the gate, because they take some additional minutes.
+# The next eight are not part of the gate, because they take some additional minutes.
 test-edits:
 	@tests/release/must_fail.py
 	@tests/release/failing_tests.py
 
 test-machines test-windows test-debian test-dieharder test-source: test-%:
 	@prove --verbose --exec '' tests/release/$*.sh
+
+# All versions, compilers, streams and packages, of which the gate checks V3 alone.
+test-machine-code:
+	@prove --verbose --exec '' tests/machine/machine.py :: all
 
 test-vendor:
 	@tests/vendor.sh ci

@@ -1,0 +1,105 @@
+"""Plants the faults of faults.tsv in the header and in the tool, and flips bits of the code of V3. In the table a
+backslash and n are the end of a line, and `&` at the beginning is the old text."""
+
+import csv
+import random
+
+from argument import Hash, prove
+from cases import ROOM, TOP, shell
+from linear import Refusal
+from operands import Elf
+from x86 import Machine
+
+FOLDER = TOP / "tests" / "machine"
+HEADER = TOP / "packages/c/include/rapidhash_c.h"
+FLAG = "#ifndef RAPIDHASH_LINK\n"  # before which faults have a variable
+FUNCTIONS = "rapidhash_v3_with_secrets", "rapidhash_v3_long_", "rapidhash_v3_with_rows_"
+NATIVE = """import ctypes, random, sys
+hash_of, draw = ctypes.CDLL(sys.argv[1]).rapidhash_v3_with_secrets, random.Random(1)
+hash_of.restype, hash_of.argtypes = ctypes.c_uint64, [ctypes.c_char_p, ctypes.c_size_t, ctypes.c_char_p]
+for length in [*range(400), *(draw.randrange(400, 9000) for _ in range(200))]:
+    print(hash_of(draw.randbytes(length), length, draw.randbytes(64)))
+"""
+
+
+def built(command, folder=HEADER.parent, target="library"):
+    """Builds the C library by a command, and returns the file that the linker makes of the object."""
+    status, said = shell(f"{command} -I{folder} -c packages/c/rapidhash_c.c -o $ROOM/{target}.o")
+    assert status == 0, said
+    return linked(f"$ROOM/{target}.o", target)
+
+
+def linked(objects, target):
+    """Links objects to a file without relocations. The only symbol that may be undefined is memmove, which is at 0."""
+    status, said = shell(f"ld -e 0 --unresolved-symbols=ignore-all -o $ROOM/{target} --whole-archive {objects} &&"
+                         f" nm --undefined-only --format=just-symbols {objects} | grep -vE '^(memmove|.*:)?$' || true")
+    assert status == 0 and not said, said
+    return Elf(ROOM / target)
+
+
+def shown(file, version="v3", form="_with_secrets", prefix="rapidhash_", machine=Machine):
+    """Returns how a hash is shown to be the definition, or nothing, and why it is not."""
+    runner = machine(file)
+    try:
+        return prove(lambda: Hash(runner, prefix + version + form * bool(prefix), version, form)), None
+    except Refusal as refusal:
+        return None, str(refusal)
+
+
+def rows(is_header):
+    """Yields the faults: the file, the name, the old and the new text."""
+    for row in csv.DictReader(open(FOLDER / "faults.tsv"), delimiter="\t", quoting=csv.QUOTE_NONE):
+        old, new = (row[column].replace("\\n", "\n") for column in ("old", "new"))
+        if (row["file"] == HEADER.name) == is_header:
+            yield row["file"], row["fault"], old, old + new[1:] if new[:1] == "&" else new
+
+
+def in_the_header(tell=None):
+    """Builds the header with each fault. Yields those that are not refused with the function and the length."""
+    for file, fault, old, new in rows(True):
+        text = HEADER.read_text()
+        assert old in text, fault
+        (ROOM / file).write_text(text.replace(old, new, 1).replace(FLAG, "int rapidhash_flag_ = 3;\n" + FLAG, 1))
+        code = built("gcc -O2 -w", ROOM, "planted")
+        how, reason = shown(code) if fault != "a changed secret" else shown(code, form="")
+        if how or not reason.startswith("rapidhash_v3") or ", length" not in reason:
+            yield f"{fault}: {reason}"
+        elif tell:
+            tell(f"# {fault}: {reason}")
+
+
+def in_bits(count, counts, seed=1):
+    """Flips random bits of V3's code, one at a time. Yields those that are accepted although the hash is another."""
+    draw, path, copy = random.Random(seed), ROOM / "flip.so", ROOM / "flipped.so"
+    status, said = shell(f"gcc -O2 -fPIC -shared -Wl,-Bsymbolic -I{HEADER.parent} packages/c/rapidhash_c.c -o {path}")
+    assert status == 0, said
+    data, file = bytearray(path.read_bytes()), Elf(path)
+    (code, at_in_file), = ((start, at) for start, at, _, flags in file.segments if "E" in flags)
+    wanted = shell(f"python3 -c '{NATIVE}' {path}")
+    for _ in range(count):
+        start = file.symbols[draw.choice(FUNCTIONS)]
+        at = draw.randrange(start, min(other for other in file.symbols.values() if other > start)) - code + at_in_file
+        bit = 1 << draw.randrange(8)
+        data[at] ^= bit
+        copy.write_bytes(data)
+        data[at] ^= bit
+        accepted = shown(Elf(copy))[0] is not None
+        counts[accepted] = counts.get(accepted, 0) + 1
+        if accepted and shell(f"ulimit -t 20; python3 -c '{NATIVE}' {copy}") != wanted:
+            yield f"bit {bit} at {at:#x} of the file is accepted"
+
+
+def in_the_tool(tell=None):
+    """Runs the tool's own tests with each fault in a copy of the tool. Yields those that no test sees."""
+    yield from ["the tests fail without a fault"] * (shell(f"{FOLDER}/machine.py tool")[0] != 0)
+    for file, fault, old, new in rows(False):
+        folder = ROOM / "tool"
+        shell(f"rm -rf {folder} && cp -r {FOLDER} {folder}")
+        text = (folder / file).read_text()
+        assert text.count(old) == 1, fault
+        (folder / file).write_text(text.replace(old, new))
+        status, said = shell(f"{folder}/machine.py tool")
+        if status == 0:
+            yield fault
+        elif tell:
+            tell(f"# {fault}: {[line for line in said.splitlines() if line[:3] != 'ok '][:2]}"[:200])

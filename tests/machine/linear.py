@@ -1,0 +1,172 @@
+"""Has words of 64 bits as numbers or as terms. A term has a kind and parts, and is made once, so that equal terms are
+the same object and `==` compares words. A linear word is c + k1*name1 + k2*name2 .. modulo 2^64: an address, or an
+unknown length. Only linear words have bounds, so that they alone decide branches."""
+
+MASK = (1 << 64) - 1
+POOL = {}
+
+
+class Refusal(Exception):
+    """Tells what the tool does not know or does not accept."""
+
+
+class Term:
+    """Is a word that is no number. Its bits from `width` on are 0."""
+    def __init__(self, kind, width, parts):
+        self.kind, self.width, self.parts, self.age = kind, width, parts, len(POOL)
+
+    def __repr__(self):
+        if self.kind == "linear":
+            return " + ".join([str(self.parts[0])] + [f"{factor} * {text}" for text, factor in self.parts[1]])
+        return f"{self.kind}({', '.join(map(str, self.parts))})"[:160]
+
+
+def make(kind, width, *parts):
+    key = kind, *parts
+    if key not in POOL:
+        POOL[key] = Term(kind, width, parts)
+    return POOL[key]
+
+
+def known(*words):
+    return all(type(word) is int for word in words)
+
+
+def is_kind(word, *kinds):
+    return type(word) is Term and word.kind in kinds
+
+
+def width(word):
+    return word.bit_length() if known(word) else word.width
+
+
+def ordered(*words):
+    """Sorts words: numbers first, then terms by their age."""
+    return sorted(words, key=lambda word: (0, word) if known(word) else (1, word.age))
+
+
+# Linear words, and what is known of their names.
+class Known:
+    low, top = 1 << 20, MASK  # addresses: the message ends at `top` or before
+    message = stream = None  # narrower bounds of their addresses
+    fixed = {}  # the bounds of addresses of memory that is not the message
+    corners = []  # values of the other names
+
+
+def assume(length, least=0, most=0, is_turning=False):
+    """Sets what is known: `turns` is from `least` to `most`, and `done` from 0 to turns - least if the loop is turning.
+    The conditions are linear, so a linear word is least and greatest at corners of the room that they leave."""
+    Known.fixed = dict.fromkeys(("stack", "secrets", "stream"), (Known.low, Known.top - (1 << 16)))
+    Known.fixed["stream"], Known.corners = Known.stream or Known.fixed["stream"], []
+    first, end = Known.message or (1 << 12, Known.top)
+    for turns, done in [(least, 0), (most, 0)] + [(most, most - least)] * is_turning:
+        corner = {"turns": turns, "done": done, "message": 0}
+        last = end - value_at(length, corner)
+        Known.corners += [dict(corner, message=place) for place in (first, last)]
+
+
+def signed(number):
+    return (number + (1 << 63) & MASK) - (1 << 63)
+
+
+def linear(constant, factors):
+    """Returns the word constant + factor * name + .."""
+    factors = tuple(sorted((name, signed(factor)) for name, factor in factors.items() if factor & MASK))
+    return make("linear", 64, signed(constant), factors) if factors else constant & MASK
+
+
+def name(text, factor=1):
+    return linear(0, {text: factor})
+
+
+def parts(word):
+    """Returns the constant and the factors of a linear word, or nothing."""
+    if known(word):
+        return signed(word), {}
+    return (word.parts[0], dict(word.parts[1])) if word.kind == "linear" else None
+
+
+def value_at(word, corner):
+    return word if known(word) else word.parts[0] + sum(factor * corner[text] for text, factor in word.parts[1])
+
+
+def ends(constant, factors):
+    """Returns the least and the greatest value of constant + factor * name + .. as an integer, not cut to 64 bits."""
+    low, high, others = constant, constant, []
+    for text, factor in factors.items():
+        if text in Known.fixed:
+            both = [factor * end for end in Known.fixed[text]]
+            low, high = low + min(both), high + max(both)
+        else:
+            others.append((text, factor))
+    values = [sum(factor * corner[text] for text, factor in others) for corner in Known.corners]
+    return low + min(values), high + max(values)
+
+
+def bounds(word):
+    return ends(*parts(word))
+
+
+def apart(first, second):
+    """Returns the bounds of first - second, of two words that decide a branch, as an integer that is not cut."""
+    (one, factors), (two, others) = exact(first), exact(second)
+    return ends(one - two, {text: factors.get(text, 0) - others.get(text, 0) for text in {**factors, **others}})
+
+
+def exact(word):
+    """Returns the constant and the factors of a word as an integer from 0 to 2^64 - 1. A linear word that is always
+    negative is 2^64 more; one that is so for some values alone is refused."""
+    if known(word):
+        return word, {}
+    if word.kind != "linear":
+        raise Refusal(f"a branch depends on contents: {word}")
+    (constant, factors), (low, high) = parts(word), bounds(word)
+    if low < 0 <= high or low < -MASK - 1 or high > MASK:
+        raise Refusal(f"a number that may leave 64 bits: {word}")
+    return constant + (MASK + 1) * (high < 0), factors
+
+
+def less(first, second):
+    """Returns 1 or 0: whether first < second for all values of the names; refuses if for some of them."""
+    low, high = apart(first, second)
+    if low < 0 <= high:
+        raise Refusal(f"a branch that is not decided: {first} < {second}")
+    return int(high < 0)
+
+
+def equal(first, second=0):
+    low, high = apart(first, second)
+    if low <= 0 <= high and low != high:
+        raise Refusal(f"a branch that is not decided: {first} = {second}")
+    return int(low == high == 0)
+
+
+def below(word, bits):
+    """Returns whether a term is surely below 2^bits."""
+    return 0 <= bounds(word)[0] <= bounds(word)[1] < 1 << bits if word.kind == "linear" else word.width <= bits
+
+
+def add(first, second, times=1):
+    """Returns first + times * second."""
+    one, two = parts(first), parts(second)
+    if one and two:
+        factors = {text: one[1].get(text, 0) + times * two[1].get(text, 0) for text in {**one[1], **two[1]}}
+        return linear(one[0] + times * two[0], factors)
+    if times != 1:
+        raise Refusal(f"a difference or a multiple of contents: {first} {times:+} * {second}")
+    summands = [part for word in (first, second) for part in (word.parts if is_kind(word, "sum") else [word])]
+    summands = ordered(*(part for part in summands if part != 0))
+    return make("sum", 64, *summands) if len(summands) > 1 else summands[0]
+
+
+def subtract(first, second):
+    return add(first, second, -1)
+
+
+def substitute(word, text, value):
+    """Returns a linear word with a linear value for a name; any other word unchanged."""
+    if not is_kind(word, "linear"):
+        return word
+    constant, factors = parts(word)
+    factor = factors.pop(text, 0)
+    return add(linear(constant, factors), value, factor)

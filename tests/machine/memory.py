@@ -1,0 +1,51 @@
+"""Has the memory of a call: a message and secrets, which are only read, a stack, perhaps a stream, and the constants of
+the file. Each has an address of which nothing is known but that they do not overlap."""
+
+from linear import Refusal, add, bounds, ends, linear, make, parts, subtract
+from terms import byte, join, message, split
+
+STACK = 1 << 16  # the bytes that a function may use
+
+
+class Memory:
+    def clear(self, length, sizes):
+        """Begins a call with a message of `length` bytes, and with so many bytes of `secrets` and `stream`."""
+        self.length, self.sizes, self.memory = length, sizes, {}
+
+    def constant(self, address):
+        """Returns a byte of the file at a fixed address, or nothing."""
+
+    def locate(self, address, size, is_write=False):
+        """Returns the region of an address, and the place in it. Refuses bytes that the call may not use."""
+        constant, factors = parts(address) or (0, {"contents": 1})
+        regions = [text for text in factors if text not in ("turns", "done")]
+        region = regions[0] if regions else "file"
+        if len(regions) > 1 or factors.pop(region, 1) != 1 or region == "contents":
+            raise Refusal(f"an address depends on contents: {address}")
+        low, high = ends(constant, factors)
+        end = add(linear(constant, factors), size)
+        fits = {"message": not is_write and low >= 0 and bounds(subtract(self.length, end))[0] >= 0,
+                "stack": -STACK <= low == high and high + size <= 8 * (not is_write),
+                "file": not is_write and low == high}.get(
+            region, 0 <= low == high <= self.sizes.get(region, 0) - size and (region == "stream" or not is_write))
+        if not fits:
+            raise Refusal(f"{'a write' if is_write else 'a read'} of {size} bytes at {region} + {subtract(end, size)}")
+        return region, subtract(end, size) if region == "message" else constant
+
+    def load_bytes(self, address, size):
+        region, place = self.locate(address, size)
+        return split(message(place, size), size) if region == "message" else [
+            self.stored(region, place + index) for index in range(size)]
+
+    def stored(self, region, place):
+        found = self.constant(place) if region == "file" else self.memory.get((region, place))
+        if found is None and region != "secrets":
+            raise Refusal(f"a read of what was not written, at {region} + {place}")
+        return byte(make("secret", 64, place // 8), place % 8) if found is None else found
+
+    def load(self, address, size):
+        return join(self.load_bytes(address, size))
+
+    def store_bytes(self, address, these):
+        region, place = self.locate(address, len(these), True)
+        self.memory.update({(region, place + index): one for index, one in enumerate(these)})

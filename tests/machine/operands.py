@@ -1,0 +1,72 @@
+"""Has the file that is run and the operands of its instructions."""
+
+import re
+
+from cases import shell
+from linear import MASK, Refusal, add
+from terms import join, low_bits, split
+
+NAMES = ["rax eax ax al", "rcx ecx cx cl", "rdx edx dx dl", "rbx ebx bx bl", "rsp esp sp spl", "rbp ebp bp bpl",
+         "rsi esi si sil", "rdi edi di dil"] + [f"r{index} r{index}d r{index}w r{index}b" for index in range(8, 16)]
+REGISTERS = {text: (index, bits) for index, row in enumerate(NAMES) for text, bits in zip(row.split(), (64, 32, 16, 8))}
+
+
+class Elf:
+    """Reads the segments and the symbols of a linked file, as readelf prints them."""
+    def __init__(self, path):
+        text, data = shell(f"readelf -lsW {path}")[1], path.read_bytes()
+        symbols = re.findall(r": (\w+) +\w+ +\w+ +\w+ +\w+ +\d+ (\w+)$", text, re.M)
+        self.symbols = {label: int(at, 16) for at, label in symbols}
+        loads = re.findall(r"LOAD +0x(\w+) 0x(\w+) 0x\w+ 0x(\w+) 0x\w+ (...)", text)
+        self.segments = [(int(address, 16), int(at, 16), data[int(at, 16):int(at, 16) + int(size, 16)], flags)
+                         for at, address, size, flags in loads]
+
+    def read(self, address, size, flag="R"):
+        """Returns bytes at an address, of code (flag E) or of constants; none that can be written."""
+        return next((data[address - start:address - start + size] for start, _, data, flags in self.segments
+                     if start <= address < start + len(data) and "W" not in flags and flag in flags), b"")
+
+
+# Operands. Each has `bits`, and reads and writes a word, or in 128 bits a list of bytes.
+class Number:
+    def __init__(self, value, bits):
+        self.value, self.bits = value & (1 << bits) - 1, bits
+
+    def read(self):
+        return self.value
+
+
+class Register:
+    def __init__(self, machine, file, index, bits):
+        self.machine, self.file, self.index, self.bits = machine, file, index, bits
+
+    def read(self):
+        word = getattr(self.machine, self.file)[self.index]
+        return word if self.bits >= 64 else low_bits(word, self.bits)
+
+    def write(self, value):
+        """Writes the register. A write of 32 bits clears the upper half; one of 8 or 16 bits keeps the other bytes."""
+        if self.bits < 32:
+            value = join(split(value, self.bits // 8) + split(self.machine.words[self.index])[self.bits // 8:])
+        getattr(self.machine, self.file)[self.index] = low_bits(value, 32) if self.bits == 32 else value
+
+
+class Place:
+    """Is an operand in memory: base + index * scale + displacement."""
+    def __init__(self, machine, displacement, terms, bits, is_aligned):
+        self.machine, self.displacement, self.terms, self.bits = machine, displacement & MASK, terms, bits
+        self.is_aligned = is_aligned and bits == 128
+
+    def address(self):
+        result = self.displacement
+        for index, scale in self.terms:
+            result = add(result, self.machine.words[index], scale)
+        if self.is_aligned and not self.machine.is_aligned(result):
+            raise Refusal(f"an address that may be no multiple of 16: {result}")
+        return result
+
+    def read(self):
+        return (self.machine.load_bytes if self.bits == 128 else self.machine.load)(self.address(), self.bits // 8)
+
+    def write(self, value):
+        self.machine.store_bytes(self.address(), value if self.bits == 128 else split(value, self.bits // 8))

@@ -1,0 +1,249 @@
+"""Runs x86-64 instructions of a file over terms. RULES has every instruction that is known; all others are refused."""
+
+import capstone
+from capstone.x86 import X86_OP_IMM, X86_OP_REG
+
+from linear import MASK, Refusal, add, equal, known, less, make, name, parts, subtract
+from memory import Memory
+from operands import NAMES, REGISTERS, Number, Place, Register
+from terms import bit_and, bit_or, join, low_bits, multiply, shift_left, shift_right, split, xor
+
+RAX, RDX, RSP, RSI, RDI, SAVED = 0, 2, 4, 6, 7, (3, 5, 12, 13, 14, 15)
+VECTORS = [("word", "vector", index, half) for index in range(16) for half in (0, 1)]
+KEYS = [("word", index) for index in range(16)] + VECTORS  # of the words of a state
+
+
+# Flags. A comparison keeps its operation, operands, result and bits, and a condition asks for their bounds.
+OPPOSITES = {"ne": "e", "ae": "b", "a": "be", "ge": "l", "g": "le", "ns": "s"}
+
+
+def holds(machine, condition):
+    """Returns whether a condition holds, which must be so for all values of the names, or for none."""
+    if condition in OPPOSITES:
+        return not holds(machine, OPPOSITES[condition])
+    if condition in ("be", "le"):
+        return holds(machine, "e") or holds(machine, condition[0])
+    if machine.flags is None:
+        raise Refusal(f"the condition {condition} of an instruction that sets no known flags")
+    operation, first, second, result, bits = machine.flags
+    if condition == "e":
+        return equal(first, second) if operation == "subtract" else equal(result)
+    if condition == "b" and operation != "add":
+        return operation == "subtract" and less(first, second)
+    if not known(first, second, result):
+        raise Refusal(f"the condition {condition} of {result}")
+    differ = {"logic": 0, "subtract": (first ^ second) & (first ^ result), "add": ~(first ^ second) & (first ^ result)}
+    sign, overflow = result >> bits - 1 & 1, differ[operation] >> bits - 1 & 1
+    return bool({"b": result < first, "s": sign, "l": sign ^ overflow}[condition])
+
+
+# Instructions. A rule is called with the machine and the operands. It returns the next address if that is another.
+def calculation(operation, compute, is_kept=True):
+    """Returns the rule of an instruction that sets flags, and keeps its result or not."""
+    def rule(machine, to, by):
+        first, second = to.read(), by.read()
+        if not is_kept and operation == "subtract" and not (parts(first) and parts(second)):
+            raise Refusal(f"a comparison of contents: {first} and {second}")
+        result = low_bits(compute(first, second), to.bits) if to.bits < 64 else compute(first, second)
+        machine.flags = operation, first, second, result, to.bits
+        if is_kept:
+            to.write(result)
+    return rule
+
+
+def change(compute):
+    """Returns the rule of an instruction that changes a word, and after which no flag is known."""
+    def rule(machine, to, *by):
+        to.write(low_bits(compute(to.read(), *(operand.read() for operand in by)), to.bits))
+        machine.flags = None
+    return rule
+
+
+def shift(compute):
+    def rule(machine, to, by):
+        if not known(by.read()) or not 0 < by.read() < to.bits:
+            raise Refusal("a shift by zero or by an unknown number of bits")
+        change(compute)(machine, to, by)
+    return rule
+
+
+def demand_64(operand):
+    if operand and operand.bits != 64:
+        raise Refusal(f"an operand of {operand.bits} bits")
+
+
+def push(machine, operand):
+    demand_64(operand)
+    word, machine.words[RSP] = operand.read(), add(machine.words[RSP], -8)
+    machine.store_bytes(machine.words[RSP], split(word))
+
+
+def pop(machine, operand=None):
+    demand_64(operand)
+    word, machine.words[RSP] = machine.load(machine.words[RSP], 8), add(machine.words[RSP], 8)
+    return operand.write(word) if operand else word
+
+
+def call(machine, target):
+    push(machine, Number(machine.after, 64))
+    return target.read()
+
+
+def product(machine, by):
+    demand_64(by)
+    machine.words[RAX], machine.words[RDX] = multiply(machine.words[RAX], by.read())
+    machine.flags = None
+
+
+def product_of_rdx(machine, high, low, by):
+    demand_64(by)
+    halves = multiply(machine.words[RDX], by.read())
+    low.write(halves[0])
+    high.write(halves[1])
+
+
+def move_half(machine, to, by):
+    """Moves 64 bits to or from a vector, whose upper half becomes 0."""
+    low = by.read()[:8] if by.bits == 128 else split(by.read())
+    to.write(low + [0] * 8 if to.bits == 128 else join(low))
+
+
+def xor_vectors(machine, to, by):
+    halves = [xor(join(to.read()[at:at + 8]), join(by.read()[at:at + 8])) for at in (0, 8)]
+    to.write(split(halves[0]) + split(halves[1]))
+
+
+def shuffle(machine, to, by, order):
+    to.write([one for index in range(4) for one in by.read()[4 * (order.read() >> 2 * index & 3):][:4]])
+
+
+def memmove(machine):
+    """Runs the C library's function, the only one that a library calls. It may change what the caller must save."""
+    to = machine.words[RDI]
+    machine.store_bytes(to, machine.load_bytes(machine.words[RSI], machine.words[RDX]))
+    state = {**machine.state(), **{key: make("changed", 64, key, machine.count) for key in KEYS}}
+    state.update({("word", index): machine.words[index] for index in (RSP, *SAVED)})
+    machine.resume({**state, ("word", RAX): to}, machine.at)
+    return pop(machine)
+
+
+MOVES = "mov", "movabs", "movzx", "movdqu", "movups", "movdqa", "movaps"
+UNALIGNED = "movdqu", "movups"  # all other instructions need an address of 128 bits that is a multiple of 16
+RULES = dict.fromkeys(MOVES, lambda machine, to, by: to.write(by.read()))
+RULES.update({
+    "nop": lambda machine, *_: None, "endbr64": lambda machine: None,
+    "push": push, "pop": pop, "call": call, "ret": pop,
+    "lea": lambda machine, to, of: to.write(of.address()), "jmp": lambda machine, target: target.read(), "mul": product,
+    "mulx": product_of_rdx, "movq": move_half,
+    "add": calculation("add", add), "sub": calculation("subtract", subtract), "xor": calculation("logic", xor),
+    "and": calculation("logic", bit_and), "or": calculation("logic", bit_or),
+    "test": calculation("logic", bit_and, False), "cmp": calculation("subtract", subtract, False),
+    "neg": change(lambda word: subtract(0, word)),
+    "inc": change(lambda word: add(word, 1)), "dec": change(lambda word: add(word, -1)), "shl": shift(shift_left),
+    "shr": shift(shift_right), "pxor": xor_vectors, "xorps": xor_vectors, "pshufd": shuffle,
+    "punpcklqdq": lambda machine, to, by: to.write(to.read()[:8] + by.read()[:8]),
+    "punpckhqdq": lambda machine, to, by: to.write(to.read()[8:] + by.read()[8:]),
+    "pextrq": lambda machine, to, by, half: to.write(join(by.read()[8 * (half.read() & 1):][:8])),
+})
+for _one in ("e", "b", "be", "l", "le", "s", *OPPOSITES):
+    RULES.update({
+        f"j{_one}": lambda machine, target, one=_one: target.read() if holds(machine, one) else None,
+        f"set{_one}": lambda machine, to, one=_one: to.write(int(holds(machine, one))),
+        f"cmov{_one}": lambda machine, to, by, one=_one: to.write((by if holds(machine, one) else to).read())})
+
+
+class Machine(Memory):
+    low, top, reader = 1 << 20, MASK, capstone.Cs(capstone.CS_ARCH_X86, capstone.CS_MODE_64)
+    reader.detail = True
+
+    def __init__(self, file):
+        self.file, self.decoded, self.count, self.used = file, {}, 0, set()
+
+    def constant(self, address):
+        return next(iter(self.file.read(address, 1)), None)
+
+    def begin(self, function, arguments, length, sizes):
+        """Begins a call: all registers are unknown words but for the arguments and the stack's pointer."""
+        self.clear(length, sizes)
+        self.resume({key: make("register", 64, key) for key in KEYS}, self.file.symbols[function])
+        for index, word in zip((RDI, RSI, RDX), arguments):
+            self.words[index] = word
+        self.words[RSP], self.home = name("stack"), make("home", 64)
+        self.entry = list(self.words)
+        self.memory = {("stack", index): one for index, one in enumerate(split(self.home))}
+
+    def is_aligned(self, address):
+        """Returns whether an address is a multiple of 16. The stack's is 8 more than one when a function begins."""
+        region, place = self.locate(address, 16)
+        return region == "stack" and place % 16 == 8 or region == "file" and place % 16 == 0
+
+    def state(self):
+        halves = [join(vector[at:at + 8]) for vector in self.vectors for at in (0, 8)]
+        return {**dict(zip(KEYS, self.words + halves)), **self.memory}
+
+    def resume(self, state, at):
+        """Goes to a state, in which the flags are unknown."""
+        self.words = [state["word", index] for index in range(16)]
+        self.memory = {key: one for key, one in state.items() if key[0] != "word"}
+        self.vectors = [split(state[low]) + split(state[high]) for low, high in zip(VECTORS[::2], VECTORS[1::2])]
+        self.flags, self.at = None, at
+
+    def run(self, stops=(), limit=100_000):
+        """Runs at least one instruction, until one of the stops, and returns whether the call has not returned."""
+        for _ in range(limit):
+            if self.at not in self.decoded:
+                self.decoded[self.at] = self.decode(self.at)
+            rule, operands, self.after, text = self.decoded[self.at]
+            self.count += 1
+            try:
+                target = rule(self, *operands)
+            except (Refusal, AttributeError, TypeError) as refusal:  # the last two: a rule does not have such operands
+                raise Refusal(f"at {self.at:#x}, {text}: {refusal}") from None
+            self.at = self.after if target is None else target
+            if self.at == self.home:
+                wrong = [NAMES[index].split()[0] for index in SAVED if self.words[index] != self.entry[index]]
+                if wrong or self.words[RSP] != add(name("stack"), 8):
+                    raise Refusal(f"registers are not restored: {wrong or 'rsp'}")
+                return False
+            if not known(self.at):
+                raise Refusal(f"a jump to {self.at}")
+            if self.at in stops:
+                return True
+        raise Refusal(f"no end after {limit} instructions")
+
+    def result(self):
+        return self.words[RAX]
+
+    def decode(self, at):
+        """Returns the rule of an instruction, its operands, the next address, and its text."""
+        if at == 0:
+            return memmove, [], None, "memmove"
+        found = next(self.reader.disasm(self.file.read(at, 16, "E"), at), None)
+        text = f"{found.mnemonic} {found.op_str}" if found else "bytes that are no instruction"
+        is_prefixed = found and (found.prefix[1] in (0x64, 0x65) or found.prefix[3] or found.prefix[0]
+                                 and found.mnemonic not in ("endbr64", "movdqu", "movq"))
+        if not found or found.mnemonic not in RULES or is_prefixed:
+            raise Refusal(f"no rule for {text} at {at:#x}")
+        self.used.add(found.mnemonic)
+        return RULES[found.mnemonic], [self.operand(found, one, at + found.size) for one in found.operands], \
+            at + found.size, text
+
+    def operand(self, instruction, operand, after):
+        if operand.type == X86_OP_IMM:
+            return Number(operand.imm, 8 * operand.size)
+        if operand.type == X86_OP_REG:
+            text = instruction.reg_name(operand.reg)
+            if text[:3] != "xmm" and text not in REGISTERS:
+                raise Refusal(f"another register: {instruction.op_str}")
+            return Register(self, "vectors", int(text[3:]), 128) if text[:3] == "xmm" else \
+                Register(self, "words", *REGISTERS[text])
+        memory, terms, start = operand.mem, [], operand.mem.disp
+        for register, scale in (memory.base, 1), (memory.index, memory.scale):
+            text = instruction.reg_name(register) if register else "none"
+            if text == "rip":
+                start += after
+            elif register and REGISTERS.get(text, (0, 0))[1] != 64:
+                raise Refusal(f"an address of other registers than 64 bits: {instruction.op_str}")
+            elif register:
+                terms.append((REGISTERS[text][0], scale))
+        return Place(self, start, terms, 8 * operand.size, instruction.mnemonic not in UNALIGNED)
