@@ -46,6 +46,7 @@ cargo := $(shell command -v cargo)
 tools = $(if $(cargo),build/cargo/release/rapidhash build/cargo/release/rapidsum)
 endif
 name = yervound-1.0-x86_64-linux
+release = 1.0.0
 
 .PHONY: help installcheck sources crate javadoc gomodule all built tool sums library wasm npm page wheel jar sqlite postgresql deb check check-source quick test fmt bench \
   install uninstall clean dist vendor release products test-edits test-machines test-windows test-debian test-dieharder \
@@ -109,7 +110,7 @@ unproved = $(if $(said),:,$(eval said := yes)echo 'make: $(if $(shell command -v
 readable = u=rwX,go=rX
 export SOURCE_DATE_EPOCH ?= $(shell git log -1 --format=%ct 2>/dev/null || date +%s)
 # Packs directories without their owners and in the order of their names: DIRECTORY-ABOVE NAME
-packs = tar -C $(1) --sort=name --mtime=@$(SOURCE_DATE_EPOCH) --owner=0 --group=0 --numeric-owner --mode=$(readable) -cf - $(2) | gzip -n9
+packs = umask 022 && tar -C $(1) --sort=name --mtime=@$(SOURCE_DATE_EPOCH) --owner=0 --group=0 --numeric-owner --mode=$(readable) -cf - $(2) | gzip -n9
 
 include packages/*/make.mk
 
@@ -185,23 +186,23 @@ release:
 	  { echo 'make release: build/gate.md has no gate of this commit that passed: run make check first' >&2; exit 2; }
 	@$(MAKE) -s dist deb sources crate javadoc gomodule
 	@rm -rf build/release && mkdir build/release && git rev-parse HEAD >build/release/COMMIT
-	@cp build/gate.md packages/archive/RELEASE.md build/*.t*gz build/*.crate build/*.zip build/*.jar build/wheels/*.* \
+	@cp build/gate.md packages/archive/RELEASE.md build/sources/*.tar.gz build/*.t*gz build/*.crate build/*.zip build/*.jar build/wheels/*.* \
 	  build/debian/*.deb build/debian/*.dsc build/debian/*.tar.xz build/release
 	@chmod -R $(readable) build/release
 	@cd build/release && sha256sum -- * >SHA256SUMS
 
 # What registries take, and the sources of the commit.
 sources:
-	@mkdir -p build && git archive --format=tar --prefix=yervound-1.0.0/ HEAD | gzip -n9 >build/yervound-1.0.0.tar.gz
+	@mkdir -p build/sources && git archive --format=tar --prefix=yervound-$(release)/ HEAD | gzip -n9 >build/sources/yervound-$(release).tar.gz
 
 crate:
 	@cd packages/rust && cargo package --quiet --offline --no-verify --target-dir ../../build/package
-	@cp build/package/package/yervound-rapidhash-1.0.0.crate build
+	@cp build/package/package/yervound-rapidhash-$(release).crate build
 
 gomodule:
-	@mkdir -p build && commit=$$(GIT_AUTHOR_DATE=@$(SOURCE_DATE_EPOCH) GIT_COMMITTER_DATE=@$(SOURCE_DATE_EPOCH) \
+	@mkdir -p build && date="@$(SOURCE_DATE_EPOCH) +0000" && commit=$$(GIT_AUTHOR_DATE=$$date GIT_COMMITTER_DATE=$$date \
 	  git -c user.name=go -c user.email=go commit-tree -m go HEAD:packages/go) && TZ=UTC git archive --format=zip \
-	  --prefix=yervound.example/rapidhash@v1.0.0/ -o build/yervound-rapidhash-go-1.0.0.zip "$$commit"
+	  --prefix=yervound.example/rapidhash@v$(release)/ -o build/yervound-rapidhash-go-$(release).zip "$$commit"
 
 # The next eight are not part of the gate, because they take some additional minutes.
 test-edits:

@@ -73,7 +73,7 @@ def in_go():
     [lines] = blocks(PAGE, "go")
     folder = ROOM / "go"
     folder.mkdir()
-    (folder / "go.mod").write_text("module people\n\ngo 1.19\n\nrequire yervound.example/rapidhash v1.0.0\n\n"
+    (folder / "go.mod").write_text("module people\n\ngo 1.19\n\nrequire yervound.example/rapidhash v0.0.0\n\n"
                                    f"replace yervound.example/rapidhash => {TOP}/packages/go\n")
     (folder / "main.go").write_text(f"""package main
 import (

@@ -22,5 +22,5 @@ dist:
 	$(if $(unpacked),printf '\nLeft out because the tools to build them were missing: %s\n' '$(unpacked)' | \
 	  tee -a build/$(name)/README.md >&2)
 	install -m 644 packages/c/tests/cases.c crates/test_replay/data/cases.tsv build/$(name)
-	$(call packs,build,$(name)) >build/$(name).tar.gz
+	umask 022 && { $(call packs,build,$(name)); } >build/$(name).tar.gz
 	rm -rf build/$(name)

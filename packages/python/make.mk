@@ -11,6 +11,6 @@ $(wheels)/made: packages/c/include/rapidhash_c.h LICENSE-MIT LICENSE-APACHE NOTI
 	@umask 022 && CFLAGS='-g0 $(CFLAGS)' $(PYTHON) -m pip wheel --quiet --no-index --no-deps --no-build-isolation --wheel-dir $(wheels) ./packages/python
 	@umask 022 && cd packages/python && $(PYTHON) -Bc 'import backend; backend.build_sdist("../../$(wheels)")' \
 	  >../../build/sdist.log 2>&1 || { cat ../../build/sdist.log; exit 2; } >&2
-	@cd $(wheels) && tar -xzf yervound*.tar.gz && rm yervound*.tar.gz && folder=$$(echo yervound*-1.0.0) && \
-	  $(call packs,.,"$$folder") >"$$folder.tar.gz" && rm -r "$$folder"
+	@umask 022 && cd $(wheels) && tar -xzf yervound*.tar.gz && rm yervound*.tar.gz && folder=$$(ls -d yervound*[0-9]) && \
+	  { $(call packs,.,"$$folder"); } >"$$folder.tar.gz" && rm -r "$$folder"
 	@touch $@

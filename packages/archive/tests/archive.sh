@@ -91,7 +91,7 @@ refuses_to_release() {
 # Checks that a release has the page of its gate, each product of make, for which empty files stand in, its commit and
 # all checksums. Without a page, or with that of another commit or of a gate that failed, there is none.
 releases_a_commit() {
-  local gate file files=(gate.md a.tar.gz a.tgz a.crate a.zip a.jar wheels/a.whl wheels/b.tar.gz debian/a.deb debian/b.deb debian/a.dsc debian/a.tar.xz)
+  local gate file files=(gate.md sources/s.tar.gz a.tar.gz a.tgz a.crate a.zip a.jar wheels/a.whl wheels/b.tar.gz debian/a.deb debian/b.deb debian/a.dsc debian/a.tar.xz)
   git clone -q -s "$top" "$room/released" && cd "$room/released" || return
   for file in "${files[@]}" wheels/made debian/log; do install -D /dev/null "build/$file" || return; done
   rm build/gate.md && refuses_to_release || return
@@ -110,7 +110,7 @@ packs_the_same_bytes() (
   local place
   for place in one 'a place'; do
     git clone -q -s "$top" "$room/$place" && make -s -C "$room/$place" npm wheel jar javadoc sources crate gomodule || return
-    (cd "$room/$place/build" && sha256sum -- *.t*gz *.crate *.zip *.jar wheels/*.*) >"$room/$place.sums"
+    (cd "$room/$place/build" && sha256sum -- *.t*gz sources/* *.crate *.zip *.jar wheels/*.*) >"$room/$place.sums"
     export TZ=Asia/Tokyo LC_ALL=C.UTF-8
     umask 077
   done
