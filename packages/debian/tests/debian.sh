@@ -11,7 +11,7 @@ names='librapidhash-c-dev librapidhash-c1 postgresql-15-rapidhash rapidhash-tool
 # Checks that the source package, unpacked elsewhere, builds the same bytes with Debian's tools alone, and no other
 # files: in a path with a space, and where others may not read new files. A build compares the vectors.
 packs_the_same_bytes() (
-  make -s -C "$top" deb && cd "$packages" && grep -qxE '[1-9][0-9]* passed, 0 failed' log &&
+  make -s -C "$top" deb && cd "$packages" && grep -qxE '[1-9][0-9]* cases, 0 differ' log &&
     sha256sum ./*.deb >"$room/sums" && mkdir "$room/else where" &&
     cp ./*.dsc ./*.tar.xz "$room/else where" && cd "$room/else where" && umask 077 && dpkg-source -x ./*.dsc bare &&
     (cd bare && env -i PATH=/usr/bin:/bin dpkg-buildpackage -b -us -uc) && sha256sum --check "$room/sums" &&
@@ -23,7 +23,7 @@ packs_the_same_bytes() (
 packs_readable_sources() (
   umask 077
   git clone -q -s "$top" "$room/private" && cd "$room/private" &&
-    make -n deb | sed 's/dpkg-buildpackage -us -uc/dpkg-source -b ./' | bash -e && cd build/debian &&
+    make -n deb | sed 's/env .* -us -uc/dpkg-source -b ./' | bash -e && cd build/debian &&
     [ "$(tar -tvf ./*.tar.xz | wc -l)" -gt 500 ] && ! tar -tvf ./*.tar.xz | grep -v '^[-d]rw.r-.r-. ' | grep -v '^l'
 )
 
