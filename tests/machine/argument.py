@@ -118,12 +118,24 @@ def word_of(value):
     return value.parts if is_kind(value, "byte") else (value, None)
 
 
+def word_at(state, key, index):
+    """Returns the same of the value at a key. A byte of memory that is a number, where another state has the byte at
+    `index` of a word, is a part of the number in the eight bytes there."""
+    word, own = word_of(state.get(key))
+    if own is None and index is not None and key[0] != "word":
+        these = [state.get((key[0], key[1] - index + at)) for at in range(8)]
+        if all(isinstance(one, int) for one in these):
+            return int.from_bytes(bytes(these), "little"), index
+    return word, own
+
+
 def generalise(before, after):
     """Guesses the state after `done` turns. What is equal stays, a linear word that grows by a constant has it times
     `done`, and all else is a fresh word, the same for the same two words. Other bytes of memory are forgotten."""
     general, fresh = {}, {}
     for key, value in before.items():
-        (old, index), (new, other) = word_of(value), word_of(after.get(key, value))
+        new, other = word_of(after.get(key, value))
+        old, index = word_at(before, key, other)
         grows = subtract(new, old) if is_kind(old, "linear") and is_kind(new, "linear") else None
         if value == after.get(key, value):
             general[key] = value
@@ -144,7 +156,8 @@ def match(general, actual, done):
     """Returns what each fresh word stands for, if an actual state is the general one; else refuses."""
     meaning = {}
     for key, value in general_at(general, done).items():
-        (word, index), (found, other) = word_of(value), word_of(actual.get(key))
+        word, index = word_of(value)
+        found, other = word_at(actual, key, index)
         if is_kind(word, "after") and index == other:
             word = meaning.setdefault(word, found)
         if word != found or index != other:
