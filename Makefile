@@ -108,9 +108,9 @@ unproved = $(if $(said),:,$(eval said := yes)echo 'make: $(if $(shell command -v
 # The modes of what is packed, which others unpack, whatever the umask is. The dates are that of the commit, so that it
 # has the same bytes everywhere.
 readable = u=rwX,go=rX
-export SOURCE_DATE_EPOCH ?= $(shell git log -1 --format=%ct 2>/dev/null || date +%s)
+epoch = $(or $(SOURCE_DATE_EPOCH),$(shell git log -1 --format=%ct 2>/dev/null || date +%s))
 # Packs directories without their owners and in the order of their names: DIRECTORY-ABOVE NAME
-packs = umask 022 && tar -C $(1) --sort=name --mtime=@$(SOURCE_DATE_EPOCH) --owner=0 --group=0 --numeric-owner --mode=$(readable) -cf - $(2) | gzip -n9
+packs = umask 022 && tar -C $(1) --sort=name --mtime=@$(epoch) --owner=0 --group=0 --numeric-owner --mode=$(readable) -cf - $(2) | gzip -n9
 
 include packages/*/make.mk
 
@@ -200,7 +200,7 @@ crate:
 	@cp build/package/package/yervound-rapidhash-$(release).crate build
 
 gomodule:
-	@mkdir -p build && date="@$(SOURCE_DATE_EPOCH) +0000" && commit=$$(GIT_AUTHOR_DATE=$$date GIT_COMMITTER_DATE=$$date \
+	@mkdir -p build && date="@$(epoch) +0000" && commit=$$(GIT_AUTHOR_DATE=$$date GIT_COMMITTER_DATE=$$date \
 	  git -c user.name=go -c user.email=go commit-tree -m go HEAD:packages/go) && TZ=UTC git archive --format=zip \
 	  --prefix=yervound.example/rapidhash@v$(release)/ -o build/yervound-rapidhash-go-$(release).zip "$$commit"
 

@@ -4,7 +4,7 @@ later = 18
 javac = javac -Xlint:all -Xdoclint:all,-missing -Werror
 jar: $(jar)
 # From JDK 17 on, a jar may have the date of its commit.
-jar_date = $(shell jar --help-extra 2>/dev/null | grep -q -- --date= && date -u -d @$(SOURCE_DATE_EPOCH) +--date=%Y-%m-%dT%H:%M:%SZ)
+jar_date = $(shell jar --help-extra 2>/dev/null | grep -q -- --date= && date -u -d @$(epoch) +--date=%Y-%m-%dT%H:%M:%SZ)
 
 # The sources and the pages of the calls, as registries want them beside the jar.
 javadoc: $(jar)

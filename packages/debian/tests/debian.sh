@@ -23,7 +23,7 @@ packs_the_same_bytes() (
 packs_readable_sources() (
   umask 077
   git clone -q -s "$top" "$room/private" && cd "$room/private" &&
-    make -n deb | sed 's/env .* -us -uc/dpkg-source -b ./' | bash -e && cd build/debian &&
+    make -n deb | sed 's/dpkg-buildpackage -us -uc/dpkg-source -b ./' | bash -e && cd build/debian &&
     [ "$(tar -tvf ./*.tar.xz | wc -l)" -gt 500 ] && ! tar -tvf ./*.tar.xz | grep -v '^[-d]rw.r-.r-. ' | grep -v '^l'
 )
 
