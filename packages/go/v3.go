@@ -1,7 +1,7 @@
 package rapidhash
 
 // v3 returns the hash of V3, micro or nano. A number that is no version panics where it costs nothing to others: if the
-// message has rows of so many bytes, or its tail is longer than a row of V3.
+// message has rows of so many bytes, or is longer than a row of V3.
 func v3(data string, v VersionV3, seed uint64, s *[7]uint64) uint64 {
 	if len(data) > 16 {
 		tail := data
@@ -10,6 +10,8 @@ func v3(data string, v VersionV3, seed uint64, s *[7]uint64) uint64 {
 			folded.start(seed)
 			tail = folded.fold(data, 1, s[:v.lanes()])
 			seed = folded.joined()
+		} else if len(data) > int(V3) {
+			panic(noVersion)
 		}
 		return v3Close(tail, data, seed, s)
 	}
@@ -46,9 +48,6 @@ func v3Close(tail, ending string, seed uint64, s *[7]uint64) uint64 {
 		seed = mix(read64(tail[64:])^s[2], read64(tail[72:])^seed)
 	}
 	if len(tail) > 96 {
-		if len(tail) > 112 {
-			panic(noVersion)
-		}
 		seed = mix(read64(tail[80:])^s[1], read64(tail[88:])^seed)
 	}
 	return mixTwice(read64(last)^t^s[1], read64(last[8:])^seed, alternating, s[1]^t)
