@@ -73,6 +73,13 @@ def build(crate, source):
     return programs | {name: [build_rust(name, source)] for name in CRATES}
 
 
+def wheel(name):
+    """Unpacks a wheel that `make wheel` built, and returns its directory."""
+    file = next((TOP / "build" / "wheels").glob(f"*{name}*.whl"))
+    run("/usr/bin/python3", "-m", "zipfile", "-e", str(file), name)
+    return ROOM / name
+
+
 def random_file(name, megabytes):
     """Writes a file of random bytes, and returns its path."""
     run("dd", "if=/dev/urandom", f"of={name}", "bs=1M", "iflag=fullblock", f"count={megabytes}")

@@ -285,7 +285,7 @@ def _hashes(column):
 
 def _decided(call, hashes, count, out):
     """Returns what a hash decides, or what each hash of a column does."""
-    column = _hashes(hashes)
+    column = None if isinstance(hashes, int) else _hashes(hashes)
     if column is None:
         return call(hashes, count, None)
     out = _room(len(column)) if out is None else out
