@@ -94,7 +94,7 @@ $(eval $(call program,rapidhash_cli,--help,rapidhash_portable rapidhash_tool))
 $(eval $(call program,rapidsum,--version,rapidhash_portable))
 $(eval $(call program,example_bloom,--help,$(both)))
 $(eval $(call program,example_perfect,--help,$(both)))
-$(eval $(call program,example_shards,red,$(both)))
+$(eval $(call program,example_shards,shard 1,$(both)))
 $(eval $(call program,example_dedupe,args,$(both)))
 
 # The archive and the release hold the proved programs and the proved library: TARGET

@@ -4,44 +4,42 @@
 # memory.
 . "$(dirname "$0")/room.sh"
 
-# The node of a line comes first, and the line itself is unchanged.
+# The number of a line comes first, and the line itself is unchanged.
 seq 1 10000 >lines
-"$program" red green blue <lines >three
-cut -f2 three | cmp -s - lines
-tell every_line_is_printed $?
-cut -f1 three | sort | uniq -c | awk '{ count[$2] = $1 }
-  END { print "red\t" count["red"]; print "green\t" count["green"]; print "blue\t" count["blue"] }' >wanted
-prints counts_are_those_of_the_lines "$program" --counts red green blue <lines
-
+for way in shard bucket; do
+  "$program" $way 10 <lines >before && "$program" $way 20 <lines >after
+  cut -f2 before | cmp -s - lines
+  tell "every_line_has_its_$way" $?
+  # Both numbers of each line, of which the lines that move have different ones.
+  paste <(cut -f1 before) after | awk -F '\t' '$1 != $2' >wanted
+  prints "lines_that_move_to_another_$way" "$program" $way 10 20 <lines
+  try "not_the_same_$way" grep -q . wanted
+done
 try page env PATH="$room:$PATH" bash -e <(blocks "$top/docs/EXAMPLES.md" sh "$name")
+"$program" bucket 20 10 <lines | awk -F '\t' '$1 < 10 || $2 >= 10' >found
+[ ! -s found ]
+tell fewer_buckets_move_only_their_own_lines $?
 
-"$program" red green blue --without green <lines >wanted
-prints a_removed_node_leaves_no_trace "$program" red blue <lines
-prints nodes_in_another_order "$program" blue red <lines
-
-# The nodes of ten lines, computed with the Rust crate.
+# The numbers of ten lines, computed by the formulas of Lamping and Veach with doubles from the model's hashes.
 ten='1\n2\n3\n4\n5\n6\n7\n8\n9\n10'
-answers lines_of_three_nodes 'red\t1\nred\t2\nblue\t3\nred\t4\nblue\t5\nred\t6\nblue\t7\ngreen\t8\nred\t9\nblue\t10\n' \
-  "$ten" "$program" red green blue
-answers counts_of_three_nodes 'red\t5\ngreen\t1\nblue\t4\n' "$ten" "$program" --counts red green blue
+answers buckets_of_ten_lines '1\t1\n0\t2\n1\t3\n2\t4\n2\t5\n1\t6\n1\t7\n0\t8\n1\t9\n0\t10\n' "$ten" "$program" bucket 3
+answers shards_of_ten_lines '2\t1\n2\t2\n1\t3\n2\t4\n0\t5\n1\t6\n2\t7\n1\t8\n0\t9\n2\t10\n' "$ten" "$program" shard 3
+answers bytes_that_are_no_text_and_a_last_line_without_its_end '3\ta\xff\n0\t\n3\tlast\n' 'a\xff\n\nlast' \
+  "$program" shard 7
+answers the_largest_count '3306217912\t1\n' '1' "$program" shard 4294967295
+answers no_lines '' '' "$program" shard 1
 
-answers bytes_that_are_no_text_and_a_last_line_without_its_end 'red\ta\xff\nred\t\nred\tlast\n' 'a\xff\n\nlast' \
-  "$program" red
-answers no_lines '' '' "$program" red
-
-fault no_arguments 2 'missing NODE argument' "$program"
-fault a_node_twice 2 "duplicate node 'red'" "$program" red blue red
-fault unknown_option 2 "unknown option '--count'" "$program" --count red
-fault a_node_that_is_not_there 2 "--without: no such node 'green'" "$program" red --without green
-fault no_node_after_without 2 '--without requires a node name' "$program" red --without
-fault the_only_node_goes 2 'missing NODE argument' "$program" red --without red
-fault name_that_is_not_utf_8 2 'an argument is not UTF-8' "$program" $'\xff'
-try reads_of_the_input reads_in 8 lines "$program" red <lines
-fails_to_read "$program" red
-fails_to_write "$program" red <lines
-fault full_disk_at_the_counts 1 'could not write standard output: No space left on device (os error 28)' \
-  to_a_full_disk "$program" --counts red <lines
+fault no_arguments 2 "the first argument must be 'shard' or 'bucket'" "$program"
+fault another_way 2 "the first argument must be 'shard' or 'bucket'" "$program" node 3
+fault no_count 2 'missing COUNT argument' "$program" shard
+fault a_count_of_0 2 "'0' is no number from 1 to 4294967295" "$program" bucket 0
+fault a_count_too_large 2 "'4294967296' is no number from 1 to 4294967295" "$program" shard 1 4294967296
+fault three_counts 2 "unexpected argument '3'" "$program" shard 1 2 3
+fault name_that_is_not_utf_8 1 'could not read the arguments as UTF-8: invalid data' "$program" $'\xff'
+try reads_of_the_input reads_in 8 lines "$program" shard 3 <lines
+fails_to_read "$program" shard 3
+fails_to_write "$program" shard 3 <lines
 head -c 20000000 /dev/zero >wide
-fault memory_refused 1 'out of memory' in_kibibytes 8000 "$program" red <wide
+fault memory_refused 1 'out of memory' in_kibibytes 8000 "$program" shard 3 <wide
 
 finish

@@ -1,44 +1,43 @@
-//! Spreads the lines of standard input over named nodes: each line goes to the node whose hash of
-//! the line is greatest. When a node is removed, only its own lines move; when one is added, lines
-//! move only to it.
+//! Spreads the lines of standard input over shards or buckets, or prints the lines that move when
+//! their number changes.
 //!
-//! `example_shards NODE..` prints `NODE<tab>LINE` for each line, and with `--counts` only the
-//! number of lines of each node. `--without NODE` removes a node that was named before it.
+//! The numbers of a line, and what is proved about lines that move, are in `moves`. An error is one
+//! line on standard error, with status 1, or 2 for a wrong command line.
 #![tactic(auto)]
 
-mod args;
-mod error;
-mod nodes;
-mod shards;
-mod spread;
+pub mod moves;
+pub mod request;
+pub mod spread;
 
-use args::gather;
-use error::Error;
-use std::io;
+use anyhow::{Context, Result};
+use request::{USAGE, parse_words};
+use std::env;
 use std::io::{BufReader, BufWriter};
 use std::process::ExitCode;
 
-fn run(rt: &HostRuntime) -> Result<(), Error> {
-    let args = gather(rt)?;
-    let nodes = args.nodes.as_slice();
-    let mut input = BufReader::new(rt.alloc(), rt.reader()).map_err(Error::of_read)?;
-    let mut out = BufWriter::new(rt.alloc(), io::writer(rt)).map_err(Error::of_write)?;
-    let mut line = Vec::new(rt.alloc());
-    if !args.counts {
-        return spread::spread(&mut input, &mut out, &mut line, nodes);
-    }
-    let mut counts = vec![in rt.alloc(); 0u64; nodes.len()]?;
-    spread::count(&mut input, &mut line, nodes, &mut counts)?;
-    spread::print_counts(&mut out, nodes, &counts)
+fn run(rt: &HostRuntime) -> Result<ExitCode> {
+    let words = env::args(rt).context("could not read the arguments as UTF-8")?;
+    let words: Vec<String> = words.skip(1).collect(rt.alloc())?;
+    let request = match parse_words(words.as_slice()) {
+        Ok(request) => request,
+        Err(error) => {
+            eprintln!(rt; "example_shards: {error}\n{USAGE}")?;
+            return Ok(ExitCode::from(2));
+        }
+    };
+    let mut input = BufReader::new(rt.alloc(), rt.stdin())?;
+    let mut out = BufWriter::new(rt.alloc(), rt.stdout())?;
+    spread::answer(rt.alloc(), &request, &mut input, &mut out)?;
+    Ok(ExitCode::SUCCESS)
 }
 
 fn main(rt: HostRuntime) -> ExitCode {
     match run(&rt) {
-        Ok(()) => ExitCode::SUCCESS,
+        Ok(status) => status,
         Err(error) => {
             // If standard error cannot be written, the status still reports the error.
-            let _ = eprintln!(rt; "example_shards: {error}");
-            error.status()
+            let _ = eprintln!(rt; "example_shards: {error:#}");
+            ExitCode::FAILURE
         }
     }
 }

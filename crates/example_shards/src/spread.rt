@@ -1,65 +1,71 @@
-//! Reads lines and prints the node of each.
+//! Reads lines and prints their numbers.
 
-use crate::error::Error;
-use crate::nodes::Node;
-use crate::shards::pick;
-use std::io::{BufRead, Write};
+use crate::moves::{Move, bucket_move, shard_move};
+use crate::request::{Request, Way};
+use rapidhash::v3::rapidhash_v3;
+use std::alloc::{AllocError, Global};
+use std::io::{self, BufRead, ErrorKind, Write};
 
-// The next line without its newline. It returns false if no line is left.
-fn read_line<R: BufRead>(input: &mut R, line: &mut Vec<u8>) -> Result<bool, Error> {
-    line.clear();
-    if input.read_until(b'\n', line).map_err(Error::of_read)? == 0 {
-        return Ok(false);
-    }
-    if line.last() == Some(&b'\n') {
-        line.pop();
-    }
-    Ok(true)
+/// An error that stops the program between its lines.
+#[derive(Debug, thiserror::Error, Drop)]
+pub enum SpreadError {
+    /// An allocation failed.
+    #[error("out of memory")]
+    Memory(#[from] AllocError),
+    /// A read failed.
+    #[error("could not read standard input: {0}")]
+    Read(io::Error),
+    /// A write failed, or accepted no byte.
+    #[error("could not write standard output: {0}")]
+    Write(io::Error),
 }
 
-/// Prints `NODE<tab>LINE` for each line that the reader has.
-pub fn spread<R: BufRead, W: Write>(
+fn read_error(error: io::Error) -> SpreadError {
+    match error.kind() {
+        ErrorKind::OutOfMemory => SpreadError::Memory(AllocError),
+        _ => SpreadError::Read(error),
+    }
+}
+
+// Returns the numbers of a line for a request.
+fn moves_of(request: &Request, line: &[u8]) -> Move {
+    let hash = rapidhash_v3(line);
+    let count = request.count.get();
+    let new = request.new.unwrap_or(request.count).get();
+    match request.way {
+        Way::Shard => shard_move(hash, count, new),
+        Way::Bucket => bucket_move(hash, count, new),
+    }
+}
+
+// Writes the answer for a line. A line that stays has none, if the request has a new count.
+fn write_answer<W: Write>(out: &mut W, request: &Request, line: &[u8]) -> io::Result<()> {
+    let Move { from, to } = moves_of(request, line);
+    match request.new {
+        None => write!(out, "{from}\t")?,
+        Some(_) if from != to => write!(out, "{from}\t{to}\t")?,
+        Some(_) => return Ok(()),
+    }
+    out.write_all(line)?;
+    out.write_all(b"\n")
+}
+
+/// Writes the answer for each line of the input.
+pub fn answer<R: BufRead, W: Write>(
+    alloc: Global,
+    request: &Request,
     input: &mut R,
     out: &mut W,
-    line: &mut Vec<u8>,
-    nodes: &[Node],
-) -> Result<(), Error> {
+) -> Result<(), SpreadError> {
+    let mut line = Vec::new(alloc);
     for _ in 0..u64::MAX {
-        if nodes.is_empty() || !read_line(input, line)? {
+        line.clear();
+        if input.read_until(b'\n', &mut line).map_err(read_error)? == 0 {
             break;
         }
-        let node = &nodes[pick(nodes, line.as_slice())];
-        line.push(b'\n')?;
-        out.write_all(node.name.as_bytes())
-            .map_err(Error::of_write)?;
-        out.write_all(b"\t").map_err(Error::of_write)?;
-        out.write_all(line.as_slice()).map_err(Error::of_write)?;
+        let key = line.as_slice();
+        let key = key.strip_suffix(b"\n").unwrap_or(key);
+        write_answer(out, request, key).map_err(SpreadError::Write)?;
     }
-    out.flush().map_err(Error::of_write)
-}
-
-/// Counts the lines of each node.
-pub fn count<R: BufRead>(
-    input: &mut R,
-    line: &mut Vec<u8>,
-    nodes: &[Node],
-    counts: &mut [u64],
-) -> Result<(), Error> {
-    for _ in 0..u64::MAX {
-        if nodes.is_empty() || !read_line(input, line)? {
-            break;
-        }
-        if let Some(count) = counts.get_mut(pick(nodes, line.as_slice())) {
-            *count = count.saturating_add(1);
-        }
-    }
-    Ok(())
-}
-
-/// Prints `NODE<tab>COUNT` for each node.
-pub fn print_counts<W: Write>(out: &mut W, nodes: &[Node], counts: &[u64]) -> Result<(), Error> {
-    for (node, count) in nodes.iter().zip(counts) {
-        writeln!(out, "{}\t{count}", node.name.as_str()).map_err(Error::of_write)?;
-    }
-    out.flush().map_err(Error::of_write)
+    out.flush().map_err(SpreadError::Write)
 }
