@@ -16,13 +16,13 @@
 #include <rapidhash_c.h>
 #endif
 
-enum { BYTES = 1 << 17, MOST = 20000, EQUAL = 21, MIXED = 5, REPEATS = 40, LOOPS = 4 };
+enum { BYTES = 1 << 17, MOST = 20000, EQUAL = 21, MIXED = 5, REPEATS = 40, LOOPS = 5 };
 
 /* The equal lengths of the messages of a row, and the ranges of its mixed lengths. */
 static const size_t equal[EQUAL] = {0, 3, 4, 8, 12, 16, 17, 24, 32, 48, 64, 100, 112, 113, 160, 256, 512, 1024, 4096,
                                     16384, 65536};
 static const size_t mixed[MIXED][2] = {{1, 16}, {8, 16}, {1, 32}, {1, 64}, {1, 300}};
-static const char *const loops[LOOPS] = {"sum", "store", "join", "chain"};
+static const char *const loops[LOOPS] = {"sum", "store", "join", "chain", "call"};
 static uint8_t bytes[BYTES];
 static struct { size_t start, length; } parts[MOST];
 static struct { const uint8_t *bytes; size_t length; } texts[MOST];
@@ -86,7 +86,7 @@ static uint64_t in_pieces(const uint8_t *text, size_t length, size_t size)
     STREAMS(X)
 #endif
 
-/* The four loops of a form, which the compiler may inline the hash into. */
+/* The five loops of a form. The compiler may inline the hash into all but the last. */
 #define LOOP(name, loop, step) \
     static uint64_t name##_##loop(size_t count) \
     { \
@@ -97,13 +97,15 @@ static uint64_t in_pieces(const uint8_t *text, size_t length, size_t size)
     }
 #define FORM(name, title, hash) \
     static uint64_t name##_hash(const uint8_t *text, size_t length) { return hash; } \
+    __attribute__((noinline)) static uint64_t name##_called(const uint8_t *text, size_t length) { return hash; } \
     LOOP(name, sum, last += name##_hash(texts[i].bytes, texts[i].length)) \
     LOOP(name, store, last = stored[i] = name##_hash(texts[i].bytes, texts[i].length)) \
     LOOP(name, join, last = (last ^ name##_hash(bytes + parts[i].start, parts[i].length)) * 3) \
-    LOOP(name, chain, last = name##_hash(bytes + last % 64, parts[i].length))
+    LOOP(name, chain, last = name##_hash(bytes + last % 64, parts[i].length)) \
+    LOOP(name, call, last += name##_called(texts[i].bytes, texts[i].length))
 FORMS(FORM)
 
-#define LISTED(name, title, hash) {title, {name##_sum, name##_store, name##_join, name##_chain}},
+#define LISTED(name, title, hash) {title, {name##_sum, name##_store, name##_join, name##_chain, name##_call}},
 static const struct form {
     const char *title;
     uint64_t (*work[LOOPS])(size_t count);

@@ -30,10 +30,9 @@ path = "{source}"
 
 [features]
 further = []
-yervound = []
 
 [dependencies]
-rapidhash = {{ package = "{package}", path = "{crate}" }}
+{dependencies}
 
 [workspace]
 """
@@ -54,17 +53,34 @@ def build_rattle(crate):
     return TOP / "crates" / crate / "out" / crate
 
 
-def build_rust(name, source, features=(), profile="lto"):
-    """Builds the program from a source with the crate of this name."""
-    room, crate = ROOM / "_".join([Path(source).stem, name, *features, profile]), CRATES[name]
+def depend(name, crate):
+    """Returns the line of a manifest that gives a crate a name."""
+    package = re.search(r'^name = "(.*)"', (CRATES[crate] / "Cargo.toml").read_text(), re.MULTILINE)[1]
+    return f'{name} = {{ package = "{package}", path = "{CRATES[crate]}" }}'
+
+
+def build_program(room, source, dependencies, features, profile):
+    """Builds a Rust program in a directory of its own."""
+    room = ROOM / room
     room.mkdir(parents=True, exist_ok=True)
-    package = re.search(r'^name = "(.*)"', (crate / "Cargo.toml").read_text(), re.MULTILINE)[1]
-    manifest = MANIFEST.format(source=TOP / "bench" / source, package=package, crate=crate)
-    (room / "Cargo.toml").write_text(manifest)
-    features = [*features, *["yervound"] * (package != "rapidhash")]
+    (room / "Cargo.toml").write_text(MANIFEST.format(source=TOP / "bench" / source, dependencies=dependencies))
     words = ["--release", *PROFILES[profile], "--offline", "--quiet", "--features", ",".join(features)]
     run("cargo", "build", *words, folder=room)
     return room / "target" / "release" / "program"
+
+
+def build_rust(name, source, features=(), profile="lto"):
+    """Builds the program from a source with the crate of this name."""
+    room = "_".join([Path(source).stem, name, *features, profile])
+    return build_program(room, source, depend("rapidhash", name), features, profile)
+
+
+def build_rows(profile):
+    """Builds the program that runs the rows of this crate and of the crate rapidhash in turn."""
+    if "crate" not in CRATES:
+        sys.exit("bench: RAPIDHASH_CRATE must name the directory of the crate rapidhash")
+    dependencies = "\n".join([depend("rapidhash", "rust"), depend("upstream", "crate")])
+    return build_program(f"rows_{profile}", "rust.rs", dependencies, [], profile)
 
 
 def build(crate, source):
@@ -159,13 +175,14 @@ def print_table(unit, names, rows, ratios, needed):
 
 def alternate(commands, words, turns):
     """Runs commands that print rows (group, name, nanoseconds) alternately, and returns the least times, keyed by the
-    build and the group, by the row, and by the library. The commands are keyed by build and library."""
+    build and the group, by the row, and by the library. The commands are keyed by build and library, which a row may
+    state before its nanoseconds."""
     best = {}
     for _ in range(turns):
         for (build, library), command in commands.items():
             for line in subprocess.check_output([*command, *words], text=True).splitlines():
-                group, name, nanos = line.split("\t")
-                keep_least(best.setdefault((build, group), {}).setdefault(name, {}), {library: float(nanos)})
+                group, name, *of, nanos = line.split("\t")
+                keep_least(best.setdefault((build, group), {}).setdefault(name, {}), {(*of, library)[0]: float(nanos)})
     return best
 
 
@@ -175,7 +192,7 @@ def print_rows(title, best, ours, others):
     for (build, group), of_group in best.items():
         loops = {}
         for name, times in of_group.items():
-            loops.setdefault(re.sub(" (sum|store|join|chain)$", "", name), []).append(times)
+            loops.setdefault(re.sub(" (sum|store|join|chain|call)$", "", name), []).append(times)
         for length, all_times in loops.items():
             means = {it: geometric_mean(times[it] for times in all_times) for it in all_times[0]}
             rows.append((f"{group}, {build}", f"{group} {length}, {build}", means))

@@ -15,7 +15,8 @@ sys.path.insert(0, str(TOP / "bench"))
 import harness  # noqa: E402
 
 harness.ROOM = ROOM
-REAL = dict(vars(harness))
+REAL, TAB = dict(vars(harness)), "\t"
+CRATES = dict.fromkeys(("rust", "crate"), REAL["CRATES"]["rust"])
 
 
 def program(name, *lines):
@@ -41,8 +42,10 @@ def print_rows():
     programs = {row: {name: [program(name + row, *(f"7 {time + more}" for more in (1, 0, 2))), program("slow", "7 9")]
                       for name, time in least.items()} for row in names}
     turns = [(loop, often, more) for more in (1, 0) for loop, often in (("sum", 1), ("chain", 4))]
-    loops = {("lto", name): [program(name, *(f"v3\t1 {loop}\t{often * time + more}" for loop, often, more in turns))]
-             for name, time in least.items()}
+    # A program of one library leaves its name to the command; one of several has it in each line.
+    loops = {("lto", name if name == "ours" else ""): [program(name, *(
+        f"v3\t1 {loop}\t{'' if name == 'ours' else name + TAB}{often * time + more}" for loop, often, more in turns))]
+             for name, time in least.items() if name != "rust"}
     harness.measure("T", "ms", [*zip(names)], lambda row: (row, harness.take(programs[row], [], 1)), 3)
     harness.print_rows("T", harness.alternate(loops, [], 4), "ours", ["crate"])
     print("different", harness.take({"ours": [program("a", "7 1")], "crate": [program("b", "8 1")]}, [], 1))
@@ -66,7 +69,7 @@ def built_by(name, *arguments):
         columns.update({" ".join(key): " ".join(builds.get(str(it[0]), it[-1:])) for key, it in commands.items()})
         sys.exit()
 
-    printed_by(run_bench, name, *arguments, run=run, alternate=alternate, CRATES={"rust": REAL["CRATES"]["rust"]})
+    printed_by(run_bench, name, *arguments, run=run, alternate=alternate, CRATES=CRATES)
     return columns
 
 
@@ -108,7 +111,14 @@ impl Instant {
         std::time::Duration::from_nanos(CALLS.with(|calls| calls.replace(calls.get() + 1)) * 7 % 5 + 3)
     }
 }
-fn main() { assert_eq!(least(4, || {}), 3); CALLS.with(|calls| calls.set(1)); assert_eq!(least(2, || {}), 5); }
+struct Row { group: String, name: String, items: usize, work: Box<dyn FnMut() -> u128> }
+fn row(mut times: Vec<u128>) -> Row {
+    Row { group: "v3".into(), name: "1 sum".into(), items: 2, work: Box::new(move || times.remove(0)) }
+}
+fn main() {
+    assert_eq!(least(4, || {}), 3); CALLS.with(|calls| calls.set(1)); assert_eq!(least(2, || {}), 5);
+    measure(3, row(vec![5, 3, 9]), row(vec![8, 7, 6]));
+}
 """
 BY_HAND = r"""
 #include <rapidhash_c.h>
@@ -184,16 +194,16 @@ compare("rows", found, [*(f"{row}\tms\t2.00\t4.00\t3.00" for row in ("v3 1", "v3
 commit = f"# T, at commit {shell('git rev-parse --short HEAD')[1].strip()}."
 compare("heading", printed_by(REAL["print_heading"], "T").partition("\n")[0], commit)
 lto = " --config=profile.release.lto='fat' --config=profile.release.codegen-units=1"
-compare("builds of Rust", built_by("rust"), {"default release rust": "cargo", "fat LTO rust": "cargo" + lto})
+compare("builds of Rust", built_by("rust"), {"default release ": "cargo", "fat LTO ": "cargo" + lto})
 compare("builds beside XXH3", built_by("xxh3"), {f"gcc -O3 {name}": f"gcc -O3{flags}" for name, flags in (
     ("header", ""), ("sse2", " -DXXH3"), ("avx2", " -DXXH3 -mavx2"), ("avx512", " -DXXH3 -mavx512f"))})
 compare("builds of C", built_by("c"), {f"{built} {name}": built + flags for built in (
     "gcc -O2", "gcc -O3", "clang -O2", "clang -O3") for name, flags in (
-    ("header", ""), ("archive", " -DRAPIDHASH_LINK"), ("xxh3", " -DXXH3"))})
+    ("header", ""), ("archive", " -DRAPIDHASH_LINK"), ("xxh3", " -DXXH3"))} | {
+    f"{built} crate": "cargo" for built in ("gcc -O2", "gcc -O3", "clang -O2", "clang -O3")})
 compare("builds of C by hand", built_by("c", "hand"), {f"{built} {name}": f"{built} -O2{flags}" for built in (
     "gcc", "clang") for name, flags in (("header", ""), ("hand", " -DHAND"), ("xxh3", " -DXXH3"))})
-crates = {"rust": REAL["CRATES"]["rust"]}
-table = printed_by(run_bench, "size", run=bytes_of, print_heading=lambda _: None, CRATES=crates)
+table = printed_by(run_bench, "size", run=bytes_of, print_heading=lambda _: None, CRATES={"rust": CRATES["rust"]})
 compare("bytes of code", re.findall(r"^(?!what)(\S.*)\tbytes\t(.*)", table, re.M), [
     (name, "\t".join(["" if name == "v3 with COMPACT" else size] * 2 + [size])) for name, size in (
         ("v1", "1"), ("v2.2", "2"), ("v3", "3"), ("v3 with COMPACT", "4"), ("micro", "5"), ("nano", "6"))])
@@ -221,8 +231,9 @@ else:
 if reason := lacks("rustc"):
     skip("the least of a row in Rust", reason)
 else:
-    least = re.search(r"^pub fn least.*?^}\n", (TOP / "bench" / "common.rs").read_text(), re.M | re.S)[0]
-    (ROOM / "clock.rs").write_text(least + RUST_CLOCK)
-    status, said = shell("rustc --edition 2021 -o $ROOM/clock $ROOM/clock.rs && $ROOM/clock")
-    tell("the least of a row in Rust", *[said] * (status != 0))
+    functions = [re.search(rf"^{start}.*?^}}\n", (TOP / "bench" / file).read_text(), re.M | re.S)[0]
+                 for file, start in (("common.rs", "pub fn least"), ("rust.rs", "fn measure"))]
+    (ROOM / "clock.rs").write_text("".join(functions) + RUST_CLOCK)
+    compare("the least of a row in Rust", shell("rustc --edition 2021 -o $ROOM/clock $ROOM/clock.rs && $ROOM/clock"),
+            (0, "v3\t1 sum\trust\t1.500\nv3\t1 sum\tcrate\t3.000\n"))
 finish()
