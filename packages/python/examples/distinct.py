@@ -1,42 +1,42 @@
-"""Counts the rows and the distinct rows of a table in parts, over several processes of Debian's python3-distributed:
+"""Counts the rows and the distinct rows of a table in parts, by dask.dataframe over several processes (Debian's
+python3-distributed and python3-pandas):
 
     python3 distinct.py WORKERS SHARDS PART.csv ..
 
 A part has the columns name and number, and an empty field is missing. A row goes to the shard of its key, so equal rows
 meet in one process, and every language sends them there. It prints a line for each shard: shard, rows, distinct rows."""
 
-import csv
 import sys
-from collections import defaultdict
 
+import dask.dataframe
 import rapidhash
+from dask import compute, delayed
 from distributed import Client, LocalCluster
 
-
-def split(part, shards):
-    """Returns the rows of a part by shard. `each_key` hashes them by columns."""
-    with open(part, encoding="utf-8", newline="") as file:
-        rows = [(name or None, int(number) if number else None) for name, number in csv.reader(file)]
-    by_shard = defaultdict(list)
-    if rows:
-        for row, key in zip(rows, rapidhash.each_key(*zip(*rows))):
-            by_shard[key % shards].append((key, row))
-    return by_shard
+TEXTS = {"name": str, "number": str}
 
 
-def count(shard, *parts):
-    """Returns the rows and the distinct rows of a shard. Rows with equal keys are compared, so no collision matters."""
-    rows = [pair for part in parts for pair in part.get(shard, ())]
-    return shard, len(rows), len(set(rows))
+def add_shard(part, shards):
+    """Returns a part with the shard of each row. Its numbers were read as texts, since pandas rounds long ones."""
+    names = [name or None for name in part["name"]]
+    numbers = [int(number) if number else None for number in part["number"]]
+    return part.assign(shard=rapidhash.shard(rapidhash.each_key(names, numbers), shards))
+
+
+def count(part):
+    """Returns the rows and the distinct rows of a shard. The rows are compared, so no collision matters."""
+    return len(part), len(part.drop_duplicates())
 
 
 def main():
     workers, shards, parts = int(sys.argv[1]), int(sys.argv[2]), sys.argv[3:]
     cluster = LocalCluster(n_workers=workers, threads_per_worker=1, dashboard_address=None)
-    with cluster, Client(cluster) as client:
-        pieces = client.map(split, parts, shards=shards)
-        for line in client.gather([client.submit(count, shard, *pieces) for shard in range(shards)]):
-            print(*line, sep="\t")
+    with cluster, Client(cluster):
+        table = dask.dataframe.read_csv(parts, names=[*TEXTS], dtype=TEXTS, keep_default_na=False, blocksize=None)
+        table = table.map_partitions(add_shard, shards, meta=TEXTS | {"shard": "u8"})
+        table = table.set_index("shard", divisions=[*range(shards + 1)], shuffle="tasks")
+        for shard, counts in enumerate(compute(*map(delayed(count), table.to_delayed()))):
+            print(shard, *counts, sep="\t")
 
 
 if __name__ == "__main__":

@@ -13,18 +13,19 @@ sys.path.append(str(Path(__file__).parents[3] / "tests"))
 from cases import ROOM, TOP, compare, finish, lacks, needs, shell, skip, tell  # noqa: E402
 from sql import SERVER, ask, start_server  # noqa: E402
 
-SHARDS, WORKERS, PARTS, ROWS = 8, 3, 6, 300_000
+SHARDS, WORKERS, PARTS, ROWS = 7, 3, 6, 300_000
 WORDS = "user", "naïve", "中文", "мир", "😀", "a,b", 'quote"d', " ", "x" * 300
 
 # A line for each shard, as the example prints it.
-GROUPED = f"""SELECT rapidhash_v3_key(name, number) & {SHARDS - 1} AS shard, sum(times), count(*)
+GROUPED = f"""SELECT rapidhash_shard(rapidhash_v3_key(name, number), {SHARDS}) AS shard, sum(times), count(*)
     FROM (SELECT name, number, count(*) AS times FROM rows GROUP BY name, number) AS keys GROUP BY shard ORDER BY shard"""
 # Programs that print the shard of each key in a table: a name as hexadecimal digits or -, and a number or -.
 PYTHON = """import sys, rapidhash
 names, numbers = zip(*(line.split() for line in open(sys.argv[1])))
-print(*(key % SHARDS for key in rapidhash.each_key([None if it == "-" else bytes.fromhex(it).decode() for it in names],
-                                                   [None if it == "-" else int(it) for it in numbers])))"""
-JAVA = """import example.yervound.rapidhash.RapidhashKey;
+keys = rapidhash.each_key([None if it == "-" else bytes.fromhex(it).decode() for it in names],
+                          [None if it == "-" else int(it) for it in numbers])
+print(*rapidhash.shard(keys, SHARDS))"""
+JAVA = """import example.yervound.rapidhash.*;
 class Shards {
     public static void main(String[] words) throws Exception {
         for (String line : java.nio.file.Files.readAllLines(java.nio.file.Path.of(words[0]))) {
@@ -32,7 +33,7 @@ class Shards {
             byte[] name = key[0].equals("-") ? null : new java.math.BigInteger("1" + key[0], 16).toByteArray();
             Object text = name == null ? null : new String(name, 1, name.length - 1, "UTF-8");
             Long number = key[1].equals("-") ? null : Long.valueOf(key[1]);
-            System.out.println(Long.remainderUnsigned(RapidhashKey.hash(text, number), SHARDS));
+            System.out.println(RapidhashShards.shard(RapidhashKey.hash(text, number), SHARDS));
         }
     }
 }"""
@@ -51,7 +52,7 @@ func main() {
 		if value, err := strconv.ParseInt(number, 10, 64); err == nil {
 			key[1] = h.Integer(value)
 		}
-		fmt.Println(h.V3Key(key...) % SHARDS)
+		fmt.Println(h.Shard(h.V3Key(key...), SHARDS))
 	}
 }"""
 
@@ -103,7 +104,7 @@ def shards_by(program, name, command):
 
 
 needs("make", "cc", "/usr/include/sqlite3.h", "/usr/lib/python3/dist-packages/distributed",
-      "/usr/lib/python3/dist-packages/setuptools", "/usr/include/python3*/Python.h")
+      "/usr/lib/python3/dist-packages/pandas", "/usr/lib/python3/dist-packages/setuptools", "/usr/include/python3*/Python.h")
 status, printed = shell("make -s sqlite wheel && /usr/bin/python3 -m zipfile -e build/wheels/*.whl \"$ROOM/wheel\"")
 tell("build", *[printed] * (status != 0))
 draw = random.Random(20261128)
