@@ -75,12 +75,13 @@ def build_rust(name, source, features=(), profile="lto"):
     return build_program(room, source, depend("rapidhash", name), features, profile)
 
 
-def build_rows(profile):
-    """Builds the program that runs the rows of this crate and of the crate rapidhash in turn."""
+def build_rows(profile, place=""):
+    """Builds the program that runs the rows of this crate and of the crate rapidhash in turn. The place `further` puts all
+    functions 16 bytes further on."""
     if "crate" not in CRATES:
         sys.exit("bench: RAPIDHASH_CRATE must name the directory of the crate rapidhash")
     dependencies = "\n".join([depend("rapidhash", "rust"), depend("upstream", "crate")])
-    return build_program(f"rows_{profile}", "rust.rs", dependencies, [], profile)
+    return build_program(f"rows_{profile}{place}", "rust.rs", dependencies, [place] * (place != ""), profile)
 
 
 def build(crate, source):

@@ -1,8 +1,12 @@
 //! Times the calls of a Rust program with this library and with the crate rapidhash in turn, in the profile that it was
 //! built in. It prints a line per row and library: the group, the row, the library and the nanoseconds, the minimum of
-//! the rounds. `bench/rust` builds and runs it: `ROUNDS PART..`.
+//! the rounds. `bench/rust` builds and runs it: `ROUNDS PART..`. With the feature `further`, all functions are 16 bytes
+//! further on.
 
 mod common;
+
+#[cfg(feature = "further")]
+std::arch::global_asm!(include_str!("padding.s"), ".text");
 
 #[path = "."]
 mod ours {

@@ -194,7 +194,9 @@ compare("rows", found, [*(f"{row}\tms\t2.00\t4.00\t3.00" for row in ("v3 1", "v3
 commit = f"# T, at commit {shell('git rev-parse --short HEAD')[1].strip()}."
 compare("heading", printed_by(REAL["print_heading"], "T").partition("\n")[0], commit)
 lto = " --config=profile.release.lto='fat' --config=profile.release.codegen-units=1"
-compare("builds of Rust", built_by("rust"), {"default release ": "cargo", "fat LTO ": "cargo" + lto})
+compare("builds of Rust", built_by("rust"), {
+    f"{name} {place}": "cargo" + flags for name, flags in (("default release", ""), ("fat LTO", lto))
+    for place in ("", "further")})
 compare("builds beside XXH3", built_by("xxh3"), {f"gcc -O3 {name}": f"gcc -O3{flags}" for name, flags in (
     ("header", ""), ("sse2", " -DXXH3"), ("avx2", " -DXXH3 -mavx2"), ("avx512", " -DXXH3 -mavx512f"))})
 compare("builds of C", built_by("c"), {f"{built} {name}": built + flags for built in (
