@@ -167,7 +167,8 @@ def vectors():
 
 def statements():
     """Checks that the definitions, contracts, and clauses that these pages quote are those of the sources."""
-    files = [*TOP.glob("crates/*/specs/*.antt"), *TOP.glob("crates/*/src/**/*.rt")]
+    files = [*TOP.glob("crates/*/specs/*.antt"), *TOP.glob("crates/*/src/**/*.rt"),
+             *TOP.glob("crates/example_*/proofs/**/Answers.antt")]
     sources = "".join(file.read_text() for file in files)
     plain = " ".join(sources.split())
     text = (TOP / "docs" / "PROVED.md").read_text()
