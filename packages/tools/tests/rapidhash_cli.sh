@@ -111,10 +111,10 @@ hashes file_of_proc_by_v3 "$of_proc" --v3 </proc/version
 mapfile -t words < <(seq -f '--word%g' 4999)
 hashes many_words "$known" "${words[@]}" --v1 <something
 
-# The help of the page, with its option at any position.
-blocks "$top/docs/COMMANDS.md" text Usage >help
-runs help 0 "$(cat help)"$'\n' '' "$program" --help
-runs help_last 0 "$(cat help)"$'\n' '' "$program" missing --v1 --v3 -h
+# The help of upstream, with its option at any position.
+help=$top/packages/tools/tests/help.txt
+runs help 0 "$(cat "$help")"$'\n' '' "$program" --help
+runs help_last 0 "$(cat "$help")"$'\n' '' "$program" missing --v1 --v3 -h
 fails help_to_a_full_output "$write_fault" to_a_full_disk "$program" --help
 
 # Refused arguments.
