@@ -124,8 +124,8 @@ REPLACED = [
         let input = if name == b"-" {""", "Rattle's paths are UTF-8"),
     ("tools/src/proved/rapidsum/disk", "use std::io::{Error, ErrorKind, IsTerminal, Read, Result, Stdin, Write};\nuse std::str;",
      "use std::io::{Read, Result, Stdin, Write};", "as above, and IsTerminal came with Rust 1.70"),
-    ("tools/src/proved/rapidsum/choice", "by their names.\n", "by their names.\n#![allow(clippy::manual_find)]\n",
-     "the proof is of a loop"),
+    ("tools/src/proved/rapidsum/algorithm", "the version and the seed.\n",
+     "the version and the seed.\n#![allow(clippy::manual_find)]\n", "the proof is of a loop"),
     ("tools/src/proved/rapidsum/main", "#![forbid(unsafe_code)]", "#![deny(unsafe_code)]", "Rust's runtime ignores the signal"),
     ("tools/src/proved/rapidsum/main", "mod usage;\n", "mod usage;\n\n#[cfg(unix)]\n#[path = \"../../kit/pipe.rs\"]\nmod pipe;\n",
      "as above"),
@@ -136,7 +136,6 @@ REPLACED = [
     ("tools/src/proved/rapidsum/problem", "    /// Returns whether a line was written to a pipe",
      "    #[allow(dead_code)]\n    /// Returns whether a line was written to a pipe", "as above"),
     ("tools/src/proved/rapidsum/console", "use std::io::{IsTerminal, Write};", "use std::io::Write;", "IsTerminal came with Rust 1.70"),
-    ("tools/src/proved/rapidsum/parse", "text: *file,", "text: file,", "Rust follows the reference by itself"),
     ("tools/src/proved/lib", "mod hashes;", "pub mod form;\nmod hashes;", "the Rust crate has no forms"),
     ("tools/src/proved/lib", "mod lines;", "#[path = \"../kit/mod.rs\"]\npub mod kit;\nmod lines;", "the kit's library"),
 ]

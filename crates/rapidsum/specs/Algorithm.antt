@@ -1,11 +1,12 @@
 -- The hash that a version and a seed word select.
-use Rattle.std.specs.Prelude.{ℕ, false, List, Option, None, Some}
+use Rattle.std.specs.Prelude.{ℕ, Bool, bytes_eq, find, List, Option, None, Some}
 use Rattle.rapidhash_portable.specs.declared.form.Form.{Form}
 use Rattle.rapidhash_portable.specs.declared.form.Form.TheVariants as form
 use Rattle.rapidhash_portable.specs.Form.{standard}
 use Rattle.rapidhash_portable.specs.Hash.{portable_hash}
 use Rattle.rapidhash_portable.specs.Secrets.{cpp_seeded, default_secrets, default_secrets_v1, default_seed, default_seed_v1}
-use Rattle.rapidhash_portable.specs.Version.{form_of}
+use Rattle.rapidhash_portable.specs.declared.form.Version.{Version}
+use Rattle.rapidhash_portable.specs.Version.{form_of, name_of as version_name, versions}
 use Rattle.rapidsum.specs.declared.algorithm.Algorithm.{Algorithm}
 
 -- V1's seed: the default, or the seed derived from a word
@@ -27,3 +28,11 @@ hash_by word (form.V3 lanes) x = portable_hash (form.V3 lanes) standard (seed_by
 -- the hash of a file's bytes
 abbrev pub hash_of : Algorithm → List ℕ → ℕ
 hash_of algorithm x = hash_by algorithm.seed (form_of algorithm.version) x
+
+-- whether a version has a name
+abbrev pub is_version : List ℕ → Version → Bool
+is_version name version = bytes_eq (version_name version) name
+
+-- the version with a name
+unfoldable pub version_named : List ℕ → Option Version
+version_named name = find (is_version name) versions

@@ -1,6 +1,6 @@
 pub mod Algorithm
+pub mod Call
 pub mod Check
-pub mod Choice
 pub mod Entry
 pub mod Line
 pub mod List
@@ -8,4 +8,3 @@ pub mod Options
 pub mod Parse
 pub mod Seed
 pub mod Sources
-pub mod Style

@@ -1,95 +1,55 @@
--- The options of a call, and which of them exclude each other.
-use Rattle.std.specs.Prelude.{ℕ, Bool, true, false, ◌&&◌, cond, is_some, List, Option, None, Some, option_map, Result, Ok, Err, unwrap_or}
-use Rattle.rapidsum.specs.Choice.{is_algorithm, version_named}
-use Rattle.rapidsum.specs.Seed.{seed_of}
-use Rattle.rapidsum.specs.declared.algorithm.Algorithm.{Algorithm as TheAlgorithm}
-use Rattle.rapidhash_portable.specs.declared.form.Version.{Version as TheVersion}
+-- The options of a table.
+use Rattle.std.specs.Prelude.{ℕ, ◌==◌, Bool, false, cond, bytes_eq, is_some, length, List, [], map, Option, None, nat_lt, option_and_then, option_map, slice_get, slice_index_or, unwrap_or}
+use Rattle.std.specs.List.{position_from}
+use Rattle.std.specs.Option.{option_map_or}
 use Rattle.rapidhash_portable.specs.declared.form.Version.TheVariants.{V3}
-use Rattle.rapidsum.specs.declared.choice.Choice.{Choice}
-use Rattle.rapidsum.specs.declared.choice.Choice.TheVariants.{Algorithm, Seed, FilesFrom, Check, Quiet, Status, IgnoreMissing, Strict, Warn, Binary, Text, Tag, Zero, Help, Version}
-use Rattle.rapidsum.specs.declared.line.Layout.{Layout}
+use Rattle.rapidsum.specs.Algorithm.{version_named}
+use Rattle.rapidsum.specs.Seed.{seed_of}
+use Rattle.rapidsum.specs.declared.algorithm.Algorithm.{Algorithm}
 use Rattle.rapidsum.specs.declared.line.Layout.TheVariants as layout
 use Rattle.rapidsum.specs.declared.line.Style.{Style}
 use Rattle.rapidsum.specs.declared.options.Options.{Options}
-use Rattle.rapidsum.specs.declared.stop.Reason.{Reason}
-use Rattle.rapidsum.specs.declared.stop.Reason.TheVariants as reason
-use Rattle.rapidsum.specs.Style.{is_binary, is_text}
+use Rattle.rapidsum.specs.declared.options.Row.{Row}
+use Rattle.rapidsum.specs.declared.options.TheConstants.{ALGORITHM, BINARY, SEED, TAG, ZERO}
 
--- the options of a call without arguments
-abbrev pub none : Options
-none = record {
-  version = None;
-  seed = None;
-  layout = None;
-  tag = false;
-  zero = false;
-  check = false;
-  quiet = false;
-  status = false;
-  ignore_missing = false;
-  strict = false;
-  warn = false;
+-- the place of the option with a name
+abbrev pub place_named : List Row → List ℕ → Option ℕ
+place_named rows name = position_from (λ row. bytes_eq row.name.now name) 0 rows
+
+-- the place of the option with a letter
+abbrev pub place_lettered : List Row → ℕ → Option ℕ
+place_lettered rows letter = position_from (λ row. option_map_or (λ own. own == letter) row.letter false) 0 rows
+
+-- the name of the option at a place
+abbrev pub name_at : List Row → ℕ → List ℕ
+name_at rows place = option_map_or (λ row. row.name.now) (slice_get rows place) []
+
+-- whether the option at a place takes a value
+abbrev pub takes_value : List Row → ℕ → Bool
+takes_value rows place = option_map_or (λ row. nat_lt 0 (length row.value.now)) (slice_get rows place) false
+
+-- the value of the option at a place, if it is given
+abbrev pub value_of : Options → ℕ → Option (List ℕ)
+value_of options place = option_map (λ value. value.now) (slice_index_or options.values place None)
+
+-- the values of the options, by their places
+abbrev pub values_of : Options → List (Option (List ℕ))
+values_of options = map (option_map (λ value. value.now)) options.values
+
+-- whether the option at a place is given
+unfoldable pub is_given : List (Option (List ℕ)) → ℕ → Bool
+is_given values place = is_some (slice_index_or values place None)
+
+-- the version of --algorithm or V3, and the number of --seed
+abbrev pub algorithm_of : Options → Algorithm
+algorithm_of options = record {
+  version = unwrap_or (option_and_then version_named (value_of options ALGORITHM)) V3;
+  seed = option_and_then seed_of (value_of options SEED);
 }
 
--- the version and the seed to hash with
-abbrev pub algorithm_of : Options → TheAlgorithm
-algorithm_of options = record { version = unwrap_or options.version V3; seed = options.seed }
-
--- the layout and the end of a line
+-- the layout of --tag, otherwise of --binary, otherwise of --text, and the end of --zero
 abbrev pub style_of : Options → Style
-style_of options = record { layout = cond options.tag layout.Tagged (unwrap_or options.layout layout.Text); zero = options.zero }
-
--- the options, unless one of them was there already
-abbrev pub once : Bool → Options → Result Options Reason
-once is_there options = cond is_there (Err reason.Repeated) (Ok options)
-
-abbrev pub with_layout : Options → Layout → Options
-with_layout options chosen = record options { layout = Some chosen }
-
--- the options with one more that takes no value; --binary and --text replace each other
-abbrev pub with_flag : Options → Choice → Result Options Reason
-with_flag o Algorithm = Err reason.Repeated
-with_flag o Seed = Err reason.Repeated
-with_flag o FilesFrom = Err reason.Repeated
-with_flag o Check = once o.check (record o { check = true })
-with_flag o Quiet = once o.quiet (record o { quiet = true })
-with_flag o Status = once o.status (record o { status = true })
-with_flag o IgnoreMissing = once o.ignore_missing (record o { ignore_missing = true })
-with_flag o Strict = once o.strict (record o { strict = true })
-with_flag o Warn = once o.warn (record o { warn = true })
-with_flag o Binary = once (is_binary o.layout) (with_layout o layout.Binary)
-with_flag o Text = once (is_text o.layout) (with_layout o layout.Text)
-with_flag o Tag = once o.tag (record o { tag = true })
-with_flag o Zero = once o.zero (record o { zero = true })
-with_flag o Help = Err reason.Help
-with_flag o Version = Err reason.Version
-
--- the options with a version, if the value names one
-abbrev pub with_version : Options → Option TheVersion → Result Options Reason
-with_version o None = Err reason.InvalidVersion
-with_version o (Some version) = once (is_some o.version) (record o { version = Some version })
-
--- the options with a seed, if the value is one
-abbrev pub with_seed : Options → Option ℕ → Result Options Reason
-with_seed o None = Err reason.InvalidSeed
-with_seed o (Some seed) = once (is_some o.seed) (record o { seed = Some seed })
-
--- the options with one more and its value
-abbrev pub with_value : Options → Choice → List ℕ → Result Options Reason
-with_value o choice value = cond (is_algorithm choice) (with_version o (version_named value)) (with_seed o (seed_of value))
-
--- the first option that requires --check
-abbrev pub of_check : Options → Option Choice
-of_check o = cond o.ignore_missing (Some IgnoreMissing) (cond o.status (Some Status)
-    (cond o.warn (Some Warn) (cond o.quiet (Some Quiet) (cond o.strict (Some Strict) None))))
-
--- the first option that excludes --check
-abbrev pub of_sums : Options → Option (Reason × Choice)
-of_sums o = cond o.zero (Some (reason.ZeroWithCheck, Zero)) (cond o.tag (Some (reason.TagWithCheck, Tag))
-    (cond (is_some o.layout) (Some (reason.LayoutWithCheck, Binary)) None))
-
--- why the options exclude each other, and an option at fault
-abbrev pub conflict : Options → Option (Reason × Choice)
-conflict o = cond (o.tag && is_text o.layout) (Some (reason.TagWithText, Tag))
-    (cond o.check (of_sums o)
-    (cond (is_some (of_sums o)) None (option_map (λ choice. (reason.OnlyWithCheck, choice)) (of_check o))))
+style_of options = record {
+  layout = cond (is_given (values_of options) TAG) layout.Tagged (cond (is_given (values_of options) BINARY) layout.Binary layout.Text);
+  zero = is_given (values_of options) ZERO;
+}

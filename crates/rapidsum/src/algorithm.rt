@@ -4,7 +4,7 @@ ghost use Rattle.std.specs.Prelude.{◌≡◌, ◌≤◌, [], false, IfOk, IfSom
 ghost use Rattle.rapidhash_portable.specs.declared.form.Form.TheVariants.{V1, V2, V3};
 ghost use Rattle.rapidhash_portable.specs.Lanes.{IsLaneCount};
 ghost use Rattle.rapidhash_portable.specs.Secrets.{default_secrets, default_secrets_v1};
-ghost use Rattle.rapidsum.specs.Algorithm.{hash_by, hash_of, seed_by, seed_by_v1};
+ghost use Rattle.rapidsum.specs.Algorithm.{hash_by, hash_of, seed_by, seed_by_v1, version_named};
 
 use rapidhash_portable::form::Version;
 use rapidhash_portable::kernel::{MIXED, NOT_COMPACT, PLAIN};
@@ -22,6 +22,19 @@ const PIECE: usize = 65536;
 /// V1 and V2 read longer files of a known length in pieces. A file of /proc or /sys may have fewer
 /// bytes than its length, which is always below this.
 const WHOLE: u64 = 65536;
+
+/// Returns the version with a name.
+#[tactic(auto, unfolding(crate::specs::Algorithm::version_named))]
+pub fn version_named(name: &[u8]) -> Option<Version>
+    ensures { result ≡ version_named name.now }
+{
+    for version in Version::all() {
+        if version.name().as_bytes() == name {
+            return Some(version);
+        }
+    }
+    None
+}
 
 /// A version, and the word from which its seed is derived instead of the default word.
 #[derive(Clone, Copy)]

@@ -4,7 +4,6 @@
 mod algorithm;
 mod arguments;
 mod check;
-mod choice;
 mod console;
 mod disk;
 mod entry;
@@ -20,13 +19,13 @@ mod runs;
 mod seed;
 mod sources;
 mod state;
-mod stop;
 mod store;
 mod sum;
 mod tag;
 mod usage;
 
 use arguments::arguments_of;
+use options::rows;
 use parse::parse;
 use problem::Problem;
 use std::process::ExitCode;
@@ -38,7 +37,7 @@ const BROKEN_PIPE: u8 = 255;
 // passed.
 fn run(rt: &HostRuntime) -> Result<bool, Problem> {
     let words = arguments_of(rt, rt.alloc())?;
-    match parse(rt.alloc(), words.as_slice())? {
+    match parse(rt.alloc(), rows(), words.as_slice())? {
         Ok(call) => runs::run_files(rt, &call),
         Err(stop) => usage::report(rt, &stop),
     }

@@ -1,249 +1,249 @@
-//! The options of a call, and which of them exclude each other.
+//! The table of the options, and the options of a call.
 
-ghost use Rattle.std.specs.Prelude.{◌≡◌};
-ghost use Rattle.rapidsum.specs.Options.{algorithm_of, conflict, none, of_check, of_sums, once, style_of, with_flag, with_layout, with_seed, with_value, with_version};
-ghost use Rattle.rapidsum.specs.Style.{is_binary, is_text};
+ghost use Rattle.std.specs.Prelude.{◌≡◌, ◌<◌, option_map, IfSome};
+ghost use Rattle.rapidsum.specs.Call.{HasNames};
+ghost use Rattle.rapidsum.specs.Options.{algorithm_of, is_given, place_lettered, place_named, style_of, takes_value, value_of, values_of};
 
-use crate::algorithm::Algorithm;
-use crate::choice::{Choice, version_named};
+use crate::algorithm::{Algorithm, version_named};
 use crate::line::{Layout, Style};
 use crate::seed::seed_of;
-use crate::stop::Reason;
 use rapidhash_portable::form::Version;
 
-/// The options that the arguments choose.
+/// The places of the options in the table.
+pub const ALGORITHM: usize = 0;
+
+pub const SEED: usize = 1;
+
+pub const FILES_FROM: usize = 2;
+
+pub const CHECK: usize = 3;
+
+pub const QUIET: usize = 4;
+
+pub const STATUS: usize = 5;
+
+pub const IGNORE_MISSING: usize = 6;
+
+pub const STRICT: usize = 7;
+
+pub const WARN: usize = 8;
+
+pub const BINARY: usize = 9;
+
+pub const TEXT: usize = 10;
+
+pub const TAG: usize = 11;
+
+pub const ZERO: usize = 12;
+
+pub const HELP: usize = 13;
+
+pub const VERSION: usize = 14;
+
+/// An option in the table.
 #[derive(Clone, Copy)]
-pub struct Options {
-    /// The version of `--algorithm`.
-    pub version: Option<Version>,
-    /// The number of `--seed`.
-    pub seed: Option<u64>,
-    /// The layout of `--binary` or `--text`, whichever is last.
-    pub layout: Option<Layout>,
-    /// Prints the version in each line.
-    pub tag: bool,
-    /// Ends each line with a zero byte.
-    pub zero: bool,
-    /// Checks the files in lists.
-    pub check: bool,
-    /// Prints no line for a file that has its hash.
-    pub quiet: bool,
-    /// Prints nothing but errors.
-    pub status: bool,
-    /// Ignores missing files.
-    pub ignore_missing: bool,
-    /// Fails if a line is malformed.
-    pub strict: bool,
-    /// Reports each malformed line.
-    pub warn: bool,
+pub struct Row {
+    /// The letter after a hyphen.
+    pub letter: Option<u8>,
+    /// The name after two hyphens.
+    pub name: &'static str,
+    /// The name of the value in the help, or nothing if the option takes none.
+    pub value: &'static str,
+    pub help: &'static str,
 }
 
-impl Options {
-    /// Returns the options of a call without arguments.
-    pub fn none() -> Options
-        ensures { result ≡ none }
-    {
-        Options {
-            version: None,
-            seed: None,
-            layout: None,
-            tag: false,
-            zero: false,
-            check: false,
-            quiet: false,
-            status: false,
-            ignore_missing: false,
-            strict: false,
-            warn: false,
+/// All options, in the order of the help.
+pub type Table = [Row; 15];
+
+const ROWS: Table = [
+    Row {
+        letter: Some(b'a'),
+        name: "algorithm",
+        value: "VERSION",
+        help: "Hash with this version [default: v3]",
+    },
+    Row {
+        letter: None,
+        name: "seed",
+        value: "NUMBER",
+        help: "Hash with the seed made from this number",
+    },
+    Row {
+        letter: None,
+        name: "files0-from",
+        value: "F",
+        help: "Read the names of the FILEs from F, each ended by NUL",
+    },
+    Row {
+        letter: Some(b'c'),
+        name: "check",
+        value: "",
+        help: "Read checksums from the FILEs and check them",
+    },
+    Row {
+        letter: None,
+        name: "quiet",
+        value: "",
+        help: "Don't print OK for each file that matches",
+    },
+    Row {
+        letter: None,
+        name: "status",
+        value: "",
+        help: "Don't print anything but errors",
+    },
+    Row {
+        letter: None,
+        name: "ignore-missing",
+        value: "",
+        help: "Don't fail or report a status for missing files",
+    },
+    Row {
+        letter: None,
+        name: "strict",
+        value: "",
+        help: "Fail if a line is improperly formatted",
+    },
+    Row {
+        letter: Some(b'w'),
+        name: "warn",
+        value: "",
+        help: "Warn about each improperly formatted line",
+    },
+    Row {
+        letter: Some(b'b'),
+        name: "binary",
+        value: "",
+        help: "Print an asterisk before each name",
+    },
+    Row {
+        letter: Some(b't'),
+        name: "text",
+        value: "",
+        help: "Print a space before each name (default)",
+    },
+    Row {
+        letter: None,
+        name: "tag",
+        value: "",
+        help: "Print the version in each line, as in BSD checksums",
+    },
+    Row {
+        letter: Some(b'z'),
+        name: "zero",
+        value: "",
+        help: "End each line with NUL, and don't escape names",
+    },
+    Row {
+        letter: Some(b'h'),
+        name: "help",
+        value: "",
+        help: "Print help",
+    },
+    Row {
+        letter: Some(b'V'),
+        name: "version",
+        value: "",
+        help: "Print version",
+    },
+];
+
+/// Returns the table.
+pub fn rows() -> &'static Table
+    ensures { HasNames result.now }
+{
+    &ROWS
+}
+
+/// Returns the place of the option with a name.
+pub fn place_named(rows: &Table, name: &[u8]) -> Option<usize>
+    ensures place { result ≡ place_named rows.now name.now }
+    ensures within { IfSome result (λ place. place < 15) }
+{
+    for (place, row) in rows.iter().enumerate() {
+        if row.name.as_bytes() == name {
+            return Some(place);
         }
+    }
+    None
+}
+
+/// Returns the place of the option with a letter.
+pub fn place_lettered(rows: &Table, letter: u8) -> Option<usize>
+    ensures place { result ≡ place_lettered rows.now letter }
+    ensures within { IfSome result (λ place. place < 15) }
+{
+    for (place, row) in rows.iter().enumerate() {
+        if row.letter == Some(letter) {
+            return Some(place);
+        }
+    }
+    None
+}
+
+/// Returns whether the option at a place takes a value.
+pub fn takes_value(rows: &Table, place: usize) -> bool
+    requires { place < 15 }
+    ensures { result ≡ takes_value rows.now place }
+{
+    !rows[place].value.is_empty()
+}
+
+/// The value of each option in the table, empty for one that takes none, or `None` if it is not
+/// given.
+#[derive(Clone, Copy)]
+pub struct Options<'a> {
+    pub values: [Option<&'a [u8]>; 15],
+}
+
+impl<'a> Options<'a> {
+    /// Returns the value of the option at a place.
+    pub fn value(&self, place: usize) -> Option<&'a [u8]>
+        requires { place < 15 }
+        ensures { option_map (λ value. value.now) result ≡ value_of self.now place }
+    {
+        self.values[place]
+    }
+
+    /// Returns whether the option at a place is given.
+    #[tactic(auto, unfolding(crate::specs::Options::is_given))]
+    pub fn has(&self, place: usize) -> bool
+        requires { place < 15 }
+        ensures { result ≡ is_given (values_of self.now) place }
+    {
+        self.value(place).is_some()
     }
 
     /// Returns the version and the seed.
-    pub fn algorithm(self) -> Algorithm
-        ensures { result ≡ algorithm_of self }
+    pub fn algorithm(&self) -> Algorithm
+        ensures { result ≡ algorithm_of self.now }
     {
         Algorithm {
-            version: self.version.unwrap_or(Version::V3),
-            seed: self.seed,
+            version: match self.value(ALGORITHM) {
+                Some(name) => version_named(name).unwrap_or(Version::V3),
+                None => Version::V3,
+            },
+            seed: match self.value(SEED) {
+                Some(number) => seed_of(number),
+                None => None,
+            },
         }
     }
 
     /// Returns the layout and the end of a line.
-    pub fn style(self) -> Style
-        ensures { result ≡ style_of self }
+    pub fn style(&self) -> Style
+        ensures { result ≡ style_of self.now }
     {
-        let layout = match self.layout {
-            _ if self.tag => Layout::Tagged,
-            None => Layout::Text,
-            Some(layout) => layout,
+        let layout = if self.has(TAG) {
+            Layout::Tagged
+        } else if self.has(BINARY) {
+            Layout::Binary
+        } else {
+            Layout::Text
         };
         Style {
             layout,
-            zero: self.zero,
+            zero: self.has(ZERO),
         }
-    }
-
-    /// Returns the options with one more that takes no value.
-    pub fn with_flag(self, choice: Choice) -> Result<Options, Reason>
-        ensures { result ≡ with_flag self choice }
-    {
-        match choice {
-            Choice::Help => Err(Reason::Help),
-            Choice::Version => Err(Reason::Version),
-            Choice::Algorithm | Choice::Seed | Choice::FilesFrom => Err(Reason::Repeated),
-            Choice::Check => once(
-                self.check,
-                Options {
-                    check: true,
-                    ..self
-                },
-            ),
-            Choice::Quiet => once(
-                self.quiet,
-                Options {
-                    quiet: true,
-                    ..self
-                },
-            ),
-            Choice::Status => once(
-                self.status,
-                Options {
-                    status: true,
-                    ..self
-                },
-            ),
-            Choice::IgnoreMissing => {
-                let options = Options {
-                    ignore_missing: true,
-                    ..self
-                };
-                once(self.ignore_missing, options)
-            }
-            Choice::Strict => once(
-                self.strict,
-                Options {
-                    strict: true,
-                    ..self
-                },
-            ),
-            Choice::Warn => once(self.warn, Options { warn: true, ..self }),
-            Choice::Tag => once(self.tag, Options { tag: true, ..self }),
-            Choice::Zero => once(self.zero, Options { zero: true, ..self }),
-            Choice::Binary => once(self.is_binary(), self.with_layout(Layout::Binary)),
-            Choice::Text => once(self.is_text(), self.with_layout(Layout::Text)),
-        }
-    }
-
-    /// Returns the options with the version or the seed that a value names.
-    pub fn with_value(self, choice: Choice, value: &[u8]) -> Result<Options, Reason>
-        ensures { result ≡ with_value self choice value.now }
-    {
-        if choice.is_algorithm() {
-            self.with_version(version_named(value))
-        } else {
-            self.with_seed(seed_of(value))
-        }
-    }
-
-    fn with_version(self, version: Option<Version>) -> Result<Options, Reason>
-        ensures { result ≡ with_version self version }
-    {
-        match version {
-            None => Err(Reason::InvalidVersion),
-            Some(_) if self.version.is_some() => Err(Reason::Repeated),
-            Some(_) => Ok(Options { version, ..self }),
-        }
-    }
-
-    fn with_seed(self, seed: Option<u64>) -> Result<Options, Reason>
-        ensures { result ≡ with_seed self seed }
-    {
-        match seed {
-            None => Err(Reason::InvalidSeed),
-            Some(_) if self.seed.is_some() => Err(Reason::Repeated),
-            Some(_) => Ok(Options { seed, ..self }),
-        }
-    }
-
-    fn with_layout(self, layout: Layout) -> Options
-        ensures { result ≡ with_layout self layout }
-    {
-        Options {
-            layout: Some(layout),
-            ..self
-        }
-    }
-
-    fn is_binary(self) -> bool
-        ensures { result ≡ is_binary self.layout }
-    {
-        matches!(self.layout, Some(Layout::Binary))
-    }
-
-    fn is_text(self) -> bool
-        ensures { result ≡ is_text self.layout }
-    {
-        matches!(self.layout, Some(Layout::Text))
-    }
-
-    // Returns the first option that requires `--check`, in the order of sha256sum.
-    fn of_check(self) -> Option<Choice>
-        ensures { result ≡ of_check self }
-    {
-        if self.ignore_missing {
-            Some(Choice::IgnoreMissing)
-        } else if self.status {
-            Some(Choice::Status)
-        } else if self.warn {
-            Some(Choice::Warn)
-        } else if self.quiet {
-            Some(Choice::Quiet)
-        } else if self.strict {
-            Some(Choice::Strict)
-        } else {
-            None
-        }
-    }
-
-    // Returns the first option that excludes `--check`, in the order of sha256sum.
-    fn of_sums(self) -> Option<(Reason, Choice)>
-        ensures { result ≡ of_sums self }
-    {
-        if self.zero {
-            Some((Reason::ZeroWithCheck, Choice::Zero))
-        } else if self.tag {
-            Some((Reason::TagWithCheck, Choice::Tag))
-        } else if self.layout.is_some() {
-            Some((Reason::LayoutWithCheck, Choice::Binary))
-        } else {
-            None
-        }
-    }
-
-    /// Returns why the options exclude each other, and an option at fault. An option of a check is
-    /// ignored without `--check` beside an option that excludes `--check`.
-    pub fn conflict(self) -> Option<(Reason, Choice)>
-        ensures { result ≡ conflict self }
-    {
-        if self.tag && self.is_text() {
-            return Some((Reason::TagWithText, Choice::Tag));
-        }
-        let excluded = self.of_sums();
-        if self.check || excluded.is_some() {
-            return if self.check { excluded } else { None };
-        }
-        let choice = self.of_check()?;
-        Some((Reason::OnlyWithCheck, choice))
-    }
-}
-
-// Returns the options unless one of them was there already.
-fn once(is_there: bool, options: Options) -> Result<Options, Reason>
-    ensures { result ≡ once is_there options }
-{
-    if is_there {
-        Err(Reason::Repeated)
-    } else {
-        Ok(options)
     }
 }

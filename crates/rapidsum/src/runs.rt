@@ -4,6 +4,7 @@ use crate::check::{Verdict, check_entries};
 use crate::console::Console;
 use crate::disk::Disk;
 use crate::list::{List, read_list};
+use crate::options::{CHECK, FILES_FROM, IGNORE_MISSING, STRICT};
 use crate::parse::Call;
 use crate::problem::Problem;
 use crate::sources::names_in;
@@ -31,7 +32,7 @@ fn run_call(
     disk: &Disk<'_>,
     call: &Call<'_, Global>,
 ) -> Result<bool, Problem> {
-    if let Some(list) = call.list {
+    if let Some(list) = call.options.value(FILES_FROM) {
         return run_listed(console, disk, list);
     }
     if call.files.is_empty() {
@@ -61,7 +62,7 @@ fn run_listed(console: &mut Console<'_>, disk: &Disk<'_>, list: &[u8]) -> Result
 
 // Prints or checks a file.
 fn run_file(console: &mut Console<'_>, disk: &Disk<'_>, name: &[u8]) -> Result<bool, Problem> {
-    if console.options.check {
+    if console.options.has(CHECK) {
         check_list(console, disk, name)
     } else {
         print_sum(console, disk, name)
@@ -148,11 +149,11 @@ fn check_list(console: &mut Console<'_>, disk: &Disk<'_>, name: &[u8]) -> Result
         console.complain(name, "no properly formatted checksum lines found")?;
         return Ok(false);
     }
-    let ignore_missing = console.options.ignore_missing;
+    let ignore_missing = console.options.has(IGNORE_MISSING);
     let entries = list.entries.as_slice();
     let checked = check_entries(rt.alloc(), entries, disk, given, ignore_missing, console)?;
     let same = checked.count(Verdict::Same);
     console.warn_of_verdicts(name, &list, &checked)?;
-    let well_formed = list.malformed.is_empty() || !console.options.strict;
+    let well_formed = list.malformed.is_empty() || !console.options.has(STRICT);
     Ok(checked.passed && same > 0 && well_formed)
 }

@@ -1,9 +1,9 @@
 //! The texts of the help, the version and the mistakes.
 
-use crate::choice::Choice;
 use crate::console::with_name;
+use crate::options::{Row, rows};
 use crate::problem::Problem;
-use crate::stop::{Reason, Stop};
+use crate::state::Stop;
 use rapidhash_portable::form::Version;
 use std::alloc::Global;
 use std::io::Write;
@@ -30,19 +30,16 @@ fn push_versions(text: &mut Vec<u8>) -> Result<(), Problem> {
 }
 
 // Adds the line of an option.
-fn push_row(alloc: Global, text: &mut Vec<u8>, choice: Choice) -> Result<(), Problem> {
-    let spelling = choice.spelling();
-    let sign = if spelling.value.is_empty() { "" } else { "=" };
-    let name = format!(in alloc; "{}{sign}{}", spelling.name, spelling.value)?;
-    let line = format!(in alloc; "--{name:<17}  {}", choice.help())?;
-    if spelling.letter.is_empty() {
-        text.extend_from_slice(b"      ")?;
-    } else {
-        let start = format!(in alloc; "  -{}, ", spelling.letter)?;
-        text.extend_from_slice(start.as_bytes())?;
+fn push_row(alloc: Global, text: &mut Vec<u8>, row: &Row) -> Result<(), Problem> {
+    match row.letter {
+        Some(letter) => text.extend_from_slice(&[b' ', b' ', b'-', letter, b',', b' '])?,
+        None => text.extend_from_slice(b"      ")?,
     }
+    let sign = if row.value.is_empty() { "" } else { "=" };
+    let name = format!(in alloc; "{}{sign}{}", row.name, row.value)?;
+    let line = format!(in alloc; "--{name:<17}  {}", row.help)?;
     text.extend_from_slice(line.as_bytes())?;
-    if choice == Choice::Algorithm {
+    if row.value == "VERSION" {
         text.extend_from_slice(b" [possible values: ")?;
         push_versions(text)?;
         text.push(b']')?;
@@ -55,50 +52,59 @@ fn push_row(alloc: Global, text: &mut Vec<u8>, choice: Choice) -> Result<(), Pro
 fn help(alloc: Global) -> Result<Vec<u8>, Problem> {
     let mut text = Vec::new(alloc);
     text.extend_from_slice(HEAD.as_bytes())?;
-    for choice in Choice::all() {
-        push_row(alloc, &mut text, choice)?;
+    for row in rows() {
+        push_row(alloc, &mut text, row)?;
     }
     Ok(text)
-}
-
-// Returns the first character of a text, or all of it if it is not UTF-8.
-fn first_character(text: &[u8]) -> &[u8] {
-    let is_within = |byte: &&u8| matches!(**byte, 0x80..=0xbf);
-    let count = text.iter().skip(1).take_while(is_within).count();
-    text.get(..count.saturating_add(1)).unwrap_or(text)
 }
 
 // Returns the message for a mistake.
-fn message_of(alloc: Global, stop: &Stop<'_>) -> Result<Vec<u8>, Problem> {
-    let (start, end) = stop.reason.message();
+fn message_of(
+    alloc: Global,
+    start: &str,
+    text: &[u8],
+    end: &str,
+    lists_versions: bool,
+) -> Result<Vec<u8>, Problem> {
     let start = format!(in alloc; "rapidsum: {start}")?;
-    let name = match stop.reason {
-        Reason::UnknownLetter => first_character(stop.text),
-        _ => stop.text,
-    };
-    let mut text = with_name(alloc, start.as_str(), name, end)?;
-    if stop.reason == Reason::InvalidVersion {
-        text.extend_from_slice(b"\nValid arguments are: ")?;
-        push_versions(&mut text)?;
+    let mut message = with_name(alloc, start.as_str(), text, end)?;
+    if lists_versions {
+        message.extend_from_slice(b"\nValid arguments are: ")?;
+        push_versions(&mut message)?;
     }
-    text.extend_from_slice(b"\nTry 'rapidsum --help' for more information.\n")?;
-    Ok(text)
+    message.extend_from_slice(b"\nTry 'rapidsum --help' for more information.\n")?;
+    Ok(message)
 }
 
 /// Prints the help, the version, or the message for a mistake. Returns whether it is no mistake.
 pub fn report(rt: &HostRuntime, stop: &Stop<'_>) -> Result<bool, Problem> {
     let alloc = rt.alloc();
-    let printed = match stop.reason {
-        Reason::Help => rt.stdout().write_all(help(alloc)?.as_slice()),
-        Reason::Version => rt.stdout().write_all(b"rapidsum 1.0\n"),
-        _ => {
-            let text = message_of(alloc, stop)?;
-            rt.stderr()
-                .write_all(text.as_slice())
+    let message = match *stop {
+        Stop::Help => {
+            rt.stdout()
+                .write_all(help(alloc)?.as_slice())
                 .map_err(Problem::Write)?;
-            return Ok(false);
+            return Ok(true);
         }
+        Stop::Version => {
+            rt.stdout()
+                .write_all(b"rapidsum 1.0\n")
+                .map_err(Problem::Write)?;
+            return Ok(true);
+        }
+        Stop::UnknownVersion(name) => {
+            message_of(
+                alloc,
+                "invalid argument '",
+                name,
+                "' for '--algorithm'",
+                true,
+            )?
+        }
+        Stop::Mistake(start, text, end) => message_of(alloc, start, text, end, false)?,
     };
-    printed.map_err(Problem::Write)?;
-    Ok(true)
+    rt.stderr()
+        .write_all(message.as_slice())
+        .map_err(Problem::Write)?;
+    Ok(false)
 }

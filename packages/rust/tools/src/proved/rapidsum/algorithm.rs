@@ -1,6 +1,7 @@
 // Made by scripts/rust_crate from crates/rapidsum/src/algorithm.rt: change that file.
 
 //! Which hash a file has: the version and the seed.
+#![allow(clippy::manual_find)]
 
 use rapidhash_tool::kit::Vec;
 use rapidhash_tool::form::Version;
@@ -19,6 +20,16 @@ const PIECE: usize = 65536;
 /// V1 and V2 read longer files of a known length in pieces. A file of /proc or /sys may have fewer
 /// bytes than its length, which is always below this.
 const WHOLE: u64 = 65536;
+
+/// Returns the version with a name.
+pub fn version_named(name: &[u8]) -> Option<Version> {
+    for version in Version::all() {
+        if version.name().as_bytes() == name {
+            return Some(version);
+        }
+    }
+    None
+}
 
 /// A version, and the word from which its seed is derived instead of the default word.
 #[derive(Clone, Copy)]

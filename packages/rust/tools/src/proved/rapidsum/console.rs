@@ -7,7 +7,7 @@ use rapidhash_tool::kit::Vec;
 use crate::check::{Checked, Report, Verdict};
 use crate::list::List;
 use crate::names::{needs_escape, push_escaped};
-use crate::options::Options;
+use crate::options::{Options, QUIET, STATUS, WARN};
 use crate::problem::{Problem, reason_of};
 use crate::quote::push_name;
 use rapidhash_tool::kit::alloc::Global;
@@ -28,7 +28,7 @@ pub struct Console<'a> {
     /// The system.
     pub rt: &'a HostRuntime,
     /// The options of a check.
-    pub options: Options,
+    pub options: Options<'a>,
     /// The line that is not ended yet.
     pub line: Vec<u8>,
     lines: Vec<u8>,
@@ -60,7 +60,7 @@ pub fn with_name(alloc: Global, start: &str, name: &[u8], end: &str) -> Result<V
 
 impl<'a> Console<'a> {
     /// Returns the standard streams without a line.
-    pub fn new(rt: &'a HostRuntime, options: Options) -> Self {
+    pub fn new(rt: &'a HostRuntime, options: Options<'a>) -> Self {
         Console {
             rt,
             options,
@@ -147,7 +147,7 @@ impl<'a> Console<'a> {
 
     /// Reports each malformed line of a list, if the option `--warn` is set.
     pub fn warn_of_lines(&mut self, name: &[u8], list: &List) -> Result<(), Problem> {
-        if !self.options.warn {
+        if !self.options.has(WARN) {
             return Ok(());
         }
         for number in &list.malformed {
@@ -158,7 +158,7 @@ impl<'a> Console<'a> {
 
     // Prints a warning with the number of wrong lines or files, if there are any.
     fn warn(&mut self, count: usize, one: &str, several: &str) -> Result<(), Problem> {
-        if count == 0 || self.options.status {
+        if count == 0 || self.options.has(STATUS) {
             return Ok(());
         }
         let what = if count == 1 { one } else { several };
@@ -192,7 +192,7 @@ impl<'a> Console<'a> {
             "computed checksum did NOT match",
             "computed checksums did NOT match",
         )?;
-        if checked.count(Verdict::Same) > 0 || self.options.status {
+        if checked.count(Verdict::Same) > 0 || self.options.has(STATUS) {
             return Ok(());
         }
         if different > 1 && !list.names_a_version() {
@@ -219,13 +219,13 @@ impl Report for Console<'_> {
             self.complain_of(name, error)?;
         }
         let end = match verdict {
-            Verdict::Same if self.options.quiet => return Ok(()),
+            Verdict::Same if self.options.has(QUIET) => return Ok(()),
             Verdict::Same => ": OK\n",
             Verdict::Different => ": FAILED\n",
             Verdict::Unreadable => ": FAILED open or read\n",
             Verdict::Missing => return Ok(()),
         };
-        if self.options.status {
+        if self.options.has(STATUS) {
             return Ok(());
         }
         let text = with_name(self.rt.alloc(), "", name, end)?;

@@ -6,7 +6,6 @@
 mod algorithm;
 mod arguments;
 mod check;
-mod choice;
 mod console;
 mod disk;
 mod entry;
@@ -22,7 +21,6 @@ mod runs;
 mod seed;
 mod sources;
 mod state;
-mod stop;
 mod store;
 mod sum;
 mod tag;
@@ -34,6 +32,7 @@ mod pipe;
 
 use rapidhash_tool::kit::HostRuntime;
 use arguments::arguments_of;
+use options::rows;
 use parse::parse;
 use problem::Problem;
 use std::process::ExitCode;
@@ -42,7 +41,7 @@ use std::process::ExitCode;
 // passed.
 fn run(rt: &HostRuntime) -> Result<bool, Problem> {
     let words = arguments_of(rt, rt.alloc())?;
-    match parse(rt.alloc(), words.as_slice())? {
+    match parse(rt.alloc(), rows(), words.as_slice())? {
         Ok(call) => runs::run_files(rt, &call),
         Err(stop) => usage::report(rt, &stop),
     }

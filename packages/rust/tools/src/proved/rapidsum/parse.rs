@@ -3,36 +3,81 @@
 //! The parser of the arguments, by the conventions of GNU's programs.
 
 use rapidhash_tool::kit::Vec;
-use crate::options::Options;
-use crate::state::{Next, State};
-use crate::stop::{Reason, Stop};
+use crate::options::{
+    BINARY, CHECK, FILES_FROM, IGNORE_MISSING, Options, QUIET, STATUS, STRICT, TAG, TEXT, Table,
+    WARN, ZERO,
+};
+use crate::state::{Next, State, Stop, about};
 use rapidhash_tool::kit::alloc::{AllocError, Allocator};
 
-/// A call: its options and its files, or a list of their names.
+/// A call: its options and its files.
 pub struct Call<'a, A: Allocator> {
-    pub options: Options,
-    /// The list of `--files0-from`.
-    pub list: Option<&'a [u8]>,
+    pub options: Options<'a>,
     /// The names of the files.
     pub files: Vec<&'a [u8], A>,
 }
 
-// Returns the call, unless it has files beside a list.
-fn without_both<'a, A: Allocator>(
-    options: Options,
-    list: Option<&'a [u8]>,
+// Returns the first option that requires `--check`, in the order of sha256sum.
+fn of_check(options: &Options<'_>) -> Option<usize> {
+    if options.has(IGNORE_MISSING) {
+        Some(IGNORE_MISSING)
+    } else if options.has(STATUS) {
+        Some(STATUS)
+    } else if options.has(WARN) {
+        Some(WARN)
+    } else if options.has(QUIET) {
+        Some(QUIET)
+    } else if options.has(STRICT) {
+        Some(STRICT)
+    } else {
+        None
+    }
+}
+
+// Returns the message about the first option that excludes `--check`, in the order of sha256sum.
+fn of_sums(options: &Options<'_>) -> Option<&'static str> {
+    if options.has(ZERO) {
+        Some("the --zero option is not supported when verifying checksums")
+    } else if options.has(TAG) {
+        Some("the --tag option is meaningless when verifying checksums")
+    } else if options.has(BINARY) || options.has(TEXT) {
+        Some("the --binary and --text options are meaningless when verifying checksums")
+    } else {
+        None
+    }
+}
+
+// Returns why the options exclude each other. An option of a check is ignored without `--check`
+// beside an option that excludes `--check`.
+fn conflict<'a>(options: &Options<'_>) -> Option<Stop<'a>> {
+    if options.has(TAG) && options.has(TEXT) {
+        return Some(Stop::Mistake("--tag does not support --text mode", b"", ""));
+    }
+    if options.has(CHECK) {
+        let message = of_sums(options)?;
+        return Some(Stop::Mistake(message, b"", ""));
+    }
+    if of_sums(options).is_some() {
+        return None;
+    }
+    let end = " option is meaningful only when verifying checksums";
+    Some(about("the --", of_check(options)?, end))
+}
+
+// Returns the call of the options and the files, unless some of them exclude each other.
+fn call_of<'a, A: Allocator>(
+    options: Options<'a>,
     files: Vec<&'a [u8], A>,
 ) -> Result<Call<'a, A>, Stop<'a>> {
-    match (list, files.as_slice()) {
-        (Some(_), [file, ..]) => Err(Stop {
-            reason: Reason::ExtraOperand,
-            text: file,
-        }),
-        (Some(_), []) | (None, _) => Ok(Call {
-            options,
-            list,
-            files,
-        }),
+    if let Some(stop) = conflict(&options) {
+        return Err(stop);
+    }
+    match (options.value(FILES_FROM), files.first().copied()) {
+        (Some(_), Some(file)) => {
+            let end = "'\nfile operands cannot be combined with --files0-from";
+            Err(Stop::Mistake("extra operand '", file, end))
+        }
+        _ => Ok(Call { options, files }),
     }
 }
 
@@ -41,14 +86,14 @@ fn without_both<'a, A: Allocator>(
 /// # Errors
 ///
 /// If an allocation fails.
-pub fn parse<A: Allocator, B: Allocator>(
+pub fn parse<'a, A: Allocator, B: Allocator>(
     alloc: A,
-    words: &[Vec<u8, B>],
-) -> Result<Result<Call<'_, A>, Stop<'_>>, AllocError> {
+    rows: &Table,
+    words: &'a [Vec<u8, B>],
+) -> Result<Result<Call<'a, A>, Stop<'a>>, AllocError> {
     let mut files = Vec::new(alloc);
     let mut state = State {
-        options: Options::none(),
-        list: None,
+        options: Options { values: [None; 15] },
         next: Next::Any,
     };
     for word in words {
@@ -56,14 +101,14 @@ pub fn parse<A: Allocator, B: Allocator>(
         if state.is_file(word) {
             files.push(word)?;
         } else {
-            match state.after(word) {
+            match state.after(rows, word) {
                 Ok(next) => state = next,
                 Err(stop) => return Ok(Err(stop)),
             }
         }
     }
-    Ok(match state.finish() {
-        Ok(options) => without_both(options, state.list, files),
-        Err(stop) => Err(stop),
+    Ok(match state.next {
+        Next::Value(_, missing) => Err(missing),
+        Next::Any | Next::File => call_of(state.options, files),
     })
 }

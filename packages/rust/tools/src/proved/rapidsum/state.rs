@@ -2,30 +2,70 @@
 
 //! The options so far, and the effect of each argument on them.
 
-use crate::choice::Choice;
-use crate::options::Options;
-use crate::stop::{Reason, Stop, stop_at};
+use crate::algorithm::version_named;
+use crate::list::next_line;
+use crate::options::{
+    ALGORITHM, BINARY, HELP, Options, SEED, TEXT, Table, VERSION, place_lettered, place_named,
+    rows, takes_value,
+};
+use crate::seed::seed_of;
 
-/// What the next argument may be.
+/// Why the arguments make no call.
 #[derive(Clone, Copy)]
-pub enum Next {
+pub enum Stop<'a> {
+    /// The help is requested.
+    Help,
+    /// The version is requested.
+    Version,
+    /// No version has this name.
+    UnknownVersion(&'a [u8]),
+    /// A message: a text, a part of the arguments or of the table, and a text.
+    Mistake(&'static str, &'a [u8], &'static str),
+}
+
+/// What the next argument is.
+#[derive(Clone, Copy)]
+pub enum Next<'a> {
     /// An option or a file.
     Any,
     /// A file.
     File,
-    /// The value of an option that was chosen by its name.
-    NameValue(Choice),
-    /// The value of an option that was chosen by its letter.
-    LetterValue(Choice),
+    /// The value of the option at this place, without which the arguments make no call.
+    Value(usize, Stop<'a>),
 }
 
-/// The options so far.
+/// The options so far, and what the next argument is.
 #[derive(Clone, Copy)]
 pub struct State<'a> {
-    pub options: Options,
-    /// The list of `--files0-from`.
-    pub list: Option<&'a [u8]>,
-    pub next: Next,
+    pub options: Options<'a>,
+    pub next: Next<'a>,
+}
+
+/// Returns the message about the option at a place.
+pub fn about<'a>(before: &'static str, place: usize, after: &'static str) -> Stop<'a> {
+    Stop::Mistake(before, rows()[place].name.as_bytes(), after)
+}
+
+// Returns why an option may not have a value.
+fn refused(place: usize, value: &[u8]) -> Option<Stop<'_>> {
+    if place == HELP {
+        Some(Stop::Help)
+    } else if place == VERSION {
+        Some(Stop::Version)
+    } else if place == ALGORITHM && version_named(value).is_none() {
+        Some(Stop::UnknownVersion(value))
+    } else if place == SEED && seed_of(value).is_none() {
+        Some(Stop::Mistake("invalid seed: '", value, "'"))
+    } else {
+        None
+    }
+}
+
+// Returns the first character of a text, or all of it if it is not UTF-8.
+fn first_character(text: &[u8]) -> &[u8] {
+    let is_within = |byte: &&u8| matches!(**byte, 0x80..=0xbf);
+    let count = text.iter().skip(1).take_while(is_within).count();
+    text.get(..count.saturating_add(1)).unwrap_or(text)
 }
 
 // Returns whether an argument begins with a hyphen and is longer.
@@ -33,140 +73,81 @@ fn is_option(word: &[u8]) -> bool {
     matches!(word, [b'-', _, ..])
 }
 
-// Returns the place of the equals sign.
-fn equals_place(text: &[u8]) -> Option<usize> {
-    text.iter().position(|byte| *byte == b'=')
-}
-
 impl<'a> State<'a> {
-    fn with_next(self, next: Next) -> State<'a> {
+    // Returns the state with one more option. `--binary` and `--text` replace each other.
+    fn with(self, place: usize, value: &'a [u8]) -> Result<State<'a>, Stop<'a>> {
+        if let Some(stop) = refused(place, value) {
+            return Err(stop);
+        }
+        let mut values = self.options.values;
+        if values[place].is_some() {
+            return Err(about("the --", place, " option may be given only once"));
+        }
+        if place == BINARY {
+            values[TEXT] = None;
+        } else if place == TEXT {
+            values[BINARY] = None;
+        }
+        values[place] = Some(value);
+        Ok(State {
+            options: Options { values },
+            next: Next::Any,
+        })
+    }
+
+    // Returns the state before another argument.
+    fn before(self, next: Next<'a>) -> State<'a> {
         State { next, ..self }
     }
 
-    // Returns the state after an option that takes no value.
-    fn after_flag(self, choice: Choice) -> Result<State<'a>, Stop<'a>> {
-        match self.options.with_flag(choice) {
-            Ok(options) => Ok(State {
-                options,
-                next: Next::Any,
-                ..self
-            }),
-            Err(reason) => Err(stop_at(reason, choice)),
-        }
-    }
-
-    // Returns the state after `--files0-from` and its value.
-    fn after_list(self, choice: Choice, name: &'a [u8]) -> Result<State<'a>, Stop<'a>> {
-        match self.list {
-            Some(_) => Err(stop_at(Reason::Repeated, choice)),
-            None => Ok(State {
-                list: Some(name),
-                next: Next::Any,
-                ..self
-            }),
-        }
-    }
-
-    // Returns the state after an option and its value.
-    fn after_value(self, choice: Choice, value: &'a [u8]) -> Result<State<'a>, Stop<'a>> {
-        if choice.is_files_from() {
-            return self.after_list(choice, value);
-        }
-        match self.options.with_value(choice, value) {
-            Ok(options) => Ok(State {
-                options,
-                next: Next::Any,
-                ..self
-            }),
-            Err(reason) => {
-                if reason.is_repeated() {
-                    Err(stop_at(reason, choice))
-                } else {
-                    Err(Stop {
-                        reason,
-                        text: value,
-                    })
-                }
-            }
-        }
-    }
-
-    // Returns the state after the name of an option without a value in the same argument.
-    fn after_bare_name(self, choice: Choice) -> Result<State<'a>, Stop<'a>> {
-        if choice.takes_value() {
-            Ok(self.with_next(Next::NameValue(choice)))
-        } else {
-            self.after_flag(choice)
-        }
-    }
-
-    // Returns the state after the name of an option and a value in the same argument.
-    fn after_named_value(self, choice: Choice, value: &'a [u8]) -> Result<State<'a>, Stop<'a>> {
-        if choice.takes_value() {
-            self.after_value(choice, value)
-        } else {
-            Err(stop_at(Reason::UnexpectedValue, choice))
-        }
-    }
-
     // Returns the state after an argument of two hyphens and a text.
-    fn after_name(self, word: &'a [u8], text: &'a [u8]) -> Result<State<'a>, Stop<'a>> {
-        let place = equals_place(text);
-        let name = match place {
-            None => text,
-            Some(place) => &text[..place],
-        };
-        let choice = if let Some(choice) = Choice::named(name) {
-            choice
+    fn after_name(
+        self,
+        rows: &Table,
+        word: &'a [u8],
+        text: &'a [u8],
+    ) -> Result<State<'a>, Stop<'a>> {
+        let (name, value) = next_line(text, b'=');
+        let place = if let Some(place) = place_named(rows, name) {
+            place
         } else {
-            return Err(Stop {
-                reason: Reason::UnknownName,
-                text: word,
-            });
+            return Err(Stop::Mistake("unrecognized option '", word, "'"));
         };
-        match place {
-            None => self.after_bare_name(choice),
-            Some(place) => self.after_named_value(choice, &text[place + 1..]),
-        }
-    }
-
-    // Returns the state after the letter of an option with a value, and the rest of the argument.
-    fn after_value_letter(self, choice: Choice, rest: &'a [u8]) -> Result<State<'a>, Stop<'a>> {
-        match rest {
-            [] => Ok(self.with_next(Next::LetterValue(choice))),
-            [_, ..] => self.after_value(choice, rest),
+        match (takes_value(rows, place), text.contains(&b'=')) {
+            (false, false) => self.with(place, b""),
+            (false, true) => Err(about("option '--", place, "' doesn't allow an argument")),
+            (true, false) => {
+                let missing = about("option '--", place, "' requires an argument");
+                Ok(self.before(Next::Value(place, missing)))
+            }
+            (true, true) => self.with(place, value),
         }
     }
 
     // Returns the state after a hyphen and letters.
-    fn after_letters(self, letters: &'a [u8]) -> Result<State<'a>, Stop<'a>> {
-        let (mut state, mut rest) = (self, letters);
+    fn after_letters(self, rows: &Table, letters: &'a [u8]) -> Result<State<'a>, Stop<'a>> {
+        let (mut state, mut rest) = (self.before(Next::Any), letters);
         while let [letter, others @ ..] = rest {
-            let choice = if let Some(choice) = Choice::lettered(*letter) {
-                choice
+            let place = if let Some(place) = place_lettered(rows, *letter) {
+                place
             } else {
-                return Err(Stop {
-                    reason: Reason::UnknownLetter,
-                    text: rest,
-                });
+                return Err(Stop::Mistake(
+                    "invalid option -- '",
+                    first_character(rest),
+                    "'",
+                ));
             };
-            if choice.takes_value() {
-                return state.after_value_letter(choice, others);
+            if takes_value(rows, place) {
+                if !others.is_empty() {
+                    return state.with(place, others);
+                }
+                let missing = Stop::Mistake("option requires an argument -- '", rest, "'");
+                return Ok(state.before(Next::Value(place, missing)));
             }
-            state = state.after_flag(choice)?;
+            state = state.with(place, b"")?;
             rest = others;
         }
         Ok(state)
-    }
-
-    // Returns the state after an argument that begins with a hyphen and is longer.
-    fn after_option(self, word: &'a [u8]) -> Result<State<'a>, Stop<'a>> {
-        match word {
-            [b'-', b'-'] => Ok(self.with_next(Next::File)),
-            [b'-', b'-', text @ ..] => self.after_name(word, text),
-            [_, letters @ ..] => self.after_letters(letters),
-            [] => Ok(self),
-        }
     }
 
     /// Returns whether an argument is a file.
@@ -174,35 +155,20 @@ impl<'a> State<'a> {
         match self.next {
             Next::Any => !is_option(word),
             Next::File => true,
-            Next::NameValue(_) | Next::LetterValue(_) => false,
+            Next::Value(..) => false,
         }
     }
 
     /// Returns the state after an argument that is no file.
-    pub fn after(self, word: &'a [u8]) -> Result<State<'a>, Stop<'a>> {
-        match self.next {
-            Next::Any | Next::File => self.after_option(word),
-            Next::NameValue(choice) | Next::LetterValue(choice) => self.after_value(choice, word),
+    pub fn after(self, rows: &Table, word: &'a [u8]) -> Result<State<'a>, Stop<'a>> {
+        if let Next::Value(place, _) = self.next {
+            return self.with(place, word);
         }
-    }
-
-    /// Returns the options at the end of the arguments.
-    pub fn finish(self) -> Result<Options, Stop<'a>> {
-        match self.next {
-            Next::Any | Next::File => without_conflict(self.options),
-            Next::NameValue(choice) => Err(stop_at(Reason::NoValueOfName, choice)),
-            Next::LetterValue(choice) => Err(Stop {
-                reason: Reason::NoValueOfLetter,
-                text: choice.spelling().letter.as_bytes(),
-            }),
+        match word {
+            [b'-', b'-'] => Ok(self.before(Next::File)),
+            [b'-', b'-', text @ ..] => self.after_name(rows, word, text),
+            [_, letters @ ..] => self.after_letters(rows, letters),
+            [] => Ok(self),
         }
-    }
-}
-
-// Returns the options, unless they exclude each other.
-fn without_conflict<'a>(options: Options) -> Result<Options, Stop<'a>> {
-    match options.conflict() {
-        None => Ok(options),
-        Some((reason, choice)) => Err(stop_at(reason, choice)),
     }
 }

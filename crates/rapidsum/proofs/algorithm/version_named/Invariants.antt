@@ -1,7 +1,7 @@
 use Rattle.std.proofs.Common.{◌≡◌, drop}
 use Rattle.std.specs.List.{find}
-use Rattle.rapidsum.specs.Choice.{is_version, version_named}
-use Rattle.rapidsum.proofs.choice.version_named.Given as goal
+use Rattle.rapidsum.specs.Algorithm.{is_version, version_named}
+use Rattle.rapidsum.proofs.algorithm.version_named.Given as goal
 
 -- the versions that are left decide
 abbrev pub invariant-loop-version : goal.invariant-loop-version
