@@ -113,8 +113,8 @@ pub fn parse<'a, A: Allocator, B: Allocator>(
     rows: &Table,
     words: &'a [Vec<u8, B>],
 ) -> Result<Result<Call<'a, A>, Stop<'a>>, AllocError>
-    ensures files { IfOk result (λ made. IfOk made (λ call.
-        map (λ file. file.now) call.files.items ≡ files_from rows.now any (map vec_items words.now))) }
+    ensures files { IfOk result (λ made. IfOk made (λ call. map (λ file. file.now) call.files.items
+        ≡ files_from rows.now any (map vec_items words.now))) }
     ensures reads_back { (options : List Given) (files : List (List ℕ)) → HasNames rows.now →
         IsCall rows.now options files → map vec_items words.now ≡ written rows.now options files →
         IfOk result (λ made. IsOkAnd made (λ call.

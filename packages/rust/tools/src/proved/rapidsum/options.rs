@@ -146,7 +146,7 @@ const ROWS: Table = [
     },
 ];
 
-/// Returns the table.
+/// Returns the table. A contract cannot name the constant, so other functions receive the table.
 pub fn rows() -> &'static Table {
     &ROWS
 }
