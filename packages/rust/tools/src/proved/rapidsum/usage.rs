@@ -62,49 +62,33 @@ fn help(alloc: Global) -> Result<Vec<u8>, Problem> {
     Ok(text)
 }
 
-// Returns the message for a mistake.
-fn message_of(
-    alloc: Global,
-    start: &str,
-    text: &[u8],
-    end: &str,
-    lists_versions: bool,
-) -> Result<Vec<u8>, Problem> {
+// Prints a text that is requested.
+fn print(rt: &HostRuntime, text: &[u8]) -> Result<bool, Problem> {
+    rt.stdout().write_all(text).map_err(Problem::Write)?;
+    Ok(true)
+}
+
+// Returns the message for a mistake: a text at fault, and what is before and after it.
+fn message_of(alloc: Global, start: &str, text: &[u8], end: &str) -> Result<Vec<u8>, Problem> {
     let start = rapidhash_tool::kit::format(alloc, format_args!("rapidsum: {start}"))?;
-    let mut message = with_name(alloc, start.as_str(), text, end)?;
-    if lists_versions {
-        message.extend_from_slice(b"\nValid arguments are: ")?;
-        push_versions(&mut message)?;
-    }
-    message.extend_from_slice(b"\nTry 'rapidsum --help' for more information.\n")?;
-    Ok(message)
+    with_name(alloc, start.as_str(), text, end)
 }
 
 /// Prints the help, the version, or the message for a mistake. Returns whether it is no mistake.
 pub fn report(rt: &HostRuntime, stop: &Stop<'_>) -> Result<bool, Problem> {
     let alloc = rt.alloc();
-    let message = match *stop {
-        Stop::Help => {
-            rt.stdout()
-                .write_all(help(alloc)?.as_slice())
-                .map_err(Problem::Write)?;
-            return Ok(true);
+    let mut message = match *stop {
+        Stop::Help => return print(rt, help(alloc)?.as_slice()),
+        Stop::Version => return print(rt, b"rapidsum 1.0\n"),
+        Stop::UnknownVersion(name) => {
+            let end = "' for '--algorithm'\nValid arguments are: ";
+            let mut message = message_of(alloc, "invalid argument '", name, end)?;
+            push_versions(&mut message)?;
+            message
         }
-        Stop::Version => {
-            rt.stdout()
-                .write_all(b"rapidsum 1.0\n")
-                .map_err(Problem::Write)?;
-            return Ok(true);
-        }
-        Stop::UnknownVersion(name) => message_of(
-            alloc,
-            "invalid argument '",
-            name,
-            "' for '--algorithm'",
-            true,
-        )?,
-        Stop::Mistake(start, text, end) => message_of(alloc, start, text, end, false)?,
+        Stop::Mistake(start, text, end) => message_of(alloc, start, text, end)?,
     };
+    message.extend_from_slice(b"\nTry 'rapidsum --help' for more information.\n")?;
     rt.stderr()
         .write_all(message.as_slice())
         .map_err(Problem::Write)?;
