@@ -13,6 +13,12 @@ from x86 import Machine
 FOLDER = TOP / "tests" / "machine"
 HEADER = TOP / "packages/c/include/rapidhash_c.h"
 FLAG = "#ifndef RAPIDHASH_LINK\n"  # before which faults have a variable
+# What the reason has for a constant, a shift and a bound: the lengths, the term that the code has, and the wanted one.
+REASONS = {
+    "a changed mask": ("length 0", "xor(12297829382473034411, ", "and not xor(12297829382473034410, "),
+    "a changed shift": ("length 1", "the hash is another term, with ", "shifted left(message(0, 1), 45)"),
+    "a changed bound of the rows": ("lengths 224 + 112 * turns", "the hash is another term, with ", "message(208 + 112 * turns, 8)"),
+}
 FUNCTIONS = "rapidhash_v3_with_secrets", "rapidhash_v3_long_", "rapidhash_v3_with_rows_"
 NATIVE = """import ctypes, random, sys
 hash_of, draw = ctypes.CDLL(sys.argv[1]).rapidhash_v3_with_secrets, random.Random(1)
@@ -55,14 +61,15 @@ def rows(is_header):
 
 
 def in_the_header(tell=None):
-    """Builds the header with each fault. Yields those that are not refused with the function and the length."""
+    """Builds the header with each fault. Yields those that are not refused with the function, the length and the term."""
     for file, fault, old, new in rows(True):
         text = HEADER.read_text()
         assert old in text, fault
         (ROOM / file).write_text(text.replace(old, new, 1).replace(FLAG, "int rapidhash_flag_ = 3;\n" + FLAG, 1))
         code = built("gcc -O2 -w", ROOM, "planted")
         how, reason = shown(code) if fault != "a changed secret" else shown(code, form="")
-        if how or not reason.startswith("rapidhash_v3") or ", length" not in reason:
+        wanted = ["rapidhash_v3", ", length", *REASONS.get(fault, ())]
+        if how or not all(word in reason for word in wanted):
             yield f"{fault}: {reason}"
         elif tell:
             tell(f"# {fault}: {reason}")
