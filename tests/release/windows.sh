@@ -108,8 +108,8 @@ checks_lists() {
 
 # Checks the device of no bytes, and what is refused: a directory and a missing file.
 names_what_is_refused() {
-  [ "$(sum nul)" = '0338dc4be2cecdae  nul' ] && ! sum sub missing 2>said && grep -E '^rapidsum: sub: .*os error 5' said &&
-    grep -E '^rapidsum: missing: .*os error 2' said
+  [ "$(sum nul)" = '0338dc4be2cecdae  nul' ] && ! sum sub missing 2>said && grep '^rapidsum: sub: .*denied' said &&
+    grep '^rapidsum: missing: .*not found' said && ! grep 'os error' said
 }
 
 has x86_64-w64-mingw32-gcc || skip_all 'no x86_64-w64-mingw32-gcc (gcc-mingw-w64-x86-64)'
