@@ -13,7 +13,8 @@ pub struct Move {
     pub to: u32,
 }
 
-/// Returns the shards of a hash among `count` and among `new`. A multiplied count splits each shard.
+/// Returns the shards of a hash among `count` and among `new`. A multiplied count splits each
+/// shard.
 pub fn shard_move(hash: u64, count: u32, new: u32) -> Move
     requires old { 0 < count }
     requires new { 0 < new }
