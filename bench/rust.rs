@@ -90,7 +90,7 @@ fn all_texts(bytes: &'static [u8]) -> Vec<Texts> {
     texts.collect()
 }
 
-/// Runs a row of each library in turn, and prints the least time of each, per item.
+/// Runs a row of both libraries in turn and prints their minimum times per item.
 fn measure(rounds: usize, mut row: Row, mut other: Row) {
     let mut least = [u128::MAX; 2];
     for _ in 0..rounds {

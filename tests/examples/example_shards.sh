@@ -32,8 +32,8 @@ answers no_lines '' '' "$program" shard 1
 fault no_arguments 2 "the first argument must be 'shard' or 'bucket'" "$program"
 fault another_way 2 "the first argument must be 'shard' or 'bucket'" "$program" node 3
 fault no_count 2 'missing COUNT argument' "$program" shard
-fault a_count_of_0 2 "'0' is no number from 1 to 4294967295" "$program" bucket 0
-fault a_count_too_large 2 "'4294967296' is no number from 1 to 4294967295" "$program" shard 1 4294967296
+fault a_count_of_0 2 "'0' is not a number from 1 to 4294967295" "$program" bucket 0
+fault a_count_too_large 2 "'4294967296' is not a number from 1 to 4294967295" "$program" shard 1 4294967296
 fault three_counts 2 "unexpected argument '3'" "$program" shard 1 2 3
 fault name_that_is_not_utf_8 1 'could not read the arguments as UTF-8: invalid data' "$program" $'\xff'
 try reads_of_the_input reads_in 8 lines "$program" shard 3 <lines

@@ -29,7 +29,7 @@ pub fn shard_move(hash: u64, count: u32, new: u32) -> Move
 }
 
 /// Returns the buckets of a hash among `count` and among `new`. A hash that moves goes to a new
-/// bucket, or leaves one that is no more.
+/// bucket, or leaves one that no longer exists.
 pub fn bucket_move(hash: u64, count: u32, new: u32) -> Move
     requires old { 0 < count }
     requires new { 0 < new }

@@ -12,16 +12,16 @@ numbers. Shards are for tables, buckets for servers that come one by one.";
 /// An error in the arguments.
 #[derive(Debug, Clone, Copy, thiserror::Error, Drop)]
 pub enum RequestError<'a> {
-    /// The first word is no way to spread lines.
+    /// The first argument is neither `shard` nor `bucket`.
     #[error("the first argument must be 'shard' or 'bucket'")]
     NoWay,
-    /// There is no count.
+    /// The count is missing.
     #[error("missing COUNT argument")]
     NoCount,
-    /// A word is no count.
-    #[error("'{0}' is no number from 1 to 4294967295")]
+    /// An argument is not a count.
+    #[error("'{0}' is not a number from 1 to 4294967295")]
     Count(&'a str),
-    /// A word is left over.
+    /// There are too many arguments.
     #[error("unexpected argument '{0}'")]
     LeftOver(&'a str),
 }
@@ -43,7 +43,7 @@ pub struct Request {
     pub new: Option<NonZeroU32>,
 }
 
-// Returns the count that a word is.
+// Returns the count in an argument.
 fn parse_count<'a>(word: &'a String) -> Result<NonZeroU32, RequestError<'a>> {
     let word = word.as_str();
     word.parse().map_err(|_| RequestError::Count(word))
