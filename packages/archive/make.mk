@@ -1,6 +1,7 @@
 # The archive with everything that a user without the toolchain needs. With PARTIAL=yes, the packages whose tools are
 # missing are left out, and named on its page.
-has_npm = $(and $(shell command -v clang),$(shell command -v wasm-ld),$(shell command -v esbuild),$(shell command -v npm))
+has_npm = $(and $(shell command -v clang),$(shell command -v wasm-ld), \
+  $(shell command -v esbuild),$(shell command -v npm))
 has_wheel = $(shell $(PYTHON) -c 'import setuptools, wheel' 2>/dev/null && echo yes)
 has_jar = $(shell command -v javac)
 packed = $(foreach part,npm wheel jar,$(if $(filter-out yes,$(PARTIAL))$(has_$(part)),$(part)))
@@ -12,7 +13,8 @@ dist:
 	rm -rf build/$(name)
 	$(MAKE) -s install DESTDIR= PREFIX='$(CURDIR)/build/$(name)'
 	tar --exclude=__pycache__ --exclude=target --exclude=tests --exclude=make.mk -hcf - packages/c/include \
-	  packages/go packages/java packages/postgresql packages/python packages/rust packages/sqlite | tar -C build/$(name) -xf -
+	  packages/go packages/java packages/postgresql packages/python packages/rust packages/sqlite | \
+	  tar -C build/$(name) -xf -
 	$(if $(filter npm,$(packed)),cp -r build/npm build/$(name)/packages/javascript)
 	$(if $(filter wheel,$(packed)),install -D -m 644 -t build/$(name)/wheels $(wheels)/*.whl $(wheels)/*.tar.gz)
 	$(if $(filter jar,$(packed)),install -m 644 $(jar) build/$(name)/packages/java)

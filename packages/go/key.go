@@ -9,8 +9,8 @@ const (
 	bytesTag
 )
 
-// A Field is a field of a key: nothing (as SQL's NULL), an integer, or bytes. The zero Field is nothing. A Field of bytes
-// refers to them, so that they must not change before the key is hashed.
+// A Field is a field of a key: nothing (as SQL's NULL), an integer, or bytes. The zero Field is nothing. A Field of
+// bytes refers to them, so that they must not change before the key is hashed.
 type Field struct {
 	tag   byte
 	value int64
@@ -29,8 +29,8 @@ func Text(text string) Field { return Field{tag: bytesTag, text: text} }
 // Bytes returns a field of bytes. It equals the Text of the same bytes.
 func Bytes(data []byte) Field { return Field{tag: bytesTag, text: textOf(data)} }
 
-// V3Key returns the hash of a key of several fields, with the default seed and secrets. It is the same in every language.
-// Different keys are hashed as different messages.
+// V3Key returns the hash of a key of several fields, with the default seed and secrets. It is the same in every
+// language. Different keys are hashed as different messages.
 func V3Key(fields ...Field) uint64 { return v3Key(nil, fields) }
 
 // V3KeyWithSeed returns the hash of a key with the default secrets and a seed word.

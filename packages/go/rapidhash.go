@@ -5,10 +5,11 @@
 //	rapidhash.V21.Sum64([]byte("hello"))     // by V2.1
 //	rapidhash.V3Nano.NewWithSeed(7)          // a stream of V3 nano, with a seed word
 //
-// Each version is a value with the same methods: [V1], [V20], [V21], [V22], [V3], [V3Micro], [V3Nano] and [V3Protected].
-// Only V3, micro and nano have streams, and V1's secrets have their own type. A hash is the same on every run and on every machine, and equals that of the Rust crate rapidhash 4.5.1. The hashes
-// are not cryptographic: someone who chooses the bytes can make two messages collide. Calls with nil secrets panic, also
-// those that start a stream or hash a key.
+// Each version is a value with the same methods: [V1], [V20], [V21], [V22], [V3], [V3Micro], [V3Nano] and
+// [V3Protected]. Only V3, micro and nano have streams, and V1's secrets have their own type. A hash is the same on
+// every run and on every machine, and equals that of the Rust crate rapidhash 4.5.1. The hashes are not cryptographic:
+// someone who chooses the bytes can make two messages collide. Calls with nil secrets panic, also those that start a
+// stream or hash a key.
 //
 // The package is plain Go without cgo and assembly, for every GOARCH. Calls can run concurrently, but only one
 // goroutine at a time may use a [Stream]. Hashing allocates nothing.

@@ -16,8 +16,8 @@ const savedSize = 208
 // savedName begins every saved stream. Its last byte is the version of the format.
 const savedName = "rapidV3\x01"
 
-// MarshalBinary returns the saved stream: 208 bytes, the same on every machine and in every language. They contain bytes
-// of the message, but no secrets. The error is always nil.
+// MarshalBinary returns the saved stream: 208 bytes, the same on every machine and in every language. They contain
+// bytes of the message, but no secrets. The error is always nil.
 func (stream *Stream) MarshalBinary() ([]byte, error) {
 	return stream.AppendBinary(make([]byte, 0, savedSize))
 }
@@ -60,7 +60,8 @@ func (stream *Stream) UnmarshalBinary(data []byte) error {
 		secrets, count = nil, int(data[8])
 	}
 	if int(data[8]) != count || data[9] != 1 {
-		return fmt.Errorf("rapidhash: the Stream was saved with %d lanes and options %d, not %d and 1", data[8], data[9], count)
+		return fmt.Errorf("rapidhash: the Stream was saved with %d lanes and options %d, not %d and 1",
+			data[8], data[9], count)
 	}
 	restored := *new(Stream).start(count, secrets)
 	if !restored.load(data) {

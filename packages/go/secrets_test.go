@@ -7,19 +7,21 @@ import (
 )
 
 func TestDefaultSeeds(t *testing.T) {
-	if *SeedSecrets(0) != (Secrets{defaultSeed, defaults}) || *SeedSecretsV1(v1Word) != (SecretsV1{defaultSeedV1, defaultsV1}) {
+	if *SeedSecrets(0) != (Secrets{defaultSeed, defaults}) ||
+		*SeedSecretsV1(v1Word) != (SecretsV1{defaultSeedV1, defaultsV1}) {
 		t.Error("a default seed is not that of its word")
 	}
 	compare(t, "v3", V3.Sum64WithSeed([]byte("hello"), 0), 3327445792987248966)
 	for _, word := range []uint64{0, 1, v1Word} {
-		if SeedSecrets(word) == SeedSecrets(word) || SeedSecretsV1(word) == SeedSecretsV1(word) || MakeSecrets(word) == MakeSecrets(word) {
+		if SeedSecrets(word) == SeedSecrets(word) || SeedSecretsV1(word) == SeedSecretsV1(word) ||
+			MakeSecrets(word) == MakeSecrets(word) {
 			t.Error("two calls share their secrets")
 		}
 	}
 }
 
-// TestHiddenWords checks that fmt shows no word of secrets by any verb, also in values that hold them, and by those of %v
-// also behind a pointer in an unexported field.
+// TestHiddenWords checks that fmt shows no word of secrets by any verb, also in values that hold them, and by those of
+// %v also behind a pointer in an unexported field.
 func TestHiddenWords(t *testing.T) {
 	secrets, secretsV1 := MakeSecrets(1), MakeSecretsV1(1)
 	stream := V3.NewWithSecrets(secrets)

@@ -30,8 +30,8 @@ var (
 // New starts a stream of V3 with the default seed and secrets, as Sum64 has them.
 func New() *Stream { return new(Stream).start(7, nil) }
 
-// startVersion starts a stream of a version. It panics for a number that is no version. The compiler inlines its callers
-// instead, so that the new stream can remain on the stack of theirs.
+// startVersion starts a stream of a version. It panics for a number that is no version. The compiler inlines its
+// callers instead, so that the new stream can remain on the stack of theirs.
 //
 //go:noinline
 func (stream *Stream) startVersion(v VersionV3, secrets *Secrets) *Stream {

@@ -100,8 +100,12 @@ func TestAllocatesNothing(t *testing.T) {
 	for _, size := range []int{0, 3, 16, 100, 5000} {
 		bytes, text := long()[:size], string(long()[:size])
 		runs := map[string]func(){
-			"v1 with secrets":     func() { V1.Sum64WithSecrets(bytes, madeV1); V1.Sum64StringWithSecrets(text, madeV1) },
-			"new streams":         func() { New().Write(bytes); V3.New().Write(bytes); V3Nano.NewWithSecrets(made).Write(bytes) },
+			"v1 with secrets": func() { V1.Sum64WithSecrets(bytes, madeV1); V1.Sum64StringWithSecrets(text, madeV1) },
+			"new streams": func() {
+				New().Write(bytes)
+				V3.New().Write(bytes)
+				V3Nano.NewWithSecrets(made).Write(bytes)
+			},
 			"restart":             func() { *restarted = Stream{}; restarted.Write(bytes) },
 			"restart by a string": func() { *restarted = Stream{}; restarted.WriteString(text) },
 			"restart by a sum":    func() { *restarted = Stream{}; restarted.Sum(sum[:0]) },

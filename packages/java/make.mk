@@ -13,7 +13,8 @@ javadoc: $(jar)
 	@umask 022 && jar --create $(jar_date) --file $(jar:.jar=-javadoc.jar) -C build/javadoc .
 	@umask 022 && jar --create $(jar_date) --file $(jar:.jar=-sources.jar) -C packages/java/src/main/java .
 
-$(jar): LICENSE-MIT LICENSE-APACHE NOTICE packages/java/pom.xml packages/java/make.mk $(shell find packages/java/src/main packages/java/src/java18 -name '*.java' 2>/dev/null)
+$(jar): LICENSE-MIT LICENSE-APACHE NOTICE packages/java/pom.xml packages/java/make.mk \
+    $(shell find packages/java/src/main packages/java/src/java18 -name '*.java' 2>/dev/null)
 	@command -v javac >/dev/null || { echo 'make: javac, of a JDK, is not on PATH' >&2; exit 2; }
 	@rm -rf build/java build/java18 && mkdir -p build/java/META-INF/maven
 	@$(javac) --release 11 -d build/java $(filter packages/java/src/main/%.java,$^)

@@ -39,7 +39,8 @@ builds_with_the_header() {
     [ "$(bash -e commands)" = 3327445792987248966 ]
 }
 
-# Checks that the archive has the package for Node, the wheels and the jar as make built them: their own tests use these.
+# Checks that the archive has the package for Node, the wheels and the jar as make built them: their own tests use
+# these.
 has_what_other_tests_use() {
   cd "$room/unpacked" && diff -r "$top/build/npm" packages/javascript && diff -r -x made "$top/build/wheels" wheels &&
     cmp "$top"/build/yervound-rapidhash-*[0-9].jar packages/java/*.jar
@@ -60,11 +61,12 @@ has_what_make_builds() {
   done <"$room/targets"
 }
 
-# Checks that the archive has each path in the first column of its page, and each picture of a page, and runs the commands
-# for SQLite and Python.
+# Checks that the archive has each path in the first column of its page, and each picture of a page, and runs the
+# commands for SQLite and Python.
 has_what_its_page_names() {
   local path command
-  cd "$room/unpacked" && { sed -n 's/^| \(`[^|]*\) | .*/\1/p' README.md | grep -v '^`make' | grep -oE '`[^`]+`' | tr -d '`'
+  cd "$room/unpacked" && {
+    sed -n 's/^| \(`[^|]*\) | .*/\1/p' README.md | grep -v '^`make' | grep -oE '`[^`]+`' | tr -d '`'
     sed -nE 's/.*!\[.*\]\((.*)\).*/\1/p' ./*.md; } >"$room/paths" && [ "$(wc -l <"$room/paths")" -ge 20 ] || return
   while read -r path; do [ -e "$path" ] || { echo "no $path" && return 1; }; done <"$room/paths"
   for command in cc pip; do
@@ -72,7 +74,8 @@ has_what_its_page_names() {
   done >"$room/commands" && [ "$(wc -l <"$room/commands")" -eq 2 ] &&
     sed "s|^pip install|& --quiet --target '$room/pip'|; s|^pip|/usr/bin/python3 -m pip|" "$room/commands" | bash -e &&
     sqlite3 :memory: '.load ./rapidhash' "SELECT rapidhash_v3('hello')" | grep -x 3327445792987248966 &&
-    rm rapidhash.so && PYTHONPATH=$room/pip /usr/bin/python3 -c 'import rapidhash; assert rapidhash.v3(b"hello") == 3327445792987248966'
+    rm rapidhash.so &&
+    PYTHONPATH=$room/pip /usr/bin/python3 -c 'import rapidhash; assert rapidhash.v3(b"hello") == 3327445792987248966'
 }
 
 # Checks that a tree with a new file is refused before anything is built.
@@ -91,7 +94,8 @@ refuses_to_release() {
 # Checks that a release has the page of its gate, each product of make, for which empty files stand in, its commit and
 # all checksums. Without a page, or with that of another commit or of a gate that failed, there is none.
 releases_a_commit() {
-  local gate file files=(gate.md sources/s.tar.gz a.tar.gz a.tgz a.crate a.zip a.jar wheels/a.whl wheels/b.tar.gz debian/a.deb debian/b.deb debian/a.dsc debian/a.tar.xz)
+  local gate file files=(gate.md sources/s.tar.gz a.tar.gz a.tgz a.crate a.zip a.jar wheels/a.whl wheels/b.tar.gz
+    debian/a.deb debian/b.deb debian/a.dsc debian/a.tar.xz)
   git clone -q -s "$top" "$room/released" && cd "$room/released" || return
   for file in "${files[@]}" wheels/made debian/log; do install -D /dev/null "build/$file" || return; done
   rm build/gate.md && refuses_to_release || return
@@ -105,11 +109,13 @@ releases_a_commit() {
     sha256sum --check SHA256SUMS | grep -c ': OK$' | grep -x "$((${#files[@]} + 2))"
 }
 
-# Checks that two copies of a commit have the same packages, byte for byte, in other directories, times, masks and locales.
+# Checks that two copies of a commit have the same packages, byte for byte, in other directories, times, masks and
+# locales.
 packs_the_same_bytes() (
   local place
   for place in one 'a place'; do
-    git clone -q -s "$top" "$room/$place" && make -s -C "$room/$place" npm wheel jar javadoc sources crate gomodule || return
+    git clone -q -s "$top" "$room/$place" &&
+      make -s -C "$room/$place" npm wheel jar javadoc sources crate gomodule || return
     (cd "$room/$place/build" && sha256sum -- *.t*gz sources/* *.crate *.zip *.jar wheels/*.*) >"$room/$place.sums"
     export TZ=Asia/Tokyo LC_ALL=C.UTF-8
     umask 077
@@ -127,19 +133,21 @@ keeps_the_figures() {
 # Checks that a new entry of the changelogs reaches each file with the version, except the old entries and symbols.
 carries_the_version() {
   local old history=packages/debian/debian/changelog
-  git clone -q -s "$top" "$room/next" && cd "$room/next" && old=$(sed -n 's/^__version__ = "\(.*\)"$/\1/p' packages/python/*/__init__.py) &&
+  git clone -q -s "$top" "$room/next" && cd "$room/next" &&
+    old=$(sed -n 's/^__version__ = "\(.*\)"$/\1/p' packages/python/*/__init__.py) &&
     sed -i '0,/^## \[/s//## [9.8.7] - 2027-01-01\n\n&/' CHANGELOG.md && sed -i "1s/($old)/(9.8.7)/" $history &&
     scripts/version --write &&
     ! git grep -nE "${old//./[.]}|(Yervound|rapidsum) ${old%.*}\b" -- . ':!CHANGELOG.md' ':!packages/debian/debian' \
       ':!packages/rust/tools/src' ':!bench/*.tsv' ':!scripts/version' && grep -q 'VERSION_NUMBER`, 908,' docs/C.md &&
-    old=${old%.*} && ! git grep -nE "\b${old/./[.]}\b" -- Makefile '*.mk' '*.in' '*.cmake' '*.control' '*.h' '*.1' '*.3' \
-      ':(glob)packages/*/'{CMakeLists.txt,Makefile}
+    old=${old%.*} && ! git grep -nE "\b${old/./[.]}\b" -- Makefile '*.mk' '*.in' '*.cmake' '*.control' '*.h' '*.1' \
+      '*.3' ':(glob)packages/*/'{CMakeLists.txt,Makefile}
 }
 
 # Checks that make without the kit refuses before it builds anything: TARGET
 refuses_without_the_kit() {
   git clone -q -s "$top" "$room/$1" && ! make -s -C "$room/$1" kit= "$1" >"$room/said" 2>&1 &&
-    head -n 1 "$room/said" | grep -x "make $1: rt, the command of the Rattle kit, is not on PATH: it builds the proved programs and library for the archive" &&
+    head -n 1 "$room/said" | grep -x "make $1: rt, the command of the Rattle kit, is not on PATH: it builds the proved \
+programs and library for the archive" &&
     [ ! -e "$room/$1/build" ]
 }
 
@@ -147,9 +155,9 @@ refuses_without_the_kit() {
 packs_a_part() {
   make -s -C "$top" dist PARTIAL=yes has_npm= has_jar= 2>&1 | tee "$room/said" &&
     grep -x 'Left out because the tools to build them were missing: npm jar' "$room/said" &&
-    mkdir "$room/part" && tar -C "$room/part" --strip-components 1 -xzf "$top"/build/yervound-*.tar.gz && cd "$room/part" &&
-    diff <(tail -n 1 README.md) <(tail -n 1 "$room/said") && [ -x bin/rapidsum ] && [ -d wheels ] && [ ! -e packages/javascript ] &&
-    [ -z "$(ls packages/java/*.jar 2>/dev/null)" ]
+    mkdir "$room/part" && tar -C "$room/part" --strip-components 1 -xzf "$top"/build/yervound-*.tar.gz &&
+    cd "$room/part" && diff <(tail -n 1 README.md) <(tail -n 1 "$room/said") && [ -x bin/rapidsum ] && [ -d wheels ] &&
+    [ ! -e packages/javascript ] && [ -z "$(ls packages/java/*.jar 2>/dev/null)" ]
 }
 
 # Checks that all users may read each package and its files, of a tree that only its owner may read.
@@ -157,8 +165,8 @@ packs_readable_files() (
   local product
   umask 077
   git clone -q -s "$top" "$room/private" && cd "$room/private" || return
-  for product in crates/rapidhash_cli/out/rapidhash_cli crates/rapidsum/out/rapidsum crates/rapidhash_c/out/librapidhash_c.a; do
-    install -D -m 700 "$top/$product" "$product" || return
+  for product in rapidhash_cli/out/rapidhash_cli rapidsum/out/rapidsum rapidhash_c/out/librapidhash_c.a; do
+    install -D -m 700 "$top/crates/$product" "crates/$product" || return
   done
   make -s dist && python3 - build/*.t*gz build/wheels/*.* build/*.jar <<'PYTHON'
 import os, sys, tarfile, zipfile

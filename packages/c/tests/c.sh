@@ -32,7 +32,8 @@ has_the_values() {
     -o "$room/c_library" && "$room/c_library" && replays cases.c "$@"
 }
 
-# Compiles a program that replays the cases, and runs it, perhaps under the program in `under`: SOURCE COMPILER ARGUMENT..
+# Compiles a program that replays the cases, and runs it, perhaps under the program in `under`: SOURCE COMPILER
+# ARGUMENT..
 replays() {
   "${@:2}" "-I$include" "$tests/$1" ${linked:+-x none "$linked"} -o "$room/replay" &&
     ${under-} "$room/replay" <"$cases_of_all"
@@ -99,16 +100,19 @@ calls_from_cpp() {
 }
 
 # Checks the names that a shared library of the header exports: all with -fvisibility=hidden, and none of them with a
-# RAPIDHASH_API that hides them. No inlined function is an external symbol. Of a DLL, a definition exports the names and a declaration imports them: COMPILER
+# RAPIDHASH_API that hides them. No inlined function is an external symbol. Of a DLL, a definition exports the names and
+# a declaration imports them: COMPILER
 is_as_visible_as_asked() {
   local build=("$1" -std=c99 -O2 -fPIC -shared "-I$include" "$top/packages/c/rapidhash_c.c" -o "$room/visible.so")
+  local dll=("$1" -E -P -DRAPIDHASH_DLL)
   "${build[@]}" -fvisibility=hidden && defines_the_header '' -D "$room/visible.so" &&
     "${build[@]}" '-DRAPIDHASH_API=__attribute__((visibility("hidden")))' &&
     ! nm -D --defined-only "$room/visible.so" | grep rapidhash &&
-    "$1" -std=c99 -O0 "-I$include" -c "$tests/cases.c" -o "$room/inlined.o" && nm "$room/inlined.o" | grep ' t rapidhash_' &&
+    "$1" -std=c99 -O0 "-I$include" -c "$tests/cases.c" -o "$room/inlined.o" &&
+    nm "$room/inlined.o" | grep ' t rapidhash_' &&
     ! nm --extern-only --defined-only "$room/inlined.o" | grep rapidhash_ &&
-    [ "$("$1" -E -P -DRAPIDHASH_DLL -DRAPIDHASH_LINK "$header" | grep -c '__declspec(dllimport).* rapidhash_')" -gt 20 ] &&
-    [ "$("$1" -E -P -DRAPIDHASH_DLL -DRAPIDHASH_IMPLEMENTATION "$header" | grep -c '__declspec(dllexport).* rapidhash_')" -gt 20 ]
+    [ "$("${dll[@]}" -DRAPIDHASH_LINK "$header" | grep -c '__declspec(dllimport).* rapidhash_')" -gt 20 ] &&
+    [ "$("${dll[@]}" -DRAPIDHASH_IMPLEMENTATION "$header" | grep -c '__declspec(dllexport).* rapidhash_')" -gt 20 ]
 }
 
 # Compiles the headers with all warnings of clang but these: the header joins expressions by commas and has structs with
@@ -137,7 +141,8 @@ CPP
 # Checks that cppcheck reports no error in a file of C or of C++ that includes a header.
 has_no_fault_of_cppcheck() {
   mkdir "$room/cppcheck" && cp "$room/second.c" "$room/cppcheck" &&
-    printf '#include <rapidhash.hpp>\nint main() { return rapidhash::hash("hello") == 0; }\n' >"$room/cppcheck/first.cpp" &&
+    printf '#include <rapidhash.hpp>\nint main() { return rapidhash::hash("hello") == 0; }\n' \
+      >"$room/cppcheck/first.cpp" &&
     cppcheck --quiet --error-exitcode=1 "-I$include" "$room/cppcheck"
 }
 
@@ -180,16 +185,18 @@ refuses_what_is_no_field() {
 #include <memory>
 #include <variant>
 std::uint64_t hash() { return rapidhash::key($value); }" && grep "$why" "$room/said" || { echo "$value" && return 1; }
-  done <<'VALUES'
+  done <<VALUES
 static_cast<__int128>(1)|an integer of a key has at most 64 bits
-1.5|a field is nullptr, an integer, an enumerator, a text, bytes, a time, a duration, or a pair, tuple, vector, array, span, optional or path
+1.5|a field is nullptr, an integer, an enumerator, a text, bytes, a time, a duration, or a pair, tuple, vector, array, \
+span, optional or path
 std::wstring()|a field is nullptr, an integer,
 std::optional<std::optional<int>>()|an optional field is itself no optional, pair or tuple
 std::optional<std::pair<int, int>>()|an optional field is itself no optional,
 std::optional<std::tuple<int>>()|an optional field is itself no optional,
 std::vector<double>()|a field is nullptr, an integer,
 L"user"|a field is nullptr, an integer,
-static_cast<const int *>(nullptr)|a pointer is no field: pass what it points to, nullptr, or rapidhash::bytes(pointer, length)
+static_cast<const int *>(nullptr)|a pointer is no field: pass what it points to, nullptr, or \
+rapidhash::bytes(pointer, length)
 std::unique_ptr<int>()|a pointer is no field: pass what it points to,
 std::shared_ptr<int[]>()|a pointer is no field: pass what it points to,
 std::array<void *, 1>()|a pointer is no field: pass what it points to,
@@ -222,7 +229,8 @@ C
 
 # Prints the public functions in a text without comments: the return type, name, and parameters of each.
 signatures() {
-  tr -s ' \n' ' ' | sed 's/_Bool/bool/g' | grep -oE '(void|bool|uint64_t|uint32_t) rapidhash_[a-z0-9_]*[a-z0-9]\([^()]*\)' | sed 's/( /(/' | sort
+  tr -s ' \n' ' ' | sed 's/_Bool/bool/g' |
+    grep -oE '(void|bool|uint64_t|uint32_t) rapidhash_[a-z0-9_]*[a-z0-9]\([^()]*\)' | sed 's/( /(/' | sort
 }
 
 # Checks that the manual page has each function of the header with the same signature, and no other.
@@ -310,21 +318,23 @@ v3_protected 36 106 2837
 COUNTS
 }
 
-# Checks that calls of the header execute at most a tenth more instructions than when they were counted, with gcc 12. The
-# stream gets 4,800 bytes, in pieces of a length: byte by byte, a copy of a piece would take longer.
+# Checks that calls of the header execute at most a tenth more instructions than when they were counted, with gcc 12.
+# The stream gets 4,800 bytes, in pieces of a length: byte by byte, a copy of a piece would take longer.
 stays_short() {
   local body lengths limits
   while IFS='|' read -r body lengths limits; do
     printf '%s\n' '#include <stdlib.h>' '#include "rapidhash_c.h"' 'static struct rapidhash_stream stream;' \
       'static struct rapidhash_secrets secrets;' \
       '__attribute__((noinline)) uint64_t counted(const uint8_t *bytes, size_t length)' "{ $body }" \
-      'int main(int count, char **words) { rapidhash_seed_secrets(0, &secrets); rapidhash_v3_start(&stream, &secrets);' \
+      'int main(int count, char **words) { rapidhash_seed_secrets(0, &secrets);' \
+      'rapidhash_v3_start(&stream, &secrets);' \
       'return counted((uint8_t *)calloc(4800, 1), (size_t)atoi(words[count - 1])) == 7; }' >"$room/short.c" &&
       gcc -O2 "-I$include" "$room/short.c" -o "$room/short" && for length in $lengths; do
       valgrind --tool=callgrind --callgrind-out-file=/dev/null --toggle-collect=counted "$room/short" "$length" 2>&1
     done | sed -n 's/.*Collected : //p' | xargs | tee -a "$room/counts" |
       awk -v limits="$limits" '{ n = split(limits, most, " "); if (NF != n) exit 1
-        for (i = 1; i <= n; i++) if ($i > 1.1 * most[i]) exit 1 }' || { echo "$body" && cat "$room/counts" && return 1; }
+        for (i = 1; i <= n; i++) if ($i > 1.1 * most[i]) exit 1 }' ||
+      { echo "$body" && cat "$room/counts" && return 1; }
   done
 }
 
@@ -359,9 +369,8 @@ make_by_cc_alone() {
   make -s -C "$room/bare" kit= cargo= "$@"
 }
 
-# Checks that programs that link the library are told of NULL, but for an empty message, and that a compiler calls a hash
-# once for equal arguments:
-# COMPILER
+# Checks that programs that link the library are told of NULL, but for an empty message, and that a compiler calls a
+# hash once for equal arguments: COMPILER
 has_attributes() {
   local call
   for call in 'rapidhash_v1_with_secrets("", 0, NULL)' 'rapidhash_v3_with_secrets("", 0, NULL)' \
@@ -384,7 +393,8 @@ uint64_t sum(const void *p, size_t n) { return rapidhash_v3(p, n) + 3 * rapidhas
 stops_at_its_bounds() {
   local call
   for call in 'stream.lanes = 4; rapidhash_stream_write(&stream, "", 1);' \
-    'stream.len = 113; rapidhash_stream_finish(&stream);' 'stream.len = 113; rapidhash_stream_write(&stream, "a", 200);'; do
+    'stream.len = 113; rapidhash_stream_finish(&stream);' \
+    'stream.len = 113; rapidhash_stream_write(&stream, "a", 200);'; do
     cc -include assert.h -DRAPIDHASH_ASSERT=assert "-I$include" -x c - -o "$room/stops" <<<'#include "rapidhash_c.h"
 int main(void)
 {
@@ -412,12 +422,13 @@ fetches_by_cmake() {
     mkdir -p "$room/fetch" && cd "$room/fetch" && blocks "$top/docs/CPP.md" cpp hello >hello.cpp &&
     blocks "$top/docs/CPP.md" cmake FetchContent >CMakeLists.txt && YERVOUND=$top cmake -B fetched &&
     cmake --build fetched && [ "$(fetched/hello)" = 3327445792987248966 ] && cp -r "$top/packages/c" copy &&
-    sed -i 's/^FetchContent_Declare.*/add_subdirectory(copy)\nadd_subdirectory(copy again)/; /FetchContent/d' CMakeLists.txt &&
+    sed -i 's/^FetchContent_Declare.*/add_subdirectory(copy)\nadd_subdirectory(copy again)/; /FetchContent/d' \
+      CMakeLists.txt &&
     cmake -D CMAKE_C_COMPILER=none -B added && cmake --build added && [ "$(added/hello)" = 3327445792987248966 ]
 }
 
-# Installs a library that includes the header's directory and exports a target with it, and the headers alone. Checks that
-# a program finds both, in a tree that was moved.
+# Installs a library that includes the header's directory and exports a target with it, and the headers alone. Checks
+# that a program finds both, in a tree that was moved.
 exports_by_cmake() {
   mkdir "$room/sums" && cd "$room/sums" && cat >CMakeLists.txt <<CMAKE && cat >sums.cpp <<'CPP' &&
 cmake_minimum_required(VERSION 3.10)
@@ -436,7 +447,8 @@ CPP
       'include("${CMAKE_CURRENT_LIST_DIR}/sums-targets.cmake")' >sums-config.cmake &&
     cmake -B built -D CMAKE_INSTALL_PREFIX="$room/first place" && cmake --build built && cmake --install built &&
     mv "$room/first place" "$room/sums place" && finds_by_cmake "$room/sums place" 'find_package(sums)' sums &&
-    cmake -S "$top/packages/c" -B headers -D CMAKE_C_COMPILER=none && cmake --install headers --prefix "$room/headers" &&
+    cmake -S "$top/packages/c" -B headers -D CMAKE_C_COMPILER=none &&
+    cmake --install headers --prefix "$room/headers" &&
     finds_by_cmake "$room/headers" 'find_package(rapidhash_c 1.0 CONFIG)' rapidhash_c::header &&
     diff "$top/packages/c/include" "$room/headers/include"
 }
@@ -496,8 +508,9 @@ begin fuzz fuzz
 for compiler in gcc clang; do
   all=1
   for standard in c99 c11 c17 c2x c++11 c++17 c++20; do
-    try_with "header_${standard}_$compiler" "$compiler$([[ $standard != c++* ]] || echo ' c++')" has_the_values "$compiler" "-std=$standard" \
-      -x "${standard//[0-9]*/}" -DIS_FAST=$all -O2 -pedantic -Wall -Wextra -Wconversion -Wshadow -Werror
+    try_with "header_${standard}_$compiler" "$compiler$([[ $standard != c++* ]] || echo ' c++')" \
+      has_the_values "$compiler" "-std=$standard" -x "${standard//[0-9]*/}" -DIS_FAST=$all -O2 -pedantic \
+      -Wall -Wextra -Wconversion -Wshadow -Werror
     all=0
   done
 done
@@ -514,7 +527,9 @@ for standard in c++11 c++17 c++20; do
   try_with "cpp_header_$standard" g++ calls_from_cpp g++ "$standard"
   try_with "cpp_header_${standard}_clang" clang++ calls_from_cpp clang++ "$standard"
 done
-for compiler in g++ clang++; do try_with "cpp_definitions_$compiler" "$compiler" shares_its_definitions "$compiler"; done
+for compiler in g++ clang++; do
+  try_with "cpp_definitions_$compiler" "$compiler" shares_its_definitions "$compiler"
+done
 for compiler in g++ clang++; do try_with "cpp_fields_$compiler" "$compiler" refuses_what_is_no_field "$compiler"; done
 for compiler in gcc clang; do try_with "visibility_$compiler" "$compiler" is_as_visible_as_asked "$compiler"; done
 try_with all_warnings_of_clang 'clang clang++' has_no_warning
@@ -524,8 +539,8 @@ try_with names_of_parameters cppcheck names_parameters_alike
 try_with cpp_header_32_bits "g++ $multilib/libstdc++.a" calls_from_cpp g++ c++11 -m32 \
   -idirafter /usr/include/x86_64-linux-gnu
 
-# Each path of the loads and the product, on machines of 64 and 32 bits and of both byte orders. A test stands in for the
-# functions of MSVC.
+# Each path of the loads and the product, on machines of 64 and 32 bits and of both byte orders. A test stands in for
+# the functions of MSVC.
 both='product streams'
 try properties has_the_properties "$both" cc -O2 -DTEST_PRODUCTS=16777216
 try_with properties_clang clang has_the_properties "$both" clang -O2
@@ -552,14 +567,15 @@ under='valgrind -q --error-exitcode=9' try_with content_of_each_branch 'valgrind
 try_with threads gcc has_the_properties threads gcc -O1 -fsanitize=thread -DTEST_THREADS -lpthread
 try_with rows_per_iteration gcc folds_two_rows gcc '15 11 13'
 try_with rows_per_iteration_clang clang folds_two_rows clang '29 21 13'
-try_with instructions_of_the_header 'gcc valgrind' stays_short <<'COUNTS'
+try_with instructions_of_the_header 'gcc valgrind' stays_short <<COUNTS
 return rapidhash_v1(bytes, length);|8 16 100 4096|33 33 92 1875
 return rapidhash_v2_2(bytes, length);|8 16 100 4096|24 24 97 1743
 return rapidhash_v3(bytes, length);|8 16 100 4096|28 28 65 1738
 return rapidhash_v3_micro(bytes, length);|8 16 100 4096|28 28 94 1785
 return rapidhash_v3_nano(bytes, length);|8 16 100 4096|28 28 87 1870
 return rapidhash_v3_protected(bytes, length);|8 16 100 4096|32 32 100 2262
-for (size_t at = 0; at < 4800; at += length) rapidhash_stream_write(&stream, bytes + at, length); return 0;|1 16 100|182455 13555 6570
+for (size_t at = 0; at < 4800; at += length) rapidhash_stream_write(&stream, bytes + at, length); \
+return 0;|1 16 100|182455 13555 6570
 return rapidhash_v3_with_seed(bytes, length, length);|8 16 100 4096|30 30 73 1750
 COUNTS
 try_with words_of_the_header clang keeps_words_in_registers

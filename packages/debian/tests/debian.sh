@@ -90,7 +90,8 @@ links_by_pkg_config() {
 # Checks that the package has what CREATE EXTENSION reads. packages/postgresql/tests/postgresql.py runs the same
 # library.
 has_the_extension_of_postgresql() {
-  cd "$root/usr/share/postgresql/15/extension" && ls rapidhash* | diff - <(printf '%s\n' rapidhash{--1.0.sql,.control}) &&
+  cd "$root/usr/share/postgresql/15/extension" &&
+    ls rapidhash* | diff - <(printf '%s\n' rapidhash{--1.0.sql,.control}) &&
     cmp rapidhash--1.0.sql "$top/packages/postgresql/rapidhash--1.0.sql"
 }
 
@@ -99,16 +100,17 @@ loads_into_sqlite() {
     grep -x 3327445792987248966
 }
 
-# Checks that programs and functions have a manual page, and no other name, and that completions are where Debian's shells
-# search.
+# Checks that programs and functions have a manual page, and no other name, and that completions are where Debian's
+# shells search.
 has_manuals_and_completions() {
   cd "$root/usr/share" && ls man/man1/rapid{hash,sum}.1.gz bash-completion/completions/rapid{hash,sum} \
     zsh/vendor-completions/_rapid{hash,sum} fish/vendor_completions.d/rapid{hash,sum}.fish &&
-    cc -E -P -DRAPIDHASH_LINK "$root/usr/include/rapidhash_c.h" | grep -oE '\brapidhash_[a-z0-9_]*[a-z0-9]\(' | tr -d '(' |
-    cat - <(echo rapidhash_c) | sort -u >"$room/functions" && [ "$(wc -l <"$room/functions")" -gt 40 ] &&
-    diff "$room/functions" <(printf '%s\n' man/man3/* | sed 's/.*\///; s/\.3\.gz$//' | sort) && while read -r function; do
-    zcat "man/man3/$function.3.gz" | cmp - "$top/packages/c/rapidhash_c.3" || return 1
-  done <"$room/functions"
+    cc -E -P -DRAPIDHASH_LINK "$root/usr/include/rapidhash_c.h" | grep -oE '\brapidhash_[a-z0-9_]*[a-z0-9]\(' |
+    tr -d '(' | cat - <(echo rapidhash_c) | sort -u >"$room/functions" && [ "$(wc -l <"$room/functions")" -gt 40 ] &&
+    diff "$room/functions" <(printf '%s\n' man/man3/* | sed 's/.*\///; s/\.3\.gz$//' | sort) &&
+    while read -r function; do
+      zcat "man/man3/$function.3.gz" | cmp - "$top/packages/c/rapidhash_c.3" || return 1
+    done <"$room/functions"
 }
 
 # Checks that each package has the notice and the text of the licence of which Debian has no copy.
@@ -126,7 +128,8 @@ leaves_nothing() {
     rm "$library"/lib{c.so.6,gcc_s.so.1} && listed | diff "$room/bare" -
 }
 
-needs dpkg-buildpackage dh lintian cc /usr/bin/{rustc,cargo} cmake sqlite3 pg_config '/usr/include/postgresql/*/server/postgres.h'
+needs dpkg-buildpackage dh lintian cc /usr/bin/{rustc,cargo} cmake sqlite3 pg_config \
+  '/usr/include/postgresql/*/server/postgres.h'
 [ "$(id -u)" -eq 0 ] || skip_all 'not run as root'
 try packages packs_the_same_bytes
 try without_tests builds_without_tests

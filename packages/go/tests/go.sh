@@ -28,9 +28,9 @@ copies_whole_pieces() {
   [ "$(go tool objdump -s 'Stream..(add|fold)$' "$room/test" | grep -c 'CALL runtime.memmove')" -eq 3 ]
 }
 
-# Checks by the instructions in that program that a key costs nothing besides its fields: the number of loops, with a jump
-# for the stack of each function, and of calls, also those that clear or copy memory, and at most 340 in all. A key that
-# first cleared or filled other memory would take longer.
+# Checks by the instructions in that program that a key costs nothing besides its fields: the number of loops, with a
+# jump for the stack of each function, and of calls, also those that clear or copy memory, and at most 340 in all. A key
+# that first cleared or filled other memory would take longer.
 writes_fields_alone() {
   go tool objdump -s 'rapidhash\.(v3Key|\(\*Stream\)\.(WriteField|add|Sum64))$' "$room/test" >"$room/code" && awk '
     $2 ~ /^0x/ { count++; calls += $4 == "CALL" }
@@ -51,7 +51,8 @@ clones() {
 
 # Checks that all tests pass, of which none may skip itself.
 passes_every_test() {
-  CGO_ENABLED=0 go test -v -timeout 0 -count 1 . >"$room/tests" 2>&1 || { grep -v '^ *\(=== \|--- PASS\)' "$room/tests" && return 1; }
+  CGO_ENABLED=0 go test -v -timeout 0 -count 1 . >"$room/tests" 2>&1 ||
+    { grep -v '^ *\(=== \|--- PASS\)' "$room/tests" && return 1; }
   ! grep -A 1 -e '--- SKIP' "$room/tests"
 }
 

@@ -110,8 +110,8 @@ adds_the_later_product() {
     has_the_later_product "$jar" && passes CasesTest
 }
 
-# Builds and tests the package by Maven with Debian's plugins, offline, below the file of cases. No test may skip itself.
-# With the profile of later JDKs the jar must have their class.
+# Builds and tests the package by Maven with Debian's plugins, offline, below the file of cases. No test may skip
+# itself. With the profile of later JDKs the jar must have their class.
 builds_by_maven() {
   local jar=$room/maven/target/yervound-rapidhash-1.0.0.jar
   cp -rs /usr/share/maven-repo "$room/maven-repo" && cp -r "$folder" "$room/maven" &&
@@ -204,23 +204,25 @@ has_its_names() {
     cat "$room/names" && [ "$(grep -c '\bpublic ' "$room/names")" -eq 76 ]
 }
 
-# Checks that all classes but those for later JDKs are for the oldest JDK that README.md names: JDK 11 reads major version 55.
+# Checks that all classes but those for later JDKs are for the oldest JDK that README.md names: JDK 11 reads major
+# version 55.
 is_for_the_jdk_of_the_page() {
   local jdk
   jdk=$(sed -n 's/^The package is plain Java for JDK \([0-9]*\) and later.*/\1/p' "$folder/README.md") &&
     rm -rf "$room/unpacked" && mkdir "$room/unpacked" && (cd "$room/unpacked" && jar -xf "$jar") &&
-    find "$room/unpacked" -name versions -prune -o -name '*.class' -exec javap -v {} + | grep 'major version' | sort -u |
-    diff - <(echo "  major version: $((jdk + 44))")
+    find "$room/unpacked" -name versions -prune -o -name '*.class' -exec javap -v {} + | grep 'major version' |
+    sort -u | diff - <(echo "  major version: $((jdk + 44))")
 }
 
-# Checks by the calls in its code that a stream copies whole arrays: byte by byte, short pieces would take twice as long.
+# Checks by the calls in its code that a stream copies whole arrays: byte by byte, short pieces would take twice as
+# long.
 copies_whole_arrays() {
   [ "$(javap -c -p -cp "$jar" "$package.RapidhashStream" |
     grep -cE 'Method (java/lang/System.arraycopy|java/nio/ByteBuffer.get:\(\[B|append):?')" -eq 11 ]
 }
 
-# Checks by that code that each of the four loads of 4 or 8 bytes is a single one, and that those of a byte read one: byte
-# by byte, short messages would take longer.
+# Checks by that code that each of the four loads of 4 or 8 bytes is a single one, and that those of a byte read one:
+# byte by byte, short messages would take longer.
 loads_whole_words() {
   javap -c -p -cp "$jar" "$package.Primitives" >"$room/loads" &&
     for load in 'VarHandle.get:' 'baload' 'ByteBuffer.get:(I)B'; do grep -cF "$load" "$room/loads"; done |

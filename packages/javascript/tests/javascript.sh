@@ -35,7 +35,8 @@ runs_the_page() {
 # Tests the page's worker, beside the package, as the page lays them out.
 refuses_changed_files() {
   mkdir "$room/worker" && cp "$room"/first/node_modules/yervound-rapidhash/*.mjs "$room/worker" &&
-    cp "$top"/packages/javascript/{page/worker,tests/changed}.mjs "$room/worker" && cd "$room/worker" && node --test changed.mjs
+    cp "$top"/packages/javascript/{page/worker,tests/changed}.mjs "$room/worker" &&
+    cd "$room/worker" && node --test changed.mjs
 }
 
 runs_in_node() {
@@ -54,7 +55,7 @@ runs_required() {
 names_each_export() {
   cd "$room/first" &&
     diff <(sed -nE "s/^export (const|function) (\w+).*/\2/p" node_modules/*/index.d.ts | LC_ALL=C sort -u) \
-      <(node --input-type=module -e 'import * as all from "yervound-rapidhash"; console.log(Object.keys(all).join("\n"))')
+      <(node --input-type=module -e 'import * as it from "yervound-rapidhash"; console.log(Object.keys(it).join("\n"))')
 }
 
 # Compiles a program whose `import` is a `require`.
@@ -87,9 +88,9 @@ serve() {
 
 # Lays out the files that are served to both browsers: the tests beside the package, and the page.
 lay_out_for_browsers() {
-  make -s -C "$top" built page && cp "$top"/packages/javascript/tests/browsers/* "$room/first" && cp -r "$top/build/browser" "$room" &&
-    serve && mkdir "$room/files" && cd "$room/files" && mv ../first/large . && cat large large >double &&
-    truncate -s 1073741825 long && : >empty
+  make -s -C "$top" built page && cp "$top"/packages/javascript/tests/browsers/* "$room/first" &&
+    cp -r "$top/build/browser" "$room" && serve && mkdir "$room/files" && cd "$room/files" && mv ../first/large . &&
+    cat large large >double && truncate -s 1073741825 long && : >empty
 }
 
 # Tests the package and the page in a browser. The page requests only its own files from its server: PROGRAM

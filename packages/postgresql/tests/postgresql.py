@@ -16,7 +16,8 @@ from sql import (DATA, HELLO, SERVER, STREAMS, ask, case_queries, lines_with_res
                  refused_calls, signed, start_server, unpack)
 
 PAGE = "packages/postgresql/README.md"
-FUNCTIONS = """SELECT prokind, proisstrict, count(*), count(*) FILTER (WHERE proargnames && '{seed,number}'), bool_and(provolatile = 'i' AND proparallel = 's')
+FUNCTIONS = """SELECT prokind, proisstrict, count(*), count(*) FILTER (WHERE proargnames && '{seed,number}'),
+    bool_and(provolatile = 'i' AND proparallel = 's')
     FROM pg_proc WHERE proname LIKE 'rapidhash%' GROUP BY 1, 2 ORDER BY 1, 2"""
 STORED = """CREATE TABLE stored (word text); ALTER TABLE stored ALTER word SET STORAGE {0};
     INSERT INTO stored SELECT repeat('hello', {1}); SELECT rapidhash_v3(word) = rapidhash_v3(repeat('hello', {1})),
@@ -55,7 +56,8 @@ def cases():
 
 def keys():
     user = signed(14742763072502883419)
-    for fields in ("'user', 4711, NULL", "'user'::text, 4711::smallint, NULL::text", "'user'::varchar, 4711::information_schema.cardinal_number, NULL"):
+    for fields in ("'user', 4711, NULL", "'user'::text, 4711::smallint, NULL::text",
+                   "'user'::varchar, 4711::information_schema.cardinal_number, NULL"):
         compare(f"key of {fields}", ask(f"SELECT rapidhash_v3_key({fields})"), [str(user)])
     for number in (-1, -2**15, 2**15 - 1, 2**31 - 1, -2**31):
         types = ["smallint"] * (-2**15 <= number < 2**15) + ["integer", "bigint"]
@@ -70,8 +72,8 @@ def shards():
     rows = "(VALUES (1, 5), (2, NULL), (3, -7), (4, 9)) AS rows(place, hash)"
     found = ask(f"SELECT rapidhash_fingerprint(hash) OVER (ORDER BY place ROWS 1 PRECEDING) FROM {rows}")
     compare("fingerprints_of_windows", found, ["5", "5", "-7", "2"])
-    compare("fingerprints_and_null", ask(f"""SELECT rapidhash_fingerprint(hash), rapidhash_fingerprint(hash) FILTER (WHERE
-        false), rapidhash_shard(NULL, 3) IS NULL, rapidhash_bucket(7, NULL) IS NULL FROM {rows}"""), ["7|0|t|t"])
+    compare("fingerprints_and_null", ask(f"""SELECT rapidhash_fingerprint(hash), rapidhash_fingerprint(hash) FILTER
+        (WHERE false), rapidhash_shard(NULL, 3) IS NULL, rapidhash_bucket(7, NULL) IS NULL FROM {rows}"""), ["7|0|t|t"])
     parallel = """CREATE TABLE many AS SELECT rapidhash_v3(number) AS hash FROM generate_series(1, 200000) AS number;
         SET parallel_setup_cost = 0; SET parallel_tuple_cost = 0; SET min_parallel_table_scan_size = 0;
         SELECT rapidhash_fingerprint(hash) FROM many; SET max_parallel_workers_per_gather = 0;
@@ -82,7 +84,8 @@ def shards():
     for call, reason in (("shard(7, 0)", "the count must be from 1 to 9223372036854775807, not 0"),
                          ("bucket(7, 4294967296)", "the count must be from 1 to 4294967295, not 4294967296"),
                          ("first_hash(10, 10)", "the shard must be from 0 to the count less 1, not 10")):
-        tell(f"no {call}", *[line for line in ask(f"SELECT rapidhash_{call}")[:1] if not line.endswith(f"ERROR:  {reason}")])
+        tell(f"no {call}", *[line for line in ask(f"SELECT rapidhash_{call}")[:1]
+                             if not line.endswith(f"ERROR:  {reason}")])
 
 
 def installcheck():
@@ -107,7 +110,8 @@ def aggregates():
             found = ask(f"SELECT part, {agg}(word{seed} ORDER BY place) = rapidhash_{version}({whole}{seed}) "
                         "FROM many GROUP BY part ORDER BY part")
             compare(f"{agg}{seed}", found, [f"{part}|t" for part in range(3)])
-            compare(f"{agg}{seed} of integers", ask(f"SELECT {agg}(n::bigint{seed} ORDER BY n DESC) = rapidhash_{version}("
+            compare(f"{agg}{seed} of integers", ask(
+                f"SELECT {agg}(n::bigint{seed} ORDER BY n DESC) = rapidhash_{version}("
                 f"'\\x01{'00' * 7}fe{'ff' * 7}'::bytea{seed}) FROM (VALUES (1), (-2)) v(n)"), ["t"])
     values = "(VALUES (1, 'x', NULL), (2, 'hel', 0), (3, NULL, 0), (4, 'lo', 0)) v(place, word, seed)"
     for frame in ("", " ROWS 1 PRECEDING"):
@@ -126,8 +130,8 @@ def aggregates():
 
 def parallel_workers():
     """Tests a sum of keys by parallel workers over 300,000 rows."""
-    ask("""CREATE TABLE visits AS SELECT nullif('user:' || place % 1000, 'user:7') AS name, nullif(place % 50000, 7) AS number
-        FROM generate_series(1, 300000) place""")
+    ask("""CREATE TABLE visits AS SELECT nullif('user:' || place % 1000, 'user:7') AS name,
+        nullif(place % 50000, 7) AS number FROM generate_series(1, 300000) place""")
     query = "SELECT count(*), sum(rapidhash_v3_key(name, number)::numeric) FROM visits"
     workers = ("SET max_parallel_workers_per_gather = {}; SET parallel_setup_cost = 0; SET parallel_tuple_cost = 0; "
                "SET min_parallel_table_scan_size = 0; {}")
@@ -143,14 +147,16 @@ def hash_partitions():
     [commands] = [block for block in blocks(PAGE, "sql") if "BY HASH" in block]
     seed, added = re.search(r"seed=(\d+)\) \+ (\d+) & 2\*\*64 - 1\) % 4`", (TOP / PAGE).read_text()).groups()
     rule = f"((rapidhash_v3(name, {seed})::numeric + {2**64 + int(added)}) % {2**64} % 4)::int"
-    shards = f"""SELECT tableoid::regclass, count(*) > 20000, bool_and(tableoid::regclass::text = 'users' || {rule}), bool_and(
-        satisfies_hash_partition('users'::regclass, 4, {rule}, name)) FROM users WHERE name <> '' GROUP BY 1 ORDER BY 1"""
+    shards = f"""SELECT tableoid::regclass, count(*) > 20000, bool_and(tableoid::regclass::text = 'users' || {rule}),
+        bool_and(satisfies_hash_partition('users'::regclass, 4, {rule}, name))
+        FROM users WHERE name <> '' GROUP BY 1 ORDER BY 1"""
     wanted = [f"users{shard}|t|t|t" for shard in range(4)]
     for type, text in (("bytea", "sha256(place::text::bytea)"), ("text", "'user:' || place")):
         ask(f"DROP TABLE IF EXISTS users; {commands.replace('text', type)} INSERT INTO users SELECT {text} "
             "FROM generate_series(1, 100000) place; INSERT INTO users VALUES (NULL)")
         compare(f"hash_partitions of {type}", ask(shards), wanted)
-    status, printed = shell("psql -qc 'CREATE DATABASE restored' && pg_dump | psql -qv ON_ERROR_STOP=1 -o /dev/null restored",
+    status, printed = shell("psql -qc 'CREATE DATABASE restored' && "
+                            "pg_dump | psql -qv ON_ERROR_STOP=1 -o /dev/null restored",
                             PGHOST=str(DATA), PGUSER="test", PGDATABASE="postgres")
     compare("restored", (status, printed, ask(f"\\c restored \n {shards}")), (0, "", wanted))
     compare("partition_of_null", ask("SELECT tableoid::regclass FROM users WHERE name IS NULL"), ["users0"])
@@ -159,7 +165,8 @@ def hash_partitions():
     compare("lower_half", ask(halves), ["t"])
     plan = "".join(ask("EXPLAIN SELECT * FROM users WHERE name = 'user:7'"))
     compare("pruned_partitions", len(set(re.findall(r"users\d", plan))), 1)
-    join = "SET enable_nestloop = off; SET enable_mergejoin = off; {} SELECT count(*) FROM {} a JOIN {} b ON a.name = b.name"
+    join = ("SET enable_nestloop = off; SET enable_mergejoin = off; "
+            "{} SELECT count(*) FROM {} a JOIN {} b ON a.name = b.name")
     compare("join", ("Hash Join" in "".join(ask(join.format("EXPLAIN", "users", "users0"))),
                      *ask(join.format("", "users", "users0"))), (True, *ask("SELECT count(name) FROM users0")))
     find = "SET enable_seqscan = off; {} SELECT count(*) FROM users WHERE name IN ('user:1', 'user:100000', 'user:0')"
@@ -178,9 +185,9 @@ def hash_partitions():
 def rest():
     # The calls and rapidhash_hex, the aggregates, and the functions that these are made of.
     compare("functions", ask(FUNCTIONS), ["a|f|19|9|t", "f|f|22|11|t", "f|t|82|50|t"])
-    exports = shell("nm -D --defined-only build/postgresql/rapidhash.so | cut -d ' ' -f 3 | grep -v '^pg_finfo_'")[1].split()
+    exports = shell("nm -D --defined-only build/postgresql/rapidhash.so | cut -d ' ' -f 3 | grep -v '^pg_finfo_'")[1]
     called = ask("SELECT DISTINCT prosrc FROM pg_proc WHERE probin LIKE '%rapidhash'")
-    compare("exports", sorted(exports), sorted(["Pg_magic_func", *called]))
+    compare("exports", sorted(exports.split()), sorted(["Pg_magic_func", *called]))
     for query, wanted in lines_with_results(PAGE):
         compare(query, ask(query), [wanted])
     [query] = re.findall(r"^SELECT .*_agg.*;$", blocks(PAGE, "sql")[0], re.M)

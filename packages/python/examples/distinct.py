@@ -4,7 +4,8 @@ python3-distributed and python3-pandas):
     python3 distinct.py WORKERS SHARDS PART.csv ..
 
 A part has the columns name and number, and an empty field is missing. A row goes to the shard of its key, so equal rows
-meet in one process, and every language sends them there. It prints a line for each shard: shard, rows, distinct rows."""
+meet in one process, and every language sends them there. It prints a line for each shard: shard, rows, distinct
+rows."""
 
 import sys
 

@@ -64,7 +64,8 @@ def _is_masked(array):
 
 
 def _listed(column):
-    """Returns a Series or an Index of pandas, or a masked array of NumPy, as a list with None for its missing values."""
+    """Returns a Series or an Index of pandas, or a masked array of NumPy, as a list with None for its missing
+    values."""
     if type(getattr(getattr(column, "dtype", None), "na_value", None)).__name__ == "NAType":
         return column.to_numpy(dtype=object, na_value=None).tolist()  # Its own tolist() is slow.
     items = column.tolist()
@@ -124,8 +125,8 @@ def each_slice(data, offsets, version="v3", seed=None, secrets=None, out=None, v
     """Returns the hash of data[offsets[i]:offsets[i + 1]] for each i, in the same way as `each`: the columns of strings
     and of bytes in Apache Arrow's layout.
 
-    `offsets` is a buffer of 32-bit or 64-bit integers. `validity` is a buffer with a bit for each slice, the lowest of a
-    byte first: `missing` is the hash of a slice whose bit is 0. Raises ValueError if the offsets do not ascend within
+    `offsets` is a buffer of 32-bit or 64-bit integers. `validity` is a buffer with a bit for each slice, the lowest of
+    a byte first: `missing` is the hash of a slice whose bit is 0. Raises ValueError if the offsets do not ascend within
     `data`, if there are too few bits, or if `out` overlaps another argument."""
     view = memoryview(offsets)
     out = _room(max(view.nbytes // max(view.itemsize, 1) - 1, 0)) if out is None else out
@@ -140,7 +141,8 @@ def v3_key(*fields, seed=None, secrets=None):
         >>> rapidhash.v3_key("user", 4711, None)
         14742763072502883419
 
-    Raises TypeError for any other field, such as a float, or a bool of Python or NumPy, and OverflowError for an int outside the range."""
+    Raises TypeError for any other field, such as a float, or a bool of Python or NumPy, and OverflowError for an int
+    outside the range."""
     return _extension.key(fields, seed, secrets)
 
 
@@ -153,8 +155,8 @@ def _viewed(column):
 
 
 def _fields(at, column):
-    """Returns a column as a list, a tuple, a buffer of integers, or a capsule of Arrow's, and the number of rows, if it is
-    the first."""
+    """Returns a column as a list, a tuple, a buffer of integers, or a capsule of Arrow's, and the number of rows, if it
+    is the first."""
     if isinstance(column, (str, bytes, bytearray)) or hasattr(column, "columns"):
         raise TypeError(f"columns[{at}] must be a column of fields, not {type(column)!r}")
     if hasattr(column, "__arrow_c_array__"):
@@ -318,8 +320,8 @@ def bucket(hashes, count, out=None):
 def fingerprint(hashes):
     """Returns the fingerprint of a column of hashes, or of an iterable: their sum modulo 2**64, in any order.
 
-    Two tables with equally many rows and one fingerprint of their `each_key` have the same rows, but for a chance of one
-    in 2**64. That does not hold against someone who chooses the rows."""
+    Two tables with equally many rows and one fingerprint of their `each_key` have the same rows, but for a chance of
+    one in 2**64. That does not hold against someone who chooses the rows."""
     column = _hashes(hashes)
     return sum(map(operator.index, hashes)) % 2**64 if column is None else _extension.fingerprint(column)
 

@@ -18,7 +18,8 @@ WORDS = "user", "naïve", "中文", "мир", "😀", "a,b", 'quote"d', " ", "x"
 
 # A line for each shard, as the example prints it.
 GROUPED = f"""SELECT rapidhash_shard(rapidhash_v3_key(name, number), {SHARDS}) AS shard, sum(times), count(*)
-    FROM (SELECT name, number, count(*) AS times FROM rows GROUP BY name, number) AS keys GROUP BY shard ORDER BY shard"""
+    FROM (SELECT name, number, count(*) AS times FROM rows GROUP BY name, number) AS keys
+    GROUP BY shard ORDER BY shard"""
 # Programs that print the shard of each key in a table: a name as hexadecimal digits or -, and a number or -.
 PYTHON = """import sys, rapidhash
 names, numbers = zip(*(line.split() for line in open(sys.argv[1])))
@@ -104,14 +105,16 @@ def shards_by(program, name, command):
 
 
 needs("make", "cc", "/usr/include/sqlite3.h", "/usr/lib/python3/dist-packages/distributed",
-      "/usr/lib/python3/dist-packages/pandas", "/usr/lib/python3/dist-packages/setuptools", "/usr/include/python3*/Python.h")
+      "/usr/lib/python3/dist-packages/pandas", "/usr/lib/python3/dist-packages/setuptools",
+      "/usr/include/python3*/Python.h")
 status, printed = shell("make -s sqlite wheel && /usr/bin/python3 -m zipfile -e build/wheels/*.whl \"$ROOM/wheel\"")
 tell("build", *[printed] * (status != 0))
 draw = random.Random(20261128)
 rows = [row(draw) for _ in range(ROWS)]
 parts = " ".join(map(str, write_parts(rows)))
 example = TOP / "packages/python/examples/distinct.py"
-status, printed = shell(f"/usr/bin/python3 -B {example} {WORKERS} {SHARDS} {parts}", ROOM, PYTHONPATH=str(ROOM / "wheel"))
+status, printed = shell(f"/usr/bin/python3 -B {example} {WORKERS} {SHARDS} {parts}", ROOM,
+                        PYTHONPATH=str(ROOM / "wheel"))
 found = [tuple(map(int, line.split("\t"))) for line in printed.splitlines() if line.count("\t") == 2]
 compare("status", (status, len(found)), (0, SHARDS))
 compare("shards_of_sql", found, grouped(rows))

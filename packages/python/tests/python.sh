@@ -49,8 +49,8 @@ leaves_nothing() {
 # Installs from the directory, as pip install ./packages/python does, with Debian's setuptools.
 installs_from_source() {
   "$python" -m venv --system-site-packages "$room/compiled" &&
-    "$room/compiled/bin/pip" install --no-build-isolation "$room/source/packages/python" && leaves_nothing &&
-    cd / && "$room/compiled/bin/python" -c 'import rapidhash; print(rapidhash.v3(b"hello"))' | grep -x 3327445792987248966
+    "$room/compiled/bin/pip" install --no-build-isolation "$room/source/packages/python" && leaves_nothing && cd / &&
+    "$room/compiled/bin/python" -c 'import rapidhash; print(rapidhash.v3(b"hello"))' | grep -x 3327445792987248966
 }
 
 # Checks that an installation fails, installs nothing and leaves nothing: WORD-IN-ITS-ERROR ARGUMENT..
@@ -127,7 +127,8 @@ types_are_those_of_the_package() {
   cd "$room/files" && MYPYPATH=$room/files PYTHONPATH=$room/files "$python" -m mypy.stubtest rapidhash
 }
 
-needs gcc '/usr/lib/python3*/ensurepip' /usr/lib/python3/dist-packages/{pip,setuptools,wheel} '/usr/include/python3*/Python.h'
+needs gcc '/usr/lib/python3*/ensurepip' /usr/lib/python3/dist-packages/{pip,setuptools,wheel} \
+  '/usr/include/python3*/Python.h'
 try install installs_as_the_page_says
 try files has_its_files
 try exports exports_its_start_alone

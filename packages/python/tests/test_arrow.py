@@ -1,5 +1,5 @@
-"""Tests columns of Apache Arrow with an installed copy of the package. The columns are made here by ctypes, as the C data
-interface has them, so that each release is counted."""
+"""Tests columns of Apache Arrow with an installed copy of the package. The columns are made here by ctypes, as the C
+data interface has them, so that each release is counted."""
 
 import array
 import contextlib
@@ -70,12 +70,14 @@ class Column:
 
     def __arrow_c_array__(self, requested_schema=None):
         pointers = (c_void_p * len(self.buffers))(*(ctypes.cast(c_char_p(buffer), c_void_p) for buffer in self.buffers))
-        schema = Schema(self.form, b"", None, 2, 0, None, self.changed.get("dictionary"), RELEASES[Schema](self.release))
+        schema = Schema(self.form, b"", None, 2, 0, None, self.changed.get("dictionary"),
+                        RELEASES[Schema](self.release))
         column = Array(*self.shape, len(self.buffers), 0, pointers, None, None, RELEASES[Array](self.release))
         self.kept += [schema, column, pointers]
         pairs = (schema, Schema, b"arrow_schema"), (column, Array, b"arrow_array")
-        return tuple(new_capsule(ctypes.addressof(held), self.changed.get("name", name), ctypes.cast(DESTROY[kind], c_void_p)
-                                 if self.is_owner else None) for held, kind, name in pairs)
+        return tuple(new_capsule(ctypes.addressof(held), self.changed.get("name", name),
+                                 ctypes.cast(DESTROY[kind], c_void_p) if self.is_owner else None)
+                     for held, kind, name in pairs)
 
     def release(self, held):
         self.released.append(type(held.contents).__name__)
@@ -109,7 +111,8 @@ class Arrow(unittest.TestCase):
         for form in "cCsSiIlL":
             for offset in (0, 5, 8):
                 wanted = [rapidhash.v3_key(*row) for row in zip(NUMBERS, TEXTS, range(11))]
-                columns = self.column(form, NUMBERS, offset), self.column("uU"[offset % 2], TEXTS, offset), list(range(11))
+                columns = (self.column(form, NUMBERS, offset), self.column("uU"[offset % 2], TEXTS, offset),
+                           list(range(11)))
                 self.assertEqual(list(rapidhash.each_key(*columns)), wanted)
         extremes = {"c": 2**7, "s": 2**15, "i": 2**31, "l": 2**63}
         for form, bound in extremes.items():
@@ -141,13 +144,15 @@ class Arrow(unittest.TestCase):
         short, below = ([None, array.array("i", places).tobytes(), b"ab"] for places in ([0, 2, 1], [-1, 1]))
         each, key = rapidhash.each, rapidhash.each_key
         for call, kind, error in (
-                (lambda: each(self.column("u", TEXTS)), TypeError, r"^items\[1\] is None: pass `missing`, the hash of a"),
+                (lambda: each(self.column("u", TEXTS)), TypeError,
+                 r"^items\[1\] is None: pass `missing`, the hash of a"),
                 (lambda: each(self.column("l", [1])), TypeError,
                  "^items must be strings or bytes, not an Arrow array of the format 'l': each_key hashes integers$"),
                 (lambda: each(self.column("g", [1])), TypeError, f"^items {kinds}not of the format 'g'$"),
                 (lambda: each(self.column("vu", [1])), TypeError, f"^items {kinds}not of the format 'vu'$"),
                 (lambda: each(self.column("", [1])), TypeError, f"^items {kinds}not of the format ''$"),
-                (lambda: key([1], self.column("tdD", [1])), TypeError, rf"^columns\[1\] {kinds}not of the format 'tdD'$"),
+                (lambda: key([1], self.column("tdD", [1])), TypeError,
+                 rf"^columns\[1\] {kinds}not of the format 'tdD'$"),
                 (lambda: key(self.column("i", [1], dictionary=ctypes.addressof(other))), TypeError,
                  rf"^columns\[0\] {kinds}not of the format 'i' with a dictionary$"),
                 (lambda: key(self.column("l", [1]), self.column("g", [1])), TypeError, r"^columns\[1\] must be"),
@@ -156,9 +161,11 @@ class Arrow(unittest.TestCase):
                 (lambda: key(self.column("L", [1, 2**63])), OverflowError, r"^columns\[0\]\[1\] must be from "),
                 (lambda: each(self.column("u", ["", ""], buffers=short)), ValueError,
                  r"^items\[1\] has offsets that do not ascend from 0$"),
-                (lambda: each(self.column("u", [""], buffers=below)), ValueError, r"^items\[0\] has offsets that do not"),
+                (lambda: each(self.column("u", [""], buffers=below)), ValueError,
+                 r"^items\[0\] has offsets that do not"),
                 (lambda: key(self.column("u", ["", ""], buffers=short)), ValueError, r"^columns\[0\]\[1\] has offsets"),
-                (lambda: each(self.column("u", ["a"]), out=array.array("Q")), ValueError, "^out must have room for exactly 1"),
+                (lambda: each(self.column("u", ["a"]), out=array.array("Q")), ValueError,
+                 "^out must have room for exactly 1"),
                 (lambda: each(self.column("u", ["a"]), version="v99"), ValueError, "^version must be"),
                 (lambda: each(Column("u", ["a"], is_owner=False, name=b"other")), ValueError, "incorrect name")):
             with self.subTest(error):
@@ -173,8 +180,8 @@ class Arrow(unittest.TestCase):
                 call(lent)
 
     def test_nothing_is_left(self):
-        """Each call holds new objects, and it succeeds or fails after it has opened some of them. Python itself keeps some
-        memory for later objects, but not after each round."""
+        """Each call holds new objects, and it succeeds or fails after it has opened some of them. Python itself keeps
+        some memory for later objects, but not after each round."""
         class Index:
             def __index__(self):
                 return 2**62 + len(objects)
@@ -186,13 +193,16 @@ class Arrow(unittest.TestCase):
         each, key, one, part = rapidhash.each, rapidhash.each_key, rapidhash.v3_key, rapidhash.each_slice
         for call in (
                 lambda: each(Column("u", ["a"])), lambda: each(Column("u", [None])), lambda: key(Column("l", [1]), [2]),
-                lambda: key(Column("l", [1]), Column("g", [1])), lambda: each(Column("u", ["a", None]), out=places(8, 9, kind="Q")),
+                lambda: key(Column("l", [1]), Column("g", [1])),
+                lambda: each(Column("u", ["a", None]), out=places(8, 9, kind="Q")),
                 lambda: each([bytearray(9), bytearray(large)]), lambda: each([bytes(room(9)), [7]]),
                 lambda: key([Index()], [bytes(room(9))], [bytearray(9)]), lambda: one(Index(), bytearray(9)),
-                lambda: one(places(1)), lambda: key([[7]]), lambda: key([[7]], [1, 2]), lambda: key(places(1), places(1, 2)),
-                lambda: key(places(1), [[7]]), lambda: key(places(1), out=places(1, 2, kind="Q")), lambda: key(places(1, kind="d")),
-                lambda: part(b"abc", places(0, 3)), lambda: part(room(3), places(0, 1, kind="d")), lambda: part(7, places(0, 1)),
-                lambda: part(room(3), places(0, 4)), lambda: part(room(3), places(0, 1), validity=bytearray(1)),
+                lambda: one(places(1)), lambda: key([[7]]), lambda: key([[7]], [1, 2]),
+                lambda: key(places(1), places(1, 2)), lambda: key(places(1), [[7]]),
+                lambda: key(places(1), out=places(1, 2, kind="Q")), lambda: key(places(1, kind="d")),
+                lambda: part(b"abc", places(0, 3)), lambda: part(room(3), places(0, 1, kind="d")),
+                lambda: part(7, places(0, 1)), lambda: part(room(3), places(0, 4)),
+                lambda: part(room(3), places(0, 1), validity=bytearray(1)),
                 lambda: part(room(3), places(0, 1), validity=room(), missing=0),
                 lambda: part(room(3), places(0, 1), validity=room(1), missing=0),
                 lambda: part(room(3), places(0, 1), validity=room(1), missing=-1)):

@@ -1,4 +1,5 @@
-"""Tests buffers, files, and memory maps with an installed copy of the package. packages/python/tests/python.sh runs it per wheel."""
+"""Tests buffers, files, and memory maps with an installed copy of the package. packages/python/tests/python.sh runs it
+per wheel."""
 
 import array
 import hashlib
@@ -20,8 +21,8 @@ KNOWN = 7088138960297660729  # The V3 hash of DATA by the Rust crate, as in test
 
 
 def lets_others_run(call, times):
-    """Returns whether one of so many calls lets another thread run, which on a busy machine few of them may do. The switch
-    interval is too long for the thread to preempt a call."""
+    """Returns whether one of so many calls lets another thread run, which on a busy machine few of them may do. The
+    switch interval is too long for the thread to preempt a call."""
     count, done, interval = [0], threading.Event(), sys.getswitchinterval()
 
     def other():
@@ -101,8 +102,9 @@ class Buffers(unittest.TestCase):
         self.assertEqual((rapidhash.v3(Other(b"a")), rapidhash.V3(Other(b"a")).intdigest()), (KNOWN, KNOWN))
 
     def assert_alike(self, limit, calls):
-        """Fails if the least time of a call over its data is above so many times that of another. The data is in the cache
-        after a first call. On a busy machine the rounds go on until the times are alike: those of a slow call never are."""
+        """Fails if the least time of a call over its data is above so many times that of another. The data is in the
+        cache after a first call. On a busy machine the rounds go on until the times are alike: those of a slow call
+        never are."""
         def time_of(call, data):
             call(data)
             start = time.thread_time()

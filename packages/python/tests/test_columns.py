@@ -164,7 +164,8 @@ class Out(unittest.TestCase):
 class Refused(unittest.TestCase):
     def test_items(self):
         for items in ([b"", 7], iter([b"", 7]), (b"", 7), [b"", 7, b""]):
-            with self.assertRaisesRegex(TypeError, r"^items\[1\] must be bytes, .* not <class 'int'>: each_key hashes integers$"):
+            with self.assertRaisesRegex(
+                    TypeError, r"^items\[1\] must be bytes, .* not <class 'int'>: each_key hashes integers$"):
                 rapidhash.each(items)
         with self.assertRaises(BufferError):
             rapidhash.each([memoryview(b"abc")[::2]])
@@ -183,7 +184,8 @@ class Refused(unittest.TestCase):
 
     def test_offsets(self):
         for numbers in ([0, 4], [2, 1], [-1, 2], [0, 3, 2], [0, 2**62], [-2**63, 0], [2**62, 2**62 + 1]):
-            with self.assertRaisesRegex(ValueError, r"^offsets\[\d\] and offsets\[\d\] must ascend from 0 to at most 3"):
+            with self.assertRaisesRegex(
+                    ValueError, r"^offsets\[\d\] and offsets\[\d\] must ascend from 0 to at most 3"):
                 rapidhash.each_slice(b"abc", array.array("q", numbers))
         for numbers in ([0, 2**64 - 1], [2**63, 2**63], [2**32, 2**32 + 1]):
             with self.assertRaisesRegex(ValueError, "^offsets"):

@@ -37,7 +37,8 @@ class Keys(unittest.TestCase):
     def test_a_letter_of_another_size(self):
         numbers, one = (ctypes.c_int32 * 2)(7, -1), lambda size: (ctypes.c_ssize_t * 1)(size)
         buffer = Buffer(ctypes.addressof(numbers), None, 8, 4, 1, 1, b"=l", one(2), one(4))
-        view_of = ctypes.PYFUNCTYPE(ctypes.py_object, ctypes.POINTER(Buffer))(("PyMemoryView_FromBuffer", ctypes.pythonapi))
+        view_of = ctypes.PYFUNCTYPE(ctypes.py_object, ctypes.POINTER(Buffer))(
+            ("PyMemoryView_FromBuffer", ctypes.pythonapi))
         wanted = [rapidhash.v3_key(7), rapidhash.v3_key(-1)]
         self.assertEqual(list(rapidhash.each_key(view_of(buffer))), wanted)
 
@@ -77,8 +78,8 @@ class Keys(unittest.TestCase):
 
         for value in (1.5, True, [1], {}, object(), Date(8), array.array("i", [1]), array.array("d", [1]),
                       memoryview(b"").cast("b")):
-            with self.assertRaisesRegex(TypeError, r"^fields\[1\] must be None, an int, a str or bytes, not <class '.*'>; "
-                                        r"docs/BINDINGS.md lists conversions$"):
+            with self.assertRaisesRegex(TypeError, r"^fields\[1\] must be None, an int, a str or bytes, "
+                                        r"not <class '.*'>; docs/BINDINGS.md lists conversions$"):
                 rapidhash.v3_key(1, value)
             with self.assertRaisesRegex(TypeError, r"^columns\[1\]\[2\] must be None, an int, a str or bytes, not "):
                 rapidhash.each_key([1, 2, 3], ["a", None, value])
@@ -92,8 +93,9 @@ class Keys(unittest.TestCase):
                             (lambda: rapidhash.each(["a"] * 999 + ["b\ud800"]), r"items\[999\]")):
             with self.assertRaisesRegex(UnicodeEncodeError, rf"position \d: surrogates not allowed in {place}$"):
                 call()
-        for value, kind, reason in ((memoryview(b"abcd")[::2], BufferError, "memoryview: underlying buffer is not C-contiguous"),
-                                    (Wrong(), TypeError, "__index__ returned non-int"), (Own(), KeyError, None)):
+        for value, kind, reason in (
+                (memoryview(b"abcd")[::2], BufferError, "memoryview: underlying buffer is not C-contiguous"),
+                (Wrong(), TypeError, "__index__ returned non-int"), (Own(), KeyError, None)):
             places = ["", ""] if reason is None else [r"^fields\[0\]: ", r"^columns\[0\]\[1\]: "]
             for call, place in zip((lambda: rapidhash.v3_key(value), lambda: rapidhash.each_key([1, value])), places):
                 with self.assertRaisesRegex(kind, place + (reason or "own")):

@@ -54,7 +54,7 @@ class Missing(unittest.TestCase):
         series = [Series(values)]
         try:
             import pandas
-            series += [pandas.Series(values), pandas.Series([value for value in ITEMS if value != b"b"], dtype="string")]
+            series += [pandas.Series(values), pandas.Series([item for item in ITEMS if item != b"b"], dtype="string")]
         except ImportError:
             pass
         for column, known in zip(series, (wanted(3), wanted(3), wanted(3)[:3] + wanted(3)[4:])):
@@ -66,7 +66,8 @@ class Missing(unittest.TestCase):
         for call, kind, error in (
                 (lambda: rapidhash.each(ITEMS), TypeError,
                  r"^items\[1\] is None: pass `missing`, the hash of a missing item$"),
-                (lambda: rapidhash.each([7], missing=0), TypeError, r"^items\[0\] must be bytes, another buffer, or a str"),
+                (lambda: rapidhash.each([7], missing=0), TypeError,
+                 r"^items\[0\] must be bytes, another buffer, or a str"),
                 (lambda: rapidhash.each([], missing="0"), TypeError, "^missing must be an integer, not <class 'str'>$"),
                 (lambda: rapidhash.each([], missing=-1), OverflowError, r"^missing must be from 0 to 2\*\*64 - 1$"),
                 (lambda: rapidhash.each([], missing=2**64), OverflowError, "^missing must be from 0"),
@@ -74,9 +75,10 @@ class Missing(unittest.TestCase):
                  "^pass `missing`, the hash of a missing string, with validity$"),
                 (lambda: rapidhash.each_slice(data, places, validity=bits[:1], missing=0), ValueError,
                  "^validity must have a bit for each of 10 strings, and it has 1 bytes$"),
-                (lambda: rapidhash.each_slice(data, places, validity="text", missing=0), TypeError, "bytes-like object"),
-                (lambda: rapidhash.each_slice(b"ab", array.array("i", [0, 2, 1]), validity=b"\0", missing=0), ValueError,
-                 r"^offsets\[1\] and offsets\[2\] must ascend")):
+                (lambda: rapidhash.each_slice(data, places, validity="text", missing=0), TypeError,
+                 "bytes-like object"),
+                (lambda: rapidhash.each_slice(b"ab", array.array("i", [0, 2, 1]), validity=b"\0", missing=0),
+                 ValueError, r"^offsets\[1\] and offsets\[2\] must ascend")):
             with self.subTest(error):
                 self.assertRaisesRegex(kind, error, call)
         with memoryview(pair) as view, self.assertRaisesRegex(ValueError, "^out must not overlap validity$"):

@@ -19,7 +19,8 @@ class Package(unittest.TestCase):
         self.assertEqual(doctest.testmod(rapidhash, extraglobs={"rapidhash": rapidhash}), (0, 6))
 
     def test_all_names_are_there(self):
-        shown = {name for name in vars(rapidhash) if name[0] != "_" and name not in ("array", "copyreg", "itertools", "operator")}
+        modules = "array", "copyreg", "itertools", "operator"
+        shown = {name for name in vars(rapidhash) if name[0] != "_" and name not in modules}
         self.assertEqual(set(rapidhash.__all__), shown | {"__version__"})
         for name in rapidhash.__all__:
             self.assertTrue(getattr(rapidhash, name).__doc__, name)

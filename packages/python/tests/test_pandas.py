@@ -44,7 +44,8 @@ class Pandas(unittest.TestCase):
     def test_strides_and_out(self):
         room = numpy.zeros(20, "uint64")
         for column, out in ((room[::2], room[10:]), (room[9::-1], room[:10]), (room[18::-2], room[9:19])):
-            self.refused(r"^out must not overlap columns\[1\]$", ValueError, rapidhash.each_key, [1] * 10, column, out=out)
+            self.refused(r"^out must not overlap columns\[1\]$", ValueError,
+                         rapidhash.each_key, [1] * 10, column, out=out)
         self.assertEqual(list(rapidhash.each_key(room[9::-1], out=room[10:])), keys([0] * 10))
 
     def test_masked_items_are_missing(self):
@@ -72,12 +73,14 @@ class Pandas(unittest.TestCase):
         for value in (numpy.bool_(True), numpy.bool_(False), *pandas.array([True], dtype="boolean")):
             self.refused(r"^fields\[1\] must be None, an int, a str or bytes, not <class '.*bool", TypeError,
                          rapidhash.v3_key, 1, value)
-        self.refused(r"^columns\[0\]\[1\] must be None", TypeError, rapidhash.each_key, [numpy.int64(1), numpy.bool_(True)])
+        self.refused(r"^columns\[0\]\[1\] must be None", TypeError,
+                     rapidhash.each_key, [numpy.int64(1), numpy.bool_(True)])
         for column in (list(numpy.array([True, False])), pandas.Series([True, None], dtype="boolean"),
                        pandas.Series([True, False]), pandas.array([True, None], dtype="boolean")):
             self.refused(r"^columns\[1\]\[0\] must be None, an int, a str or bytes, not <class '.*bool", TypeError,
                          rapidhash.each_key, [1, 2], column)
-        self.refused(r"^columns\[0\] must be .* of the format '\?'$", TypeError, rapidhash.each_key, numpy.array([True]))
+        self.refused(r"^columns\[0\] must be .* of the format '\?'$", TypeError,
+                     rapidhash.each_key, numpy.array([True]))
         for kind in "int8 uint8 int16 uint16 int32 uint32 int64 uint64".split():
             self.assertEqual(list(rapidhash.each_key(list(numpy.array([1, 0], kind)))), keys([1, 0]))
 
@@ -86,8 +89,10 @@ class Pandas(unittest.TestCase):
         objects = pandas.Series(["a", float("nan"), pandas.NA, pandas.NaT, None, "c"])
         self.assertEqual(list(rapidhash.each_key(objects)), keys(["a", None, None, None, None, "c"]))
         for column, items in ((pandas.Series(texts, dtype="string"), texts), (pandas.Index(texts), texts),
-                              (pandas.Series(texts, dtype="category"), texts), (pandas.Series(numbers, dtype="Int64"), numbers),
-                              (pandas.array(numbers, dtype="Int64"), numbers), (pandas.Index(numbers, dtype="Int64"), numbers),
+                              (pandas.Series(texts, dtype="category"), texts),
+                              (pandas.Series(numbers, dtype="Int64"), numbers),
+                              (pandas.array(numbers, dtype="Int64"), numbers),
+                              (pandas.Index(numbers, dtype="Int64"), numbers),
                               (pandas.Series(pandas.arrays.SparseArray([0, 7, 0, 5])), [0, 7, 0, 5])):
             self.assertEqual(list(rapidhash.each_key(column)), keys(items), column)
             if items is texts:
@@ -103,8 +108,9 @@ class Pandas(unittest.TestCase):
             self.assertLess(cost(pandas.Series(items, dtype=kind)), 4.5 * cost(items), kind)
 
     def test_numbers_are_no_messages(self):
-        error = r"^items\[0\] must be bytes, another buffer, or a str, not <class '.*int\d*'>: each_key hashes integers$"
-        for items in (*(pandas.Series([1], dtype=kind) for kind in ("Int64", "Int32", "Int8", "UInt8", "int64", "uint8")),
+        error = (r"^items\[0\] must be bytes, another buffer, or a str, not <class '.*int\d*'>: "
+                 "each_key hashes integers$")
+        for items in (*(pandas.Series([1], dtype=kind) for kind in "Int64 Int32 Int8 UInt8 int64 uint8".split()),
                       numpy.arange(3), [numpy.int16(1)], pandas.Index([1])):
             self.refused(error, TypeError, rapidhash.each, items)
         for item in (numpy.float64(1), numpy.float32(1), numpy.bool_(True), numpy.complex64(1),
@@ -117,13 +123,16 @@ class Pandas(unittest.TestCase):
 
     def test_errors_name_the_place(self):
         levels, dates = pandas.MultiIndex.from_arrays([[1], [2]]), numpy.array(["2020-01-01"], "M8[D]")
-        for column, reason in ((dates, "cannot include dtype 'M'"), (levels, "isna is not defined"), (7, "not iterable")):
+        for column, reason in ((dates, "cannot include dtype 'M'"), (levels, "isna is not defined"),
+                               (7, "not iterable")):
             self.refused(rf"^columns\[1\] must be a column of fields, not <class '.*'>: .*{reason}", TypeError,
                          rapidhash.each_key, [1], column)
-        for column in (numpy.int64(5), numpy.array(5), numpy.array([[1]]), numpy.array(["a"], object), numpy.array([1.5])):
+        for column in (numpy.int64(5), numpy.array(5), numpy.array([[1]]),
+                       numpy.array(["a"], object), numpy.array([1.5])):
             self.refused(r"^columns\[0\] must be a list, a tuple, or a buffer of integers", TypeError,
                          rapidhash.each_key, column)
-        self.refused("^items must be an iterable of messages, not .*isna is not defined", TypeError, rapidhash.each, levels)
+        self.refused("^items must be an iterable of messages, not .*isna is not defined", TypeError,
+                     rapidhash.each, levels)
         array = numpy.array(NUMBERS)
         self.refused(r"^fields\[1\]: only integer scalar arrays", TypeError, rapidhash.v3_key, 1, array)
         self.refused(r"^columns\[0\]\[1\]: only integer scalar arrays", TypeError, rapidhash.each_key, [1, array])

@@ -1,6 +1,6 @@
-//! The hasher and the states of maps, without the avalanche. Some related keys then have related hashes, and a few pairs
-//! of short texts have the same one. A map compares its keys, so it stays correct. [`crate::quality`] costs one multiply
-//! more per hash, and is for filters, sketches and shards.
+//! The hasher and the states of maps, without the avalanche. Some related keys then have related hashes, and a few
+//! pairs of short texts have the same one. A map compares its keys, so it stays correct. [`crate::quality`] costs one
+//! multiply more per hash, and is for filters, sketches and shards.
 //!
 //! Integers are packed (`SPONGE`), and neither a write of bytes nor the hash is mixed once more.
 //!

@@ -1,8 +1,8 @@
 //! Keys of several fields: one hash for each key, the same in every language.
 //!
-//! A field is nothing (`None`, SQL's NULL), an integer of up to 64 bits, or bytes. The hash of a key is V3 of its fields'
-//! encodings. Different keys have different encodings: `("ab", "c")` is not `("a", "bc")`, and `None` is neither 0 nor an
-//! empty text. Floats are not fields: convert them first.
+//! A field is nothing (`None`, SQL's NULL), an integer of up to 64 bits, or bytes. The hash of a key is V3 of its
+//! fields' encodings. Different keys have different encodings: `("ab", "c")` is not `("a", "bc")`, and `None` is
+//! neither 0 nor an empty text. Floats are not fields: convert them first.
 //!
 //! ```
 //! use rapidhash::key;

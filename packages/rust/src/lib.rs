@@ -41,9 +41,9 @@
 //! # Security
 //!
 //! No hash here is cryptographic. Whoever can choose the keys of a map can choose keys that have the same hash, so that
-//! each step of the map looks at all of them. This attack is called `HashDoS`. It needs the secrets: a word of a key that
-//! equals a secret makes a product 0, and then the seed does not matter. So a seed protects only with secret secrets,
-//! and whoever sees hashes may still find both. How hard that is, nobody has shown.
+//! each step of the map looks at all of them. This attack is called `HashDoS`. It needs the secrets: a word of a key
+//! that equals a secret makes a product 0, and then the seed does not matter. So a seed protects only with secret
+//! secrets, and whoever sees hashes may still find both. How hard that is, nobody has shown.
 //!
 //! | state, or secrets | seed | secrets |
 //! |---|---|---|
@@ -65,9 +65,9 @@
 //! # Versions
 //!
 //! The crate needs Rust 1.63, and a newer Rust is a new minor version. From Rust 1.83 on, the hashes of a slice are
-//! `const fn`. No version changes a value of [`v1`], [`v2`] or [`v3`]. A minor version may change those of the hasher in
-//! memory; today they are those of the crate `rapidhash` 4.5.1 on 64-bit machines. A major version changes or removes
-//! names. What is hidden here may change in each version.
+//! `const fn`. No version changes a value of [`v1`], [`v2`] or [`v3`]. A minor version may change those of the hasher
+//! in memory; today they are those of the crate `rapidhash` 4.5.1 on 64-bit machines. A major version changes or
+//! removes names. What is hidden here may change in each version.
 //!
 //! Without the default feature `std`, the crate needs only `core`, and has no readers and no maps.
 #![cfg_attr(not(feature = "std"), no_std)]

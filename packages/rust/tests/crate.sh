@@ -13,7 +13,8 @@ debian() {
 
 # Does the same as `try` if the compiler is not older than this version of Rust: NAME MINOR COMMAND..
 try_from() {
-  if [ "$(rustc --version | cut -d . -f 2)" -lt "$2" ]; then skip "$1" "no rustc 1.$2 (*rustup)"; else try "$1" "${@:3}"; fi
+  if [ "$(rustc --version | cut -d . -f 2)" -lt "$2" ]; then skip "$1" "no rustc 1.$2 (*rustup)"
+  else try "$1" "${@:3}"; fi
 }
 
 # Checks that tests ran and that none failed. A run without tests fails: COMMAND..
@@ -26,7 +27,8 @@ tests_pass() {
 packages() {
   cargo package --allow-dirty && tar -tf "$CARGO_TARGET_DIR"/package/*.crate >"$room/list" &&
     grep -q '/LICENSE-MIT$' "$room/list" && grep -q '/LICENSE-APACHE$' "$room/list" &&
-    grep -q '/NOTICE$' "$room/list" && grep -q '/build.rs$' "$room/list" && ! grep -q '/tests/' "$room/list" && ! grep -n '](\.*[a-zA-Z_/]*\.' README.md
+    grep -q '/NOTICE$' "$room/list" && grep -q '/build.rs$' "$room/list" && ! grep -q '/tests/' "$room/list" &&
+    ! grep -n '](\.*[a-zA-Z_/]*\.' README.md
 }
 
 # Runs the first program of the README in a new project, with the dependency that a page names: PAGE COMMAND..
@@ -44,8 +46,8 @@ readme_runs() {
 # two of them and does not compile. The names in this library have the constants of generic functions.
 needs_core_alone() {
   local project=$room/bare
-  rm -rf "$project" && mkdir -p "$project/src" && printf '%s\n' '[package]' 'name = "bare"' 'version = "0.0.0"' 'edition = "2021"' '[lib]' \
-    'crate-type = ["staticlib"]' '[dependencies]' \
+  rm -rf "$project" && mkdir -p "$project/src" && printf '%s\n' '[package]' 'name = "bare"' 'version = "0.0.0"' \
+    'edition = "2021"' '[lib]' 'crate-type = ["staticlib"]' '[dependencies]' \
     "yervound-rapidhash = { path = \"$top/packages/rust\", default-features = false }" \
     '[profile.dev]' 'panic = "abort"' >"$project/Cargo.toml" &&
     printf '%s\n' '#![no_std]' 'use rapidhash::{v1, v2, v3};' \
@@ -60,8 +62,9 @@ needs_core_alone() {
 # Checks by the names in that library that no default hash folds one row at a time, which is slower: the options in the
 # name are AVALANCHE, COMPACT and PROTECTED.
 folds_two_rows() {
-  nm -C "$CARGO_TARGET_DIR/debug/libbare.a" 2>/dev/null | grep -oE '(with_rows|above_inlined)::<.*' | sort -u | diff - <(
-    printf '%s, true, false, false>\n' 'above_inlined::<'{3,5,7} 'with_rows::<2' && echo 'with_rows::<true, false, false, false>')
+  nm -C "$CARGO_TARGET_DIR/debug/libbare.a" 2>/dev/null | grep -oE '(with_rows|above_inlined)::<.*' | sort -u |
+    diff - <(printf '%s, true, false, false>\n' 'above_inlined::<'{3,5,7} 'with_rows::<2' &&
+      echo 'with_rows::<true, false, false, false>')
 }
 
 # Checks the machine code of V3's, micro's and nano's rows: their products, at most so many instructions, and no panic.
@@ -70,7 +73,8 @@ folds_in_few_instructions() {
   local assembly=$room/assembly
   CARGO_TARGET_DIR=$assembly cargo rustc --release --lib -- --emit asm -C codegen-units=1 &&
     awk '/^_.*above_inlined.*:$/ { on = 1; all = products = panics = 0 } on && /^\t[a-z]/ { all++ }
-      on && /^\tmul/ { products++ } on && /panic/ { panics++ } on && /^\.Lfunc_end/ { print products, panics, all; on = 0 }' \
+      on && /^\tmul/ { products++ } on && /panic/ { panics++ }
+      on && /^\.Lfunc_end/ { print products, panics, all; on = 0 }' \
       "$assembly"/release/deps/rapidhash-*.s | sort -n >"$room/rows" && cat "$room/rows" &&
     diff <(cut -d ' ' -f 1,2 "$room/rows") <(printf '%s 0\n' 13 21 29) &&
     awk 'BEGIN { most[13] = 133; most[21] = 206; most[29] = 272 } $3 > most[$1] { exit 1 }' "$room/rows"
@@ -192,8 +196,8 @@ deprecates() {
 works_without_a_system() {
   local project=$room/wasm32 built=$room/debian/wasm32-unknown-unknown/debug/first.wasm
   mkdir -p "$project/src" "$project/.cargo" && cp "$room/registry.toml" "$project/.cargo/config.toml" &&
-    printf '%s\n' '[package]' 'name = "first"' 'version = "0.0.0"' 'edition = "2021"' '[lib]' 'crate-type = ["cdylib"]' \
-      '[features]' 'more = ["rapidhash/getrandom_04"]' '[dependencies]' \
+    printf '%s\n' '[package]' 'name = "first"' 'version = "0.0.0"' 'edition = "2021"' '[lib]' \
+      'crate-type = ["cdylib"]' '[features]' 'more = ["rapidhash/getrandom_04"]' '[dependencies]' \
       "rapidhash = { path = \"$top/packages/rust/compat\" }" \
       "proved = { package = \"yervound-rapidhash\", path = \"$top/packages/rust\" }" >"$project/Cargo.toml" &&
     printf '%s\n' '#![allow(deprecated)]' 'use std::hash::{BuildHasher, Hasher};' \
@@ -215,8 +219,10 @@ works_without_a_system() {
 # Builds the pages as docs.rs does, which label what depends on a feature. Checks that no page names what build.rs sets.
 has_no_label_of_a_compiler() {
   local pages=$room/docs_rs/doc/rapidhash
-  RUSTC_BOOTSTRAP=1 RUSTDOCFLAGS='--cfg docsrs -D warnings' cargo doc --no-deps --all-features --target-dir "$room/docs_rs" &&
-    grep -rq 'Available on <strong>crate feature <code>std' "$pages" && ! grep -rlE 'rapidhash_(old_const|no_once_lock)' "$pages"
+  RUSTC_BOOTSTRAP=1 RUSTDOCFLAGS='--cfg docsrs -D warnings' \
+    cargo doc --no-deps --all-features --target-dir "$room/docs_rs" &&
+    grep -rq 'Available on <strong>crate feature <code>std' "$pages" &&
+    ! grep -rlE 'rapidhash_(old_const|no_once_lock)' "$pages"
 }
 
 # Checks that a state without std executes at most 50 instructions. If each made its secrets anew, it would be 150.
@@ -235,7 +241,8 @@ makes_states_from_stored_words() {
 # Runs the tests of words over words in two halves, as a machine without atomics of 64 bits has them.
 shares_words_in_halves() (
   mkdir "$room/halves" && cp -r Cargo.toml build.rs src tests "$room/halves" && cd "$room/halves" &&
-    sed -i '/^members/d' Cargo.toml && sed -i 's/target_has_atomic = "64"/target_has_atomic = "none"/' src/random/without_std.rs &&
+    sed -i '/^members/d' Cargo.toml &&
+    sed -i 's/target_has_atomic = "64"/target_has_atomic = "none"/' src/random/without_std.rs &&
     tests_pass cargo test --no-default-features --test words
 )
 
@@ -247,8 +254,8 @@ has_its_features() {
 
 needs cargo rustc
 cd "$top/packages/rust" || exit 1
-printf '%s\n' '[source.crates-io]' 'replace-with = "debian"' '[source.debian]' 'directory = "/usr/share/cargo/registry"' \
-  >"$room/registry.toml"
+printf '%s\n' '[source.crates-io]' 'replace-with = "debian"' '[source.debian]' \
+  'directory = "/usr/share/cargo/registry"' >"$room/registry.toml"
 try_with current rustfmt "$top/scripts/rust_crate" --check
 try licences has_the_licences .
 try_with layout cargo-fmt cargo fmt --check

@@ -107,7 +107,8 @@ def difference(rattle, rust, left_out):
         theirs = without(rf"(?:///.* )*{words}\w* {rest}", theirs)
     # rustfmt decides whether a comma precedes a closing bracket.
     texts = [without(r", (?=[]})>] )", text).splitlines() for text in (theirs, as_in_rattle(PROVED.sub("", rust)))]
-    clauses, known = re.findall(r"/// - `(.*)`", "".join(PROVED.findall(rust))), " ".join(PROVED.sub("", rattle).split())
+    clauses = re.findall(r"/// - `(.*)`", "".join(PROVED.findall(rust)))
+    known = " ".join(PROVED.sub("", rattle).split())
     yield from (f"no contract ensures {clause}" for clause in clauses if f"{{ {clause} }}" not in known)
     yield from unified_diff(*texts, "Rattle", "Rust", lineterm="")
 

@@ -1,7 +1,7 @@
 #!/usr/bin/env bash
 # reads: packages/rust packages/tools crates
-# Builds the tools by cargo, checks their lints, and runs the kit's cases over them. Without the kit, the scripts of these
-# cases run by themselves over cargo's tools.
+# Builds the tools by cargo, checks their lints, and runs the kit's cases over them. Without the kit, the scripts of
+# these cases run by themselves over cargo's tools.
 . "$(dirname "$0")/../../../tests/cases.sh"
 export CARGO_NET_OFFLINE=true
 built=$top/build/cargo/release

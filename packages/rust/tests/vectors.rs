@@ -13,8 +13,8 @@ fn every_vector_file_is_replayed() {
     assert_eq!(replay::folder(&folder).unwrap(), 25);
 }
 
-/// Each version has the values of its definition, two versions agree at the lengths where upstream's do, and each cut of a
-/// message has the hash of the whole.
+/// Each version has the values of its definition, two versions agree at the lengths where upstream's do, and each cut
+/// of a message has the hash of the whole.
 #[test]
 fn every_length_has_the_value_of_its_definition() {
     use replay::proved::{compare, lengths, pieces, rules};

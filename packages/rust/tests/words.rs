@@ -1,5 +1,5 @@
-//! Tests the words that a program sets, and the states beside them. A process has them once, so other processes run most
-//! of the tests.
+//! Tests the words that a program sets, and the states beside them. A process has them once, so other processes run
+//! most of the tests.
 
 use rapidhash::fast::{GlobalState, RandomState, SeedableState};
 use rapidhash::inner::GlobalSecrets;

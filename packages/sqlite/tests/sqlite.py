@@ -1,7 +1,7 @@
 #!/usr/bin/python3
 # reads: packages/sqlite packages/c/include tests/sql.py crates/test_replay/data docs/BINDINGS.md
-"""Builds the SQLite extension with the commands on its page, loads it, and tests each function. Replays the cases of every
-language. Others cover types, errors, aggregates, the examples on the page, and each failing allocation."""
+"""Builds the SQLite extension with the commands on its page, loads it, and tests each function. Replays the cases of
+every language. Others cover types, errors, aggregates, the examples on the page, and each failing allocation."""
 
 import sqlite3
 import sys
@@ -29,7 +29,8 @@ ERRORS = {
     "rapidhash_v3_with_secrets(1)": "wrong number of arguments to function rapidhash_v3_with_secrets()",
     "rapidhash_v3_agg(1, 2, 3)": "wrong number of arguments to function rapidhash_v3_agg()",
     "rapidhash_v3_key('a', 2.0)":
-        "rapidhash_v3_key: argument 2 is a REAL, and no field of a key: cast it to TEXT, BLOB or INTEGER; docs/BINDINGS.md lists conversions",
+        "rapidhash_v3_key: argument 2 is a REAL, and no field of a key: cast it to TEXT, BLOB or INTEGER; "
+        "docs/BINDINGS.md lists conversions",
     "rapidhash_v3_key_with_seed()": "rapidhash_v3_key_with_seed: the first argument is missing",
     "rapidhash_v3_key_with_secrets('1')": "rapidhash_v3_key_with_secrets: the number must be an INTEGER",
     "rapidhash_shard(7, 0)": "rapidhash_shard: the count must be from 1 to 9223372036854775807, not 0",
@@ -39,8 +40,9 @@ ERRORS = {
     "rapidhash_bucket(7, 4294967296)": "rapidhash_bucket: the count must be from 1 to 4294967295, not 4294967296",
     "rapidhash_fingerprint(1.5)": "rapidhash_fingerprint: the hash must be an INTEGER",
 }
-MEMORY = """cc -std=c99 -g -Wall -Wextra -Werror -fsanitize=address,undefined -fno-sanitize-recover=all -Ipackages/c/include \
-    packages/sqlite/rapidhash.c packages/sqlite/tests/test_memory.c -lsqlite3 -o "$ROOM/test_memory"
+MEMORY = """cc -std=c99 -g -Wall -Wextra -Werror -fsanitize=address,undefined -fno-sanitize-recover=all \
+    -Ipackages/c/include packages/sqlite/rapidhash.c packages/sqlite/tests/test_memory.c \
+    -lsqlite3 -o "$ROOM/test_memory"
 "$ROOM/test_memory" """
 
 
@@ -89,9 +91,9 @@ def shards(database):
     rows = "(SELECT column1 AS place, column2 AS hash FROM (VALUES (1, 5), (2, NULL), (3, -7), (4, 9)))"
     found = ask(database, f"""SELECT rapidhash_fingerprint(hash) OVER (ORDER BY place ROWS 1 PRECEDING) FROM {rows}""")
     compare("fingerprints_of_windows", found, [(5,), (5,), (-7,), (2,)])
-    found = ask(database, f"""SELECT rapidhash_fingerprint(hash), (SELECT rapidhash_fingerprint(hash) FROM {rows} WHERE 0),
-        rapidhash_shard(NULL, 3), rapidhash_shard(7, NULL), rapidhash_bucket(NULL, 3), rapidhash_first_hash(NULL, 3)
-        FROM {rows}""")
+    found = ask(database, f"""SELECT rapidhash_fingerprint(hash),
+        (SELECT rapidhash_fingerprint(hash) FROM {rows} WHERE 0), rapidhash_shard(NULL, 3), rapidhash_shard(7, NULL),
+        rapidhash_bucket(NULL, 3), rapidhash_first_hash(NULL, 3) FROM {rows}""")
     compare("fingerprints_and_null", found, [(7, 0, None, None, None, None)])
 
 
@@ -146,7 +148,8 @@ def aggregates(database):
 def schema(database):
     """Checks that a call may be in an index, and in a view of an untrusted schema."""
     database.execute("PRAGMA trusted_schema = OFF")
-    database.execute("CREATE INDEX by_hash ON many (rapidhash_v3(word, 1), rapidhash_v3_key(word, part), rapidhash_hex(part))")
+    database.execute("CREATE INDEX by_hash ON many (rapidhash_v3(word, 1), rapidhash_v3_key(word, part), "
+                     "rapidhash_hex(part))")
     database.execute("""CREATE VIEW hashes AS SELECT rapidhash_v3_agg(column1), rapidhash_v3_agg(column1, 0),
         rapidhash_v3('hello', 0), rapidhash_v3_key(), rapidhash_hex(0) FROM (VALUES ('hello'))""")
     compare("schema", ask(database, "SELECT * FROM hashes"), [(HELLO, HELLO, HELLO, NOTHING, "0" * 16)])
@@ -183,7 +186,8 @@ page(loaded)
 # packages/javascript/tests/javascript.sh.
 query = "SELECT rapidhash_v1(zeroblob(140000000)), rapidhash_v2_2(CAST(zeroblob(140000000) AS TEXT))"
 compare("long_values", ask(loaded, query), [(signed(15042570400923500380), signed(1949155381881807616))])
-query = "SELECT rapidhash_v3_agg(word, 1) = rapidhash_v3('hello', 1), rapidhash_v3_agg(word, 2) = rapidhash_v3('hello', 2)"
+query = ("SELECT rapidhash_v3_agg(word, 1) = rapidhash_v3('hello', 1), "
+         "rapidhash_v3_agg(word, 2) = rapidhash_v3('hello', 2)")
 compare("two_aggregates", ask(loaded, query + " FROM (SELECT 'hel' AS word UNION ALL SELECT 'lo')"), [(1, 1)])
 query = "SELECT rapidhash_v3_agg(value) = rapidhash_v3(value) FROM (SELECT CAST(zeroblob(1100000) AS {}) AS value)"
 compare("long_rows", ask(loaded, query.format("TEXT")) + ask(loaded, query.format("BLOB")), [(1,), (1,)])

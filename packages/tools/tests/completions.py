@@ -73,14 +73,16 @@ def press_tabs(shell, words, lines):
     the offers, which the tab key lists if there are several."""
     environment = dict(os.environ, FOLDER=str(ROOM), TERM="dumb", PS1="$ ", HOME=str(ROOM))
     environment.pop("FOLD", None)
-    terminal = pexpect.spawn(shell, words, cwd=ROOM, env=environment, dimensions=(24, 200), encoding="utf-8", timeout=20)
+    terminal = pexpect.spawn(shell, words, cwd=ROOM, env=environment, dimensions=(24, 200), encoding="utf-8",
+                             timeout=20)
     for line in [*lines, SHOW, "show ready"]:
         terminal.send(f"{line}\r")
     terminal.expect_exact("<<ready|>>\r\n")
     for name, line, wanted in LINES:
         terminal.send(f"{line}\t\x01show \x05\r")
         terminal.expect([r"<<([^\r]*)\|>>\r\n", pexpect.TIMEOUT])
-        compare(f"{shell}: {name}", terminal.match[1].rstrip("/") if terminal.match_index == 0 else terminal.before, wanted)
+        found = terminal.match[1].rstrip("/") if terminal.match_index == 0 else terminal.before
+        compare(f"{shell}: {name}", found, wanted)
     for name, line, wanted in OFFERS:
         terminal.send(f"{line}\t\t\x15show offered\r")
         terminal.expect_exact("<<offered|>>\r\n")

@@ -1,7 +1,8 @@
 #!/usr/bin/env bash
 # reads: packages/tools packages/c packages/rust crates Makefile scripts/install bin
 # Installs the programs and the C library into a temporary directory, uses each installed file, and removes the files
-# again. Further cases set each directory. Without the kit, cc and cargo build them; without cargo, cc the library alone.
+# again. Further cases set each directory. Without the kit, cc and cargo build them; without cargo, cc the library
+# alone.
 . "$(dirname "$0")/../../../tests/cases.sh"
 prefix=$room/usr
 cd "$top" || exit 1
@@ -27,8 +28,8 @@ installs_quietly() {
   [ "$(cd "$top" && PATH=$path make install PREFIX="$room/quiet" 2>&1)" = "$left_out" ]
 }
 
-# Checks that a full disk leaves no part of a file: each is there as a whole, as it was before, or not at all. A limit for
-# the size of a file stands in for the disk.
+# Checks that a full disk leaves no part of a file: each is there as a whole, as it was before, or not at all. A limit
+# for the size of a file stands in for the disk.
 leaves_no_part() {
   local place=$room/full file
   mkdir -p "$place/lib" && echo old >"$place/lib/librapidhash_c.a" || return
@@ -57,8 +58,10 @@ names_every_option() {
 
 # Checks that the manual of rapidsum has the text of each option in its help, after its names.
 has_the_texts_of_the_help() {
-  "$prefix/bin/rapidsum" --help | sed -nE 's/ \[.*//; s/^ .{0,5} (--[a-z0-9-]+)(=[A-Z]+)? +(.*)/\1|\3/p' >"$room/texts" &&
-    mandoc -Tutf8 -O width=200 "$prefix/share/man/man1/rapidsum.1" | sed -E 's/.\x08//g' | tr -s ' \n' ' ' >"$room/manual" &&
+  "$prefix/bin/rapidsum" --help |
+    sed -nE 's/ \[.*//; s/^ .{0,5} (--[a-z0-9-]+)(=[A-Z]+)? +(.*)/\1|\3/p' >"$room/texts" &&
+    mandoc -Tutf8 -O width=200 "$prefix/share/man/man1/rapidsum.1" |
+    sed -E 's/.\x08//g' | tr -s ' \n' ' ' >"$room/manual" &&
     [ "$(wc -l <"$room/texts")" -eq 15 ] && while IFS='|' read -r option text; do
       grep -qiE -e "$option(=[A-Z]+)? ${text//[()]/.}[ ,:;]" "$room/manual" || { echo "$option: $text" && return 1; }
     done <"$room/texts"
@@ -82,7 +85,8 @@ equals_v3_as_the_manual_says() {
   [ "$(wc -l <"$room/limits")" -eq 2 ] && while read -r form most; do
     seq 999 | head -c "$most" >"$room/at" && seq 999 | head -c $((most + 1)) >"$room/above" &&
       [ "$("$prefix/bin/rapidhash" "--v3-$form" "$room/at")" = "$("$prefix/bin/rapidhash" "$room/at")" ] &&
-      [ "$("$prefix/bin/rapidhash" "--v3-$form" "$room/above")" != "$("$prefix/bin/rapidhash" "$room/above")" ] || return 1
+      [ "$("$prefix/bin/rapidhash" "--v3-$form" "$room/above")" != "$("$prefix/bin/rapidhash" "$room/above")" ] ||
+      return 1
   done <"$room/limits"
 }
 
@@ -215,8 +219,9 @@ serves_without_the_kit() {
       'make: rt is not on PATH: building with cc and cargo, which is not the proved build' ] &&
     [ -z "$(make -s -C "$sources" 2>&1)" ] && make -s -C "$sources" install PREFIX="$place" &&
     diff <(listed "$prefix") <(listed "$place") && builds_by_pkg_config "$place/lib" &&
-    [ -z "$(nm "$place/bin/rapidsum" 2>/dev/null)" ] && prefix=$place prints_and_checks_a_sum && prints_the_known_hash "$place" && prints_the_known_hash "$sources" &&
-    make -s -C "$sources" clean && [ ! -e "$sources/build" ]
+    [ -z "$(nm "$place/bin/rapidsum" 2>/dev/null)" ] && prefix=$place prints_and_checks_a_sum &&
+    prints_the_known_hash "$place" && prints_the_known_hash "$sources" && make -s -C "$sources" clean &&
+    [ ! -e "$sources/build" ]
 }
 
 # Checks that a second installation replaces each file, so that a running program keeps the one that it has mapped.

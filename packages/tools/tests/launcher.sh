@@ -83,7 +83,8 @@ calls edit_during_a_build 7 $'first\ninput' 1 "$told"
 echo >during
 calls call_after_such_an_edit 7 $'third\ninput' 2 "$told"
 
-new_repository 'echo "so far: 0 of 7 functions checked; the verdict comes last"; echo "so far: 3 of 7 functions checked"'
+new_repository 'echo "so far: 0 of 7 functions checked; the verdict comes last"
+echo "so far: 3 of 7 functions checked"'
 calls progress_of_a_build 7 $'first\ninput' 1 "$told"$'\nmake: rapidhash_cli: 3 of 7 functions checked'
 
 new_repository 'sleep 1'
@@ -110,7 +111,9 @@ MAKEFLAGS=nk calls call_from_a_make_that_builds_nothing 7 $'second\ninput' 5 "$t
 # Prints a crate and those of the repository that it uses, directly or not: CRATE
 used_by() {
   local used
-  for used in $(sed -nE "s/^$1( staticlib)?: //p" "$top/crates.txt"); do [ ! -d "$top/crates/$used" ] || used_by "$used"; done
+  for used in $(sed -nE "s/^$1( staticlib)?: //p" "$top/crates.txt"); do
+    [ ! -d "$top/crates/$used" ] || used_by "$used"
+  done
   echo "$1"
 }
 
@@ -118,10 +121,12 @@ used_by() {
 each_edit_counts() {
   local crate
   make -pq -C "$top" >rules 2>/dev/null
-  [ "$(grep -cE '^build/(rapidhash\.(so|wasm)|wheels/made): .*packages/c/include/rapidhash_c\.h' rules)" -eq 3 ] || return
+  [ "$(grep -cE '^build/(rapidhash\.(so|wasm)|wheels/made): .*packages/c/include/rapidhash_c\.h' rules)" -eq 3 ] ||
+    return
   for crate in rapidhash_c rapidhash_cli rapidsum example_{bloom,perfect,shards,dedupe}; do
     diff <(used_by "$crate" | sort -u) \
-      <(grep -oE "^crates/$crate/out/[^.]*(\.a)?: .*" rules | grep -oE '[ ]crates/[^/]*/src ' | cut -d / -f 2 | sort -u) || return 1
+      <(grep -oE "^crates/$crate/out/[^.]*(\.a)?: .*" rules |
+        grep -oE '[ ]crates/[^/]*/src ' | cut -d / -f 2 | sort -u) || return 1
   done
 }
 try edits_of_libraries each_edit_counts
@@ -131,18 +136,21 @@ each_file_counts() {
   local product files file
   { make -pq -C "$top"; make -pq -C "$top" kit=; } >rules 2>/dev/null
   while read -r product files; do
-    (cd "$top" && git ls-files $files | grep -vE '^packages/[a-z]+/(tests|page|examples)/') >listed && [ -s listed ] && while read -r file; do
+    (cd "$top" && git ls-files $files | grep -vE '^packages/[a-z]+/(tests|page|examples)/') >listed &&
+      [ -s listed ] && while read -r file; do
       grep -qE "^$product: (.* )?$file( |\$)" rules || { echo "$product: $file" && return 1; }
     done <listed || return 1
   done <<'PRODUCTS'
 build/wheels/made packages/python
 build/rapidhash.wasm packages/javascript/*.c packages/javascript/*.h packages/javascript/make.mk
-build/npm/rapidhash.cjs packages/javascript/*.mjs packages/javascript/*.d.ts packages/javascript/*.json packages/javascript/*.md
+build/npm/rapidhash.cjs packages/javascript/*.mjs packages/javascript/*.d.ts
+build/npm/rapidhash.cjs packages/javascript/*.json packages/javascript/*.md
 build/yervound-rapidhash-1.0.0.jar packages/java/src/main packages/java/pom.xml packages/java/make.mk
 build/rapidhash.so packages/sqlite/*.c packages/sqlite/make.mk
 build/header/rapidhash_c.o packages/c/*.c packages/c/include/*.h packages/c/make.mk
 build/header/librapidhash_c.so.1 packages/c/*.map packages/c/make.mk
-build/cargo/release/rapid% packages/rust/src packages/rust/tools/src packages/rust/build.rs packages/rust/Cargo.toml packages/rust/tools/Cargo.toml
+build/cargo/release/rapid% packages/rust/src packages/rust/tools/src packages/rust/build.rs
+build/cargo/release/rapid% packages/rust/Cargo.toml packages/rust/tools/Cargo.toml
 PRODUCTS
 }
 try files_of_packages each_file_counts
@@ -154,7 +162,8 @@ PATH=$place/few repo/bin/rapidhash >out 2>"$room/log"
 tell no_rt_and_no_cargo $?
 
 # Without rt, a substitute for cargo builds, until the kit has built.
-mkdir -p repo/packages/rust/{src,tools/src} && echo one >repo/packages/rust/src/lib.rs && touch -d 2020-01-01 repo/packages/rust/src/lib.rs
+mkdir -p repo/packages/rust/{src,tools/src} && echo one >repo/packages/rust/src/lib.rs &&
+  touch -d 2020-01-01 repo/packages/rust/src/lib.rs
 cat >few/cargo <<'CARGO'
 #!/bin/sh
 echo run >>../../../../starts
@@ -177,8 +186,10 @@ calls the_kit_instead_of_cargo 7 $'first\ninput' 4 "$told"
 # Checks what make quick and make test run, by programs that say their directory, name and arguments.
 runs_its_rules() {
   mkdir logged repo/scripts repo/tests &&
-    printf '#!/bin/sh\necho "${PWD##*/} ${0##*/}${*:+ $*}" >>"%s/log"\n' "$place" | tee logged/{rt,prove} repo/scripts/rust_crate >repo/tests/pages.py &&
-    chmod +x logged/* repo/scripts/* repo/tests/* && PATH=$place/logged:$PATH make -s -C repo quick test && diff log - <<'LOG'
+    printf '#!/bin/sh\necho "${PWD##*/} ${0##*/}${*:+ $*}" >>"%s/log"\n' "$place" |
+    tee logged/{rt,prove} repo/scripts/rust_crate >repo/tests/pages.py &&
+    chmod +x logged/* repo/scripts/* repo/tests/* && PATH=$place/logged:$PATH make -s -C repo quick test &&
+    diff log - <<'LOG'
 rapidhash_cli rt fmt
 rapidhash_portable rt fmt
 rapidhash_tool rt fmt

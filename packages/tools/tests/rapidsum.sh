@@ -146,7 +146,8 @@ RAPIDHASH-V3
 a1266b469390773a  \x stands for itself
 LINES
 "$program" -c -w malformed >out 2>"$room/log"
-sed -n 's/.*malformed: \([0-9]*\): .*/\1/p' "$room/log" | cmp - <(seq 3 13) && grep -qxF '\\\x stands for itself: OK' out
+sed -n 's/.*malformed: \([0-9]*\): .*/\1/p' "$room/log" | cmp - <(seq 3 13) &&
+  grep -qxF '\\\x stands for itself: OK' out
 tell each_malformed_line_is_named $?
 
 # The values of the Rust crate for 57, 58 and 128 bytes, with the default seed and with seed words, and for a file above
@@ -210,8 +211,8 @@ fi
 
 # Compares what this build and the kit's print for all pairs of these words.
 as_by_the_kit() {
-  local one two words=(--tag -c --text -bt --zero -a --seed=2 --seed --algorithm=v9 --quiet -w first - -- --chek -x --help
-    -V --tag=5 --see -é '' v2.1 -az --=)
+  local one two words=(--tag -c --text -bt --zero -a --seed=2 --seed --algorithm=v9 --quiet -w first - -- --chek -x
+    --help -V --tag=5 --see -é '' v2.1 -az --=)
   mkdir kit && cp "$kit" "kit/${program##*/}" || return 1
   for one in "${words[@]}"; do
     for two in "${words[@]}"; do
@@ -245,7 +246,8 @@ fi
 # A closed pipe ends cargo's build by SIGPIPE, as it ends sha256sum, and the kit's with a status. Both end xargs.
 runs closed_pipe "$([ -n "${BUILT-}" ] && echo 141 || echo 255)" '' '' to_a_closed_pipe "$program" first first
 ends_xargs() {
-  yes first | head -n 9000 | xargs -n 1000 strace -qqo "$room/calls" -A -e trace=openat "$program" 2>/dev/null | head -n 1
+  yes first | head -n 9000 |
+    xargs -n 1000 strace -qqo "$room/calls" -A -e trace=openat "$program" 2>/dev/null | head -n 1
   [[ ${PIPESTATUS[2]} == 12[45] ]] && [ "$(grep -c first "$room/calls")" -lt 1000 ]
 }
 can_trace && try a_closed_pipe_ends_xargs ends_xargs
@@ -334,7 +336,8 @@ answers lists_of_a_list 'first: OK\nfirst: OK\n' '' "$program" -c --files0-from=
 printf 'first\0nothing\0\0first' >names && "$program" --files0-from=names >both 2>&1
 [ "$(sed 's/ .*//' both)" = $'a1266b469390773a\nrapidsum:\nrapidsum:\na1266b469390773a' ]
 tell each_error_is_in_order $?
-sed 's/first/nothing/' list | cat list - list >mixed && "$program" -c mixed 2>&1 | sed 's/.*nothing: No.*/message/' >both
+sed 's/first/nothing/' list | cat list - list >mixed &&
+  "$program" -c mixed 2>&1 | sed 's/.*nothing: No.*/message/' >both
 [ "$(head -n 4 both)" = $'first: OK\nmessage\nnothing: FAILED open or read\nfirst: OK' ]
 tell each_error_of_a_check_is_in_order $?
 refuses 'the --files0-from option may be given only once' --files0-from=names --files0-from names
@@ -354,7 +357,8 @@ says a_large_file_is_no_list 'no properly formatted' in_kibibytes 32768 "$progra
 says memory_refused memory in_kibibytes 32768 "$program" -c long
 try reads_in_pieces reads_in 1025 large "$program" large
 says memory_refused_to_a_list_of_names 'large: .*memory' in_kibibytes 32768 "$program" --files0-from=large
-head -c 8000000 /dev/zero >empty && says memory_refused_to_names memory in_kibibytes 65536 "$program" --files0-from=empty
+head -c 8000000 /dev/zero >empty &&
+  says memory_refused_to_names memory in_kibibytes 65536 "$program" --files0-from=empty
 yes 'a1266b469390773a  first' | head -n 20000 >entries
 try memory_of_a_list grows_by_a_factor "$program" -c --quiet entries
 try memory_of_input grows_by_a_factor "$program" -a v1 <large
@@ -396,8 +400,10 @@ writes_blocks() {
 }
 writes_whole_lines() {
   can_trace && strace -qq -s 4096 -o "$room/calls" -e trace=write "$program" --files0-from=names | cat >sums &&
-    [ "$(wc -l <sums)" -eq 20000 ] && [ "$(wc -l <"$room/calls")" -eq 118 ] && ! grep -v '\\n", [0-9]*) *= [0-9]*$' "$room/calls" &&
-    sed 's/.*= //' "$room/calls" | awk '$1 > 4096 { exit 1 }' && grep -q 'at most 4 KiB elsewhere' "$top/packages/tools/rapidsum.1"
+    [ "$(wc -l <sums)" -eq 20000 ] && [ "$(wc -l <"$room/calls")" -eq 118 ] &&
+    ! grep -v '\\n", [0-9]*) *= [0-9]*$' "$room/calls" &&
+    sed 's/.*= //' "$room/calls" | awk '$1 > 4096 { exit 1 }' &&
+    grep -q 'at most 4 KiB elsewhere' "$top/packages/tools/rapidsum.1"
 }
 writes_lines() {
   can_trace && script -qec "strace -qqo calls -e trace=write $program first first" log </dev/null >/dev/null 2>&1 &&

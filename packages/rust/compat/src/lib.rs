@@ -1,4 +1,5 @@
-//! The interface of the crate `rapidhash` 4.5.1 over the proved hashes of `yervound-rapidhash`, for `[patch.crates-io]`.
+//! The interface of the crate `rapidhash` 4.5.1 over the proved hashes of `yervound-rapidhash`, for
+//! `[patch.crates-io]`.
 //!
 //! ```
 //! use rapidhash::v3::rapidhash_v3;
@@ -64,6 +65,6 @@ pub mod v3 {
     )
 ))]
 compile_error!(
-    "rapidhash: the features getrandom_03 and getrandom_04 need the feature `std` and a system with random words: leave \
-     them out, and call `set_random_words` of yervound-rapidhash with the words of your own source"
+    "rapidhash: the features getrandom_03 and getrandom_04 need the feature `std` and a system with random words: \
+     leave them out, and call `set_random_words` of yervound-rapidhash with the words of your own source"
 );

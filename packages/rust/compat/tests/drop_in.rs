@@ -1,6 +1,6 @@
 //! Uses each part of the interface that differs between the crate `rapidhash` and the proved crate, and maps of other
-//! crates over its states. packages/rust/tests/crate.sh builds it with this package as a patch of crates.io. The expected values
-//! are those of the crate.
+//! crates over its states. packages/rust/tests/crate.sh builds it with this package as a patch of crates.io. The
+//! expected values are those of the crate.
 #![allow(deprecated)]
 
 use rapidhash::fast::{HashMapExt, HashSetExt, RapidHashMap, RapidHashSet};

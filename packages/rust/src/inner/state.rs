@@ -65,8 +65,8 @@ macro_rules! random_state {
 }
 
 random_state! {
-    /// Builds hashers with the single seed of this process: all its maps hash in the same way. Where its seed and secrets
-    /// come from, [Security](crate#security) says.
+    /// Builds hashers with the single seed of this process: all its maps hash in the same way. Where its seed and
+    /// secrets come from, [Security](crate#security) says.
     ///
     /// ```
     /// use rapidhash::inner::GlobalState;

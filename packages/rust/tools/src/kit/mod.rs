@@ -1,5 +1,5 @@
-//! The parts of the kit's library that Rust's `std` lacks: the system as a value, and allocations that report a failure.
-//! `hex` and `itoa` have the functions of these crates that the programs call.
+//! The parts of the kit's library that Rust's `std` lacks: the system as a value, and allocations that report a
+//! failure. `hex` and `itoa` have the functions of these crates that the programs call.
 
 pub mod alloc;
 pub mod env;

@@ -1,5 +1,5 @@
-//! The signal of a write to a pipe that its reader has closed. Rust's runtime ignores it. So a program would read all of
-//! its files, and xargs would start it again and again.
+//! The signal of a write to a pipe that its reader has closed. Rust's runtime ignores it. So a program would read all
+//! of its files, and xargs would start it again and again.
 #![allow(unsafe_code)]
 
 use std::sync::atomic::{AtomicUsize, Ordering};
