@@ -48,9 +48,10 @@ endif
 name = yervound-1.0-x86_64-linux
 release = 1.0.0
 
-.PHONY: help installcheck sources crate javadoc gomodule all built tool sums library wasm npm page wheel jar sqlite postgresql deb check check-source quick test fmt bench \
-  install uninstall clean dist vendor release products test-edits test-machines test-windows test-debian test-dieharder \
-  test-source test-vendor test-machine-code rapidhash_c rapidhash_cli rapidsum example_bloom example_perfect example_shards example_dedupe
+.PHONY: help installcheck sources crate javadoc gomodule all built tool sums library wasm npm page wheel jar sqlite \
+  postgresql deb check check-source quick test fmt bench install uninstall clean dist vendor release products \
+  test-edits test-machines test-windows test-debian test-dieharder test-source test-vendor test-machine-code \
+  rapidhash_c rapidhash_cli rapidsum example_bloom example_perfect example_shards example_dedupe
 .DELETE_ON_ERROR:
 MAKEFLAGS += --no-builtin-rules
 
@@ -58,7 +59,8 @@ all: built
 	$(say_left_out)
 
 built: $(tools) library
-say_left_out = $(if $(tools),,@echo 'make: the programs are left out: install cargo (Rust 1.63 or newer) and run make again' >&2)
+say_left_out = $(if $(tools),,@echo 'make: the programs are left out: install cargo (Rust 1.63 or newer) and run make \
+  again' >&2)
 
 tool: $(or $(firstword $(tools)),build/cargo/release/rapidhash)
 sums: $(or $(lastword $(tools)),build/cargo/release/rapidsum)
@@ -69,7 +71,8 @@ library: $(archive) $(shared)
 sources := $(shell find crates.txt crates/*/src crates/*/specs crates/*/proofs 2>/dev/null)
 
 # Prints of the output of rt how many functions of a crate it has checked so far.
-show_progress = sed -unE '/^== /{s///;h;}; /^so far: [1-9]/{G;s/^so far: ([0-9]+ of [0-9]+ functions) checked.*\n(.*)/make: \2: \1 checked/p;}' >&2
+show_progress = sed -unE '/^== /{s///;h;}; \
+  /^so far: [1-9]/{G;s/^so far: ([0-9]+ of [0-9]+ functions) checked.*\n(.*)/make: \2: \1 checked/p;}' >&2
 
 # The rule for a crate's product: CRATE, PRODUCT, the arguments for rt, the libraries that it uses. Each library has its
 # own call, because rt reads the sources again, for about 10 seconds, if it builds several.
@@ -98,8 +101,8 @@ $(eval $(call program,example_shards,shard 1,$(both)))
 $(eval $(call program,example_dedupe,args,$(both)))
 
 # The archive and the release hold the proved programs and the proved library: TARGET
-needs_the_kit = [ -n '$(kit)' ] || { echo 'make $(1): rt, the command of the Rattle kit, is not on PATH: it builds the' \
-  'proved programs and library for the archive' >&2; exit 2; }
+needs_the_kit = [ -n '$(kit)' ] || { echo 'make $(1): rt, the command of the Rattle kit, is not on PATH: it builds' \
+  'the proved programs and library for the archive' >&2; exit 2; }
 
 # Says so once, before the first product.
 unproved = $(if $(said),:,$(eval said := yes)echo 'make: $(if $(shell command -v rt),,rt is \
@@ -110,7 +113,8 @@ unproved = $(if $(said),:,$(eval said := yes)echo 'make: $(if $(shell command -v
 readable = u=rwX,go=rX
 epoch = $(or $(SOURCE_DATE_EPOCH),$(shell git log -1 --format=%ct 2>/dev/null || date +%s))
 # Packs directories without their owners and in the order of their names: DIRECTORY-ABOVE NAME
-packs = umask 022 && tar -C $(1) --sort=name --mtime=@$(epoch) --owner=0 --group=0 --numeric-owner --mode=$(readable) -cf - $(2) | gzip -n9
+packs = umask 022 && tar -C $(1) --sort=name --mtime=@$(epoch) --owner=0 --group=0 --numeric-owner \
+  --mode=$(readable) -cf - $(2) | gzip -n9
 
 include packages/*/make.mk
 
@@ -152,7 +156,8 @@ folders = PREFIX BINDIR LIBDIR INCLUDEDIR DATADIR DESTDIR
 $(foreach name,$(folders),$(eval install uninstall: export $(name) := $$($(name))))
 
 install:
-	@$(MAKE) -q --no-print-directory built || { echo 'make install: something is missing or out of date: run make first' >&2; exit 2; }
+	@$(MAKE) -q --no-print-directory built || \
+	  { echo 'make install: something is missing or out of date: run make first' >&2; exit 2; }
 	@ARCHIVE='$(archive)' SHARED='$(shared)' TOOLS='$(tools)' scripts/install
 	$(say_left_out)
 
@@ -166,7 +171,8 @@ installcheck:
 	@build/installcheck <crates/test_replay/data/cases.tsv
 	@if [ -e '$(DESTDIR)$(BINDIR)/rapidsum' ]; then \
 	  [ "$$(echo something | '$(DESTDIR)$(BINDIR)/rapidhash' --v1)" = 15965596575264898037 ] && \
-	  [ "$$(echo something | '$(DESTDIR)$(BINDIR)/rapidsum')" = 'a1266b469390773a  -' ] && echo 'the programs have known hashes'; \
+	  [ "$$(echo something | '$(DESTDIR)$(BINDIR)/rapidsum')" = 'a1266b469390773a  -' ] && \
+	  echo 'the programs have known hashes'; \
 	else echo 'no programs are installed'; fi
 
 help:
@@ -182,18 +188,20 @@ clean:
 release:
 	@$(call needs_the_kit,release)
 	@[ -z "$$(git status --porcelain)" ] || { echo 'make release: the tree has changes: commit them first' >&2; exit 2; }
-	@{ grep -qxF "| commit | $$(git rev-parse HEAD) |" build/gate.md && grep -q '^| result | .*, 0 failed |$$' build/gate.md; } 2>/dev/null || \
+	@{ grep -qxF "| commit | $$(git rev-parse HEAD) |" build/gate.md && \
+	  grep -q '^| result | .*, 0 failed |$$' build/gate.md; } 2>/dev/null || \
 	  { echo 'make release: build/gate.md has no gate of this commit that passed: run make check first' >&2; exit 2; }
 	@$(MAKE) -s dist deb sources crate javadoc gomodule
 	@rm -rf build/release && mkdir build/release && git rev-parse HEAD >build/release/COMMIT
-	@cp build/gate.md packages/archive/RELEASE.md build/sources/*.tar.gz build/*.t*gz build/*.crate build/*.zip build/*.jar build/wheels/*.* \
-	  build/debian/*.deb build/debian/*.dsc build/debian/*.tar.xz build/release
+	@cp build/gate.md packages/archive/RELEASE.md build/sources/*.tar.gz build/*.t*gz build/*.crate build/*.zip \
+	  build/*.jar build/wheels/*.* build/debian/*.deb build/debian/*.dsc build/debian/*.tar.xz build/release
 	@chmod -R $(readable) build/release
 	@cd build/release && sha256sum -- * >SHA256SUMS
 
 # What registries take, and the sources of the commit.
 sources:
-	@mkdir -p build/sources && git archive --format=tar --prefix=yervound-$(release)/ HEAD | gzip -n9 >build/sources/yervound-$(release).tar.gz
+	@mkdir -p build/sources && git archive --format=tar --prefix=yervound-$(release)/ HEAD | \
+	  gzip -n9 >build/sources/yervound-$(release).tar.gz
 
 crate:
 	@cd packages/rust && cargo package --quiet --offline --no-verify --target-dir ../../build/package

@@ -1,5 +1,5 @@
-//! Times hashes of messages, and maps, of growing sizes, with several crates in turn. It prints a line per row and crate:
-//! both, and the minimum of the repeats in nanoseconds. `bench/growth` builds and runs it.
+//! Times hashes of messages, and maps, of growing sizes, with several crates in turn. It prints a line per row and
+//! crate: both, and the minimum of the repeats in nanoseconds. `bench/growth` builds and runs it.
 
 use std::collections::HashMap;
 use std::hash::{BuildHasher, Hash};

@@ -76,8 +76,8 @@ def build_rust(name, source, features=(), profile="lto"):
 
 
 def build_rows(profile, place=""):
-    """Builds the program that runs the rows of this crate and of the crate rapidhash in turn. The place `further` puts all
-    functions 16 bytes further on."""
+    """Builds the program that runs the rows of this crate and of the crate rapidhash in turn. The place `further` puts
+    all functions 16 bytes further on."""
     if "crate" not in CRATES:
         sys.exit("bench: RAPIDHASH_CRATE must name the directory of the crate rapidhash")
     dependencies = "\n".join([depend("rapidhash", "rust"), depend("upstream", "crate")])
@@ -116,8 +116,8 @@ def take(programs, words, scale):
 
 
 def asked(usage, known, turns, number=False):
-    """Returns the arguments of the command line, or none if it requests everything, and the number of turns. An argument
-    is a known word, or, if the bench takes one, a number."""
+    """Returns the arguments of the command line, or none if it requests everything, and the number of turns. An
+    argument is a known word, or, if the bench takes one, a number."""
     parser = argparse.ArgumentParser(description=usage, formatter_class=argparse.RawDescriptionHelpFormatter)
     parser.add_argument("words", nargs="*", metavar="WORD", help=f"any of: {' '.join(known)}")
     parser.add_argument("--turns", type=int, default=turns, help="how many turns, of which the least counts")

@@ -8,15 +8,17 @@ import re
 
 from cases import ROOM, TOP, compare, finish, lacks, shell, skip, tell
 from model import (LANES, PAGE, S, bucket, drawn, drawn_by_time, field_bytes, fingerprint, first_hash, hash_of,
-                   hashed_items, hashed_pieces, hashed_slice, made_secrets, message, saved, secrets_of, seed_source, shard)
+                   hashed_items, hashed_pieces, hashed_slice, made_secrets, message, saved, secrets_of, seed_source,
+                   shard)
 
 
-# Upstream's hashes of 2^32 + 205 bytes of 0, and of the key that has them. Without the upper bits of the length the hash
-# would be that of 205 bytes: more than a stream takes into its buffer.
+# Upstream's hashes of 2^32 + 205 bytes of 0, and of the key that has them. Without the upper bits of the length the
+# hash would be that of 205 bytes: more than a stream takes into its buffer.
 LONG = {("hash", "v1"): 11246987188218965133, ("hash", "v2_0"): 5529583638319163554,
-        ("hash", "v2_1"): 5529583638319163554, ("hash", "v2_2"): 5529583638319163554, ("hash", "v3"): 15840509470265968530,
-        ("hash", "v3_micro"): 15985150752381399984, ("hash", "v3_nano"): 10837033937540029418,
-        ("hash", "v3_protected"): 7473375221130942755, ("key", "v3"): 16330010940139620822}
+        ("hash", "v2_1"): 5529583638319163554, ("hash", "v2_2"): 5529583638319163554,
+        ("hash", "v3"): 15840509470265968530, ("hash", "v3_micro"): 15985150752381399984,
+        ("hash", "v3_nano"): 10837033937540029418, ("hash", "v3_protected"): 7473375221130942755,
+        ("key", "v3"): 16330010940139620822}
 HEADER = (TOP / "packages" / "c" / "include" / "rapidhash_c.h").read_text()
 
 

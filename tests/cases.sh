@@ -1,6 +1,6 @@
 # The common start of the test scripts: `room`, a temporary directory that is removed when the script ends, and
-# functions that print cases in the Test Anything Protocol (TAP), which `prove` reads. `top` is the repository. A missing
-# tool of .ci/packages skips the cases that need it.
+# functions that print cases in the Test Anything Protocol (TAP), which `prove` reads. `top` is the repository. A
+# missing tool of .ci/packages skips the cases that need it.
 # shellcheck shell=bash
 set -u
 
@@ -119,8 +119,8 @@ blocks() {
     inside { block = block $0 "\n" }' "$1"
 }
 
-# Checks that the commands of a page, at most three, print the hash of hello in the empty directory `$room/first`. None may
-# call the toolchain: PAGE
+# Checks that the commands of a page, at most three, print the hash of hello in the empty directory `$room/first`. None
+# may call the toolchain: PAGE
 works_as_its_page_says() {
   mkdir "$room/without" && printf '#!/bin/sh\necho rt was called >&2; exit 1\n' >"$room/without/rt" &&
     chmod +x "$room/without/rt" && blocks "$1" sh YERVOUND >"$room/commands" &&

@@ -21,17 +21,20 @@ VALUES = (
         ("0001-01-01 00:00:00.000001", -62135596799999999), ("9999-12-31 23:59:59.999999", 253402300799999999),
         ("1969-12-31 23:59:59.999998001", -2))),
     *(("UUID u", digits, bytes.fromhex(digits.replace("-", ""))) for digits in (
-        "00112233-4455-6677-8899-aabbccddeeff", "ffffffff-ffff-ffff-ffff-ffffffffffff", "f0000000-0000-0000-0000-000000000080")),
-    *(("decimal n", digits, text.encode()) for digits, text in (
-        ("1.50", "1.5"), ("-0.10", "-0.1"), ("100", "100"), ("100.00", "100"), ("0.00", "0"), ("10.050", "10.05"), ("-7", "-7"),
+        "00112233-4455-6677-8899-aabbccddeeff", "ffffffff-ffff-ffff-ffff-ffffffffffff",
+        "f0000000-0000-0000-0000-000000000080")),
+    *(("decimal n", digits, text.encode()) for digits, text in (("1.50", "1.5"), ("-0.10", "-0.1"), ("100", "100"),
+        ("100.00", "100"), ("0.00", "0"), ("10.050", "10.05"), ("-7", "-7"),
         ("12345678901234567890123456789.010", "12345678901234567890123456789.01"), ("1E+3", "1000"), ("-0.0", "0"))),
     *(("list l", items, [len(items), *items]) for items in ((7, -1), ("a", "bc"), (), (3, 2, 1), ("",))),
     ("list l", ((1, 2), (), (3,)), [3, 2, 1, 2, 0, 1, 3]),
 )
 # Values that a language's type, or the expression for two items, cannot have.
-NANOSECONDS, MICROSECONDS, TYPED, OTHER_LISTS = r"t .*\.\d{9}", r"t .*[1-9]", r"n (1E.*|-0\.0)", r"l \((|3, 2.*|'',|\(.*)\)"
+NANOSECONDS, MICROSECONDS, TYPED = r"t .*\.\d{9}", r"t .*[1-9]", r"n (1E.*|-0\.0)"
+OTHER_LISTS = r"l \((|3, 2.*|'',|\(.*)\)"
 LACKS = {"Python": (NANOSECONDS,), "JavaScript": (MICROSECONDS, TYPED), "PostgreSQL": (NANOSECONDS, OTHER_LISTS),
-         "SQLite": (NANOSECONDS, TYPED, OTHER_LISTS), "Java": (), "Go": (TYPED,), "C++": (TYPED, OTHER_LISTS), "Rust": (TYPED,)}
+         "SQLite": (NANOSECONDS, TYPED, OTHER_LISTS), "Java": (), "Go": (TYPED,), "C++": (TYPED, OTHER_LISTS),
+         "Rust": (TYPED,)}
 QUOTE = '"'
 PAGE = (TOP / "docs/BINDINGS.md").read_text()
 
@@ -39,19 +42,22 @@ PAGE = (TOP / "docs/BINDINGS.md").read_text()
 def table():
     """Returns the expressions of the table, keyed by language and column."""
     lines = re.search(r"^(\| \| boolean b .*\n)\|---.*\n((?:\|.*\n)*)", PAGE, re.M)
-    columns, *rows = ([cell.strip() for cell in re.split(r"(?<!\\)\|", line)[1:-1]] for line in (lines[1] + lines[2]).splitlines())
-    return {row[0]: {column: cell.strip("`").replace("\\|", "|") for column, cell in zip(columns[1:], row[1:])} for row in rows}
+    columns, *rows = ([cell.strip() for cell in re.split(r"(?<!\\)\|", line)[1:-1]]
+                      for line in (lines[1] + lines[2]).splitlines())
+    return {row[0]: {column: cell.strip("`").replace("\\|", "|") for column, cell in zip(columns[1:], row[1:])}
+            for row in rows}
 
 
 def known(fields):
     """Returns the key of fields by the model."""
-    texts = ("x" + (it.encode() if isinstance(it, str) else it).hex() if isinstance(it, (str, bytes)) else str(it) for it in fields)
+    texts = ("x" + (it.encode() if isinstance(it, str) else it).hex() if isinstance(it, (str, bytes)) else str(it)
+             for it in fields)
     seed, *secrets = secrets_of("default", "", False)
     return hash_of("V3", b"".join(map(field_bytes, texts)), seed, secrets)
 
 
-# The programs of the languages around their values: the file, the command, the text, which has its values at VALUES, the
-# block of a value, which has its parts at PARTS, a part of so many items, a part that declares a value and has its
+# The programs of the languages around their values: the file, the command, the text, which has its values at VALUES,
+# the block of a value, which has its parts at PARTS, a part of so many items, a part that declares a value and has its
 # expression at FIELDS, and the declarations, with the value at IT.
 PROGRAMS = {
     "Python": ("a.py", "/usr/bin/python3 a.py", """from datetime import date, datetime, timedelta, timezone
@@ -61,7 +67,8 @@ from rapidhash import v3_key
 VALUES""", "f = []\nPARTSprint(v3_key(*f))\n", "f += [IT]\n", "DECLARE; f += [FIELDS]\n", {
         "boolean b": "b = 'IT' == 'true'", "date d": "d = date.fromisoformat('IT')", "UUID u": "u = UUID('IT')",
         "time t": "t = datetime.fromisoformat('IT+00:00')", "decimal n": "n = Decimal('IT')", "list l": "l = [IT]"}),
-    "JavaScript": ("a.mjs", "node a.mjs", "import { v3Key, ready } from 'TOP/build/npm/rapidhash.mjs';\nawait ready;\nVALUES",
+    "JavaScript": ("a.mjs", "node a.mjs",
+        "import { v3Key, ready } from 'TOP/build/npm/rapidhash.mjs';\nawait ready;\nVALUES",
         "{ const f = []; PARTS console.log(String(v3Key(...f))); }\n", "f.push(IT); ", "{ DECLARE; f.push(FIELDS); }", {
         "boolean b": "const b = IT", "date d": "const d = new Date('IT')", "time t": "const t = new Date('ITZ')",
         "UUID u": "const u = 'IT'", "decimal n": "const n = 'IT'", "list l": "const l = [IT]"}),
@@ -74,8 +81,10 @@ class a {
     static void add(List<Object> f, Object... fields) { f.addAll(Arrays.asList(fields)); }
     static void print(List<Object> f) { System.out.println(example.yervound.rapidhash.RapidhashKey.hash(f.toArray())); }
     public static void main(String[] arguments) {
-VALUES}}""", "{ List<Object> f = new ArrayList<>(); PARTS print(f); }\n", "add(f, IT); ", "{ DECLARE; add(f, FIELDS); }", {
-        "boolean b": "boolean b = IT", "date d": 'var d = LocalDate.parse("IT")', "UUID u": 'var u = UUID.fromString("IT")',
+VALUES}}""", "{ List<Object> f = new ArrayList<>(); PARTS print(f); }\n", "add(f, IT); ",
+        "{ DECLARE; add(f, FIELDS); }", {
+        "boolean b": "boolean b = IT", "date d": 'var d = LocalDate.parse("IT")',
+        "UUID u": 'var u = UUID.fromString("IT")',
         "time t": """var t = LocalDateTime.parse("IT".replace(' ', 'T')).toInstant(ZoneOffset.UTC)""",
         "decimal n": 'var n = new BigDecimal("IT")', "list l": "List<Object> l = List.of(IT)"}),
     "Go": ("a.go", "{ go mod init first && go mod edit -replace yervound.example/rapidhash=TOP/packages/go && "
@@ -86,8 +95,10 @@ import ("fmt"; "regexp"; "time"; . "yervound.example/rapidhash")
 func read(layout, text string) time.Time { t, _ := time.Parse(layout, text); return t }
 func main() {
 	_ = regexp.MustCompile
-VALUES}""", "{ var f []Field; PARTS; fmt.Println(V3Key(f...)) }\n", "f = append(f, Integer(IT)); ", "{ DECLARE; f = append(f, FIELDS) }; ", {
-        "boolean b": "b := IT", "date d": 'd := read("2006-01-02", "IT")', "time t": 't := read("2006-01-02 15:04:05", "IT")',
+VALUES}""", "{ var f []Field; PARTS; fmt.Println(V3Key(f...)) }\n", "f = append(f, Integer(IT)); ",
+        "{ DECLARE; f = append(f, FIELDS) }; ", {
+        "boolean b": "b := IT", "date d": 'd := read("2006-01-02", "IT")',
+        "time t": 't := read("2006-01-02 15:04:05", "IT")',
         "UUID u": "u := [16]byte{IT}", "decimal n": 'n := "IT"', "list l": "l := []Field{IT}"}),
     "C++": ("a.cpp", "g++ -std=c++20 -ITOP/packages/c/include a.cpp -o a && ./a", """#include <array>
 #include <chrono>
@@ -100,9 +111,10 @@ using namespace std::chrono;
 int main() {
 VALUES}""", "{ PARTS }\n", "", "DECLARE; std::cout << rapidhash::key(FIELDS) << '\\n';", {
         "boolean b": "bool b = IT", "date d": "sys_days d{days(IT)}", "time t": "auto t = sys_time<decltype(IT)>(IT)",
-        "UUID u": "std::array<unsigned char, 16> u{IT}", "decimal n": 'std::string n = "IT"', "list l": "std::vector l{IT}"}),
-    "Rust": ("src/main.rs", "cargo init --quiet --name first --vcs none && cargo add --quiet --offline --path TOP/packages/rust && "
-             "cargo run --quiet --offline", """#![allow(unused)]
+        "UUID u": "std::array<unsigned char, 16> u{IT}", "decimal n": 'std::string n = "IT"',
+        "list l": "std::vector l{IT}"}),
+    "Rust": ("src/main.rs", "cargo init --quiet --name first --vcs none && "
+             "cargo add --quiet --offline --path TOP/packages/rust && cargo run --quiet --offline", """#![allow(unused)]
 use rapidhash::{key::{self, Field, KeyField}, v3::{RapidStreamHasherV3, DEFAULT_RAPID_SECRETS}};
 use std::time::{Duration, UNIX_EPOCH};
 fn main() {
@@ -112,17 +124,19 @@ VALUES}""", '{ let mut h = RapidStreamHasherV3::new(&DEFAULT_RAPID_SECRETS); PAR
         "UUID u": "let u: [u8; 16] = [IT]", "decimal n": 'let n = "IT"', "list l": "let l = [IT]"}),
     "SQLite": ("a.sql", "sqlite3 -cmd '.load TOP/build/rapidhash' :memory: <a.sql", "VALUES", "PARTS\n", "",
         "SELECT rapidhash_v3_key(FIELDS) FROM (SELECT DECLARE);", {
-        "boolean b": "IT AS b", "date d": "'IT' AS d", "time t": "'IT' AS t", "UUID u": "x'IT' AS u", "decimal n": "'IT' AS n",
-        "list l": "'[IT]' AS l"}),
+        "boolean b": "IT AS b", "date d": "'IT' AS d", "time t": "'IT' AS t", "UUID u": "x'IT' AS u",
+        "decimal n": "'IT' AS n", "list l": "'[IT]' AS l"}),
     "PostgreSQL": (None, None, "CREATE EXTENSION rapidhash; SET timezone = 'Asia/Kolkata';\nVALUES", "PARTS\n", "",
         "SELECT rapidhash_v3_key(FIELDS) FROM (SELECT DECLARE) AS v;", {
-        "boolean b": "IT AS b", "date d": "date 'IT' AS d", "time t": "timestamptz 'IT+00' AS t", "UUID u": "uuid 'IT' AS u",
-        "decimal n": "numeric 'IT' AS n", "list l": "ARRAY[IT] AS l"}),
+        "boolean b": "IT AS b", "date d": "date 'IT' AS d", "time t": "timestamptz 'IT+00' AS t",
+        "UUID u": "uuid 'IT' AS u", "decimal n": "numeric 'IT' AS n", "list l": "ARRAY[IT] AS l"}),
 }
-TOOLS = {"Python": ("cc", "/usr/lib/python3/dist-packages/setuptools", "/usr/include/python3*/Python.h"), "JavaScript": ("node", "esbuild", "clang", "wasm-ld", "npm"),
-         "Java": ("java", "javac"), "Go": ("go",), "C++": ("g++",), "Rust": ("cargo",), "SQLite": ("sqlite3", "cc", "/usr/include/sqlite3.h"), "PostgreSQL": SERVER}
-BUILDS = {"Python": 'make -s wheel && /usr/bin/python3 -m zipfile -e build/wheels/*.whl "$ROOM/wheel"', "JavaScript": "make -s npm",
-          "Java": "make -s jar", "SQLite": "make -s sqlite"}
+TOOLS = {"Python": ("cc", "/usr/lib/python3/dist-packages/setuptools", "/usr/include/python3*/Python.h"),
+         "JavaScript": ("node", "esbuild", "clang", "wasm-ld", "npm"), "Java": ("java", "javac"), "Go": ("go",),
+         "C++": ("g++",), "Rust": ("cargo",), "SQLite": ("sqlite3", "cc", "/usr/include/sqlite3.h"),
+         "PostgreSQL": SERVER}
+BUILDS = {"Python": 'make -s wheel && /usr/bin/python3 -m zipfile -e build/wheels/*.whl "$ROOM/wheel"',
+          "JavaScript": "make -s npm", "Java": "make -s jar", "SQLite": "make -s sqlite"}
 
 
 def source(language, column, value, field):
@@ -164,7 +178,8 @@ def block(language, column, value, fields, expression):
         lists, parts = value, count.replace("IT", str(len(value)))
     for it in lists:
         declare = declared[column].replace("IT", source(language, column, it, fields[0]))
-        parts += part.replace("DECLARE", declare).replace("FIELDS", expression + "..." * (language == "Go" and column == "list l"))
+        more = "..." * (language == "Go" and column == "list l")
+        parts += part.replace("DECLARE", declare).replace("FIELDS", expression + more)
     return whole.replace("PARTS", parts)
 
 
@@ -176,7 +191,8 @@ def keys_by(language, text):
     folder = ROOM / language
     (folder / file).parent.mkdir(parents=True)
     (folder / file).write_text(text.replace("TOP", str(TOP)))
-    return shell(command.replace("TOP", str(TOP)), folder, PYTHONPATH=str(ROOM / "wheel"), GOPROXY="off", GOCACHE=str(ROOM / "cache"))[1].splitlines()
+    return shell(command.replace("TOP", str(TOP)), folder, PYTHONPATH=str(ROOM / "wheel"), GOPROXY="off",
+                 GOCACHE=str(ROOM / "cache"))[1].splitlines()
 
 
 def converts(language, cells):
@@ -194,8 +210,8 @@ def converts(language, cells):
 
 
 def build(language):
-    """Builds what the programs of a language need. Returns the command that stops the server, if it has one. Other scripts
-    may build the extension for PostgreSQL at the same time, so this one builds it in its room."""
+    """Builds what the programs of a language need. Returns the command that stops the server, if it has one. Other
+    scripts may build the extension for PostgreSQL at the same time, so this one builds it in its room."""
     stop, command, folder = None, BUILDS.get(language, ":"), TOP
     if language == "PostgreSQL":
         folder = ROOM / "unpacked"

@@ -20,7 +20,8 @@ BUILT = ("build/", "crates/first")
 PATH = re.compile(r"`((?:crates|docs|tests|bench|bin|packages|scripts|\.ci)/[^` ]*)`")
 NAME = re.compile(r"`([A-Za-z]\w*(?:(?:::|\.)\w+)*)(?:[(<][^`]*)?`")
 # Names of other libraries, on pages that compare them.
-OTHERS = re.compile(r"XXH\w+|rapidhash(Micro|Nano|_withSeed)|fnv\.\w+|rapid_(file|stream_hasher|const|hasher)|rapidhash\.h|sha256sum")
+OTHERS = re.compile(r"XXH\w+|rapidhash(Micro|Nano|_withSeed)|fnv\.\w+|rapid_(file|stream_hasher|const|hasher)|"
+                    r"rapidhash\.h|sha256sum")
 
 
 def prose(pages):
@@ -79,8 +80,8 @@ def limits():
 
 
 def sentences():
-    """Checks that no sentence of a page has more than 25 words. Code is one word, and a cell of a table has sentences of
-    its own."""
+    """Checks that no sentence of a page has more than 25 words. Code is one word, and a cell of a table has sentences
+    of its own."""
     for page in PAGES:
         text = re.sub(r"^```.*?^```$", "", page.read_text(), flags=re.M | re.S)
         text = re.sub(r"<!-- (\w+) -->.*?<!-- end -->", "text", text, flags=re.S)
@@ -94,9 +95,9 @@ def sentences():
 
 
 def names():
-    """Checks that each name on a page is that of a file, or in the code: not only in tests, benches, edits or compat. On
-    pages that name what the tests have, or what programs call, it may be in any file. Names of other libraries are in
-    none. tests/conventions.py runs the expressions of a table."""
+    """Checks that each name on a page is that of a file, or in the code: not only in tests, benches, edits or compat.
+    On pages that name what the tests have, or what programs call, it may be in any file. Names of other libraries are
+    in none. tests/conventions.py runs the expressions of a table."""
     code, everywhere = set(), set()
     run = (TOP / "docs/BINDINGS.md").read_text().partition("| boolean b ")[2].partition("\n\n")[0]
     for name in shell("git ls-files")[1].splitlines():
@@ -146,7 +147,8 @@ def edits():
         place, name = edit.relative_to(TOP), f"{crate.name}/{edit.stem}"
         if not head or not re.search(rf"\b{head[2]}\b", sources):
             yield f"{place}: no such function"
-        elif name not in shown and (crate / "proofs" / (head[1] or "").replace("::", "/") / head[2] / "Answers.antt").exists():
+        elif name not in shown and (
+                crate / "proofs" / (head[1] or "").replace("::", "/") / head[2] / "Answers.antt").exists():
             yield f"{place}: no twin and no failing test"
         elif proofs and (name not in refused or name not in shown and f"`{head[3]}`" not in refused[name]):
             yield f"{place}: rt ci did not refuse it at {head[3]}, but said{refused.get(name, ': nothing')}"
@@ -216,10 +218,11 @@ def means():
     for called, count, *cells in table[1:]:
         language, _, kind = called.partition(", ")
         file, ours = source[language]
-        lines = [line.split("\t") for line in (TOP / "bench" / f"{file}.tsv").read_text().splitlines() if line[0] != "#"]
+        lines = [line.split("\t") for line in (TOP / f"bench/{file}.tsv").read_text().splitlines() if line[0] != "#"]
         ours, crate = lines[0].index(ours), lines[0].index("crate")
         for form, shown in zip(table[0][2:], cells):
-            pattern = rf"{form} seeded [\d-]+" if kind == "other secrets" else rf"{form} [\d-]+" + f", {kind}" * bool(kind)
+            pattern = (rf"{form} seeded [\d-]+" if kind == "other secrets" else
+                       rf"{form} [\d-]+" + f", {kind}" * bool(kind))
             rows = [row for row in lines if re.fullmatch(pattern, row[0])]
             mean = math.exp(sum(math.log(float(row[crate]) / float(row[ours])) for row in rows) / max(1, len(rows)))
             if shown != (f"{mean:.2f}" if rows else "") or form == "v3" and count != str(len(rows)):
@@ -233,15 +236,18 @@ def bands():
              re.search("<!-- bands -->(.*?)<!-- end -->", page, re.S)[1].split("\n") if row and "---" not in row]
     front = re.search("<!-- extremes -->(.*?)<!-- end -->", (TOP / "README.md").read_text(), re.S)[1]
     for column, name in enumerate(table[0][1:], 1):
-        file, other = ("rust", "crate") if "Rust" in name else ("xxh3", re.search(r"with (\S+),", name)[1].lower().replace("-", ""))
-        lines = [line.split("\t") for line in (TOP / "bench" / f"{file}.tsv").read_text().splitlines() if line[0] != "#"]
+        file, other = ("rust", "crate") if "Rust" in name else (
+            "xxh3", re.search(r"with (\S+),", name)[1].lower().replace("-", ""))
+        lines = [line.split("\t") for line in (TOP / f"bench/{file}.tsv").read_text().splitlines() if line[0] != "#"]
         ending = "default release" if file == "rust" else "gcc -O3"
         ratios = {row[0][3:].partition(",")[0]: float(row[lines[0].index(other)]) / float(row[2]) for row in lines[1:]
                   if re.fullmatch(rf"v3 [\d-]+, {ending}", row[0])}
         for row in table[1:]:
-            first, last = (int(it.replace(",", "")) for it in re.search(r"([\d,]+) to ([\d,]+)|$", row[0]).groups(default="0"))
-            chosen = ([ratios[f"{first}-{last}"]] if "mixed" in row[0] else [it for length, it in ratios.items() if "-" in length]
-                      if "mixes" in row[0] else [it for length, it in ratios.items() if length.isdecimal() and first <= int(length) <= last])
+            first, last = (int(it.replace(",", "")) for it in
+                           re.search(r"([\d,]+) to ([\d,]+)|$", row[0]).groups(default="0"))
+            chosen = ([ratios[f"{first}-{last}"]] if "mixed" in row[0] else
+                      [it for length, it in ratios.items() if "-" in length] if "mixes" in row[0] else
+                      [it for length, it in ratios.items() if length.isdecimal() and first <= int(length) <= last])
             mean = math.exp(sum(map(math.log, chosen)) / max(1, len(chosen)))
             if row[0] != "the lowest" and row[column] != f"{mean:.2f}" or "five" in row[0] and len(chosen) != 5:
                 yield f"{row[0]}, {name}: {row[column]}, and not {mean:.2f} of {len(chosen)} rows"
@@ -294,8 +300,8 @@ def commits():
                     if shell(f"git merge-base --is-ancestor {commit} HEAD")[0] != 0)
 
 
-for check in (links, paths, variables, limits, sentences, names, values, layers, edits, vectors, statements, odds_of_equal_hashes,
-              pictures, means, bands, measurements, commits):
+for check in (links, paths, variables, limits, sentences, names, values, layers, edits, vectors, statements,
+              odds_of_equal_hashes, pictures, means, bands, measurements, commits):
     tell(check.__name__, *check())
 for made, maker in (("public", "scripts/public"), ("version", "scripts/version"), ("figures", "bench/figures")):
     tell(made, *made_by(maker))

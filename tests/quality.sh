@@ -1,15 +1,15 @@
 #!/usr/bin/env bash
 # reads: tests/quality.sh bench packages/c crates
 # Checks the statistics of all portable hashes with small samples (bench/quality.c; docs/QUALITY.md has large ones): the
-# avalanche of messages and seeds, collisions and buckets. The same limits must refuse FNV-1a, by each kind of measure, and
-# V3 with a fault in a few bits.
+# avalanche of messages and seeds, collisions and buckets. The same limits must refuse FNV-1a, by each kind of measure,
+# and V3 with a fault in a few bits.
 . "$(dirname "$0")/cases.sh"
 needs cc git
 
 # The words of the repository's own files take the place of a dictionary.
 measure() {
-  cc -std=c99 -O2 -Wall -Wextra -Werror -DWITH_CONTROLS -I "$top/packages/c/include" "$top/bench/quality.c" -lm -o "$room/quality" &&
-    (cd "$top" && git grep -hoE '\w+' -- docs crates) | LC_ALL=C sort -u >"$room/words" &&
+  cc -std=c99 -O2 -Wall -Wextra -Werror -DWITH_CONTROLS -I "$top/packages/c/include" "$top/bench/quality.c" -lm \
+    -o "$room/quality" && (cd "$top" && git grep -hoE '\w+' -- docs crates) | LC_ALL=C sort -u >"$room/words" &&
     [ "$(wc -l <"$room/words")" -gt 5000 ] && "$room/quality" 300 600000 3 <"$room/words" >"$room/table" &&
     [ "$(wc -l <"$room/table")" -eq 79 ]
 }
@@ -33,10 +33,12 @@ prepare_by measure
 for hash in $(sed -n '1 { s/\tfnv1a.*//; s/^what\tunit//; p; }' "$room/table"); do
   try "$hash" like_chance "$hash" .
 done
-for rows in 'avalanche of the message' 'avalanche of the seed' 'high 32 bits' 'low 32 bits' 'high bits' 'low bits' '65521'; do
+for rows in 'avalanche of the message' 'avalanche of the seed' 'high 32 bits' 'low 32 bits' 'high bits' \
+  'low bits' '65521'; do
   try "FNV-1a is refused by $rows" refuses fnv1a "$rows"
 done
-for refused in 'first_bit_set avalanche of the message' 'first_bit_set avalanche of the seed' 'first_bit_set high 32 bits' \
+for refused in 'first_bit_set avalanche of the message' 'first_bit_set avalanche of the seed' \
+  'first_bit_set high 32 bits' \
   'last_bit_clear avalanche of the message' 'last_bit_clear low 32 bits' 'equal_halves : equal'; do
   try "$refused" refuses "${refused%% *}" "${refused#* }"
 done

@@ -14,7 +14,8 @@ from pathlib import Path
 from cases import ROOM, TOP, blocks, compare, finish, has, lacks, shell, skip, tell
 
 # Commands that other tests run: the gate itself, and packages/tools/tests/install.sh.
-ELSEWHERE = ('make && make install PREFIX="$HOME/.local"', 'make uninstall PREFIX="$HOME/.local"', "make check", "make check-source")
+ELSEWHERE = ('make && make install PREFIX="$HOME/.local"', 'make uninstall PREFIX="$HOME/.local"', "make check",
+             "make check-source")
 
 # Calls of the functions in docs/RATTLE.md, for the end of its first function, and the output of the program with them.
 CALLS = """    println!(rt; "{} {}", in_pieces(), of_reader(b"hello".as_slice())?)?;
@@ -24,7 +25,8 @@ TUTORIAL = "3327445792987248966\n3327445792987248966 3327445792987248966\n148608
 
 
 def faults_of(line, folder, **variables):
-    """Runs a command and returns its output if it fails or prints another value than its comment says, if that says one."""
+    """Runs a command and returns its output if it fails or prints another value than its comment says, if that says
+    one."""
     command, _, comment = line.partition(" #")
     said = re.search(r"prints (\d+)", comment)
     status, printed = shell(command, folder, **variables)
@@ -52,9 +54,11 @@ def run_shell_blocks():
 
 
 def run_first_program():
-    """Builds and runs the program of README.md, which prints what its comment states, with the line of docs/MIGRATING.md."""
+    """Builds and runs the program of README.md, which prints what its comment states, with the line of
+    docs/MIGRATING.md."""
     (ROOM / "src").mkdir()
-    manifest = '[package]\nname = "first"\nversion = "0.0.0"\nedition = "2021"\n' + blocks("docs/MIGRATING.md", "toml")[0]
+    manifest = '[package]\nname = "first"\nversion = "0.0.0"\nedition = "2021"\n'
+    manifest += blocks("docs/MIGRATING.md", "toml")[0]
     (ROOM / "Cargo.toml").write_text(manifest.replace("/path/to/yervound", str(TOP)))
     [program], name = blocks("README.md", "rust"), "the first program"
     (ROOM / "src/main.rs").write_text(program)

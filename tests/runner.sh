@@ -19,33 +19,36 @@ ends() {
     cp "$top/tests/examples/room.sh" "$room/tests/examples" &&
     printf '%s\n' "$3" >"$room/tests/script" && "${4:-bash}" "$room/tests/script" >"$room/said" 2>&1
   status=$?
-  [ "$status" = "$1" ] && [ "$(grep -v '^# ' "$room/said")" = "$2" ] && { [ "$1" -eq 0 ] || grep -q '^# ' "$room/said"; }
+  [ "$status" = "$1" ] && [ "$(grep -v '^# ' "$room/said")" = "$2" ] &&
+    { [ "$1" -eq 0 ] || grep -q '^# ' "$room/said"; }
 }
 
-# Runs tests/release/must_fail.py over an edit of which the checker says this, and perhaps over its twin, and compares its
-# first line: LINE SAID [SAID-OF-THE-TWIN]
+# Runs tests/release/must_fail.py over an edit of which the checker says this, and perhaps over its twin, and compares
+# its first line: LINE SAID [SAID-OF-THE-TWIN]
 edit_ends() {
   rm -rf "$room/edits" && mkdir -p "$room"/edits/{crates/one/{must-fail,src},tests/release,bin} && cd "$room/edits" &&
-    touch crates.txt HANDLES && cp "$top/tests/cases.py" tests && cp "$top"/tests/release/{must_fail,edits}.py tests/release &&
-    echo '{ 1 }' >crates/one/src/lib.rt &&
+    touch crates.txt HANDLES && cp "$top/tests/cases.py" tests &&
+    cp "$top"/tests/release/{must_fail,edits}.py tests/release && echo '{ 1 }' >crates/one/src/lib.rt &&
     printf '%s\n' 'refused: f, goal' 'file: src/lib.rt' 'old: { 1 }' 'new: { 2 }' >crates/one/must-fail/a.edit &&
     { [ -z "${3-}" ] || { mkdir -p tests/release/twins/one && sed 's/refused: f, goal/proved: f/; s/{ 2 }/{ 3 }/' \
       crates/one/must-fail/a.edit >tests/release/twins/one/a.twin; }; } &&
-    printf '#!/bin/sh\ngrep -q "{ 2 }" src/lib.rt && echo "fn one::f: $SAID"\ngrep -q "{ 3 }" src/lib.rt && echo "fn one::f: $TWIN"\n' \
-      >bin/rt && chmod +x bin/rt && SAID=$2 TWIN=${3-} PATH=$PWD/bin:$PATH python3 tests/release/must_fail.py >../said
+    printf '%s\n' '#!/bin/sh' 'grep -q "{ 2 }" src/lib.rt && echo "fn one::f: $SAID"' \
+      'grep -q "{ 3 }" src/lib.rt && echo "fn one::f: $TWIN"' >bin/rt && chmod +x bin/rt &&
+    SAID=$2 TWIN=${3-} PATH=$PWD/bin:$PATH python3 tests/release/must_fail.py >../said
   [ "$?:$(head -n 1 "$room/said")" = "$(($(grep -c ^not <<<"$1"))):$1 - one/a" ]
 }
 
 # Runs tests/release/failing_tests.py over an edit, with which a test has this result, and without it that one. So many
 # of its cases must fail: COUNT RESULT RESULT-WITHOUT
 test_ends() {
-  rm -rf "$room/edits" && mkdir -p "$room"/edits/{crates/{one/{must-fail,src},two},scripts,packages/rust,tests/release,bin} &&
-    cd "$room/edits" && touch crates.txt HANDLES && cp "$top/tests/cases.py" tests && echo '{ 1 }' >crates/one/src/lib.rt &&
-    cp "$top"/tests/release/{edits,failing_tests}.py tests/release &&
+  rm -rf "$room/edits" &&
+    mkdir -p "$room"/edits/{crates/{one/{must-fail,src},two},scripts,packages/rust,tests/release,bin} &&
+    cd "$room/edits" && touch crates.txt HANDLES && cp "$top/tests/cases.py" tests &&
+    echo '{ 1 }' >crates/one/src/lib.rt && cp "$top"/tests/release/{edits,failing_tests}.py tests/release &&
     printf '%s\n' 'refused: f, goal' 'file: src/lib.rt' 'old: { 1 }' 'new: { 2 }' >crates/one/must-fail/a.edit &&
     printf 'edit\tplace\ttest\none/a\ttwo\tt\n' >tests/release/failing_tests.tsv &&
-    printf '#!/bin/sh\ngrep -q "{ 2 }" ../one/src/lib.rt && echo test t ... %s || echo test t ... %s\n' "$2" "$3" >bin/rt &&
-    chmod +x bin/rt && PATH=$PWD/bin:$PATH python3 tests/release/failing_tests.py >../said
+    printf '#!/bin/sh\ngrep -q "{ 2 }" ../one/src/lib.rt && echo test t ... %s || echo test t ... %s\n' "$2" "$3" \
+      >bin/rt && chmod +x bin/rt && PATH=$PWD/bin:$PATH python3 tests/release/failing_tests.py >../said
   [ "$?:$(grep -c '^not ok' "$room/said")" = "$(($1 > 0)):$1" ] && grep -qx '1\.\.2' "$room/said"
 }
 
@@ -94,7 +97,8 @@ try a_skipped_script ends 0 '1..0 # SKIP no rt (*rattle-kit)' "$start; PATH=/usr
 try a_skipped_rest ends 0 $'ok - a\nok - all other cases # SKIP no rt (*rattle-kit)\n1..2' \
   "$start; PATH=/usr/bin:/bin; try a true; needs sh rt; finish"
 try a_skipped_script_in_python ends 0 '1..0 # SKIP no rt (*rattle-kit)' \
-  'import os; from cases import *; os.environ["PATH"] = "/usr/bin:/bin"; needs("sh", "/usr/b*n", "rt"); finish()' python3
+  'import os; from cases import *; os.environ["PATH"] = "/usr/bin:/bin"; needs("sh", "/usr/b*n", "rt"); finish()' \
+  python3
 for bad in 'runs bad 0 "" "" echo more' 'runs bad 0 "" "" sh -c "exit 3"' 'runs bad 0 "" "" sh -c "echo more >&2"' \
   'prepare_by false' 'try bad failing read:error=EIO a wc -w a' 'try bad reads_in 1 a wc -w a' \
   'try bad reads_in 1 a true' "try bad grows_by_a_factor perl -e '\$a = 1 x 1e6 x \$_ for 1..99'"; do
@@ -150,10 +154,12 @@ two=1 try a_gate_with_a_plan_of_more_cases gate_ends '5 passed, 1 failed' 'print
 two=3 try a_gate_with_a_lost_case gate_says 'cases: < tests/two.sh 3' '6 passed, 1 failed' "$two_cases"
 two=$'2\ntests/three.sh 1' try a_gate_with_a_lost_script gate_says 'cases: < tests/three.sh 1' '6 passed, 1 failed' \
   "$two_cases"
-two=1 try a_gate_with_a_named_skip gate_ends '4 passed, 0 failed' 'printf "ok - a # SKIP strace cannot trace here\n1..1\n"'
+two=1 try a_gate_with_a_named_skip gate_ends '4 passed, 0 failed' \
+  'printf "ok - a # SKIP strace cannot trace here\n1..1\n"'
 try the_page_of_a_skip grep -qxF '| scripts, and their cases that passed | 2, 1 |' "$room/gate/build/gate.md"
 skips_go='printf "ok - a # SKIP no /no/go (golang-go)\n1..1\n"'
-two=1 try a_gate_with_a_missing_tool gate_says 'skipped: ok - a # SKIP no /no/go (golang-go)' '4 passed, 1 failed' "$skips_go"
+two=1 try a_gate_with_a_missing_tool gate_says 'skipped: ok - a # SKIP no /no/go (golang-go)' '4 passed, 1 failed' \
+  "$skips_go"
 two=1 try a_gate_that_names_the_packages gate_says 'apt-get install golang-go' '4 passed, 1 failed' "$skips_go"
 two=0 try a_gate_with_a_skipped_script gate_ends '4 passed, 1 failed' 'echo "1..0 # SKIP no /no/go (golang-go)"'
 try a_gate_with_a_changed_file gate_says 'left behind: tests/two.sh' '6 passed, 1 failed' "$two_cases; git add tests"
@@ -165,9 +171,11 @@ done
 try a_gate_in_which_setup_fails gate_ends '6 passed, 1 failed' "$two_cases" .ci/setup
 mode=packages/one/tests
 try a_run_of_what_reads_a_path gate_ends '2 passed, 0 failed, 0 skipped' $'# reads: docs packages/one\n'"$two_cases"
-! gate_ends '0 passed, 0 failed, 0 skipped' $'# reads: packages/two\n'"$two_cases" && try a_run_of_nothing grep -qx 'run: no script reads packages/one/tests' "$room/said"
+! gate_ends '0 passed, 0 failed, 0 skipped' $'# reads: packages/two\n'"$two_cases" &&
+  try a_run_of_nothing grep -qx 'run: no script reads packages/one/tests' "$room/said"
 mode=packages/none
-! gate_ends '0 passed, 0 failed, 0 skipped' "$two_cases" && try a_path_that_is_not_there grep -q "'packages/none'" "$room/said"
+! gate_ends '0 passed, 0 failed, 0 skipped' "$two_cases" &&
+  try a_path_that_is_not_there grep -q "'packages/none'" "$room/said"
 mode=source
 try a_gate_of_sources gate_ends '3 passed, 0 failed, 0 skipped' "command -v rt && exit 1; $two_cases"
 try a_gate_of_sources_without_a_tool gate_says 'missing: /no/go rt' '2 passed, 0 failed, 2 skipped' \
@@ -181,14 +189,18 @@ mode=
 setup_ends() {
   local setup=$room/setup
   rm -rf "$setup" && mkdir -p "$setup"/{.ci,bin,tests} && cp "$top/.ci/setup" "$setup/.ci" &&
-    cp "$top/tests/tools.sh" "$setup/tests" && printf '%s\n' '# a' 'one one' '*other other' 'two two' >"$setup/.ci/packages" &&
-    cd "$setup" && printf '#!/bin/sh\ncd %s\n%s\n' "$setup" "$3" >bin/apt-get && printf '#!/bin/sh\necho one\necho two\n' >bin/apt-cache &&
+    cp "$top/tests/tools.sh" "$setup/tests" &&
+    printf '%s\n' '# a' 'one one' '*other other' 'two two' >"$setup/.ci/packages" &&
+    cd "$setup" && printf '#!/bin/sh\ncd %s\n%s\n' "$setup" "$3" >bin/apt-get &&
+    printf '#!/bin/sh\necho one\necho two\n' >bin/apt-cache &&
     printf '#!/bin/sh\nexit 1\n' >bin/dpkg-query && printf '#!/bin/sh\n' >bin/sleep && chmod +x bin/* &&
     PATH=$setup/bin:/usr/bin:/bin bash .ci/setup >"$room/said" 2>&1
   [ "$?:$(tail -n 1 "$room/said")" = "$2:$1" ]
 }
-installs='shift 2; [ "$1" = update ] || for package in $2 $3; do printf "#!/bin/sh\n" >bin/$package; chmod +x bin/$package; done'
-held='[ $(echo run >>runs; wc -l <runs) -gt 5 ] || { echo "E: Could not get lock /a. It is held by process 7 (apt)"; exit 100; }'
+installs='shift 2; [ "$1" = update ] ||
+  for package in $2 $3; do printf "#!/bin/sh\n" >bin/$package; chmod +x bin/$package; done'
+held='[ $(echo run >>runs; wc -l <runs) -gt 5 ] ||
+  { echo "E: Could not get lock /a. It is held by process 7 (apt)"; exit 100; }'
 try setup setup_ends 'setup: installing one two' 0 "$installs"
 try setup_with_a_held_lock setup_ends 'setup: installing one two' 0 "$held; $installs"
 try setup_that_fails setup_ends 'setup: could not install one two' 1 'echo E: no network; exit 100'
@@ -198,7 +210,7 @@ links README.md s|(docs/PROVED.md|(docs/PROVEN.md|
 paths CONTRIBUTING.md s|`tests/style.sh`|`tests/stile.sh`|
 variables docs/PERFORMANCE.md s/RAPIDHASH_CRATE/&S/
 limits docs/TABLES.md 3s|.*|& & &|
-sentences docs/PERFORMANCE.md s/^Speed is measured, not proved,/Speed is measured and is not proved and is not promised for any other machine than this one, and it is/
+sentences docs/PERFORMANCE.md s/^Speed is measured, not proved,/& & & & & &/
 names docs/PROVED.md s|`test_\(replay\)`|`best_\1`|g
 layers docs/ARCHITECTURE.md s|`in_memory`|`memory`|
 edits crates/rapidhash_portable/must-fail/micro_has_seven_lanes.edit s|rapidhash_v3_micro_inline|rapidhash_v3_m_inline|
@@ -222,7 +234,8 @@ EDITS
 awk 'FNR == 1 { n = split(FILENAME, path, "/")
   printf "rt: must-fail %s/%s: refused, as it must be: `%s`\n", path[n - 2], path[n], $NF }' \
   "$top"/crates/*/must-fail/*.edit >"$room/proofs"
-for change in 'crates/rapidhash/must-fail/steps_to_counts_backwards.edit 1s/, .*/, loop/' '../proofs 1s/refused.*/BAD EDIT/'; do
+for change in 'crates/rapidhash/must-fail/steps_to_counts_backwards.edit 1s/, .*/, loop/' \
+  '../proofs 1s/refused.*/BAD EDIT/'; do
   PROOFS=$room/proofs refuses tests/pages.py <<<"edits $change"
 done
 lints=$(command -v shellcheck && command -v pyflakes3) names=yes
@@ -244,11 +257,13 @@ ${lints:+python_scripts scripts/eraser.py \$a import os}
 ${lints:+python_scripts scripts/rust_crate \$a import os}
 EDITS
 names=
-subject="tests: a subject with $(printf 'more and %.0s' {1..6})more characters" PATH=/usr/bin:/bin refuses tests/style.sh <<EDITS
+subject="tests: a subject with $(printf 'more and %.0s' {1..6})more characters" \
+  PATH=/usr/bin:/bin refuses tests/style.sh <<EDITS
 commits README.md 1s/\$/ /
 ${lints:+shell_scripts scripts/vendor \$a echo \$into}
 EDITS
-for change in 'packages/c/include/rapidhash_c.h /_micro_form_ /s/1, 2, 1}, 45/2, 2, 1}, 45/' 'tests/formulas/main.rs s/4096/4095/'; do
+for change in 'packages/c/include/rapidhash_c.h /_micro_form_ /s/1, 2, 1}, 45/2, 2, 1}, 45/' \
+  'tests/formulas/main.rs s/4096/4095/'; do
   ! has rustc || refuses tests/formulas/formulas.py c_gcc <<<"c_gcc $change"
 done
 

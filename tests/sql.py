@@ -54,7 +54,8 @@ def rows():
         if kind == "kind" or line.startswith("#"):
             continue
         version, rule, argument, value = rest.split("\t")
-        is_left_out = rule.startswith("own:") or argument.startswith("zeros:") or argument in ("ramp:100003", "ramp:1000001")
+        is_left_out = rule.startswith("own:") or argument.startswith("zeros:")
+        is_left_out |= argument in ("ramp:100003", "ramp:1000001")
         is_left_out |= version == "-" and kind != "fingerprint" and int(argument.split()[1]) >= 2**63
         if kind not in ("secrets", "stream") and not is_left_out:
             yield kind, version, rule, argument, value

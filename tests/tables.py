@@ -1,7 +1,7 @@
 #!/usr/bin/python3
 # reads: docs/TABLES.md docs/BINDINGS.md packages/python packages/sqlite packages/postgresql packages/c/include
-"""Runs the queries of docs/TABLES.md over the same rows in PostgreSQL, SQLite and pandas, and finds a changed, a lost and
-a doubled row. ROWS is the number of rows."""
+"""Runs the queries of docs/TABLES.md over the same rows in PostgreSQL, SQLite and pandas, and finds a changed, a lost
+and a doubled row. ROWS is the number of rows."""
 
 import csv
 import datetime
@@ -32,10 +32,11 @@ def people():
 
 
 def build():
-    """Builds the three packages, that for PostgreSQL away from other tests, and installs it into the copy of the server."""
+    """Builds the three packages, that for PostgreSQL away from other tests, and installs it into the copy of the
+    server."""
     status, said = shell(unpack(ROOM / "source", "postgresql").replace("sudo ", ""), ROOM / "source", DESTDIR=str(ROOM))
-    return (status, said) if status else shell("make -s sqlite wheel && /usr/bin/python3 -m zipfile -e build/wheels/*.whl "
-                                               '"$ROOM/wheel"')
+    return (status, said) if status else shell(
+        'make -s sqlite wheel && /usr/bin/python3 -m zipfile -e build/wheels/*.whl "$ROOM/wheel"')
 
 
 def fill(database, rows):
@@ -126,7 +127,8 @@ def finds(database, name, change, by_shard):
     database.execute("SAVEPOINT one")
     database.execute(change)
     shards = differing(database, by_shard)
-    rows = f"SELECT {COLUMNS} FROM people WHERE rapidhash_shard(rapidhash_v3_key({COLUMNS}), 1000) IN ({', '.join(shards)})"
+    rows = (f"SELECT {COLUMNS} FROM people "
+            f"WHERE rapidhash_shard(rapidhash_v3_key({COLUMNS}), 1000) IN ({', '.join(shards)})")
     theirs, ours = ([line.replace("None", "") for line in lines] for lines in (ask(rows), in_sqlite(database, rows)))
     changed = [row for row in {*theirs, *ours} if theirs.count(row) != ours.count(row)]
     compare(name, (1 <= len(shards) <= 2, {row.split("|")[0] for row in changed}), (True, {"77"}))

@@ -48,8 +48,8 @@ says_that_it_has_changes() {
   touch "$library/crates/rapidhash/src/new.rt" && "$vendor" "$room/a folder" && vendored ', with changes' &&
     rm "$library/crates/rapidhash/src/new.rt" || return 1
   for crate in rapidhash_portable rapidhash; do
-    echo '// changed' >>"$library/crates/$crate/src/lib.rt" && "$vendor" "$room/a folder" && vendored ', with changes' &&
-      is_copy "$room/a folder" && git -C "$library" checkout -q crates || return 1
+    echo '// changed' >>"$library/crates/$crate/src/lib.rt" && "$vendor" "$room/a folder" &&
+      vendored ', with changes' && is_copy "$room/a folder" && git -C "$library" checkout -q crates || return 1
   done
 }
 
@@ -63,7 +63,8 @@ refuses_a_crate_of_another() {
   local crate
   for crate in rapidhash_portable rapidhash; do
     mkdir -p "$room/of_$crate/crates/$crate" && echo mine >"$room/of_$crate/crates/$crate/mine" &&
-      refused "$room/of_$crate/crates/$crate exists and is not a copy made by make vendor" "$vendor" "$room/of_$crate" &&
+      refused "$room/of_$crate/crates/$crate exists and is not a copy made by make vendor" \
+        "$vendor" "$room/of_$crate" &&
       [ "$(cd "$room/of_$crate" && find . -type f)" = "./crates/$crate/mine" ] || return 1
   done
 }

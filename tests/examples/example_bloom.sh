@@ -8,8 +8,8 @@
 mostly_absent() {
   local case=$1
   shift
-  "$@" <even >out 2>"$room/log" && [ ! -s "$room/log" ] && found=$(grep -c '^maybe ' out) && [ "$found" -ge 20 ] && [ "$found" -le 100 ] &&
-    sed 's/^maybe /no /' out | cmp - wanted
+  "$@" <even >out 2>"$room/log" && [ ! -s "$room/log" ] && found=$(grep -c '^maybe ' out) &&
+    [ "$found" -ge 20 ] && [ "$found" -le 100 ] && sed 's/^maybe /no /' out | cmp - wanted
   tell "$case" $?
 }
 

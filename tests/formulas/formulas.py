@@ -16,20 +16,23 @@ from eraser import erase  # noqa: E402
 
 FOLDER = TOP / "tests" / "formulas"
 C = ("-std=c99 -Wall -Wextra -Werror -Wno-unused-function '-DRAPIDHASH_PRIMITIVES=\"primitives.h\"' -include assert.h"
-     " -DRAPIDHASH_ASSERT=assert -I$YERVOUND/packages/c/include -I$YERVOUND/tests/formulas $YERVOUND/tests/formulas/subject.c")
+     " -DRAPIDHASH_ASSERT=assert -I$YERVOUND/packages/c/include -I$YERVOUND/tests/formulas"
+     " $YERVOUND/tests/formulas/subject.c")
 CPP = "-x c++ " + C.replace("c99", "c++17")
-JAVA = ("mkdir java && cp -r $YERVOUND/packages/java/src/main/java/. $YERVOUND/packages/java/src/formulas/java/. java &&"
-        " rm java/module-info.java && javac --release 11 -d classes $(find java -name '*.java')")
+JAVA = ("mkdir java && cp -r $YERVOUND/packages/java/src/main/java/. $YERVOUND/packages/java/src/formulas/java/. java"
+        " && rm java/module-info.java && javac --release 11 -d classes $(find java -name '*.java')")
 SANITIZERS = "/usr/lib/llvm-*/lib/clang/*/lib/linux/libclang_rt.fuzzer-x86_64.a"
 GO = "(cd $YERVOUND/packages/go && GOCACHE=$OLDPWD/cache GOPROXY=off go test -tags formulas -c -o $OLDPWD/go)"
 
 
 def rust(rustc, name):
-    """Returns the commands that build the Rust crate and its subject with a compiler, which build.rs asks what it lacks."""
+    """Returns the commands that build the Rust crate and its subject with a compiler, which build.rs asks what it
+    lacks."""
     return (f"{rustc} --edition 2021 $YERVOUND/packages/rust/build.rs -o {name}_script && {rustc} -O --edition 2021"
             f" --crate-type rlib --crate-name rapidhash --cap-lints allow --cfg 'feature=\"std\"'"
-            f" $(RUSTC={rustc} ./{name}_script | sed -n 's/^cargo:rustc-cfg=/--cfg /p') crate/lib.rs -o lib{name}.rlib &&"
-            f" {rustc} -O --edition 2021 --extern rapidhash=lib{name}.rlib $YERVOUND/tests/formulas/subject.rs -o {name}")
+            f" $(RUSTC={rustc} ./{name}_script | sed -n 's/^cargo:rustc-cfg=/--cfg /p') crate/lib.rs -o lib{name}.rlib"
+            f" && {rustc} -O --edition 2021 --extern rapidhash=lib{name}.rlib"
+            f" $YERVOUND/tests/formulas/subject.rs -o {name}")
 
 
 # The subjects: name, kind, the tools that it needs, and the commands that build and run it in the directory ROOM.
@@ -68,8 +71,8 @@ def build_definition():
 
 
 def copy_crate():
-    """Copies the Rust crate over random reads and a random product, which no constant function can call. Those that make
-    a stream call neither."""
+    """Copies the Rust crate over random reads and a random product, which no constant function can call. Those that
+    make a stream call neither."""
     folder = shutil.copytree(TOP / "packages" / "rust" / "src", ROOM / "crate")
     for path in folder.rglob("*.rs"):
         if path.name not in ("held.rs", "stream.rs", "folded.rs"):

@@ -1,6 +1,6 @@
 //! Compares a subject with the definition as formulas: `main KIND COMMAND..`, where the kind is `native` for a package
-//! that has the C library's calls, `v3` for one that has V3 of whole messages alone, or `kernels` for one that has every
-//! option.
+//! that has the C library's calls, `v3` for one that has V3 of whole messages alone, or `kernels` for one that has
+//! every option.
 //!
 //! All control flow of a hash depends on the length alone, so the hash of n bytes is a formula over loads, products,
 //! XOR, OR, and shifts. The definition and the subject are built with the same random functions as loads and product.

@@ -16,7 +16,8 @@ FLAG = "#ifndef RAPIDHASH_LINK\n"  # before which faults have a variable
 # What the reason has for a constant, a shift and a bound: the lengths, and the term. Only the constant's is always the
 # same: of several differing terms the reason has any.
 REASONS = {
-    "a changed mask": ("length 0", "another term, with xor(12297829382473034411, ", "and not xor(12297829382473034410, "),
+    "a changed mask": ("length 0", "another term, with xor(12297829382473034411, ",
+                       "and not xor(12297829382473034410, "),
     "a changed shift": ("length 1", "the hash is another term, with "),
     "a changed bound of the rows": ("lengths 224 + 112 * turns", "the hash is another term, with "),
 }
@@ -62,7 +63,8 @@ def rows(is_header):
 
 
 def in_the_header(tell=None):
-    """Builds the header with each fault. Yields those that are not refused with the function, the length and the term."""
+    """Builds the header with each fault. Yields those that are not refused with the function, the length and the
+    term."""
     for file, fault, old, new in rows(True):
         text = HEADER.read_text()
         assert old in text, fault

@@ -1,7 +1,7 @@
 #!/usr/bin/env python3
-"""Applies edits of crates/CRATE/must-fail/ to a copy, and tests that a test fails with each edit and none without. So an
-edit is wrong by its values, also if its goal has a stored answer, which fits a single text. Each such edit has a twin,
-or a row in failing_tests.tsv (tests/pages.py): the edit, where its test runs, and a test that fails. It runs in
+"""Applies edits of crates/CRATE/must-fail/ to a copy, and tests that a test fails with each edit and none without. So
+an edit is wrong by its values, also if its goal has a stored answer, which fits a single text. Each such edit has a
+twin, or a row in failing_tests.tsv (tests/pages.py): the edit, where its test runs, and a test that fails. It runs in
 packages/rust, after scripts/rust_crate, or unproved in a crate of tests or a program, whose `stdout` differs. The
 arguments are words of edits; without any, it tries all. With the variable VERBOSE, also prints the tests that fail."""
 
@@ -28,18 +28,21 @@ def copy_tree():
 
 
 def failing(place, test=""):
-    """Returns the failing tests of packages/rust, or of a crate: all, or those of a name. Raises an error if none runs."""
+    """Returns the failing tests of packages/rust, or of a crate: all, or those of a name. Raises an error if none
+    runs."""
     folder = COPY / "crates" / place
     if (folder / "stdout").exists():
         data = " ".join(f"--data {file.name}=data/{file.name}" for file in sorted(folder.glob("data/*")))
-        said = shell(f"touch stdin args; rt try --seconds 250 {data} -- $(cat args) <stdin 2>'{ROOM}/err' || :", folder)[1]
+        said = shell(f"touch stdin args; rt try --seconds 250 {data} -- $(cat args) <stdin 2>'{ROOM}/err' || :",
+                     folder)[1]
         if "run=ended" not in (ROOM / "err").read_text():
             raise ValueError((ROOM / "err").read_text())
         return ["stdout"] * (said != (folder / "stdout").read_text())
     if place == "rust":
         # Newer compilers than Debian's make functions constant, so that not every edit could be compiled.
-        said = shell("scripts/rust_crate --write && cd packages/rust && timeout 300 /usr/bin/cargo test --no-fail-fast --tests"
-                     " || :", COPY, CARGO_TARGET_DIR=str(ROOM / "target"), CARGO_NET_OFFLINE="true", RUSTC="/usr/bin/rustc")[1]
+        said = shell("scripts/rust_crate --write && cd packages/rust && "
+                     "timeout 300 /usr/bin/cargo test --no-fail-fast --tests || :", COPY,
+                     CARGO_TARGET_DIR=str(ROOM / "target"), CARGO_NET_OFFLINE="true", RUSTC="/usr/bin/rustc")[1]
     else:
         said = shell(f"timeout 300 rt try --test -- {test} || :", folder)[1]
     if not re.search(r"^test \S+.* \.\.\. (ok|FAILED)$", said, re.M):

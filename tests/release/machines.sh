@@ -145,8 +145,8 @@ machine() {
 # Builds the programs for a machine, and hashes a file and checks a list with them.
 has_the_tools() {
   local built=$CARGO_TARGET_DIR/$target/release
-  (cd "$top/packages/rust/tools" && with_old /usr/bin/cargo build --release) && mkdir "$room/$name.at" && cd "$room/$name.at" &&
-    echo something >file && echo 'a1266b469390773a  file' >list &&
+  (cd "$top/packages/rust/tools" && with_old /usr/bin/cargo build --release) &&
+    mkdir "$room/$name.at" && cd "$room/$name.at" && echo something >file && echo 'a1266b469390773a  file' >list &&
     [ "$("${run[@]}" "$built/rapidhash" --v1 file)" = 15965596575264898037 ] &&
     "${run[@]}" "$built/rapidsum" file | diff list - && "${run[@]}" "$built/rapidsum" --check list
 }

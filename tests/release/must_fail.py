@@ -6,7 +6,8 @@ looks whether it is refused. With the variable VERBOSE, also prints the checker'
 
 The first line of an edit is `# refused: FUNCTION, GOAL`, a comment for `rt`. An edit may have a twin in
 tests/release/twins, with the first line `# proved: FUNCTION`: another text of the same place, which means the same.
-The checker must prove it. So the edit is refused for its meaning, and not because a stored answer fits a single text."""
+The checker must prove it. So the edit is refused for its meaning, and not because a stored answer fits a single
+text."""
 
 import os
 import re

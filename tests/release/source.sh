@@ -1,7 +1,7 @@
 #!/usr/bin/env bash
-# Runs `make check-source` of the last commit in two roots of Debian, as a user without rights: one with git, gcc, make and
-# Python, and one with Debian's cargo and rustc too, which are the oldest. Nothing newer is there. debootstrap fetches the
-# packages: the script runs as root, and needs the network.
+# Runs `make check-source` of the last commit in two roots of Debian, as a user without rights: one with git, gcc, make
+# and Python, and one with Debian's cargo and rustc too, which are the oldest. Nothing newer is there. debootstrap
+# fetches the packages: the script runs as root, and needs the network.
 . "$(dirname "$0")/../cases.sh"
 
 # Makes a root with these packages, separated by commas, and a clone of the repository: ROOT PACKAGES

@@ -81,7 +81,8 @@ sum() { "$wine" "$rust/rapidsum.exe" "$@"; }
 # Checks that standard input is binary: text mode would change the line ends and stop at the byte 26.
 reads_binary_input() {
   local bytes='a\r\n\032b\0\nc\r\r\n'
-  printf '%s\n' '#include "rapidhash_c.h"' '#include <stdio.h>' 'int main(void) { char bytes[99]; printf("%016llx  -\n",' \
+  printf '%s\n' '#include "rapidhash_c.h"' '#include <stdio.h>' \
+    'int main(void) { char bytes[99]; printf("%016llx  -\n",' \
     '(unsigned long long)rapidhash_v3(bytes, fread(bytes, 1, 99, stdin))); }' >"$room/input.c" &&
     cc -I"$top/packages/c/include" "$room/input.c" -o "$room/input" &&
     diff <(printf "$bytes" | "$room/input") <(printf "$bytes" | sum)
@@ -119,7 +120,8 @@ try_with windows_c_msvc clang has_the_values_by_msvc
 try_with windows_c_msvc_arm64 'clang llvm-objdump' compiles_by_msvc aarch64 umulh
 try_with windows_c_msvc_i686 'clang llvm-objdump' compiles_by_msvc i686 mull
 try_with windows_go go passes_go
-has /usr/lib/rustlib/x86_64-pc-windows-gnu && has /usr/bin/cargo || skip_all 'no libstd-rust-dev-windows or /usr/bin/cargo'
+has /usr/lib/rustlib/x86_64-pc-windows-gnu && has /usr/bin/cargo ||
+  skip_all 'no libstd-rust-dev-windows or /usr/bin/cargo'
 try windows_rust passes_rust
 prepare_by cargo_for_windows "$top/packages/rust/tools" build
 mkdir -p "$room/files/sub" && cd "$room/files" && tee 'a b' größe sub/file <<<something >/dev/null || exit 1
