@@ -248,6 +248,7 @@ even_lines packages/java/src/main/java/module-info.java \$s/\$/ /
 even_lines packages/javascript/index.d.ts \$s/\$/ /
 even_lines packages/javascript/key.mjs \$s/\$/ /
 even_lines packages/javascript/page/index.html \$s/\$/ /
+even_lines scripts/version \$a # ${long}a
 executable_scripts .ci/skips 1i #!/bin/sh
 executable_scripts bench/hand.h 1i #!/bin/sh
 executable_scripts packages/rust/Cargo.toml 1i #!/bin/sh
