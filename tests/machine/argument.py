@@ -27,10 +27,10 @@ class Everywhere:
 
 class Hash:
     """Calls a function that hashes a message, and knows what it must return."""
-    def __init__(self, machine, function, version, form):
+    def __init__(self, machine, version, form):
         is_v1 = version == "v1"
         count = 3 if is_v1 else 7
-        self.machine, self.function, self.arguments, self.sizes = machine, function, [], {}
+        self.machine, self.function, self.arguments, self.sizes = machine, machine.symbol(version, form), [], {}
         self.seed, *secrets = 0x763305BBE7BEA536 if is_v1 else 0x422765567D8FBFD6, *DEFAULT[:count]
         if form == "_with_secrets":
             self.seed, *secrets = (make("secret", 64, index) for index in range(count + 1))
@@ -87,13 +87,14 @@ def find_loop(call):
 
 
 def check_short_lengths(call, head):
-    """Takes step 1. Returns the least length that reaches the loop. An empty message may have any pointer."""
+    """Takes step 1. Returns the least length that reaches the loop and is above the machine's limit. An empty message
+    may have any pointer."""
     for length in range(FIRST):
         call.lengths = f"length {length}"
         assume(length)
         for pointer in (name("message"), 0)[:1 + (length == 0)]:
             call.begin(length, pointer)
-            if call.machine.run([head]):
+            if call.machine.run([head] * (length > call.machine.limit)):
                 return length
             call.check(length, *call.start(length))
     raise Refusal("no length reaches the loop")

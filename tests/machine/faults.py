@@ -1,9 +1,10 @@
-"""Plants the faults of faults.tsv in the header and in the tool, and flips bits of the code of V3. In the table a
-backslash and n are the end of a line, and `&` at the beginning is the old text."""
+"""Plants the faults of faults.tsv in the header, in Go's package and in the tool, and flips bits of the code of V3. In
+the table a backslash and n are the end of a line, and `&` at the beginning is the old text."""
 
 import csv
 import random
 
+import go
 from argument import Hash, prove
 from cases import ROOM, TOP, shell
 from linear import Refusal
@@ -45,37 +46,57 @@ def linked(objects, target):
     return Elf(ROOM / target)
 
 
-def shown(file, version="v3", form="_with_secrets", prefix="rapidhash_", machine=Machine):
+def shown(file, version="v3", form="_with_secrets", machine=Machine):
     """Returns how a hash is shown to be the definition, or nothing, and why it is not."""
     runner = machine(file)
     try:
-        return prove(lambda: Hash(runner, prefix + version + form * bool(prefix), version, form)), None
+        return prove(lambda: Hash(runner, version, form)), None
     except Refusal as refusal:
         return None, str(refusal)
 
 
-def rows(is_header):
-    """Yields the faults: the file, the name, the old and the new text."""
+def rows(ending):
+    """Yields the faults in files with a name that ends so: the file, the name, the old and the new text."""
     for row in csv.DictReader(open(FOLDER / "faults.tsv"), delimiter="\t", quoting=csv.QUOTE_NONE):
         old, new = (row[column].replace("\\n", "\n") for column in ("old", "new"))
-        if (row["file"] == HEADER.name) == is_header:
+        if row["file"].endswith(ending):
             yield row["file"], row["fault"], old, old + new[1:] if new[:1] == "&" else new
+
+
+def plant(source, target, old, new):
+    """Writes a file with a fault."""
+    text = source.read_text()
+    assert old in text, old
+    target.write_text(text.replace(old, new, 1))
 
 
 def in_the_header(tell=None):
     """Builds the header with each fault. Yields those that are not refused with the function, the length and the
     term."""
-    for file, fault, old, new in rows(True):
-        text = HEADER.read_text()
-        assert old in text, fault
-        (ROOM / file).write_text(text.replace(old, new, 1).replace(FLAG, "int rapidhash_flag_ = 3;\n" + FLAG, 1))
+    for file, fault, old, new in rows(".h"):
+        plant(HEADER, ROOM / file, old, new)
+        plant(ROOM / file, ROOM / file, FLAG, "int rapidhash_flag_ = 3;\n" + FLAG)
         code = built("gcc -O2 -w", ROOM, "planted")
         how, reason = shown(code) if fault != "a changed secret" else shown(code, form="")
-        wanted = ["rapidhash_v3", ", length", *REASONS.get(fault, ())]
-        if how or not all(word in reason for word in wanted):
-            yield f"{fault}: {reason}"
-        elif tell:
-            tell(f"# {fault}: {reason}")
+        yield from judge(fault, how, reason, ["rapidhash_v3", ", length", *REASONS.get(fault, ())], tell)
+
+
+def in_the_package(tell=None):
+    """Builds Go's package with each fault. Yields those that are not refused with the function and the length."""
+    for file, fault, old, new in rows(".go"):
+        folder = ROOM / "package"
+        shell(f"rm -rf {folder} && cp -r {go.FOLDER} {folder}")
+        plant(go.FOLDER / file, folder / file, old, new)
+        how, reason = shown(go.Program(folder), machine=go.Machine)
+        yield from judge(fault, how, reason, ["V3.Sum64WithSecrets, length"], tell)
+
+
+def judge(fault, how, reason, wanted, tell):
+    """Yields a fault that is accepted, or refused without the wanted words."""
+    if how or not all(word in reason for word in wanted):
+        yield f"{fault}: {reason}"
+    elif tell:
+        tell(f"# {fault}: {reason}")
 
 
 def in_bits(count, counts, seed=1):
@@ -102,12 +123,10 @@ def in_bits(count, counts, seed=1):
 def in_the_tool(tell=None):
     """Runs the tool's own tests with each fault in a copy of the tool. Yields those that no test sees."""
     yield from ["the tests fail without a fault"] * (shell(f"{FOLDER}/machine.py tool")[0] != 0)
-    for file, fault, old, new in rows(False):
+    for file, fault, old, new in rows(".py"):
         folder = ROOM / "tool"
         shell(f"rm -rf {folder} && cp -r {FOLDER} {folder}")
-        text = (folder / file).read_text()
-        assert text.count(old) == 1, fault
-        (folder / file).write_text(text.replace(old, new))
+        plant(FOLDER / file, folder / file, old, new)
         status, said = shell(f"{folder}/machine.py tool")
         if status == 0:
             yield fault

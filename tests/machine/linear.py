@@ -56,7 +56,7 @@ class Known:
 def assume(length, least=0, most=0, is_turning=False):
     """Sets what is known: `turns` is from `least` to `most`, and `done` from 0 to turns - least if the loop is turning.
     The conditions are linear, so a linear word is least and greatest at corners of the room that they leave."""
-    Known.fixed = dict.fromkeys(("stack", "secrets", "stream"), (Known.low, Known.top - (1 << 16)))
+    Known.fixed = dict.fromkeys(("stack", "secrets", "stream", "goroutine"), (Known.low, Known.top - (1 << 16)))
     Known.fixed["stream"], Known.corners = Known.stream or Known.fixed["stream"], []
     first, end = Known.message or (1 << 12, Known.top)
     for turns, done in [(least, 0), (most, 0)] + [(most, most - least)] * is_turning:
@@ -142,8 +142,8 @@ def equal(first, second=0):
 
 
 def below(word, bits):
-    """Returns whether a term is surely below 2^bits."""
-    return 0 <= bounds(word)[0] <= bounds(word)[1] < 1 << bits if word.kind == "linear" else word.width <= bits
+    """Returns whether a word is surely below 2^bits."""
+    return 0 <= bounds(word)[0] <= bounds(word)[1] < 1 << bits if is_kind(word, "linear") else width(word) <= bits
 
 
 def add(first, second, times=1):

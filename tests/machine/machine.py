@@ -1,7 +1,7 @@
 #!/usr/bin/python3
-# reads: tests/machine packages/c crates docs/ALGORITHM.md tests/model.py
+# reads: tests/machine packages/c packages/go crates docs/ALGORITHM.md tests/model.py
 """Shows that compiled hashes are the definition for every length (docs/MACHINE.md), and tests the tool that shows it.
-The gate checks V3 by gcc and by the kit. The argument `all` adds all versions, compilers, streams, the WebAssembly
+The gate checks V3 by gcc, Go and the kit. The argument `all` adds all versions, compilers, streams, the WebAssembly
 module, and more faults; `tool` ends at the first failure of the tool's own tests; -v shows why a fault is refused."""
 
 import os
@@ -15,6 +15,7 @@ from cases import finish, lacks, needs, results, shell, skip, tell  # noqa: E402
 
 needs("gcc", "readelf", "/usr/lib/python3/dist-packages/capstone")
 import faults  # noqa: E402
+import go  # noqa: E402
 import tool  # noqa: E402
 import webassembly  # noqa: E402
 from argument import FORMS  # noqa: E402
@@ -53,11 +54,12 @@ def check_streams(by, file, is_apart=False):
 
 def check_everything():
     """Checks what only a release needs."""
-    check("gcc", gcc, [version for version in VERSIONS if version != "v3"])
+    others = [version for version in VERSIONS if version != "v3"]
+    check("gcc", gcc, others)
     check_streams("gcc", gcc)
     if kit:
         check_streams("the kit", kit, True)
-    files = [gcc] + [kit] * (kit is not None)
+    files = list(filter(None, [gcc, kit]))
     for command in SETTINGS:
         if reason := lacks(command.split()[0]):
             skip(command, reason)
@@ -72,7 +74,10 @@ def check_everything():
     else:
         shell("make -s wasm")
         module = webassembly.Module(TOP / "build/rapidhash.wasm")
-        check("WebAssembly", module, forms=FORMS[:1], prefix="", machine=webassembly.Machine)
+        check("WebAssembly", module, forms=FORMS[:1], machine=webassembly.Machine)
+    if program:
+        check("Go", program, filter(go.VALUES.get, others), machine=go.Machine)
+        case("faults in Go's package", *faults.in_the_package(detail))
     counts = {}
     case("flipped bits of the code", *faults.in_bits(300, counts, 2), what=f"accepted or not: {counts}")
     case("faults in the tool", *faults.in_the_tool(detail))
@@ -80,12 +85,17 @@ def check_everything():
 
 gcc = faults.built("gcc -O2")
 kit = faults.linked(KIT, "kit") if KIT.exists() else None
+program = None if lacks("go") else go.Program()
 case("rules for terms", *tool.rules_hold())
-case("instructions on this processor", *tool.processor_agrees([gcc] + [kit] * (kit is not None)))
+case("instructions on this processor", *tool.processor_agrees(filter(None, [gcc, kit, program])))
 case("definition", *tool.definition_agrees())
 check("gcc", gcc, ["v3"], FORMS if MODE != "tool" else FORMS[:1])
 case("faults in the header", *faults.in_the_header(detail))
 if MODE != "tool":
+    if program:
+        check("Go", program, ["v3"], FORMS if MODE == "all" else FORMS[:1], machine=go.Machine)
+    else:
+        skip("v3_with_secrets by Go", lacks("go"))
     counts = {}
     case("some flipped bits of the code", *faults.in_bits(20, counts), what=f"accepted or not: {counts}")
     if kit:

@@ -8,6 +8,9 @@ STACK = 1 << 16  # the bytes that a function may use
 
 
 class Memory:
+    spilled = 0  # the bytes above the return address that a function may use
+    limit = 0  # the lengths up to which messages are hashed one by one
+
     def clear(self, length, sizes):
         """Begins a call with a message of `length` bytes, and with so many bytes of `secrets` and `stream`."""
         self.length, self.sizes, self.memory = length, sizes, {}
@@ -25,7 +28,8 @@ class Memory:
         low, high = ends(constant, factors)
         end = add(linear(constant, factors), size)
         fits = {"message": not is_write and low >= 0 and bounds(subtract(self.length, end))[0] >= 0,
-                "stack": -STACK <= low == high and high + size <= 8 * (not is_write),
+                "stack": -STACK <= low == high and (high + size <= 8 * (not is_write) or 8 <= low and
+                                                     high + size <= 8 + self.spilled),
                 "file": not is_write and low == high}.get(
             region, 0 <= low == high <= self.sizes.get(region, 0) - size and (region == "stream" or not is_write))
         if not fits:

@@ -13,18 +13,21 @@ REGISTERS = {text: (index, bits) for index, row in enumerate(NAMES) for text, bi
 
 class Elf:
     """Reads the segments and the symbols of a linked file, as readelf prints them."""
+    kept = ()  # the ranges that can be written, but that nobody writes
+
     def __init__(self, path):
         text, data = shell(f"readelf -lsW {path}")[1], path.read_bytes()
-        symbols = re.findall(r": (\w+) +\w+ +\w+ +\w+ +\w+ +\d+ (\w+)$", text, re.M)
+        symbols = re.findall(r": (\w+) +\w+ +\w+ +\w+ +\w+ +\d+ (\S+)$", text, re.M)
         self.symbols = {label: int(at, 16) for at, label in symbols}
         loads = re.findall(r"LOAD +0x(\w+) 0x(\w+) 0x\w+ 0x(\w+) 0x\w+ (...)", text)
         self.segments = [(int(address, 16), int(at, 16), data[int(at, 16):int(at, 16) + int(size, 16)], flags)
                          for at, address, size, flags in loads]
 
     def read(self, address, size, flag="R"):
-        """Returns bytes at an address, of code (flag E) or of constants; none that can be written."""
+        """Returns bytes at an address, of code (flag E) or of constants; none that may be written."""
+        is_kept = any(address in places for places in self.kept)
         return next((data[address - start:address - start + size] for start, _, data, flags in self.segments
-                     if start <= address < start + len(data) and "W" not in flags and flag in flags), b"")
+                     if start <= address < start + len(data) and flag in flags and ("W" not in flags or is_kept)), b"")
 
 
 # Operands. Each has `bits`, and reads and writes a word, or in 128 bits a list of bytes.

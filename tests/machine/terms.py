@@ -2,7 +2,7 @@
 words. Contents, seeds and secrets are terms of which nothing is known. A product is two terms, its low and its high
 half."""
 
-from linear import MASK, Refusal, add, below, is_kind, known, linear, make, ordered, parts, width
+from linear import MASK, Refusal, add, below, bounds, is_kind, known, linear, make, ordered, parts, width
 
 
 def xor(*words):
@@ -20,7 +20,9 @@ def multiply(first, second):
     """Returns the low and the high half of a product."""
     if known(first, second) or 0 in (first, second):
         return (0, 0) if 0 in (first, second) else (first * second & MASK, first * second >> 64)
-    return make("low", 64, *ordered(first, second)), make("high", 64, *ordered(first, second))
+    first, second = ordered(first, second)
+    low = add(0, second, first) if known(first) and parts(second) else make("low", 64, first, second)
+    return low, make("high", 64, first, second)
 
 
 def shift_left(word, count):
@@ -41,11 +43,32 @@ def shift_right(word, count):
             return shift_right(kept, count)
     if word.kind == "linear" and below(word, 64) and not any(factor % (1 << count) for _, factor in word.parts[1]):
         return linear(word.parts[0] >> count, {text: factor >> count for text, factor in word.parts[1]})
+    if word.kind == "high" and known(word.parts[0]) and parts(word.parts[1]):
+        return quotient(word.parts[1], word.parts[0], count)
     return make("shifted right", word.width - count, word, count) if word.width > count else 0
 
 
+def quotient(word, factor, count):
+    """Returns word * factor >> 64 + count, by which compilers divide: with d * factor = 2^(64 + count) + more, this is
+    word // d as long as word * more is below 2^(64 + count)."""
+    whole, (low, high), (constant, factors) = 1 << 64 + count, bounds(word), parts(word)
+    divisor = -(-whole // factor)
+    is_exact = low >= 0 and (factor * divisor - whole) * high < whole
+    if not is_exact or any(one % divisor for one in factors.values()):
+        raise Refusal(f"a product of which bits are lost: {word} * {factor} >> {64 + count}")
+    return linear(constant // divisor, {text: one // divisor for text, one in factors.items()})
+
+
+def sign(word, count):
+    """Returns a signed word >> 63: its sign in all bits."""
+    low, high = bounds(word) if parts(word) else (-1, 0)
+    if count != 63 or low < 0 <= high or low < -1 << 63 or high >> 63 > 0:
+        raise Refusal(f"a shift of an unknown sign: {word} >> {count}")
+    return MASK if high < 0 else 0
+
+
 def low_bits(word, bits):
-    if known(word) or below(word, bits):
+    if known(word) or bits == 64 or below(word, bits):
         return word & (1 << bits) - 1 if known(word) else word
     is_whole = word.kind == "bytes" and bits % 8 == 0
     return join(word.parts[:bits // 8]) if is_whole else make("low bits", bits, word, bits)

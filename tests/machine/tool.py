@@ -12,7 +12,7 @@ from linear import (MASK, POOL, Refusal, add, apart, assume, bounds, equal, is_k
                     substitute, subtract, value_at)
 from model import hash_of
 from operands import NAMES, Place
-from terms import bit_and, bit_or, byte, join, low_bits, message, multiply, shift_left, shift_right, split, xor
+from terms import bit_and, bit_or, byte, join, low_bits, message, multiply, shift_left, shift_right, sign, split, xor
 from webassembly import schoolbook, summed
 from x86 import RSP, RULES, Machine, holds
 
@@ -31,6 +31,14 @@ MEANING = {
     "bytes": lambda get, *these: int.from_bytes(bytes(map(get, these)), "little"),
     "message": lambda get, place, size: int.from_bytes(random.Random(1).randbytes(4096)[place:place + size], "little"),
 }
+
+
+def division(count):
+    """Returns the rule of a division by 56, which compilers write as a product and a shift."""
+    factor = (1 << 64 + count) // 56 + 1
+    return lambda a, n: shift_right(multiply(a, factor)[1], count), lambda a, n: a * factor >> 64 + count
+
+
 OF_TWO = [
     (xor, operator.xor), (add, operator.add), (subtract, operator.sub), (bit_or, operator.or_),
     (bit_and, operator.and_),
@@ -42,6 +50,7 @@ OF_BITS = [
     (shift_left, operator.lshift), (shift_right, operator.rshift), (low_bits, lambda a, n: a & (1 << n) - 1),
     (lambda a, n: add(0, a, n), operator.mul), (lambda a, n: byte(a, n // 8), lambda a, n: a >> n // 8 * 8 & 255),
     (lambda a, n: join(split(a)[n // 8:]), lambda a, n: a >> n // 8 * 8),
+    (lambda a, n: sign(a, 63), lambda a, n: MASK * (a >> 63)), division(1), division(5),
 ]
 
 
@@ -73,13 +82,13 @@ def rules_hold(seed=1, rounds=200):
     draw, count = random.Random(seed), 0
     for _ in range(rounds):
         POOL.clear()
-        turns = draw.randrange(1, 1 << 20)
+        turns = draw.randrange(1, 1 << draw.choice([20, 56]))
         numbers = {"turns": turns, "done": draw.choice([0, turns - 1]), "message": draw.choice([1 << 12, 1 << 40])}
         assume(linear(2000, {"turns": 112}), 1, turns, is_turning=True)
         get = evaluation(numbers, draw)
         pool = [make(text, 64) for text in "abc"] + [message(draw.randrange(2000), size) for size in (1, 2, 4, 8, 8)]
         pool += [draw.choice([0, 1, MASK, 255, draw.getrandbits(64), 1 << 63, draw.getrandbits(20)]) for _ in range(5)]
-        pool += [add(name("message"), 3), add(5, name("turns", 112)), subtract(name("turns", 112), name("done", 56))]
+        pool += [add(name("message"), 3), add(51, name("turns", 112)), subtract(name("turns", 112), name("done", 56))]
         for _ in range(60):
             first, second = draw.choice(pool[-12:] + pool), draw.choice(pool[-12:] + pool)
             if draw.random() < .5:
@@ -102,7 +111,7 @@ def rules_hold(seed=1, rounds=200):
 
 # The processor. A function for each instruction loads the registers, compares r8 and r9, runs the instruction, and
 # stores the registers and the flags. `room` is the memory that the instruction uses.
-COMPARE, SIZE = bytes.fromhex("4d39c8"), 256
+COMPARE, SIZE = bytes.fromhex("4d39c8"), 512
 COMMON = """.intel_syntax noprefix
 begin: push rbx; push rbp; push r12; push r13; push r14; push r15; mov [rip + kept], rsp
 {loads}

@@ -125,6 +125,10 @@ class Machine(Memory):
     def __init__(self, module):
         self.file, self.count, self.used, self.shapes = module, 0, set(), {}
 
+    @staticmethod
+    def symbol(version, _):
+        return version
+
     def begin(self, function, arguments, length, sizes):
         self.clear(length, sizes)
         self.frames = []

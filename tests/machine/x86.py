@@ -3,38 +3,15 @@
 import capstone
 from capstone.x86 import X86_OP_IMM, X86_OP_REG
 
-from linear import MASK, Refusal, add, equal, known, less, make, name, parts, subtract
+from flags import OPPOSITES, holds
+from linear import MASK, Refusal, add, known, make, name, parts, subtract
 from memory import Memory
 from operands import NAMES, REGISTERS, Number, Place, Register
-from terms import bit_and, bit_or, join, low_bits, multiply, shift_left, shift_right, split, xor
+from terms import bit_and, bit_or, join, low_bits, multiply, shift_left, shift_right, sign, split, xor
 
 RAX, RDX, RSP, RSI, RDI, SAVED = 0, 2, 4, 6, 7, (3, 5, 12, 13, 14, 15)
 VECTORS = [("word", "vector", index, half) for index in range(16) for half in (0, 1)]
 KEYS = [("word", index) for index in range(16)] + VECTORS  # of the words of a state
-
-
-# Flags. A comparison keeps its operation, operands, result and bits, and a condition asks for their bounds.
-OPPOSITES = {"ne": "e", "ae": "b", "a": "be", "ge": "l", "g": "le", "ns": "s"}
-
-
-def holds(machine, condition):
-    """Returns whether a condition holds, which must be so for all values of the names, or for none."""
-    if condition in OPPOSITES:
-        return not holds(machine, OPPOSITES[condition])
-    if condition in ("be", "le"):
-        return holds(machine, "e") or holds(machine, condition[0])
-    if machine.flags is None:
-        raise Refusal(f"the condition {condition} of an instruction that sets no known flags")
-    operation, first, second, result, bits = machine.flags
-    if condition == "e":
-        return equal(first, second) if operation == "subtract" else equal(result)
-    if condition == "b" and operation != "add":
-        return operation == "subtract" and less(first, second)
-    if not known(first, second, result):
-        raise Refusal(f"the condition {condition} of {result}")
-    differ = {"logic": 0, "subtract": (first ^ second) & (first ^ result), "add": ~(first ^ second) & (first ^ result)}
-    sign, overflow = result >> bits - 1 & 1, differ[operation] >> bits - 1 & 1
-    return bool({"b": result < first, "s": sign, "l": sign ^ overflow}[condition])
 
 
 # Instructions. A rule is called with the machine and the operands. It returns the next address if that is another.
@@ -44,7 +21,7 @@ def calculation(operation, compute, is_kept=True):
         first, second = to.read(), by.read()
         if not is_kept and operation == "subtract" and not (parts(first) and parts(second)):
             raise Refusal(f"a comparison of contents: {first} and {second}")
-        result = low_bits(compute(first, second), to.bits) if to.bits < 64 else compute(first, second)
+        result = low_bits(compute(first, second), to.bits)
         machine.flags = operation, first, second, result, to.bits
         if is_kept:
             to.write(result)
@@ -102,6 +79,17 @@ def product_of_rdx(machine, high, low, by):
     high.write(halves[1])
 
 
+def exchange(machine, one, other):
+    word = one.read()
+    one.write(other.read())
+    other.write(word)
+
+
+def shift_signed(machine, to, by):
+    demand_64(to)
+    shift(sign)(machine, to, by)
+
+
 def move_half(machine, to, by):
     """Moves 64 bits to or from a vector, whose upper half becomes 0."""
     low = by.read()[:8] if by.bits == 128 else split(by.read())
@@ -140,7 +128,9 @@ RULES.update({
     "test": calculation("logic", bit_and, False), "cmp": calculation("subtract", subtract, False),
     "neg": change(lambda word: subtract(0, word)),
     "inc": change(lambda word: add(word, 1)), "dec": change(lambda word: add(word, -1)), "shl": shift(shift_left),
-    "shr": shift(shift_right), "pxor": xor_vectors, "xorps": xor_vectors, "pshufd": shuffle,
+    "shr": shift(shift_right), "sar": shift_signed, "xchg": exchange,
+    "imul": change(lambda word, *by: multiply(*(by if len(by) > 1 else (word, *by)))[0]),
+    "pxor": xor_vectors, "xorps": xor_vectors, "pshufd": shuffle,
     "punpcklqdq": lambda machine, to, by: to.write(to.read()[:8] + by.read()[:8]),
     "punpckhqdq": lambda machine, to, by: to.write(to.read()[8:] + by.read()[8:]),
     "pextrq": lambda machine, to, by, half: to.write(join(by.read()[8 * (half.read() & 1):][:8])),
@@ -154,7 +144,7 @@ for _one in ("e", "b", "be", "l", "le", "s", *OPPOSITES):
 
 class Machine(Memory):
     low, top, reader = 1 << 20, MASK, capstone.Cs(capstone.CS_ARCH_X86, capstone.CS_MODE_64)
-    reader.detail = True
+    reader.detail, arguments, saved = True, (RDI, RSI, RDX), SAVED
 
     def __init__(self, file):
         self.file, self.decoded, self.count, self.used = file, {}, 0, set()
@@ -162,11 +152,15 @@ class Machine(Memory):
     def constant(self, address):
         return next(iter(self.file.read(address, 1)), None)
 
+    @staticmethod
+    def symbol(version, form):
+        return f"rapidhash_{version}{form}"
+
     def begin(self, function, arguments, length, sizes):
         """Begins a call: all registers are unknown words but for the arguments and the stack's pointer."""
         self.clear(length, sizes)
         self.resume({key: make("register", 64, key) for key in KEYS}, self.file.symbols[function])
-        for index, word in zip((RDI, RSI, RDX), arguments):
+        for index, word in zip(self.arguments, arguments):
             self.words[index] = word
         self.words[RSP], self.home = name("stack"), make("home", 64)
         self.entry = list(self.words)
@@ -201,7 +195,7 @@ class Machine(Memory):
                 raise Refusal(f"at {self.at:#x}, {text}: {refusal}") from None
             self.at = self.after if target is None else target
             if self.at == self.home:
-                wrong = [NAMES[index].split()[0] for index in SAVED if self.words[index] != self.entry[index]]
+                wrong = [NAMES[index].split()[0] for index in self.saved if self.words[index] != self.entry[index]]
                 if wrong or self.words[RSP] != add(name("stack"), 8):
                     raise Refusal(f"registers are not restored: {wrong or 'rsp'}")
                 return False
