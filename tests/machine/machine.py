@@ -11,7 +11,7 @@ from pathlib import Path
 
 TOP = Path(os.environ.get("YERVOUND", Path(__file__).parents[2]))
 sys.path.insert(0, str(TOP / "tests"))
-from cases import finish, lacks, needs, results, shell, skip, tell  # noqa: E402
+from cases import ROOM, finish, lacks, needs, results, shell, skip, tell  # noqa: E402
 
 needs("gcc", "readelf", "/usr/lib/python3/dist-packages/capstone")
 import faults  # noqa: E402
@@ -20,12 +20,20 @@ import tool  # noqa: E402
 import webassembly  # noqa: E402
 from argument import FORMS  # noqa: E402
 from definition import VERSIONS  # noqa: E402
+from operands import Elf  # noqa: E402
 from streams import LANES, show_streams  # noqa: E402
 
 MODE = sys.argv[1] if len(sys.argv) > 1 else "gate"
 KIT = TOP / "crates/rapidhash_c/out/librapidhash_c.a"
 SETTINGS = ("clang -O2", "gcc -O1", "gcc -O3", "gcc -Os", "gcc -O2 -march=x86-64-v3", "clang -O1", "clang -O3",
             "clang -Os")
+# Modules with the C header: what builds them, and the calls that are functions with the arguments of C.
+MODULES = {
+    "SQLite's module": ("make -s sqlite", TOP / "build/rapidhash.so", FORMS[1:]),
+    "PostgreSQL's module": ("make -s postgresql", TOP / "build/postgresql/rapidhash.so", FORMS[1:]),
+    "Python's module": ("make -s wheel && python3 -m zipfile -e build/wheels/*.whl $ROOM",
+                        ROOM / "rapidhash/_extension.abi3.so", FORMS),
+}
 detail = print if "-v" in sys.argv else None
 
 
@@ -75,6 +83,10 @@ def check_everything():
         shell("make -s wasm")
         module = webassembly.Module(TOP / "build/rapidhash.wasm")
         check("WebAssembly", module, forms=FORMS[:1], machine=webassembly.Machine)
+    for by, (command, path, forms) in MODULES.items():
+        status, said = shell(command)
+        case(f"build of {by}", *[said] * (status != 0))
+        check(by, Elf(path), forms=forms)
     if program:
         check("Go", program, filter(go.VALUES.get, others), machine=go.Machine)
         case("faults in Go's package", *faults.in_the_package(detail))

@@ -9,7 +9,7 @@ from memory import Memory
 from operands import NAMES, REGISTERS, Number, Place, Register
 from terms import bit_and, bit_or, join, low_bits, multiply, shift_left, shift_right, sign, split, xor
 
-RAX, RDX, RSP, RSI, RDI, SAVED = 0, 2, 4, 6, 7, (3, 5, 12, 13, 14, 15)
+RAX, RDX, RSP, RBP, RSI, RDI, SAVED = 0, 2, 4, 5, 6, 7, (3, 5, 12, 13, 14, 15)
 VECTORS = [("word", "vector", index, half) for index in range(16) for half in (0, 1)]
 KEYS = [("word", index) for index in range(16)] + VECTORS  # of the words of a state
 
@@ -59,6 +59,11 @@ def pop(machine, operand=None):
     demand_64(operand)
     word, machine.words[RSP] = machine.load(machine.words[RSP], 8), add(machine.words[RSP], 8)
     return operand.write(word) if operand else word
+
+
+def leave(machine):
+    machine.words[RSP] = machine.words[RBP]
+    machine.words[RBP] = pop(machine)
 
 
 def call(machine, target):
@@ -120,7 +125,7 @@ UNALIGNED = "movdqu", "movups"  # all other instructions need an address of 128 
 RULES = dict.fromkeys(MOVES, lambda machine, to, by: to.write(by.read()))
 RULES.update({
     "nop": lambda machine, *_: None, "endbr64": lambda machine: None,
-    "push": push, "pop": pop, "call": call, "ret": pop,
+    "push": push, "pop": pop, "leave": leave, "call": call, "ret": pop,
     "lea": lambda machine, to, of: to.write(of.address()), "jmp": lambda machine, target: target.read(), "mul": product,
     "mulx": product_of_rdx, "movq": move_half,
     "add": calculation("add", add), "sub": calculation("subtract", subtract), "xor": calculation("logic", xor),
@@ -152,9 +157,10 @@ class Machine(Memory):
     def constant(self, address):
         return next(iter(self.file.read(address, 1)), None)
 
-    @staticmethod
-    def symbol(version, form):
-        return f"rapidhash_{version}{form}"
+    def symbol(self, version, form):
+        """Returns the name of a function in C. Modules of other languages have functions of their own in its place."""
+        own = f"{form[1:] or 'default'}_{version}"
+        return own if own in self.file.symbols else f"rapidhash_{version}{form}"
 
     def begin(self, function, arguments, length, sizes):
         """Begins a call: all registers are unknown words but for the arguments and the stack's pointer."""
