@@ -12,7 +12,7 @@ FOLDER, PACKAGE = TOP / "packages/go", "yervound.example/rapidhash."
 # The values of Go for the versions, and the numbers that they are.
 VALUES = {"v1": ("V1",), "v2_0": ("V20", 0), "v2_1": ("V21", 1), "v2_2": ("V22", 2), "v3": ("V3", 112),
           "v3_micro": ("V3Micro", 80), "v3_nano": ("V3Nano", 48)}
-METHODS = {"": "Sum64", "_with_seed": "Sum64WithSeed", "_with_secrets": "Sum64WithSecrets"}
+METHODS = {"": "", "_with_seed": "WithSeed", "_with_secrets": "WithSecrets"}
 PROGRAM = """package main
 
 import "yervound.example/rapidhash"
@@ -26,8 +26,8 @@ func main() {{ println(len(calls)) }}
 class Program(Elf):
     """Is a program that calls the package in a folder."""
     def __init__(self, folder=FOLDER):
-        target, calls = ROOM / "go", (f"rapidhash.Version{kind}.{method}" for kind in ("V1", "V2", "V3")
-                                      for method in METHODS.values())
+        target, calls = ROOM / "go", (f"rapidhash.Version{kind}.Sum64{text}{method}" for kind in ("V1", "V2", "V3")
+                                      for text in ("", "String") for method in METHODS.values())
         target.mkdir(exist_ok=True)
         (target / "main.go").write_text(PROGRAM.format(calls=", ".join(calls)))
         status, said = shell(f"cd {target} && rm -f go.mod && go mod init program && go mod edit -require"
@@ -51,17 +51,22 @@ class Program(Elf):
 class Machine(x86.Machine):
     top, arguments, saved, spilled = MASK >> 1, (RAX, RBX, RCX, RDI, RSI), (RBP, GOROUTINE), 40
     limit = 64 + 224  # up to 64 bytes V2 may have no rows, and a slice after two rows may be empty
+    text = ""
 
-    @staticmethod
-    def symbol(version, form):
-        return f"{VALUES[version][0]}.{METHODS[form]}"
+    def symbol(self, version, form):
+        return f"{VALUES[version][0]}.Sum64{self.text}{METHODS[form]}"
 
     def begin(self, function, arguments, length, sizes):
-        """Begins a call of a method: its value, a slice with a capacity, and the seed or secrets."""
+        """Begins a call of a method: its value, a slice with a capacity or a string, and the seed or secrets."""
         (value, method), (pointer, size, *others) = function.split("."), arguments
         numbers = next(numbers for text, *numbers in VALUES.values() if text == value)
-        super().begin(f"{PACKAGE}Version{value[:2]}.{method}",
-                      [*numbers, pointer, size, make("capacity", 64), *others], length, {**sizes, "goroutine": 24})
+        arguments = [*numbers, pointer, size, *([] if self.text else [make("capacity", 64)]), *others]
+        super().begin(f"{PACKAGE}Version{value[:2]}.{method}", arguments, length, {**sizes, "goroutine": 24})
         self.words[GOROUTINE], self.vectors[15] = name("goroutine"), [0] * 16
         self.entry = list(self.words)
         self.memory.update({("goroutine", 16 + index): 0 for index in range(8)})
+
+
+class TextMachine(Machine):
+    """Calls the methods that hash a string."""
+    text = "String"

@@ -89,6 +89,7 @@ def check_everything():
         check(by, Elf(path), forms=forms)
     if program:
         check("Go", program, filter(go.VALUES.get, others), machine=go.Machine)
+        check("Go, of a string", program, go.VALUES, machine=go.TextMachine)
         case("faults in Go's package", *faults.in_the_package(detail))
     counts = {}
     case("flipped bits of the code", *faults.in_bits(300, counts, 2), what=f"accepted or not: {counts}")
