@@ -222,7 +222,8 @@ test-machines test-windows test-debian test-dieharder test-source: test-%:
 
 # All versions, compilers, streams and packages, of which the gate checks V3 alone.
 test-machine-code:
-	@prove --verbose --exec '' tests/machine/machine.py :: all
+	@prove --verbose --jobs 4 --exec tests/machine/machine.py library streams-gcc streams-kit streams-clang packages \
+	  faults
 
 test-vendor:
 	@tests/vendor.sh ci

@@ -10,7 +10,7 @@
 The loop and the state are guessed from runs. A wrong guess leads to a refusal, and to nothing else."""
 
 from definition import Definition
-from linear import (MASK, POOL, Known, Refusal, add, assume, is_kind, known, linear, make, name, parts, signed,
+from linear import (POOL, Assumed, Refusal, add, assume, is_kind, known, linear, make, name, parts, signed,
                     substitute, subtract)
 from terms import byte, multiply, xor
 
@@ -94,7 +94,7 @@ def check_short_lengths(call, head):
         assume(length)
         for pointer in (name("message"), 0)[:1 + (length == 0)]:
             call.begin(length, pointer)
-            if call.machine.run([head] * (length > call.machine.limit)):
+            if call.machine.run([head] * (length > max(call.machine.limit, call.definition.limit))):
                 return length
             call.check(length, *call.start(length))
     raise Refusal("no length reaches the loop")
@@ -197,17 +197,17 @@ def return_at_the_end(call, head, turn, length, most, general, lanes):
     call.check(length, lanes, add(origin, turns, turn), add(rest, turns, -turn))
 
 
-def prove(make_call, longest=MASK):
+def prove(make_call):
     """Shows that the function of a call is the definition for every length, or refuses. Returns what it did."""
     call = make_call()
-    Known.low, Known.top, call.lengths = call.machine.low, call.machine.top, f"length {FIRST}"
+    Assumed.low, Assumed.top, call.lengths = call.machine.low, call.machine.top, f"length {FIRST}"
     try:
         head, turn = find_loop(call)
         least = check_short_lengths(call, head)
         for first in range(least, least + turn):
             POOL.clear()
             call, length = make_call(), linear(first, {"turns": turn})
-            call.lengths, most = f"lengths {length}", (min(Known.top - (1 << 12), longest) - first) // turn
+            call.lengths, most = f"lengths {length}", (Assumed.top - (1 << 12 + bool(Assumed.order)) - first) // turn
             general, before = reach_the_head(call, head, length, most)
             lanes = turn_once(call, head, turn, length, most, general, before)
             return_at_the_end(call, head, turn, length, most, general, lanes)

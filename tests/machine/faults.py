@@ -7,12 +7,13 @@ import random
 import go
 from argument import Hash, prove
 from cases import ROOM, TOP, shell
-from linear import Refusal
+from linear import Refusal, assume, linear, name
 from operands import Elf
 from x86 import Machine
 
 FOLDER = TOP / "tests" / "machine"
 HEADER = TOP / "packages/c/include/rapidhash_c.h"
+MEMMOVE = 0x7FF00000  # its address in files that are linked here
 FLAG = "#ifndef RAPIDHASH_LINK\n"  # before which faults have a variable
 # What the reason has for a constant, a shift and a bound: the lengths, and the term. Only the constant's is always the
 # same: of several differing terms the reason has any.
@@ -39,11 +40,10 @@ def built(command, folder=HEADER.parent, target="library"):
 
 
 def linked(objects, target):
-    """Links objects to a file without relocations. The only symbol that may be undefined is memmove, which is at 0."""
-    status, said = shell(f"ld -e 0 --unresolved-symbols=ignore-all -o $ROOM/{target} --whole-archive {objects} &&"
-                         f" nm --undefined-only --format=just-symbols {objects} | grep -vE '^(memmove|.*:)?$' || true")
-    assert status == 0 and not said, said
-    return Elf(ROOM / target)
+    """Links objects to a file without relocations. The only symbol that may be undefined is memmove."""
+    status, said = shell(f"ld -e 0 --defsym memmove={MEMMOVE} -o $ROOM/{target} --whole-archive {objects}")
+    assert status == 0, said
+    return Elf(ROOM / target, MEMMOVE)
 
 
 def shown(file, version="v3", form="_with_secrets", machine=Machine):
@@ -97,6 +97,25 @@ def judge(fault, how, reason, wanted, tell):
         yield f"{fault}: {reason}"
     elif tell:
         tell(f"# {fault}: {reason}")
+
+
+def in_snippets():
+    """Runs code that does what a hash must not. Yields what is not refused for its reason."""
+    table = [*csv.DictReader(open(FOLDER / "refused.tsv"), delimiter="\t", quoting=csv.QUOTE_NONE)]
+    (ROOM / "refused.s").write_text(".intel_syntax noprefix\n" + "".join(
+        f".globl code{index}\ncode{index}: {row['code']}; ret\n" for index, row in enumerate(table)))
+    status, said = shell(f"gcc -c $ROOM/refused.s -o $ROOM/snippets.o && gcc -Os -c {FOLDER}/refused.c -o $ROOM/v1.o")
+    assert status == 0, said
+    machine, length = Machine(linked("$ROOM/snippets.o", "snippets")), linear(2000, {"turns": 112})
+    for index, row in enumerate(table):
+        assume(length, 0, 1 << 56)
+        machine.begin(f"code{index}", [name("message"), length, name("secrets")], length, {"secrets": 64})
+        try:
+            reason = f"accepted: {machine.run()}"
+        except Refusal as refusal:
+            reason = str(refusal)
+        yield from judge(row["what"], None, reason, [row["reason"]], None)
+    yield from judge("V1 with its bug", *shown(linked("$ROOM/v1.o", "v1"), "v1"), ["length 48"], None)
 
 
 def in_bits(count, counts, seed=1):

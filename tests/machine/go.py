@@ -1,15 +1,15 @@
 """Runs what Go makes of its package. Go passes arguments in other registers, with room for them above the return
-address. Its functions may change all registers but three. They look in the goroutine for the end of the stack: here it
-has none."""
+address. A function must keep rsp, rbp and r14, the goroutine, and xmm15 at 0. It looks in the goroutine for the end of
+the stack, which here is 0. Bytes below rsp are lost at any time, and rsp is a multiple of 8 alone."""
 
 import x86
 from cases import ROOM, TOP, shell
-from linear import MASK, make, name
+from linear import MASK, Refusal, make, name
 from operands import Elf
 
 RAX, RCX, RBX, RBP, RSI, RDI, GOROUTINE = 0, 1, 3, 5, 6, 7, 14
 FOLDER, PACKAGE = TOP / "packages/go", "yervound.example/rapidhash."
-# The values of Go for the versions, and the numbers that they are.
+# Go's name of each version, and the number that is passed for it.
 VALUES = {"v1": ("V1",), "v2_0": ("V20", 0), "v2_1": ("V21", 1), "v2_2": ("V22", 2), "v3": ("V3", 112),
           "v3_micro": ("V3Micro", 80), "v3_nano": ("V3Nano", 48)}
 METHODS = {"": "", "_with_seed": "WithSeed", "_with_secrets": "WithSecrets"}
@@ -34,7 +34,7 @@ class Program(Elf):
                              f" {PACKAGE[:-1]}@v0.0.0 -replace {PACKAGE[:-1]}={folder} && go build -o program .")
         assert status == 0, said
         super().__init__(target / "program")
-        self.kept = [range(self.symbols[PACKAGE + text], self.symbols[PACKAGE + text] + size)
+        self.unwritten = [range(self.symbols[PACKAGE + text], self.symbols[PACKAGE + text] + size)
                      for text, size in (("defaults", 56), ("defaultsV1", 24))]
         self.segments = [self.own(*segment) for segment in self.segments]
 
@@ -49,9 +49,17 @@ class Program(Elf):
 
 
 class Machine(x86.Machine):
-    top, arguments, saved, spilled = MASK >> 1, (RAX, RBX, RCX, RDI, RSI), (RBP, GOROUTINE), 40
-    limit = 64 + 224  # up to 64 bytes V2 may have no rows, and a slice after two rows may be empty
-    text = ""
+    top, arguments, saved = MASK >> 1, (RAX, RBX, RCX, RDI, RSI), (RBP, GOROUTINE)
+    limit = 64 + 224  # below, V2 may have no rows, and the rest after two rows may be empty, which changes a pointer
+    text, red = "", 0
+
+    def is_aligned(self, address):
+        return self.locate(address, 16)[0] == "file" and super().is_aligned(address)
+
+    def result(self):
+        if self.vectors[15] != [0] * 16:
+            raise Refusal("X15 is not 0")
+        return super().result()
 
     def symbol(self, version, form):
         return f"{VALUES[version][0]}.Sum64{self.text}{METHODS[form]}"
@@ -62,6 +70,7 @@ class Machine(x86.Machine):
         numbers = next(numbers for text, *numbers in VALUES.values() if text == value)
         arguments = [*numbers, pointer, size, *([] if self.text else [make("capacity", 64)]), *others]
         super().begin(f"{PACKAGE}Version{value[:2]}.{method}", arguments, length, {**sizes, "goroutine": 24})
+        self.argument_room = 8 * len(arguments)
         self.words[GOROUTINE], self.vectors[15] = name("goroutine"), [0] * 16
         self.entry = list(self.words)
         self.memory.update({("goroutine", 16 + index): 0 for index in range(8)})

@@ -46,23 +46,33 @@ def ordered(*words):
 
 
 # Linear words, and what is known of their names.
-class Known:
+class Assumed:
     low, top = 1 << 20, MASK  # addresses: the message ends at `top` or before
-    message = stream = None  # narrower bounds of their addresses
-    fixed = {}  # the bounds of addresses of memory that is not the message
-    corners = []  # values of the other names
+    order = None  # of the message and a stream: "before" if the message is before the stream, "after", or unknown
+    fixed = {}  # the bounds of addresses of memory, but for those in the corners
+    corners = []  # the values of the other names at the vertices of what is known of them
 
 
 def assume(length, least=0, most=0, is_turning=False):
     """Sets what is known: `turns` is from `least` to `most`, and `done` from 0 to turns - least if the loop is turning.
-    The conditions are linear, so a linear word is least and greatest at corners of the room that they leave."""
-    Known.fixed = dict.fromkeys(("stack", "secrets", "stream", "goroutine"), (Known.low, Known.top - (1 << 16)))
-    Known.fixed["stream"], Known.corners = Known.stream or Known.fixed["stream"], []
-    first, end = Known.message or (1 << 12, Known.top)
+    The conditions are linear, so a linear word is least and greatest at vertices of the values that they allow."""
+    names = ["stack", "secrets", "goroutine", "file"] + ["stream"] * (Assumed.order is None)
+    Assumed.fixed, Assumed.corners = dict.fromkeys(names, (Assumed.low, Assumed.top - (1 << 16))), []
     for turns, done in [(least, 0), (most, 0)] + [(most, most - least)] * is_turning:
-        corner = {"turns": turns, "done": done, "message": 0}
-        last = end - value_at(length, corner)
-        Known.corners += [dict(corner, message=place) for place in (first, last)]
+        corner = {"turns": turns, "done": done}
+        size = value_at(length, corner)
+        Assumed.corners += [{**corner, "message": message, "stream": stream} for message, stream in places(size)]
+
+
+def places(size):
+    """Yields the addresses of a message of a size and of a stream at the vertices of those that do not overlap."""
+    first, low, end, room = 1 << 12, Assumed.low, Assumed.top, 1 << 8
+    if Assumed.order == "before":
+        yield from ((first, first + size), (first, end - room), (end - room - size, end - room))
+    elif Assumed.order == "after":
+        yield from ((low + room, low), (end - size, low), (end - size, end - size - room))
+    else:
+        yield from ((first, low), (end - size, low))
 
 
 def signed(number):
@@ -94,12 +104,12 @@ def ends(constant, factors):
     """Returns the least and the greatest value of constant + factor * name + .. as an integer, not cut to 64 bits."""
     low, high, others = constant, constant, []
     for text, factor in factors.items():
-        if text in Known.fixed:
-            both = [factor * end for end in Known.fixed[text]]
+        if text in Assumed.fixed:
+            both = [factor * end for end in Assumed.fixed[text]]
             low, high = low + min(both), high + max(both)
         else:
             others.append((text, factor))
-    values = [sum(factor * corner[text] for text, factor in others) for corner in Known.corners]
+    values = [sum(factor * corner[text] for text, factor in others) for corner in Assumed.corners]
     return low + min(values), high + max(values)
 
 

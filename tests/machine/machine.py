@@ -1,8 +1,8 @@
 #!/usr/bin/python3
 # reads: tests/machine packages/c packages/go crates docs/ALGORITHM.md tests/model.py
 """Shows that compiled hashes are the definition for every length (docs/MACHINE.md), and tests the tool that shows it.
-The gate checks V3 by gcc, Go and the kit. The argument `all` adds all versions, compilers, streams, the WebAssembly
-module, and more faults; `tool` ends at the first failure of the tool's own tests; -v shows why a fault is refused."""
+The gate checks V3 by gcc, Go and the kit. An argument names what a release needs besides: a part of PARTS. With `tool`,
+only the tool is tested, up to the first failure. -v shows why a fault is refused."""
 
 import os
 import sys
@@ -22,9 +22,10 @@ from argument import FORMS  # noqa: E402
 from definition import VERSIONS  # noqa: E402
 from operands import Elf  # noqa: E402
 from streams import LANES, show_streams  # noqa: E402
+from x86 import Machine  # noqa: E402
 
 MODE = sys.argv[1] if len(sys.argv) > 1 else "gate"
-KIT = TOP / "crates/rapidhash_c/out/librapidhash_c.a"
+KIT, UNBUILT = TOP / "crates/rapidhash_c/out/librapidhash_c.a", "make has not built the library"
 SETTINGS = ("clang -O2", "gcc -O1", "gcc -O3", "gcc -Os", "gcc -O2 -march=x86-64-v3", "clang -O1", "clang -O3",
             "clang -Os")
 # Modules with the C header: what builds them, and the calls that are functions with the arguments of C.
@@ -54,29 +55,31 @@ def check(by, file, versions=VERSIONS, forms=FORMS, **options):
 
 
 def check_streams(by, file, is_apart=False):
-    for version in LANES:
+    if file is None:
+        skip(f"streams by {by}", lacks("rt") or UNBUILT)
+    for version in LANES if file else ():
         began = time.process_time()
         findings = list(show_streams(file, version, is_apart))
         case(f"streams of {version} by {by}", *findings, what=f"{time.process_time() - began:.1f} s")
 
 
-def check_everything():
-    """Checks what only a release needs."""
-    others = [version for version in VERSIONS if version != "v3"]
-    check("gcc", gcc, others)
-    check_streams("gcc", gcc)
-    if kit:
-        check_streams("the kit", kit, True)
+def check_library():
+    """Checks all versions and calls by each compiler and setting."""
+    check("gcc", gcc)
     files = list(filter(None, [gcc, kit]))
+    if kit:
+        check("the kit", kit)
     for command in SETTINGS:
         if reason := lacks(command.split()[0]):
             skip(command, reason)
         else:
             files.append(faults.built(command))
             check(command, files[-1], forms=FORMS if command == "clang -O2" else FORMS[:1])
-            if command == "clang -O2":
-                check_streams(command, files[-1])
     case("instructions of all of these", *tool.processor_agrees(files, 5))
+
+
+def check_packages():
+    """Checks what is shipped for other languages."""
     if reason := lacks("clang", "wasm-ld", "wasm-validate"):
         skip("WebAssembly", reason)
     else:
@@ -88,34 +91,48 @@ def check_everything():
         case(f"build of {by}", *[said] * (status != 0))
         check(by, Elf(path), forms=forms)
     if program:
-        check("Go", program, filter(go.VALUES.get, others), machine=go.Machine)
+        check("Go", program, go.VALUES, machine=go.Machine)
         check("Go, of a string", program, go.VALUES, machine=go.TextMachine)
-        case("faults in Go's package", *faults.in_the_package(detail))
+
+
+def plant():
+    """Plants faults in Go's package, in the code and in the tool."""
     counts = {}
+    if program:
+        case("faults in Go's package", *faults.in_the_package(detail))
     case("flipped bits of the code", *faults.in_bits(300, counts, 2), what=f"accepted or not: {counts}")
     case("faults in the tool", *faults.in_the_tool(detail))
 
 
+def check_gate():
+    """Tests the tool, and checks V3."""
+    counts, only_tool = {}, MODE == "tool"
+    case("rules for terms", *tool.rules_hold())
+    case("instructions on this processor", *tool.processor_agrees(filter(None, [gcc, kit, program])))
+    case("definition", *tool.definition_agrees())
+    case("code that must be refused", *faults.in_snippets())
+    check("gcc", gcc, ["v3"], FORMS[:1] if only_tool else FORMS)
+    case("faults in the header", *faults.in_the_header(detail))
+    if not only_tool:
+        case("some flipped bits of the code", *faults.in_bits(20, counts), what=f"accepted or not: {counts}")
+        for by, file, forms, machine, reason in (("Go", program, FORMS[:1], go.Machine, lacks("go")),
+                                                 ("the kit", kit, FORMS, Machine, lacks("rt") or UNBUILT)):
+            if file:
+                check(by, file, ["v3"], forms, machine=machine)
+            else:
+                skip(f"v3 by {by}", reason)
+
+
+PARTS = {
+    "library": check_library,
+    "streams-gcc": lambda: check_streams("gcc", gcc),
+    "streams-kit": lambda: check_streams("the kit", kit, True),
+    "streams-clang": lambda: check_streams("clang -O2", faults.built("clang -O2")),
+    "packages": check_packages,
+    "faults": plant,
+}
 gcc = faults.built("gcc -O2")
 kit = faults.linked(KIT, "kit") if KIT.exists() else None
 program = None if lacks("go") else go.Program()
-case("rules for terms", *tool.rules_hold())
-case("instructions on this processor", *tool.processor_agrees(filter(None, [gcc, kit, program])))
-case("definition", *tool.definition_agrees())
-check("gcc", gcc, ["v3"], FORMS if MODE != "tool" else FORMS[:1])
-case("faults in the header", *faults.in_the_header(detail))
-if MODE != "tool":
-    if program:
-        check("Go", program, ["v3"], FORMS if MODE == "all" else FORMS[:1], machine=go.Machine)
-    else:
-        skip("v3_with_secrets by Go", lacks("go"))
-    counts = {}
-    case("some flipped bits of the code", *faults.in_bits(20, counts), what=f"accepted or not: {counts}")
-    if kit:
-        check("the kit", kit, VERSIONS if MODE == "all" else ["v3"])
-    else:
-        for form in FORMS:
-            skip(f"v3{form} by the kit", lacks("rt") or "make has not built the library")
-if MODE == "all":
-    check_everything()
+PARTS.get(MODE, check_gate)()
 finish()

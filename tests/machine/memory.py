@@ -1,15 +1,15 @@
 """Has the memory of a call: a message and secrets, which are only read, a stack, perhaps a stream, and the constants of
 the file. Each has an address of which nothing is known but that they do not overlap."""
 
-from linear import Refusal, add, bounds, ends, linear, make, parts, subtract
+from linear import Refusal, add, apart, bounds, linear, make, parts
 from terms import byte, join, message, split
 
 STACK = 1 << 16  # the bytes that a function may use
 
 
 class Memory:
-    spilled = 0  # the bytes above the return address that a function may use
-    limit = 0  # the lengths up to which messages are hashed one by one
+    argument_room = 0  # the bytes above the return address that a function may use
+    limit = 0  # up to this length, messages are run to the end even if they reach the loop
 
     def clear(self, length, sizes):
         """Begins a call with a message of `length` bytes, and with so many bytes of `secrets` and `stream`."""
@@ -25,16 +25,23 @@ class Memory:
         region = regions[0] if regions else "file"
         if len(regions) > 1 or factors.pop(region, 1) != 1 or region == "contents":
             raise Refusal(f"an address depends on contents: {address}")
-        low, high = ends(constant, factors)
-        end = add(linear(constant, factors), size)
-        fits = {"message": not is_write and low >= 0 and bounds(subtract(self.length, end))[0] >= 0,
-                "stack": -STACK <= low == high and (high + size <= 8 * (not is_write) or 8 <= low and
-                                                     high + size <= 8 + self.spilled),
-                "file": not is_write and low == high}.get(
-            region, 0 <= low == high <= self.sizes.get(region, 0) - size and (region == "stream" or not is_write))
-        if not fits:
-            raise Refusal(f"{'a write' if is_write else 'a read'} of {size} bytes at {region} + {subtract(end, size)}")
-        return region, subtract(end, size) if region == "message" else constant
+        place = linear(constant, factors)
+        if not self.fits(region, place, size, is_write):
+            raise Refusal(f"{'a write' if is_write else 'a read'} of {size} bytes at {region} + "
+                          f"{place if factors else constant}")
+        return region, place if region == "message" else constant
+
+    def fits(self, region, place, size, is_write):
+        """Returns whether a call may use these bytes of a region. It may read its return address."""
+        low, high = bounds(place)
+        if region == "message":
+            return not is_write and low >= 0 and apart(self.length, add(place, size))[0] >= 0
+        if region == "stack" and low == high:
+            return -STACK <= low and high + size <= 8 * (not is_write) or \
+                8 <= low and high + size <= 8 + self.argument_room
+        if region == "file":
+            return low == high and not is_write
+        return 0 <= low == high <= self.sizes.get(region, 0) - size and (region == "stream" or not is_write)
 
     def load_bytes(self, address, size):
         region, place = self.locate(address, size)

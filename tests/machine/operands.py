@@ -2,32 +2,38 @@
 
 import re
 
+from capstone.x86 import X86_OP_IMM, X86_OP_REG
+
 from cases import shell
-from linear import MASK, Refusal, add
+from linear import MASK, Refusal, add, name
 from terms import join, low_bits, split
 
 NAMES = ["rax eax ax al", "rcx ecx cx cl", "rdx edx dx dl", "rbx ebx bx bl", "rsp esp sp spl", "rbp ebp bp bpl",
          "rsi esi si sil", "rdi edi di dil"] + [f"r{index} r{index}d r{index}w r{index}b" for index in range(8, 16)]
 REGISTERS = {text: (index, bits) for index, row in enumerate(NAMES) for text, bits in zip(row.split(), (64, 32, 16, 8))}
 
+UNALIGNED = "movdqu", "movups"  # all other instructions need an address of 128 bits that is a multiple of 16
+
 
 class Elf:
-    """Reads the segments and the symbols of a linked file, as readelf prints them."""
-    kept = ()  # the ranges that can be written, but that nobody writes
+    """Reads the segments and the symbols of a linked file, as readelf prints them. A shared object has any address."""
+    unwritten = ()  # the ranges that can be written, but that nobody writes
 
-    def __init__(self, path):
+    def __init__(self, path, memmove=None):
         text, data = shell(f"readelf -lsW {path}")[1], path.read_bytes()
         symbols = re.findall(r": (\w+) +\w+ +\w+ +\w+ +\w+ +\d+ (\S+)$", text, re.M)
         self.symbols = {label: int(at, 16) for at, label in symbols}
         loads = re.findall(r"LOAD +0x(\w+) 0x(\w+) 0x\w+ 0x(\w+) 0x\w+ (...)", text)
         self.segments = [(int(address, 16), int(at, 16), data[int(at, 16):int(at, 16) + int(size, 16)], flags)
                          for at, address, size, flags in loads]
+        self.base, self.memmove = 0 if self.segments[0][0] else name("file"), memmove
 
     def read(self, address, size, flag="R"):
         """Returns bytes at an address, of code (flag E) or of constants; none that may be written."""
-        is_kept = any(address in places for places in self.kept)
+        is_unwritten = any(address in places for places in self.unwritten)
         return next((data[address - start:address - start + size] for start, _, data, flags in self.segments
-                     if start <= address < start + len(data) and flag in flags and ("W" not in flags or is_kept)), b"")
+                     if start <= address < start + len(data) and flag in flags and ("W" not in flags or is_unwritten)),
+                    b"")
 
 
 # Operands. Each has `bits`, and reads and writes a word, or in 128 bits a list of bytes.
@@ -55,13 +61,13 @@ class Register:
 
 
 class Place:
-    """Is an operand in memory: base + index * scale + displacement."""
-    def __init__(self, machine, displacement, terms, bits, is_aligned):
-        self.machine, self.displacement, self.terms, self.bits = machine, displacement & MASK, terms, bits
+    """Is an operand in memory: start + base + index * scale. The start is a number, or a place in the file."""
+    def __init__(self, machine, start, terms, bits, is_aligned):
+        self.machine, self.start, self.terms, self.bits = machine, start, terms, bits
         self.is_aligned = is_aligned and bits == 128
 
     def address(self):
-        result = self.displacement
+        result = add(self.start, 0)
         for index, scale in self.terms:
             result = add(result, self.machine.words[index], scale)
         if self.is_aligned and not self.machine.is_aligned(result):
@@ -73,3 +79,25 @@ class Place:
 
     def write(self, value):
         self.machine.store_bytes(self.address(), value if self.bits == 128 else split(value, self.bits // 8))
+
+
+def operand_of(machine, instruction, operand, after):
+    """Returns an operand of an instruction, which ends at an address."""
+    if operand.type == X86_OP_IMM:
+        return Number(operand.imm, 8 * operand.size)
+    if operand.type == X86_OP_REG:
+        text = instruction.reg_name(operand.reg)
+        if text[:3] != "xmm" and text not in REGISTERS:
+            raise Refusal(f"another register: {instruction.op_str}")
+        return Register(machine, "vectors", int(text[3:]), 128) if text[:3] == "xmm" else \
+            Register(machine, "words", *REGISTERS[text])
+    memory, terms, start = operand.mem, [], operand.mem.disp & MASK
+    for register, scale in (memory.base, 1), (memory.index, memory.scale):
+        text = instruction.reg_name(register) if register else "none"
+        if text == "rip":
+            start = add(machine.file.base, after + operand.mem.disp)
+        elif register and REGISTERS.get(text, (0, 0))[1] != 64:
+            raise Refusal(f"an address of other registers than 64 bits: {instruction.op_str}")
+        elif register:
+            terms.append((REGISTERS[text][0], scale))
+    return Place(machine, start, terms, 8 * operand.size, instruction.mnemonic not in UNALIGNED)

@@ -3,7 +3,7 @@ lanes have folded all rows before the tail, and its buffer has the tail and, aft
 
 from argument import Refusal, demand, prove
 from definition import Definition
-from linear import MASK, POOL, Known, add, assume, make, name
+from linear import POOL, Assumed, add, assume, make, name
 from terms import join, message, split
 from x86 import Machine
 
@@ -31,7 +31,7 @@ def fill(machine, *stream):
 def compare(machine, *stream):
     """Refuses a stream that does not represent what it should."""
     for offset, word, size in layout(*stream):
-        found = join(machine.memory.get(("stream", offset + index), 0) for index in range(size))
+        found = join(machine.memory.get(("stream", offset + index)) for index in range(size))
         demand(found, word, f"the stream at {offset}")
 
 
@@ -69,7 +69,7 @@ def check_finish(machine, version, held, has_rows):
     definition = Definition(version, secrets)
     place = name("turns", definition.row) if has_rows else 0
     length, lanes = add(place, held), symbols("lane")[:7] if has_rows else [seed] * 7
-    assume(length, 1, (Known.top - (1 << 13)) // definition.row)
+    assume(length, 1, (Assumed.top - (1 << 13)) // definition.row)
     machine.begin("rapidhash_stream_finish", [name("stream")], 0, SIZES)
     fill(machine, definition.lanes, lanes, int(has_rows), place, held)
     before = {key: one for key, one in machine.memory.items() if key[0] == "stream"}
@@ -90,16 +90,15 @@ def check_reset(machine, version):
 
 def show_streams(file, version, is_apart=False):
     """Checks reset, finish and write, for every number of bytes that a stream holds. Yields why it is refused. Code
-    that compares the addresses of the stream and a piece is shown for each order of the two, in parts of the memory."""
-    ranges = ((1 << 12, 1 << 62), (1 << 62, MASK - (1 << 16))), ((1 << 62, MASK), (1 << 20, (1 << 62) - (1 << 16)))
-    for Known.message, Known.stream in ranges if is_apart else ((None, None),):
+    that compares the addresses of the stream and a piece is shown for each order of the two."""
+    for Assumed.order in ("before", "after") if is_apart else (None,):
         yield from show_order(Machine(file), version)
-    Known.message = Known.stream = None
+    Assumed.order = None
 
 
 def show_order(machine, version):
     row = 16 * LANES[version]
-    Known.low, Known.top, what = machine.low, machine.top, f"rapidhash_stream_reset of {version}"
+    Assumed.low, Assumed.top, what = machine.low, machine.top, f"rapidhash_stream_reset of {version}"
     try:
         check_reset(machine, version)
         for held in range(row + 1):
@@ -107,6 +106,6 @@ def show_order(machine, version):
             what = f"{version}, {held} bytes held"
             for has_rows in (False, True)[:1 + (held > 0)]:
                 check_finish(machine, version, held, has_rows)
-            prove(lambda: Write(machine, version, held), 1 << 61 if Known.message else MASK)
+            prove(lambda: Write(machine, version, held))
     except Refusal as refusal:
         yield f"{what}: {refusal}"

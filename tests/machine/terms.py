@@ -49,11 +49,11 @@ def shift_right(word, count):
 
 
 def quotient(word, factor, count):
-    """Returns word * factor >> 64 + count, by which compilers divide: with d * factor = 2^(64 + count) + more, this is
-    word // d as long as word * more is below 2^(64 + count)."""
-    whole, (low, high), (constant, factors) = 1 << 64 + count, bounds(word), parts(word)
+    """Returns word * factor >> 64 + count, by which compilers divide: with divisor * factor = whole + more, this is
+    word // divisor as long as word is below 2^64 and word * more below the whole."""
+    whole, (constant, factors) = 1 << 64 + count, parts(word)
     divisor = -(-whole // factor)
-    is_exact = low >= 0 and (factor * divisor - whole) * high < whole
+    is_exact = below(word, 64) and (factor * divisor - whole) * bounds(word)[1] < whole
     if not is_exact or any(one % divisor for one in factors.values()):
         raise Refusal(f"a product of which bits are lost: {word} * {factor} >> {64 + count}")
     return linear(constant // divisor, {text: one // divisor for text, one in factors.items()})

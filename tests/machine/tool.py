@@ -135,6 +135,8 @@ FLAGS = {"b": lambda f: f & 1, "e": lambda f: f >> 6 & 1, "s": lambda f: f >> 7 
 
 class Plain(Machine):
     """Runs a snippet, which begins at the address 16, with the room as its memory."""
+    base, memmove = 0, None
+
     def __init__(self, snippet, room):
         super().__init__(self)
         self.read, self.room = lambda at, size, flag: snippet[at - 16:at - 16 + size], room
@@ -176,8 +178,8 @@ def aim(machine, operands, draw):
         for index, _ in others:
             machine.words[index] = draw.randrange(8)
         rest = sum(machine.words[index] * times for index, times in others)
-        machine.words[base] = machine.words[base] - place.displacement % 16 if base == RSP else \
-            (at - place.displacement - rest) // scale & MASK
+        machine.words[base] = machine.words[base] - place.start % 16 if base == RSP else \
+            (at - place.start - rest) // scale & MASK
 
 
 def compare(library, index, code, draw):

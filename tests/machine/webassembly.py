@@ -150,9 +150,9 @@ class Machine(Memory):
     def resume(self, state, at):
         """Goes to a state at a place where the machine has stopped before."""
         self.frames, self.memory = [], {key: one for key, one in state.items() if key[0] != "word"}
-        for depth, (index, place, blocks) in enumerate(self.shapes[at]):
-            own, stack = ([word for key, word in state.items() if key[:3] == ("word", depth, kind)]
-                          for kind in ("locals", "stack"))
+        for depth, (index, place, blocks, *sizes) in enumerate(self.shapes[at]):
+            own, stack = ([state["word", depth, kind, one] for one in range(size)]
+                          for kind, size in zip(("locals", "stack"), sizes))
             self.frames.append(Frame(index, self.file.functions[index], own, place, stack, blocks))
 
     def run(self, stops=(), limit=1_000_000):
@@ -174,7 +174,8 @@ class Machine(Memory):
                     return False
                 self.frames[-1].stack += self.returned
             if stops and self.at in stops:
-                self.shapes[self.at] = [(one.index, one.at, tuple(one.blocks)) for one in self.frames]
+                self.shapes[self.at] = [(one.index, one.at, tuple(one.blocks), len(one.locals), len(one.stack))
+                                        for one in self.frames]
                 return True
         raise Refusal(f"no end after {limit} instructions")
 

@@ -1,12 +1,11 @@
 """Runs x86-64 instructions of a file over terms. RULES has every instruction that is known; all others are refused."""
 
 import capstone
-from capstone.x86 import X86_OP_IMM, X86_OP_REG
 
 from flags import OPPOSITES, holds
-from linear import MASK, Refusal, add, known, make, name, parts, subtract
+from linear import MASK, Refusal, add, is_kind, known, make, name, parts, subtract
 from memory import Memory
-from operands import NAMES, REGISTERS, Number, Place, Register
+from operands import NAMES, Number, operand_of
 from terms import bit_and, bit_or, join, low_bits, multiply, shift_left, shift_right, sign, split, xor
 
 RAX, RDX, RSP, RBP, RSI, RDI, SAVED = 0, 2, 4, 5, 6, 7, (3, 5, 12, 13, 14, 15)
@@ -67,8 +66,9 @@ def leave(machine):
 
 
 def call(machine, target):
+    place = target.read()
     push(machine, Number(machine.after, 64))
-    return target.read()
+    return place
 
 
 def product(machine, by):
@@ -116,12 +116,21 @@ def memmove(machine):
     machine.store_bytes(to, machine.load_bytes(machine.words[RSI], machine.words[RDX]))
     state = {**machine.state(), **{key: make("changed", 64, key, machine.count) for key in KEYS}}
     state.update({("word", index): machine.words[index] for index in (RSP, *SAVED)})
+    top = parts(machine.words[RSP])[0]
+    state = {key: one for key, one in state.items() if key[0] != "stack" or key[1] >= top}
     machine.resume({**state, ("word", RAX): to}, machine.at)
     return pop(machine)
 
 
+def has_another_meaning(instruction):
+    """Returns whether an instruction has a prefix that its rule does not know."""
+    repeat, segment, size, address = instruction.prefix
+    word = instruction.mnemonic
+    return bool(address or segment and word != "nop" or size and (word[0] == "j" or word in ("call", "ret", "leave"))
+                or repeat and word not in ("endbr64", "movdqu", "movq"))
+
+
 MOVES = "mov", "movabs", "movzx", "movdqu", "movups", "movdqa", "movaps"
-UNALIGNED = "movdqu", "movups"  # all other instructions need an address of 128 bits that is a multiple of 16
 RULES = dict.fromkeys(MOVES, lambda machine, to, by: to.write(by.read()))
 RULES.update({
     "nop": lambda machine, *_: None, "endbr64": lambda machine: None,
@@ -144,12 +153,12 @@ for _one in ("e", "b", "be", "l", "le", "s", *OPPOSITES):
     RULES.update({
         f"j{_one}": lambda machine, target, one=_one: target.read() if holds(machine, one) else None,
         f"set{_one}": lambda machine, to, one=_one: to.write(int(holds(machine, one))),
-        f"cmov{_one}": lambda machine, to, by, one=_one: to.write((by if holds(machine, one) else to).read())})
+        f"cmov{_one}": lambda machine, to, by, one=_one: to.write((to.read(), by.read())[bool(holds(machine, one))])})
 
 
 class Machine(Memory):
     low, top, reader = 1 << 20, MASK, capstone.Cs(capstone.CS_ARCH_X86, capstone.CS_MODE_64)
-    reader.detail, arguments, saved = True, (RDI, RSI, RDX), SAVED
+    reader.detail, arguments, saved, red = True, (RDI, RSI, RDX), SAVED, 128
 
     def __init__(self, file):
         self.file, self.decoded, self.count, self.used = file, {}, 0, set()
@@ -171,6 +180,12 @@ class Machine(Memory):
         self.words[RSP], self.home = name("stack"), make("home", 64)
         self.entry = list(self.words)
         self.memory = {("stack", index): one for index, one in enumerate(split(self.home))}
+
+    def locate(self, address, size, is_write=False):
+        region, place = super().locate(address, size, is_write)
+        if region == "stack" and place < parts(self.words[RSP])[0] - self.red:
+            raise Refusal("bytes below the stack's pointer, which signals overwrite")
+        return region, place
 
     def is_aligned(self, address):
         """Returns whether an address is a multiple of 16. The stack's is 8 more than one when a function begins."""
@@ -200,6 +215,8 @@ class Machine(Memory):
             except (Refusal, AttributeError, TypeError) as refusal:  # the last two: a rule does not have such operands
                 raise Refusal(f"at {self.at:#x}, {text}: {refusal}") from None
             self.at = self.after if target is None else target
+            if is_kind(self.at, "linear"):
+                self.at = subtract(self.at, self.file.base)
             if self.at == self.home:
                 wrong = [NAMES[index].split()[0] for index in self.saved if self.words[index] != self.entry[index]]
                 if wrong or self.words[RSP] != add(name("stack"), 8):
@@ -216,34 +233,12 @@ class Machine(Memory):
 
     def decode(self, at):
         """Returns the rule of an instruction, its operands, the next address, and its text."""
-        if at == 0:
+        if at == self.file.memmove:
             return memmove, [], None, "memmove"
         found = next(self.reader.disasm(self.file.read(at, 16, "E"), at), None)
         text = f"{found.mnemonic} {found.op_str}" if found else "bytes that are no instruction"
-        is_prefixed = found and (found.prefix[1] in (0x64, 0x65) or found.prefix[3] or found.prefix[0]
-                                 and found.mnemonic not in ("endbr64", "movdqu", "movq"))
-        if not found or found.mnemonic not in RULES or is_prefixed:
+        if not found or found.mnemonic not in RULES or has_another_meaning(found):
             raise Refusal(f"no rule for {text} at {at:#x}")
         self.used.add(found.mnemonic)
-        return RULES[found.mnemonic], [self.operand(found, one, at + found.size) for one in found.operands], \
+        return RULES[found.mnemonic], [operand_of(self, found, one, at + found.size) for one in found.operands], \
             at + found.size, text
-
-    def operand(self, instruction, operand, after):
-        if operand.type == X86_OP_IMM:
-            return Number(operand.imm, 8 * operand.size)
-        if operand.type == X86_OP_REG:
-            text = instruction.reg_name(operand.reg)
-            if text[:3] != "xmm" and text not in REGISTERS:
-                raise Refusal(f"another register: {instruction.op_str}")
-            return Register(self, "vectors", int(text[3:]), 128) if text[:3] == "xmm" else \
-                Register(self, "words", *REGISTERS[text])
-        memory, terms, start = operand.mem, [], operand.mem.disp
-        for register, scale in (memory.base, 1), (memory.index, memory.scale):
-            text = instruction.reg_name(register) if register else "none"
-            if text == "rip":
-                start += after
-            elif register and REGISTERS.get(text, (0, 0))[1] != 64:
-                raise Refusal(f"an address of other registers than 64 bits: {instruction.op_str}")
-            elif register:
-                terms.append((REGISTERS[text][0], scale))
-        return Place(self, start, terms, 8 * operand.size, instruction.mnemonic not in UNALIGNED)
