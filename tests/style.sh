@@ -18,8 +18,10 @@ narrow() {
 even() {
   local wide
   LC_ALL=C.UTF-8 git grep -nIP '^(?!//! \|).{121,}$' -- . ':!crates' ':!docs' ':!*.md' ':!*.tsv' ':!*.twin' \
-    ':!*/proved/*' ':!packages/postgresql/sql' ':!packages/postgresql/expected' ':!packages/go/example_test.go'
+    ':!*/proved/*' ':!packages/postgresql/sql' ':!packages/postgresql/expected' ':!packages/go/example_test.go' \
+    >"$room/wide"
   wide=$?
+  cut -c -80 "$room/wide"
   ! git ls-files -z '*.c' '*.h' '*.?pp' '*.java' '*.mjs' '*.*ts' '*.html' '*.css' |
     LC_ALL=C.UTF-8 xargs -0 grep -nHE $'\t| $' -- && [ "$wide" -eq 1 ]
 }
