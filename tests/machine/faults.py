@@ -2,7 +2,9 @@
 the table a backslash and n are the end of a line, and `&` at the beginning is the old text."""
 
 import csv
+import os
 import random
+from concurrent.futures import ThreadPoolExecutor
 
 import go
 from argument import Hash, prove
@@ -106,12 +108,15 @@ def in_snippets():
         f".globl code{index}\ncode{index}: {row['code']}; ret\n" for index, row in enumerate(table)))
     status, said = shell(f"gcc -c $ROOM/refused.s -o $ROOM/snippets.o && gcc -Os -c {FOLDER}/refused.c -o $ROOM/v1.o")
     assert status == 0, said
-    machine, length = Machine(linked("$ROOM/snippets.o", "snippets")), linear(2000, {"turns": 112})
+    file, length = linked("$ROOM/snippets.o", "snippets"), linear(2000, {"turns": 112})
     for index, row in enumerate(table):
         assume(length, 0, 1 << 56)
-        machine.begin(f"code{index}", [name("message"), length, name("secrets")], length, {"secrets": 64})
+        machine, function = (go.Machine(file), "V1.Sum64WithSecrets") if row["by"] == "Go" else (
+            Machine(file), f"code{index}")
+        file.symbols[f"{go.PACKAGE}Version{function}"] = file.symbols[f"code{index}"]
+        machine.begin(function, [name("message"), length, name("secrets")], length, {"secrets": 64})
         try:
-            reason = f"accepted: {machine.run()}"
+            reason = f"accepted: {machine.run()}, {machine.result()}"
         except Refusal as refusal:
             reason = str(refusal)
         yield from judge(row["what"], None, reason, [row["reason"]], None)
@@ -139,15 +144,22 @@ def in_bits(count, counts, seed=1):
             yield f"bit {bit} at {at:#x} of the file is accepted"
 
 
+def said_with(fault):
+    """Runs the tool's own tests with a fault in a copy of the tool. Returns the status and what they print."""
+    index, (file, _, old, new) = fault
+    folder = ROOM / f"tool{index}"
+    shell(f"cp -r {FOLDER} {folder}")
+    plant(FOLDER / file, folder / file, old, new)
+    return shell(f"{folder}/machine.py tool")
+
+
 def in_the_tool(tell=None):
-    """Runs the tool's own tests with each fault in a copy of the tool. Yields those that no test sees."""
+    """Plants each fault in the tool. Yields those that no test sees."""
     yield from ["the tests fail without a fault"] * (shell(f"{FOLDER}/machine.py tool")[0] != 0)
-    for file, fault, old, new in rows(".py"):
-        folder = ROOM / "tool"
-        shell(f"rm -rf {folder} && cp -r {FOLDER} {folder}")
-        plant(FOLDER / file, folder / file, old, new)
-        status, said = shell(f"{folder}/machine.py tool")
-        if status == 0:
-            yield fault
-        elif tell:
-            tell(f"# {fault}: {[line for line in said.splitlines() if line[:3] != 'ok '][:2]}"[:200])
+    faults = [*rows(".py")]
+    with ThreadPoolExecutor(os.cpu_count()) as pool:
+        for (_, fault, *_), (status, said) in zip(faults, pool.map(said_with, enumerate(faults))):
+            if status == 0:
+                yield fault
+            elif tell:
+                tell(f"# {fault}: {[line for line in said.splitlines() if line[:3] != 'ok '][:2]}"[:200])
