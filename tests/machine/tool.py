@@ -88,7 +88,7 @@ def rules_hold(seed=1, rounds=200):
         get = evaluation(numbers, draw)
         pool = [make(text, 64) for text in "abc"] + [message(draw.randrange(2000), size) for size in (1, 2, 4, 8, 8)]
         pool += [draw.choice([0, 1, MASK, 255, draw.getrandbits(64), 1 << 63, draw.getrandbits(20)]) for _ in range(5)]
-        pool += [add(name("message"), 3), add(51, name("turns", 112)), subtract(name("turns", 112), name("done", 56))]
+        pool += [add(name("message"), 3), add(55, name("turns", 112)), subtract(name("turns", 112), name("done", 56))]
         for _ in range(60):
             first, second = draw.choice(pool[-12:] + pool), draw.choice(pool[-12:] + pool)
             if draw.random() < .5:
