@@ -12,7 +12,8 @@ dist:
 	$(MAKE) -s all $(packed)
 	rm -rf build/$(name)
 	$(MAKE) -s install DESTDIR= PREFIX='$(CURDIR)/build/$(name)'
-	tar --exclude=__pycache__ --exclude=target --exclude=tests --exclude=make.mk -hcf - packages/c/include \
+	tar --exclude=__pycache__ --exclude=target --exclude=Cargo.lock --exclude=tests --exclude=make.mk -hcf - \
+	  packages/c/include \
 	  packages/go packages/java packages/postgresql packages/python packages/rust packages/sqlite | \
 	  tar -C build/$(name) -xf -
 	$(if $(filter npm,$(packed)),cp -r build/npm build/$(name)/packages/javascript)

@@ -8,9 +8,10 @@
 makes_the_archive() {
   local left=("$top"/packages/{rust{,/tools}/target,python/rapidhash/__pycache__}/left)
   for file in "${left[@]}"; do install -D /dev/null "$file"; done
+  (cd "$top/packages/rust" && cargo generate-lockfile --offline) # Ignored by git.
   make -s -C "$top" dist </dev/null && rm -f "${left[@]}" && tar -C "$room" -xzf "$top"/build/yervound-*.tar.gz &&
-    mv "$room"/yervound-* "$room/unpacked" && [ -z "$(find "$room/unpacked" -name left -o -name make.mk)" ] &&
-    has_the_licences "$room/unpacked"
+    mv "$room"/yervound-* "$room/unpacked" && has_the_licences "$room/unpacked" &&
+    [ -z "$(find "$room/unpacked" -name left -o -name make.mk -o -name Cargo.lock)" ]
 }
 
 # Compiles the check of the library and replays a file of cases, with the command on the archive's page: FILE
