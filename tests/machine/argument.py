@@ -87,8 +87,8 @@ def find_loop(call):
 
 
 def check_short_lengths(call, head):
-    """Takes step 1. Returns the least length that reaches the loop and is above the machine's limit. An empty message
-    may have any pointer."""
+    """Takes step 1. Returns the least length that reaches the loop and is above two limits: the machine's, and the
+    version's, up to which a message has no row. An empty message may have any pointer."""
     for length in range(FIRST):
         call.lengths = f"length {length}"
         assume(length)

@@ -148,6 +148,7 @@ def said_with(fault):
     """Runs the tool's own tests with a fault in a copy of the tool. Returns the status and what they print."""
     index, (file, _, old, new) = fault
     folder = ROOM / f"tool{index}"
+    assert (FOLDER / file).read_text().count(old) == 1, old
     shell(f"cp -r {FOLDER} {folder}")
     plant(FOLDER / file, folder / file, old, new)
     return shell(f"{folder}/machine.py tool")
