@@ -11,6 +11,7 @@ from argument import Hash, prove
 from cases import ROOM, TOP, shell
 from linear import Refusal, assume, linear, name
 from operands import Elf
+from streams import show_streams
 from x86 import Machine
 
 FOLDER = TOP / "tests" / "machine"
@@ -57,6 +58,12 @@ def shown(file, version="v3", form="_with_secrets", machine=Machine):
         return None, str(refusal)
 
 
+def shown_streams(file):
+    """Returns the same of the streams of nano that hold one byte or all that they may."""
+    reason = next(show_streams(file, "v3_nano", numbers=(1, 48)), None)
+    return None if reason else "1 and 48 bytes held", reason
+
+
 def rows(ending):
     """Yields the faults in files with a name that ends so: the file, the name, the old and the new text."""
     for row in csv.DictReader(open(FOLDER / "faults.tsv"), delimiter="\t", quoting=csv.QUOTE_NONE):
@@ -79,8 +86,11 @@ def in_the_header(tell=None):
         plant(HEADER, ROOM / file, old, new)
         plant(ROOM / file, ROOM / file, FLAG, "int rapidhash_flag_ = 3;\n" + FLAG)
         code = built("gcc -O2 -w", ROOM, "planted")
-        how, reason = shown(code) if fault != "a changed secret" else shown(code, form="")
-        yield from judge(fault, how, reason, ["rapidhash_v3", ", length", *REASONS.get(fault, ())], tell)
+        if fault.startswith("a stream"):
+            yield from judge(fault, *shown_streams(code), ["v3_nano"], tell)
+        else:
+            how, reason = shown(code) if fault != "a changed secret" else shown(code, form="")
+            yield from judge(fault, how, reason, ["rapidhash_v3", ", length", *REASONS.get(fault, ())], tell)
 
 
 def in_the_package(tell=None):

@@ -112,6 +112,7 @@ def check_gate():
     case("definition", *tool.definition_agrees())
     case("code that must be refused", *faults.in_snippets())
     check("gcc", gcc, ["v3"], FORMS[:1] if only_tool else FORMS)
+    case("streams that hold 1 or 48 bytes", *filter(None, [faults.shown_streams(gcc)[1]]))
     case("faults in the header", *faults.in_the_header(detail))
     if not only_tool:
         case("some flipped bits of the code", *faults.in_bits(20, counts), what=f"accepted or not: {counts}")

@@ -88,20 +88,19 @@ def check_reset(machine, version):
     compare(machine, LANES[version], symbols("secret")[:1] * 7, 0, -112, 0)
 
 
-def show_streams(file, version, is_apart=False):
-    """Checks reset, finish and write, for every number of bytes that a stream holds. Yields why it is refused. Code
-    that compares the addresses of the stream and a piece is shown for each order of the two."""
+def show_streams(file, version, is_apart=False, numbers=None):
+    """Checks reset, finish and write, for every number of bytes that a stream holds, or for these numbers. Yields why
+    it is refused. Code that compares the addresses of the stream and a piece is shown for each order of the two."""
     for Assumed.order in ("before", "after") if is_apart else (None,):
-        yield from show_order(Machine(file), version)
+        yield from show_order(Machine(file), version, numbers or range(16 * LANES[version] + 1))
     Assumed.order = None
 
 
-def show_order(machine, version):
-    row = 16 * LANES[version]
+def show_order(machine, version, numbers):
     Assumed.low, Assumed.top, what = machine.low, machine.top, f"rapidhash_stream_reset of {version}"
     try:
         check_reset(machine, version)
-        for held in range(row + 1):
+        for held in numbers:
             POOL.clear()
             what = f"{version}, {held} bytes held"
             for has_rows in (False, True)[:1 + (held > 0)]:
