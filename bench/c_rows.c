@@ -1,6 +1,7 @@
 /* Times the hashes of the C header, with XXH3 those of XXH3, or with HAND those of hand.h, on the messages of
  * bench/rust.rs and in the same loops. It prints a row per line: the form, the row and the nanoseconds, the minimum of
- * its repeats. With the word hand, it times the forms that the header and a rival have, and streams of 1,024 bytes. */
+ * its repeats. With the word hand, it times the forms that the header and a rival have, and streams of 1,024 bytes. With
+ * a second word, it times the row of these lengths alone. */
 #define _POSIX_C_SOURCE 200809L
 #include <stdbool.h>
 #include <stdint.h>
@@ -16,7 +17,7 @@
 #include <rapidhash_c.h>
 #endif
 
-enum { BYTES = 1 << 17, MOST = 20000, EQUAL = 21, MIXED = 5, REPEATS = 40, LOOPS = 5 };
+enum { BYTES = 1 << 17, MOST = 20000, EQUAL = 21, MIXED = 5, REPEATS = 40, LOOPS = 5, EACH = 500, SUM = 1 << 18 };
 
 /* The equal lengths of the messages of a row, and the ranges of its mixed lengths. */
 static const size_t equal[EQUAL] = {0, 3, 4, 8, 12, 16, 17, 24, 32, 48, 64, 100, 112, 113, 160, 256, 512, 1024, 4096,
@@ -141,9 +142,9 @@ static double least(uint64_t (*work)(size_t count), size_t count)
     return (double)least / (double)count;
 }
 
-/* Prints the rows of a form: its loops over the messages of each range, from a first to a last length. Ranges of mixed
- * lengths are for forms from 0 bytes on. */
-static void rows(const struct form *form, size_t first, size_t last)
+/* Prints the rows of a form: its loops over the messages of each range, from a first to a last length, or only of the
+ * range with a name. Ranges of mixed lengths are for forms from 0 bytes on. */
+static void rows(const struct form *form, size_t first, size_t last, const char *only)
 {
     uint64_t state = 9;
 
@@ -151,24 +152,25 @@ static void rows(const struct form *form, size_t first, size_t last)
         if (i < EQUAL ? equal[i] < first || equal[i] > last : first > 0)
             continue;
         const size_t low = i < EQUAL ? equal[i] : mixed[i - EQUAL][0], high = i < EQUAL ? low : mixed[i - EQUAL][1];
-        const size_t count = i < EQUAL ? 500 : MOST;
+        const size_t count = i >= EQUAL ? MOST : SUM / (low + 1) < EACH ? SUM / (low + 1) : EACH;
+        char lengths[48];
 
+        snprintf(lengths, sizeof lengths, i < EQUAL ? "%zu" : "%zu-%zu", low, high);
         for (size_t at = 0; at < count; at++) {
             parts[at].start = next_word(&state) % 4096;
             parts[at].length = low + next_word(&state) % (high - low + 1);
             texts[at].bytes = bytes + parts[at].start;
             texts[at].length = parts[at].length;
         }
-        for (int loop = 0; loop < LOOPS; loop++) {
-            printf(i < EQUAL ? "%s\t%zu" : "%s\t%zu-%zu", form->title, low, high);
-            printf(" %s\t%.3f\n", loops[loop], least(form->work[loop], count));
-        }
+        for (int loop = 0; loop < LOOPS && (!only || strcmp(only, lengths) == 0); loop++)
+            printf("%s\t%s %s\t%.3f\n", form->title, lengths, loops[loop], least(form->work[loop], count));
     }
 }
 
 int main(int argc, char **argv)
 {
     const bool is_hand = argc > 1 && strcmp(argv[1], "hand") == 0;
+    const char *const only = argc > 2 ? argv[2] : NULL;
     uint64_t state = 7;
 
     for (size_t at = 0; at < BYTES; at++)
@@ -181,11 +183,11 @@ int main(int argc, char **argv)
     for (size_t at = 0; at < sizeof forms / sizeof *forms; at++) {
         const bool is_stream = strncmp(forms[at].title, "stream", 6) == 0;
         if (!is_hand && (!is_stream || strcmp(forms[at].title, "stream of 16") == 0))
-            rows(&forms[at], 0, SIZE_MAX);
+            rows(&forms[at], 0, SIZE_MAX, only);
         else if (is_hand && is_stream)
-            rows(&forms[at], 1024, 1024);
+            rows(&forms[at], 1024, 1024, only);
         else if (is_hand && (strcmp(forms[at].title, "v3") == 0 || strcmp(forms[at].title, "v3 seed word") == 0))
-            rows(&forms[at], 0, 256);
+            rows(&forms[at], 0, 256, only);
     }
     return 0;
 }

@@ -3,6 +3,7 @@ bench/*.tsv."""
 
 import argparse
 import datetime
+import itertools
 import os
 import re
 import subprocess
@@ -17,6 +18,8 @@ LIBRARIES = "ours rust crate xxh3 sha256".split()
 CRATES = {"rust": TOP / "packages" / "rust"}
 if "RAPIDHASH_CRATE" in os.environ:
     CRATES["crate"] = Path(os.environ["RAPIDHASH_CRATE"]).resolve()
+# The lengths of the rows in C and Rust: all messages have this one, or one in this range.
+LENGTHS = "0 3 4 8 12 16 17 24 32 48 64 100 112 113 160 256 512 1024 4096 16384 65536 1-16 8-16 1-32 1-64 1-300".split()
 # How a profile differs from cargo's default release profile.
 PROFILES = {"release": [], "lto": ["--config=profile.release.lto='fat'", "--config=profile.release.codegen-units=1"]}
 MANIFEST = """[package]
@@ -129,11 +132,13 @@ def asked(usage, known, turns, number=False):
 
 
 def print_heading(title):
-    """Prints a title and the commit, then the processor, described for a comparison with others, and the date."""
+    """Prints a title and the commit, then the processor with its speed, described for a comparison with others, and the
+    date."""
     fields = dict(re.findall(r"^(.+?)\s*: (.+)", Path("/proc/cpuinfo").read_text(), re.M))
+    speed = f" @ {float(fields['cpu MHz']) / 1000:.2f}GHz" if "GHz" not in fields["model name"] else ""
     where = f"family {fields['cpu family']}, model {fields['model']}, stepping {fields['stepping']}"
     print(f"# {title}, at commit {run('git', 'rev-parse', '--short', 'HEAD', folder=TOP)}.")
-    print(f"# {fields['model name']} ({where}), {os.cpu_count()} cores, {datetime.date.today()}")
+    print(f"# {fields['model name']}{speed} ({where}), {os.cpu_count()} cores, {datetime.date.today()}")
 
 
 def keep_least(best, times):
@@ -174,14 +179,15 @@ def print_table(unit, names, rows, ratios, needed):
                 print(f"# {group}: mean of {other}/{ours} {mean_ratio(of_group, ours, other):.3f}")
 
 
-def alternate(commands, words, turns):
+def alternate(commands, words, turns, lengths=("",)):
     """Runs commands that print rows (group, name, nanoseconds) alternately, and returns the least times, keyed by the
     build and the group, by the row, and by the library. The commands are keyed by build and library, which a row may
-    state before its nanoseconds."""
+    state before its nanoseconds. With lengths, a command has one of them as its last word, and all turns of a length
+    follow one another."""
     best = {}
-    for _ in range(turns):
+    for length, _ in itertools.product(lengths, range(turns)):
         for (build, library), command in commands.items():
-            for line in subprocess.check_output([*command, *words], text=True).splitlines():
+            for line in subprocess.check_output([*command, *words, *[length] * (length != "")], text=True).splitlines():
                 group, name, *of, nanos = line.split("\t")
                 keep_least(best.setdefault((build, group), {}).setdefault(name, {}), {(*of, library)[0]: float(nanos)})
     return best

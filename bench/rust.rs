@@ -1,7 +1,7 @@
 //! Times the calls of a Rust program with this library and with the crate rapidhash in turn, in the profile that it was
 //! built in. It prints a line per row and library: the group, the row, the library and the nanoseconds, the minimum of
-//! the rounds. `bench/rust` builds and runs it: `ROUNDS PART..`. With the feature `further`, all functions are 16 bytes
-//! further on.
+//! the rounds. `bench/rust` builds and runs it: `ROUNDS PART.. LENGTHS..`. With lengths, only their messages are hashed.
+//! With the feature `further`, all functions are 16 bytes further on.
 
 mod common;
 
@@ -103,10 +103,12 @@ fn measure(rounds: usize, mut row: Row, mut other: Row) {
 
 fn main() {
     let mut words = std::env::args().skip(1);
-    let rounds = words.next().and_then(|word| word.parse().ok()).expect("ROUNDS PART..");
-    let wanted: Vec<String> = words.collect();
+    let rounds = words.next().and_then(|word| word.parse().ok()).expect("ROUNDS PART.. LENGTHS..");
+    let (lengths, wanted): (Vec<String>, Vec<String>) = words.partition(|word| word.starts_with(char::is_numeric));
     let bytes = random_bytes(&mut RapidRng::new(7), 1 << 17).leak();
-    let texts: &'static [Texts] = black_box(all_texts(bytes)).leak();
+    let mut texts = black_box(all_texts(bytes));
+    texts.retain(|texts| lengths.is_empty() || lengths.contains(&texts.lengths));
+    let texts: &'static [Texts] = texts.leak();
     let parts: [(&str, [Vec<Row>; 2]); 4] = [
         ("slices", [ours::hashes::slices(texts), theirs::hashes::slices(texts)]),
         ("readers", [ours::hashes::readers(), theirs::hashes::readers()]),

@@ -87,6 +87,9 @@ def bytes_of(*words, **_):
     return f".text {1000 + next((size for word, size in CALLED.items() if word in source), 0)}"
 
 
+# Checks the nanoseconds of each row by the number of its messages.
+C_ROWS = """awk -F '\\t' '{ n = $2 ~ /-/ ? 20000 : $2 + 0 < 524 ? 500 : int(262144 / ($2 + 1)) }
+    $3 != sprintf("%.3f", 500 / n) { print; exit 1 }' rows.txt"""
 C_CLOCK = r"""
 #include <time.h>
 /* The repeats of a row take 20,000 nanoseconds, then 500 less each, down to 500. */
@@ -192,7 +195,7 @@ found = re.findall(r"\bcrate/.*|^v3.*|^diff.*", printed_by(print_rows, print_hea
 compare("rows", found, [*(f"{row}\tms\t2.00\t4.00\t3.00" for row in ("v3 1", "v3 2")), "crate/ours 1.500",
                         "crate/rust 0.750", "v3 1, lto\tns\t4.00\t6.00", "crate/ours 1.500"])
 commit = f"# T, at commit {shell('git rev-parse --short HEAD')[1].strip()}."
-compare("heading", printed_by(REAL["print_heading"], "T").partition("\n")[0], commit)
+compare("heading", re.sub(r"(?s)\n# .* @ [\d.]+GHz \(.*", "", printed_by(REAL["print_heading"], "T")), commit)
 lto = " --config=profile.release.lto='fat' --config=profile.release.codegen-units=1"
 compare("builds of Rust", built_by("rust"), {
     f"{name} {place}": "cargo" + flags for name, flags in (("default release", ""), ("fat LTO", lto))
@@ -203,6 +206,12 @@ compare("builds of C", built_by("c"), {f"{built} {name}": built + flags for buil
     "gcc -O2", "gcc -O3", "clang -O2", "clang -O3") for name, flags in (
     ("header", ""), ("archive", " -DRAPIDHASH_LINK"), ("xxh3", " -DXXH3"))} | {
     f"{built} crate": "cargo" for built in ("gcc -O2", "gcc -O3", "clang -O2", "clang -O3")})
+commands = {("gcc", "ours"): ["printf", "v3\\t%s sum\\t2\\n"]}
+compare("rows of some lengths", REAL["alternate"](commands, [], 2, ["8", "1-32"]), {
+    ("gcc", "v3"): {f"{it} sum": {"ours": 2} for it in ("8", "1-32")}})
+constants = re.findall(r"^const (?:LENGTHS|RANGES)[^=]*=(.*?);\n", (TOP / "bench/rust.rs").read_text(), re.M | re.S)
+compare("lengths of the rows in Rust", re.findall(r"\d+", "".join(constants).replace("_", "")),
+        re.findall(r"\d+", " ".join(harness.LENGTHS)))
 compare("builds of C by hand", built_by("c", "hand"), {f"{built} {name}": f"{built} -O2{flags}" for built in (
     "gcc", "clang") for name, flags in (("header", ""), ("hand", " -DHAND"), ("xxh3", " -DXXH3"))})
 table = printed_by(run_bench, "size", run=bytes_of, print_heading=lambda _: None, CRATES={"rust": CRATES["rust"]})
@@ -226,8 +235,8 @@ if reason := lacks("cc"):
 else:
     in_c("the least of a row in C", C_CLOCK, "cd $ROOM && cc -O2 -D_POSIX_C_SOURCE=200809L -DHAND "
          "-Dclock_gettime=clock_of_tests source.c $YERVOUND/bench/c_rows.c -o rows && "
-         "./rows hand >rows.txt && [ $(wc -l <rows.txt) -gt 100 ] && "
-         """awk -F '\\t' '$3 != ($2 ~ /-/ ? "0.025" : "1.000") { print; exit 1 }' rows.txt""")
+         f"for length in {' '.join(harness.LENGTHS)}; do ./rows slices $length >row && [ $(wc -l <row) = 10 ] && "
+         "grep -q \"^v3.*\t$length sum\" row && cat row >>rows.txt || exit; done && " + C_ROWS)
     in_c("C by hand", BY_HAND, "cc -std=c99 -O2 -I$YERVOUND/packages/c/include -I$YERVOUND/bench $ROOM/source.c "
          "-o $ROOM/by_hand && $ROOM/by_hand")
 if reason := lacks("rustc"):
