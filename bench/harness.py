@@ -20,6 +20,9 @@ if "RAPIDHASH_CRATE" in os.environ:
     CRATES["crate"] = Path(os.environ["RAPIDHASH_CRATE"]).resolve()
 # The lengths of the rows in C and Rust: all messages have this one, or one in this range.
 LENGTHS = "0 3 4 8 12 16 17 24 32 48 64 100 112 113 160 256 512 1024 4096 16384 65536 1-16 8-16 1-32 1-64 1-300".split()
+# The commands that print the version of a compiler or rival.
+VERSIONS = {"gcc": ["gcc", "-dumpfullversion"], "clang": ["clang", "-dumpversion"],
+            "xxHash": ["pkg-config", "--modversion", "libxxhash"]}
 # How a profile differs from cargo's default release profile.
 PROFILES = {"release": [], "lto": ["--config=profile.release.lto='fat'", "--config=profile.release.codegen-units=1"]}
 MANIFEST = """[package]
@@ -48,6 +51,11 @@ def run(*words, folder=ROOM, **settings):
     if done.returncode != 0:
         sys.exit((done.stdout + done.stderr)[-4000:])
     return done.stdout.strip()
+
+
+def with_versions(*names):
+    """Returns the names of compilers and rivals with their versions."""
+    return "with " + ", ".join(f"{name} {run(*VERSIONS[name])}" for name in names)
 
 
 def build_rattle(crate):

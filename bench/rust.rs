@@ -1,7 +1,7 @@
 //! Times the calls of a Rust program with this library and with the crate rapidhash in turn, in the profile that it was
 //! built in. It prints a line per row and library: the group, the row, the library and the nanoseconds, the minimum of
-//! the rounds. `bench/rust` builds and runs it: `ROUNDS PART.. LENGTHS..`. With lengths, only their messages are hashed.
-//! With the feature `further`, all functions are 16 bytes further on.
+//! the rounds. `bench/rust` builds and runs it: `ROUNDS PART.. LENGTHS..`. With lengths, only their messages are
+//! hashed. With the feature `further`, all functions are 16 bytes further on.
 
 mod common;
 
@@ -109,14 +109,15 @@ fn main() {
     let mut texts = black_box(all_texts(bytes));
     texts.retain(|texts| lengths.is_empty() || lengths.contains(&texts.lengths));
     let texts: &'static [Texts] = texts.leak();
-    let parts: [(&str, [Vec<Row>; 2]); 4] = [
-        ("slices", [ours::hashes::slices(texts), theirs::hashes::slices(texts)]),
-        ("readers", [ours::hashes::readers(), theirs::hashes::readers()]),
-        ("threads", [ours::hashes::first_states(), theirs::hashes::first_states()]),
-        ("keys", [ours::keys::all(), theirs::keys::all()]),
+    let parts: [(&str, fn(&'static [Texts]) -> [Vec<Row>; 2]); 4] = [
+        ("slices", |texts| [ours::hashes::slices(texts), theirs::hashes::slices(texts)]),
+        ("readers", |_| [ours::hashes::readers(), theirs::hashes::readers()]),
+        ("threads", |_| [ours::hashes::first_states(), theirs::hashes::first_states()]),
+        ("keys", |_| [ours::keys::all(), theirs::keys::all()]),
     ];
-    for (name, [rows, others]) in parts {
+    for (name, make) in parts {
         if wanted.is_empty() || wanted.iter().any(|word| word == name) {
+            let [rows, others] = make(texts);
             rows.into_iter().zip(others).for_each(|(row, other)| measure(rounds, row, other));
         }
     }
