@@ -19,8 +19,8 @@ dist:
 	$(if $(filter npm,$(packed)),cp -r build/npm build/$(name)/packages/javascript)
 	$(if $(filter wheel,$(packed)),install -D -m 644 -t build/$(name)/wheels $(wheels)/*.whl $(wheels)/*.tar.gz)
 	$(if $(filter jar,$(packed)),install -m 644 $(jar) build/$(name)/packages/java)
-	install -m 644 LICENSE-MIT LICENSE-APACHE NOTICE docs/C.md docs/CPP.md docs/ALGORITHM.md build/$(name)
-	install -D -m 644 docs/images/lanes.svg build/$(name)/images/lanes.svg
+	install -m 644 LICENSE-MIT LICENSE-APACHE NOTICE SECURITY.md build/$(name)
+	mkdir build/$(name)/docs && cp -r docs/*.md docs/images build/$(name)/docs
 	install -m 644 packages/archive/README.md build/$(name)/README.md
 	$(if $(unpacked),printf '\nLeft out because the tools to build them were missing: %s\n' '$(unpacked)' | \
 	  tee -a build/$(name)/README.md >&2)

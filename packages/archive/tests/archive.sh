@@ -36,7 +36,7 @@ builds_the_rust_crate() {
 
 # Builds the first program with the header alone, with the command on its page.
 builds_with_the_header() {
-  cd "$room/unpacked" && blocks C.md c hello >hello.c && blocks C.md sh Ipackages >commands &&
+  cd "$room/unpacked" && blocks docs/C.md c hello >hello.c && blocks docs/C.md sh Ipackages >commands &&
     [ "$(bash -e commands)" = 3327445792987248966 ]
 }
 
@@ -62,13 +62,14 @@ has_what_make_builds() {
   done <"$room/targets"
 }
 
-# Checks that the archive has each path in the first column of its page, and each picture of a page, and runs the
-# commands for SQLite and Python.
+# Checks that the archive has each path in the first column of its page, and all that its other pages link to, and runs
+# the commands for SQLite and Python.
 has_what_its_page_names() {
   local path command
   cd "$room/unpacked" && {
     sed -n 's/^| \(`[^|]*\) | .*/\1/p' README.md | grep -v '^`make' | grep -oE '`[^`]+`' | tr -d '`'
-    sed -nE 's/.*!\[.*\]\((.*)\).*/\1/p' ./*.md; } >"$room/paths" && [ "$(wc -l <"$room/paths")" -ge 20 ] || return
+    grep -ohE '\]\([^)#]+' docs/*.md | grep -v :// | sed 's|..|docs/|'; } >"$room/paths" &&
+    [ "$(wc -l <"$room/paths")" -ge 60 ] || return
   while read -r path; do [ -e "$path" ] || { echo "no $path" && return 1; }; done <"$room/paths"
   for command in cc pip; do
     sed -n "s/.*: \`\($command .*\)\` |\$/\1/p" README.md
