@@ -32,8 +32,10 @@ export class Stream {
     const { exports, atState, atDefault } = library;
     this.#library = library;
     this.#lanes = lanes;
+    // Options may have getters, which may hash.
+    const choice = options === undefined ? undefined : choose(options, names[lanes]);
     library.owner?.#leave();
-    const secrets = options === undefined ? atDefault : library.give(choose(options, names[lanes]), 8, atState);
+    const secrets = choice === undefined ? atDefault : library.give(choice, 8, atState);
     exports.start(atState + atPointer, lanes, secrets);
     library.owner = this;
   }
@@ -98,7 +100,8 @@ export class Stream {
   /** Returns an independent hasher with the same message so far. */
   clone() {
     this.#enter();
-    const other = new this.constructor(); // It is in the memory, which this one has left.
+    const other = new this.constructor();
+    other.#enter(); // This one has left the memory. So has the other, if its constructor hashes.
     this.#fill();
     return other;
   }

@@ -139,6 +139,27 @@ test("a clone goes on alone", () => {
   }
 });
 
+test("a clone whose constructor hashes", () => {
+  class Named extends V3 {
+    constructor(options) {
+      super(options);
+      this.name = new V3Nano().update("name");
+    }
+  }
+  const named = new Named().update("hello");
+  const clone = named.clone();
+  for (const it of [named, clone]) {
+    assert.equal(it.name.digest(), v3Nano("name"));
+    assert.equal(it.digest(), 3327445792987248966n);
+  }
+});
+
+test("options whose getter hashes", () => {
+  const hasher = new V3().update("hel");
+  const other = new V3({ get seed() { return Number(hasher.update("lo").digest() % 1n); } });
+  assert.deepEqual([hasher.digest(), other.update("hello").digest()], [3327445792987248966n, 3327445792987248966n]);
+});
+
 test("views of all kinds", () => {
   const { buffer } = Uint8Array.from({ length: 400 }, (_, at) => at);
   const views = [buffer, new Uint32Array(buffer), new Float64Array(buffer, 8, 20)];
