@@ -52,10 +52,22 @@ char kind_of(PyObject *object)
     return letter;
 }
 
+/* Returns whether a buffer of this format has addresses of objects. The names of fields stand between colons. */
+static int has_objects(const char *format)
+{
+    int is_name = 0;
+    for (; *format != 0; format++) {
+        if (*format == 'O' && !is_name)
+            return 1;
+        is_name ^= *format == ':';
+    }
+    return 0;
+}
+
 /* Refuses the arrays of NumPy whose bytes are addresses, or also those of masked values. */
 static int refuse_array(PyObject *data, const char *name, const Py_buffer *buffer)
 {
-    if (buffer->format != NULL && strchr(buffer->format, 'O') != NULL) {
+    if (buffer->format != NULL && has_objects(buffer->format)) {
         PyErr_Format(PyExc_TypeError, "%s must not be an array of objects, whose bytes are addresses: %R", name,
                      Py_TYPE(data));
         return -1;

@@ -64,6 +64,20 @@ int overlaps(const Py_buffer *out, const Py_buffer *buffer, const char *name)
     return 1;
 }
 
+int overlaps_items(const Py_buffer *out, const Py_buffer *items, Py_ssize_t stride, const char *name)
+{
+    Py_buffer range = *items;
+    if (items->shape[0] == 0)
+        return 0;
+    range.len = (items->shape[0] - 1) * stride;
+    if (range.len < 0) {
+        range.buf = (char *)range.buf + range.len;
+        range.len = -range.len;
+    }
+    range.len += range.itemsize;
+    return overlaps(out, &range, name);
+}
+
 /* Names the item of an error about it. Numbers are no messages, because equal ones may have different bytes. */
 static void name_item(Py_ssize_t at, PyObject *item)
 {

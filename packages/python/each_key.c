@@ -174,17 +174,9 @@ static int overwrites(const Py_buffer *out, const struct fields *fields, Py_ssiz
     char name[64];
     Py_ssize_t at;
     for (at = 0; at < columns; at++) {
-        Py_buffer range = fields[at].buffer;
-        if (range.obj == NULL || range.shape[0] == 0)
-            continue;
-        range.len = (range.shape[0] - 1) * fields[at].stride;
-        if (range.len < 0) {
-            range.buf = (char *)range.buf + range.len;
-            range.len = -range.len;
-        }
-        range.len += range.itemsize;
+        const Py_buffer *const buffer = &fields[at].buffer;
         PyOS_snprintf(name, sizeof name, "columns[%zd]", at);
-        if (overlaps(out, &range, name))
+        if (buffer->obj != NULL && overlaps_items(out, buffer, fields[at].stride, name))
             return 1;
     }
     return 0;

@@ -40,6 +40,19 @@ static uint64_t hash_at(const Py_buffer *hashes, Py_ssize_t at)
     return hash;
 }
 
+/* Opens the room for the results of a column, which may be the column itself: each is written after its hash is read.
+ * Returns 0, or -1 with an error set. */
+static int open_results(PyObject *room, const Py_buffer *hashes, Py_buffer *out)
+{
+    if (open_out(room, (size_t)hashes->shape[0], out) < 0)
+        return -1;
+    if ((out->buf == hashes->buf && hashes->strides[0] == 8) ||
+        !overlaps_items(out, hashes, hashes->strides[0], "hashes"))
+        return 0;
+    PyBuffer_Release(out);
+    return -1;
+}
+
 /* Decides for each row of a column. The arguments are the column, the count, and the room for the results. */
 static PyObject *decide_each(PyObject *const *args, decide *decide, uint64_t count)
 {
@@ -47,7 +60,7 @@ static PyObject *decide_each(PyObject *const *args, decide *decide, uint64_t cou
     Py_ssize_t at;
     if (open_hashes(args[0], &hashes) < 0)
         return NULL;
-    if (open_out(args[2], (size_t)hashes.shape[0], &out) < 0) {
+    if (open_results(args[2], &hashes, &out) < 0) {
         PyBuffer_Release(&hashes);
         return NULL;
     }

@@ -19,6 +19,7 @@ import copyreg
 import itertools
 import operator
 from array import array
+from types import MemberDescriptorType as _Member
 
 from . import _extension
 from ._extension import v1, v2_0, v2_1, v2_2, v3, v3_micro, v3_nano, v3_protected
@@ -61,6 +62,11 @@ def _room(count):
 def _is_masked(array):
     """Returns whether an object is an array of NumPy with masked items."""
     return hasattr(array, "filled") and hasattr(array, "mask")
+
+
+def _refuse_masked(name, array):
+    if _is_masked(array):
+        raise TypeError(f"{name} must not be a masked array, whose bytes are also those of masked values")
 
 
 def _listed(column):
@@ -106,10 +112,9 @@ def each_row(data, width, version="v3", seed=None, secrets=None, out=None):
     """Returns the hash of each `width` bytes of a buffer, in the same way as `each`.
 
     Raises ValueError if `width` does not divide the number of bytes, or if `out` overlaps `data`."""
-    if _is_masked(data):
-        raise TypeError("data must not be a masked array, whose bytes are also those of masked values")
+    _refuse_masked("data", data)
     view, width = memoryview(data), _integer("width", width)
-    if "O" in view.format:
+    if "O" in "".join(view.format.split(":")[::2]):  # the names of fields stand between colons
         raise TypeError("data must not be an array of objects, whose bytes are addresses")
     if width < 1:
         raise ValueError(f"width must be at least 1, not {width}")
@@ -225,7 +230,7 @@ class _Hasher(_extension.Stream):
     def copy(self):
         """Returns a hasher of the same message, with the same attributes."""
         other = self._copy()
-        other.__dict__.update(self.__dict__)
+        other._adopt(self.__dict__, self._slots())
         return other
 
     __copy__ = copy
@@ -240,13 +245,25 @@ class _Hasher(_extension.Stream):
         return hasher
 
     def __reduce__(self):
-        return copyreg.__newobj__, (type(self),), (self.save(), Secrets(self._words()), self.__dict__)
+        state = self.save(), Secrets(self._words()), self.__dict__, self._slots()
+        return copyreg.__newobj__, (type(self),), state
 
     def __setstate__(self, state):
-        saved, secrets, attributes = state
+        saved, secrets, *attributes = state
         self._start(self._lanes, secrets)
         self._restore(saved)
+        self._adopt(*attributes)
+
+    def _slots(self):
+        """Returns the attributes that subclasses keep in slots."""
+        members = (it for kind in type(self).__mro__ if "__slots__" in vars(kind) for it in vars(kind).items())
+        names = [name for name, member in members if isinstance(member, _Member)]
+        return {name: getattr(self, name) for name in names if hasattr(self, name)}
+
+    def _adopt(self, attributes, slots):
         self.__dict__.update(attributes)
+        for name, value in slots.items():
+            setattr(self, name, value)
 
 
 class V3(_Hasher):
@@ -278,11 +295,20 @@ class V3Nano(_Hasher):
 
 def _hashes(column):
     """Returns the buffer of a column of hashes, or None for a single hash and for other items."""
+    _refuse_masked("hashes", column)
     try:
         view = memoryview(column.to_numpy() if hasattr(column, "to_numpy") else column)
     except TypeError:
         return None
     return view if view.ndim else None
+
+
+def _hash(number):
+    """Returns a number that may be a hash."""
+    number = operator.index(number)
+    if not 0 <= number < 2**64:
+        raise OverflowError(f"a hash must be from 0 to 2**64 - 1, not {number}")
+    return number
 
 
 def _decided(call, hashes, count, out):
@@ -299,7 +325,8 @@ def shard(hashes, count, out=None):
     """Returns the shard of a hash, below `count`: the integer part of hash * count / 2**64.
 
     The hashes may also be a column of unsigned 64-bit integers, such as that of `each_key`. Then the shards are written
-    to `out`, a new `array('Q')` by default, which is returned. Raises ValueError for a count of 0."""
+    to `out`, a new `array('Q')` by default, which is returned. Raises ValueError for a count of 0, and if `out`
+    overlaps the column without being the column."""
     return _decided(_extension.shard, hashes, count, out)
 
 
@@ -323,7 +350,7 @@ def fingerprint(hashes):
     Two tables with equally many rows and one fingerprint of their `each_key` have the same rows, but for a chance of
     one in 2**64. That does not hold against someone who chooses the rows."""
     column = _hashes(hashes)
-    return sum(map(operator.index, hashes)) % 2**64 if column is None else _extension.fingerprint(column)
+    return sum(map(_hash, hashes)) % 2**64 if column is None else _extension.fingerprint(column)
 
 
 def file_digest(fileobj, digest=V3, /):

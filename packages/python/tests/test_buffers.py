@@ -2,6 +2,7 @@
 per wheel."""
 
 import array
+import ctypes
 import hashlib
 import io
 import mmap
@@ -92,6 +93,19 @@ class Buffers(unittest.TestCase):
         whole.release()
         with self.assertRaises(ValueError):
             rapidhash.v3(whole)
+
+    def test_the_names_of_fields(self):
+        class Fields(ctypes.Structure):
+            _fields_ = [("Oops", ctypes.c_uint8), ("O", ctypes.c_uint8)]
+
+        class Objects(ctypes.Structure):
+            _fields_ = [("x", ctypes.py_object)]
+
+        self.assertEqual(rapidhash.v3(Fields(104, 105)), rapidhash.v3(b"hi"))
+        self.assertEqual(rapidhash.each_row(Fields(104, 105), 2)[0], rapidhash.v3(b"hi"))
+        for call in (rapidhash.v3, lambda data: rapidhash.each_row(data, 8)):
+            with self.assertRaisesRegex(TypeError, "must not be an array of objects"):
+                call(Objects())
 
     @unittest.skipIf(sys.version_info < (3, 12), "classes define buffers from 3.12 on")
     def test_a_buffer_of_a_subclass_of_bytes(self):

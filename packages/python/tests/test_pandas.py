@@ -65,6 +65,9 @@ class Pandas(unittest.TestCase):
         self.refused(error, TypeError, rapidhash.each_row, masked, 8)
         self.refused(error, TypeError, rapidhash.v3, masked)
         self.refused(error, TypeError, rapidhash.V3, masked)
+        hashes = numpy.ma.array([1, 2], mask=[0, 1], dtype="uint64")
+        for call, *count in (rapidhash.fingerprint,), (rapidhash.shard, 10), (rapidhash.bucket, 10):
+            self.refused(error.replace("data", "hashes"), TypeError, call, hashes, *count)
         self.refused(r"^items\[1\] must be bytes", TypeError, rapidhash.each, [b"", masked])
         self.refused(r"^fields\[0\]: ", TypeError, rapidhash.v3_key, numpy.ma.masked)
         self.refused(r"^columns\[1\]\[1\]: ", TypeError, rapidhash.each_key, [1, 2], [1, numpy.ma.masked])

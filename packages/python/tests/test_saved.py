@@ -53,11 +53,12 @@ class SavedStreams(unittest.TestCase):
 
 
 class Named(rapidhash.V3Nano):
-    """A class over one, whose `__init__` has other arguments."""
+    """A class over one, whose `__init__` has other arguments, and with slots, one of which stays empty."""
+    __slots__ = "mark", "empty"
 
     def __init__(self, title):
         super().__init__(seed=7)
-        self.title = title
+        self.title, self.mark = title, 5
 
 
 class Pickles(unittest.TestCase):
@@ -72,6 +73,7 @@ class Pickles(unittest.TestCase):
                     self.assertIs(type(other), type(hasher))
                     self.assertEqual((other.save(), other.seed), (hasher.save(), hasher.seed))
                     self.assertEqual(vars(other), vars(hasher))
+                    self.assertEqual(getattr(other, "mark", None), getattr(hasher, "mark", None))
                     self.assertEqual(other.update(DATA).digest(), hasher.copy().update(DATA).digest())
         self.assertIsNot(copy.deepcopy(named).title, named.title)
 

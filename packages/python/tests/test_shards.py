@@ -18,6 +18,7 @@ class Shards(unittest.TestCase):
         self.assertEqual(shard(array("Q"), 10), array("Q"))
 
     def test_what_is_refused(self):
+        column = memoryview(array("Q", [1, 2, 3]))
         for call, error, reason in (
                 (lambda: shard(7, 0), ValueError, "count must be from 1 to 18446744073709551615, not 0"),
                 (lambda: bucket(7, 0), ValueError, "count must be from 1 to 4294967295, not 0"),
@@ -30,6 +31,11 @@ class Shards(unittest.TestCase):
                 (lambda: fingerprint(b"12345678"), TypeError,
                  "hashes must be unsigned 64-bit integers in one dimension"),
                 (lambda: fingerprint([1.5]), TypeError, "float"),
+                (lambda: fingerprint([-1]), OverflowError, "a hash must be from 0 to 2**64 - 1, not -1"),
+                (lambda: fingerprint(iter([2**64])), OverflowError, "a hash must be from 0 to 2**64 - 1, not 1844"),
+                (lambda: shard(column[:-1], 10, column[1:]), ValueError, "out must not overlap hashes"),
+                (lambda: bucket(column[::-1], 10, column), ValueError, "out must not overlap hashes"),
+                (lambda: shard(column[::2], 10, column[:2]), ValueError, "out must not overlap hashes"),
                 (lambda: shard(array("Q", [1]), 10, array("Q")), ValueError,
                  "out must have room for exactly 1 hashes")):
             with self.assertRaises(error) as caught:
