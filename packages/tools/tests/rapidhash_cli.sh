@@ -15,8 +15,8 @@ fails() {
   runs "$1" 1 '' "$2"$'\n' "${@:3}"
 }
 
-# Runs a case that only the kit's build passes. Rust's runtime opens /dev/null for a closed stream, and copies the
-# arguments before the program can report that their memory is refused: CASE..
+# Runs a case that only the kit's build passes. Rust's runtime copies the arguments before the program can report that
+# their memory is refused: CASE..
 by_the_kit() {
   if [ -n "${BUILT-}" ]; then skip "$2" "Rust's runtime"; else "$@"; fi
 }
@@ -143,7 +143,7 @@ for version in --v1 --v2.2 --v3; do
     fails "no_metadata$version" "$file_fault" failing statx,fstat:error=EIO something "$program" "$version" something
 done
 try memory_of_input grows_by_a_factor "$program" --v1 <ten_million
-by_the_kit fails closed_input "$stdin_fault" "$program" --v1 <&-
+fails closed_input "$stdin_fault" "$program" --v1 <&-
 fails v1_in_little_memory "$memory_fault" in_kibibytes 8000 "$program" --v1 <ten_million
 fails v2_in_little_memory "$memory_fault" in_kibibytes 8000 "$program" --v2.2 <ten_million
 hash=$("$program" --v1 ten_million)
@@ -158,7 +158,7 @@ by_the_kit fails no_room_for_the_words "$memory_fault" prlimit --as=4500000 "$pr
 # with that signal.
 fails full_output "$write_fault" to_a_full_disk "$program" --v1 <something
 fails full_output_of_a_file "$write_fault" to_a_full_disk "$program" large
-by_the_kit fails closed_output "$write_fault" to_no_output "$program" --v1 <something
+fails closed_output "$write_fault" to_no_output "$program" --v1 <something
 fails reader_gone "$write_fault" to_a_closed_pipe "$program" --v1 <something
 runs rest_of_a_short_write 0 "${known_by_v3:5}"$'\n' '' failing write:retval=5:when=1 out "$program" something
 # If standard error also refuses the text, the exit status still reports the failure.

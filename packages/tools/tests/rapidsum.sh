@@ -54,8 +54,8 @@ case_words_behind_two_hyphens() { cp first -- -first && "$sum" -- -first; }
 case_full_disk() { "$sum" first >/dev/full; }
 case_full_disk_without_newlines() { "$sum" -z first >/dev/full; }
 case_full_disk_after_a_missing_file() { "$sum" nothing first >/dev/full; }
-# Rust's runtime opens /dev/null for a closed stream.
-[ -n "${BUILT-}" ] || case_no_output() { "$sum" first >&-; }
+case_no_output() { "$sum" first >&-; }
+case_no_output_of_a_check() { list && "$sum" -c list >&-; }
 case_binary() { "$sum" -b first 'second name' $'line\nback\\return\r'; }
 case_last_of_binary_and_text() { "$sum" -t -b first && "$sum" -b -t first; }
 case_tag() { "$sum" --tag first 'second name' $'line\nback\\return\r'; }
@@ -243,6 +243,7 @@ if [ -n "${BUILT-}" ] && [ -x "$kit" ]; then
   try memory_of_both_builds needs_as_little_memory
 fi
 
+runs no_input 1 '' $'rapidsum: -: Bad file descriptor\n' "$program" <&-
 # A closed pipe ends cargo's build by SIGPIPE, as it ends sha256sum, and the kit's with a status. Both end xargs.
 runs closed_pipe "$([ -n "${BUILT-}" ] && echo 141 || echo 255)" '' '' to_a_closed_pipe "$program" first first
 ends_xargs() {
@@ -403,7 +404,7 @@ writes_whole_lines() {
     [ "$(wc -l <sums)" -eq 20000 ] && [ "$(wc -l <"$room/calls")" -eq 118 ] &&
     ! grep -v '\\n", [0-9]*) *= [0-9]*$' "$room/calls" &&
     sed 's/.*= //' "$room/calls" | awk '$1 > 4096 { exit 1 }' &&
-    grep -q 'at most 4 KiB elsewhere' "$top/packages/tools/rapidsum.1"
+    grep -q 'at most 4 KiB, or one longer line, elsewhere' "$top/packages/tools/rapidsum.1"
 }
 writes_lines() {
   can_trace && script -qec "strace -qqo calls -e trace=write $program first first" log </dev/null >/dev/null 2>&1 &&

@@ -11,6 +11,7 @@ use alloc::{AllocError, AllocFailed, Global};
 use std::fmt;
 use std::io::{self, ErrorKind, Read, Write};
 use std::path::Path;
+use std::sync::atomic::{AtomicUsize, Ordering};
 
 /// The options of the hashes, as the library names them.
 pub mod kernel {
@@ -59,8 +60,8 @@ impl HostRuntime {
     }
 
     /// Returns standard input.
-    pub fn stdin(&self) -> io::Stdin {
-        io::stdin()
+    pub fn stdin(&self) -> Stdin {
+        Stdin(io::stdin())
     }
 
     /// Returns standard output, without a buffer.
@@ -95,6 +96,34 @@ fn is_terminal(stream: &str) -> bool {
     std::fs::read_link(stream).map_or(false, |path| is_one(&path))
 }
 
+/// The bits of the standard streams that the program was started without.
+static CLOSED: AtomicUsize = AtomicUsize::new(0);
+/// The error of a descriptor that is not open.
+const EBADF: i32 = 9;
+
+/// Sets which standard streams are closed: bit 0 for the input, bit 1 for the output.
+pub fn set_closed(streams: usize) {
+    CLOSED.store(streams, Ordering::Relaxed);
+}
+
+/// Fails if a standard stream is closed.
+fn check_open(stream: usize) -> io::Result<()> {
+    if (CLOSED.load(Ordering::Relaxed) >> stream) & 1 == 1 {
+        return Err(io::Error::from_raw_os_error(EBADF));
+    }
+    Ok(())
+}
+
+/// Standard input.
+pub struct Stdin(io::Stdin);
+
+impl Read for Stdin {
+    fn read(&mut self, buf: &mut [u8]) -> io::Result<usize> {
+        check_open(0)?;
+        self.0.read(buf)
+    }
+}
+
 /// Standard output. Each write reaches the system at once, so that its failure is reported.
 pub struct Stdout;
 
@@ -107,6 +136,7 @@ impl Stdout {
 
 impl Write for Stdout {
     fn write(&mut self, buf: &[u8]) -> io::Result<usize> {
+        check_open(1)?;
         let mut out = io::stdout().lock();
         let count = out.write(buf)?;
         out.flush()?;

@@ -2,7 +2,7 @@
 
 //! The program: it collects its arguments, carries out their plan, and reports an error in one line
 //! on standard error, with status 1. All rules are in `rapidhash_tool`.
-#![forbid(unsafe_code)]
+#![deny(unsafe_code)]
 
 use rapidhash_tool::kit::HostRuntime;
 use rapidhash_tool::kit::Vec;
@@ -11,6 +11,10 @@ use rapidhash_tool::kit::env;
 use std::fs::{File, Metadata};
 use std::io::{Error, ErrorKind, Write};
 use std::process::ExitCode;
+
+#[cfg(unix)]
+#[path = "../kit/closed.rs"]
+mod closed;
 
 // All arguments, the program's name first. If one is not UTF-8, `env::args` fails and returns none.
 // The error is that of a file that cannot be opened, since such an argument nearly always names a
@@ -75,6 +79,8 @@ fn run(rt: &HostRuntime) -> Result<(), CliFault> {
 }
 
 fn main() -> ExitCode {
+    #[cfg(unix)]
+    closed::refuse();
     let rt = HostRuntime::new();
     match run(&rt) {
         Ok(()) => ExitCode::SUCCESS,

@@ -5,7 +5,8 @@
 use rapidhash_tool::kit::HostRuntime;
 use crate::store::Store;
 use std::fs::File;
-use std::io::{Read, Result, Stdin, Write};
+use rapidhash_tool::kit::Stdin;
+use std::io::{Read, Result, Write};
 
 /// The number of bytes after which the progress line is written again.
 const STEP: u64 = 1 << 27;

@@ -27,6 +27,9 @@ mod tag;
 mod usage;
 
 #[cfg(unix)]
+#[path = "../../kit/closed.rs"]
+mod closed;
+#[cfg(unix)]
 #[path = "../../kit/pipe.rs"]
 mod pipe;
 
@@ -59,6 +62,8 @@ fn tell(rt: &HostRuntime, problem: &Problem) {
 fn main() -> ExitCode {
     #[cfg(unix)]
     pipe::restore();
+    #[cfg(unix)]
+    closed::refuse();
     let rt = HostRuntime::new();
     match run(&rt) {
         Ok(true) => ExitCode::SUCCESS,
