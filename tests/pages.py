@@ -221,8 +221,7 @@ def means():
         lines = [line.split("\t") for line in (TOP / f"bench/{file}.tsv").read_text().splitlines() if line[0] != "#"]
         ours, crate = lines[0].index(ours), lines[0].index("crate")
         for form, shown in zip(table[0][2:], cells):
-            pattern = (rf"{form} seeded [\d-]+" if kind == "other secrets" else
-                       rf"{form} [\d-]+" + f", {kind}" * bool(kind))
+            pattern = rf"{form} (words|[\d-]+)" + f", {kind}" * bool(kind)
             rows = [row for row in lines if re.fullmatch(pattern, row[0])]
             mean = math.exp(sum(math.log(float(row[crate]) / float(row[ours])) for row in rows) / max(1, len(rows)))
             if shown != (f"{mean:.2f}" if rows else "") or form == "v3" and count != str(len(rows)):
