@@ -10,7 +10,7 @@
 The loop and the state are guessed from runs. A wrong guess leads to a refusal, and to nothing else."""
 
 from definition import Definition
-from linear import (POOL, Assumed, Refusal, add, assume, is_kind, known, linear, make, name, parts, signed,
+from linear import (POOL, Assumed, Refusal, add, assume, is_kind, known, linear, make, most_turns, name, parts, signed,
                     substitute, subtract)
 from terms import byte, multiply, xor
 
@@ -207,7 +207,7 @@ def prove(make_call):
         for first in range(least, least + turn):
             POOL.clear()
             call, length = make_call(), linear(first, {"turns": turn})
-            call.lengths, most = f"lengths {length}", (Assumed.top - (1 << 12 + bool(Assumed.order)) - first) // turn
+            call.lengths, most = f"lengths {length}", most_turns(first, turn)
             general, before = reach_the_head(call, head, length, most)
             lanes = turn_once(call, head, turn, length, most, general, before)
             return_at_the_end(call, head, turn, length, most, general, lanes)

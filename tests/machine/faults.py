@@ -58,9 +58,9 @@ def shown(file, version="v3", form="_with_secrets", machine=Machine):
         return None, str(refusal)
 
 
-def shown_streams(file):
+def shown_streams(file, is_apart=False):
     """Returns the same of the streams of nano that hold one byte or all that they may."""
-    reason = next(show_streams(file, "v3_nano", numbers=(1, 48)), None)
+    reason = next(show_streams(file, "v3_nano", is_apart, (1, 48)), None)
     return None if reason else "1 and 48 bytes held", reason
 
 

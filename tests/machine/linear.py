@@ -75,6 +75,12 @@ def places(size):
         yield from ((first, low), (end - size, low))
 
 
+def most_turns(first, turn):
+    """Returns how many turns a message of `first` + `turn` * turns bytes may have, so that `places` has room for it."""
+    room = {None: 1 << 12, "before": 1 << 13, "after": Assumed.low + (1 << 8)}[Assumed.order]
+    return (Assumed.top - room - first) // turn
+
+
 def signed(number):
     return (number + (1 << 63) & MASK) - (1 << 63)
 

@@ -63,6 +63,10 @@ def check_streams(by, file, is_apart=False):
         case(f"streams of {version} by {by}", *findings, what=f"{time.process_time() - began:.1f} s")
 
 
+def check_some_streams(by, file, is_apart=False):
+    case(f"streams by {by} that hold 1 or 48 bytes", *filter(None, [faults.shown_streams(file, is_apart)[1]]))
+
+
 def check_library():
     """Checks all versions and calls by each compiler and setting."""
     check("gcc", gcc)
@@ -107,12 +111,12 @@ def plant():
 def check_gate():
     """Tests the tool, and checks V3."""
     counts, only_tool = {}, MODE == "tool"
-    case("rules for terms", *tool.rules_hold())
+    case("rules for terms", *tool.rules_hold(), *tool.orders_hold())
     case("instructions on this processor", *tool.processor_agrees(filter(None, [gcc, kit, program])))
     case("definition", *tool.definition_agrees())
     case("code that must be refused", *faults.in_snippets())
     check("gcc", gcc, ["v3"], FORMS[:1] if only_tool else FORMS)
-    case("streams that hold 1 or 48 bytes", *filter(None, [faults.shown_streams(gcc)[1]]))
+    check_some_streams("gcc", gcc)
     case("faults in the header", *faults.in_the_header(detail))
     if not only_tool:
         case("some flipped bits of the code", *faults.in_bits(20, counts), what=f"accepted or not: {counts}")
@@ -122,6 +126,10 @@ def check_gate():
                 check(by, file, ["v3"], forms, machine=machine)
             else:
                 skip(f"v3 by {by}", reason)
+        if kit:
+            check_some_streams("the kit", kit, True)
+        else:
+            skip("some streams by the kit", lacks("rt") or UNBUILT)
 
 
 PARTS = {

@@ -3,7 +3,7 @@ lanes have folded all rows before the tail, and its buffer has the tail and, aft
 
 from argument import Refusal, demand, prove
 from definition import Definition
-from linear import POOL, Assumed, add, assume, make, name
+from linear import POOL, Assumed, add, assume, make, most_turns, name
 from terms import join, message, split
 from x86 import Machine
 
@@ -69,7 +69,7 @@ def check_finish(machine, version, held, has_rows):
     definition = Definition(version, secrets)
     place = name("turns", definition.row) if has_rows else 0
     length, lanes = add(place, held), symbols("lane")[:7] if has_rows else [seed] * 7
-    assume(length, 1, (Assumed.top - (1 << 13)) // definition.row)
+    assume(length, 1, most_turns(held, definition.row))
     machine.begin("rapidhash_stream_finish", [name("stream")], 0, SIZES)
     fill(machine, definition.lanes, lanes, int(has_rows), place, held)
     before = {key: one for key, one in machine.memory.items() if key[0] == "stream"}

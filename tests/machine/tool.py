@@ -8,8 +8,8 @@ import random
 
 from cases import ROOM, shell
 from definition import VERSIONS, Definition
-from linear import (MASK, POOL, Refusal, add, apart, assume, bounds, equal, is_kind, known, less, linear, make, name,
-                    substitute, subtract, value_at)
+from linear import (MASK, POOL, Assumed, Refusal, add, apart, assume, bounds, equal, is_kind, known, less, linear, make,
+                    most_turns, name, substitute, subtract, value_at)
 from model import hash_of
 from operands import NAMES, Place
 from terms import bit_and, bit_or, byte, join, low_bits, message, multiply, shift_left, shift_right, sign, split, xor
@@ -107,6 +107,18 @@ def rules_hold(seed=1, rounds=200):
                     yield f"{result} - {second} is not from {low} to {high}"
     if count < 30 * rounds:
         yield f"only {count} operations"
+
+
+def orders_hold():
+    """Checks that the vertices of each order are addresses of a message and a stream that do not overlap."""
+    for Assumed.order in (None, "before", "after"):
+        assume(linear(2000, {"turns": 112}), 0, most_turns(2000, 112))
+        for turns, _, place, stream in map(dict.values, Assumed.corners):
+            end, room = place + 2000 + 112 * turns, 256
+            between = {None: 0, "before": stream - end, "after": place - stream - room}[Assumed.order]
+            if min(between, Assumed.top - end, Assumed.top - stream - room) < 0:
+                yield f"{Assumed.order}: a message from {place} to {end}, and a stream at {stream}"
+    Assumed.order = None
 
 
 # The processor. A function for each instruction loads the registers, compares r8 and r9, runs the instruction, and
