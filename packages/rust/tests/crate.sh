@@ -256,7 +256,17 @@ needs cargo rustc
 cd "$top/packages/rust" || exit 1
 printf '%s\n' '[source.crates-io]' 'replace-with = "debian"' '[source.debian]' \
   'directory = "/usr/share/cargo/registry"' >"$room/registry.toml"
+# Checks the names of the tests that start threads or processes, by which machines without them skip these tests.
+names_its_threads() {
+  awk '/^ *#\[test\]/ { is_test = 1 }
+    /^ *fn / { name = is_test ? $2 : ""; is_test = 0 }
+    name && (name !~ /processes/ && /told_by_a_process\(|Command::new/ || name !~ /threads/ && /thread::(spawn|scope)/) {
+      print FILENAME ": " name; found = 1 }
+    END { exit found }' tests/*.rs tests/*/*.rs
+}
+
 try_with current rustfmt "$top/scripts/rust_crate" --check
+try names_of_tests names_its_threads
 try licences has_the_licences .
 try_with layout cargo-fmt cargo fmt --check
 for features in --all-features --no-default-features; do

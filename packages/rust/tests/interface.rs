@@ -58,7 +58,7 @@ fn a_copy_of_a_stream_goes_on_alone() {
 
 /// A stream may outlive the secrets that it was made of, in another thread too.
 #[test]
-fn streams_own_their_secrets() {
+fn streams_own_their_secrets_in_threads() {
     static SHARED: Mutex<RapidStreamHasherV3> = Mutex::new(RapidStreamHasherV3::DEFAULT);
     struct Upload {
         hash: RapidStreamHasherV3<'static>,

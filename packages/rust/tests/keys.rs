@@ -98,7 +98,7 @@ fn keys_of_other_hashes() {
             Field::Nothing => bytes.push(0),
             Field::Integer(number) => bytes.extend([&[1], &number.to_le_bytes()[..]].concat()),
             Field::Bytes(text) => {
-                bytes.extend([&[2], &text.len().to_le_bytes()[..], text].concat())
+                bytes.extend([&[2], &(text.len() as u64).to_le_bytes()[..], text].concat())
             }
             _ => panic!("a new kind of field"),
         });

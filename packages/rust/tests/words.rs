@@ -12,7 +12,7 @@ use std::sync::atomic::{AtomicUsize, Ordering};
 /// The name of the variable with which this program runs itself: what the test does in that process.
 const INNER: &str = "RAPIDHASH_WORDS";
 
-/// Returns what a test tells in a process of its own.
+/// Returns what a test tells in a process of its own. Its name has `processes`, which an emulator skips.
 fn told_by_a_process(test: &str, inner: &str) -> String {
     let program = std::env::current_exe().unwrap();
     let words = [test, "--exact", "--nocapture"];
@@ -47,23 +47,24 @@ fn processes_start_from_both_words() {
 
 /// With `std` the words of the program are added to random ones, so that two processes that set the same words differ.
 #[test]
-fn words_replace_none_of_the_system() {
+fn processes_keep_the_words_of_the_system() {
     if std::env::var_os(INNER).is_some() {
         set_random_words([1, 2]).expect("the first words");
         return println!("told {:?}", RapidSecrets::random().secrets);
     }
-    let [one, two] = [(); 2].map(|()| told_by_a_process("words_replace_none_of_the_system", "1"));
+    let [one, two] =
+        [(); 2].map(|()| told_by_a_process("processes_keep_the_words_of_the_system", "1"));
     assert_eq!(one == two, cfg!(not(feature = "std")), "{one} {two}");
 }
 
 /// States that are made while a thread sets words have the same secrets as all others.
 #[test]
-fn threads_have_the_same_words() {
+fn threads_of_processes_have_the_same_words() {
     if std::env::var_os(INNER).is_some() {
         return same_words_in_threads();
     }
     for _ in 0..100 {
-        told_by_a_process("threads_have_the_same_words", "1");
+        told_by_a_process("threads_of_processes_have_the_same_words", "1");
     }
 }
 
@@ -99,9 +100,9 @@ fn states_have_two_words() {
 
 /// States of a thread, and of threads at the same time, have different seeds.
 #[test]
-fn seeds_differ() {
+fn seeds_of_threads_in_processes_differ() {
     if std::env::var_os(INNER).is_none() {
-        let told = told_by_a_process("seeds_differ", "1");
+        let told = told_by_a_process("seeds_of_threads_in_processes_differ", "1");
         return assert_eq!(told, "told 400000");
     }
     let seeds = || {
