@@ -260,8 +260,8 @@ printf '%s\n' '[source.crates-io]' 'replace-with = "debian"' '[source.debian]' \
 names_its_threads() {
   awk '/^ *#\[test\]/ { is_test = 1 }
     /^ *fn / { name = is_test ? $2 : ""; is_test = 0 }
-    name && (name !~ /processes/ && /told_by_a_process\(|Command::new/ || name !~ /threads/ && /thread::(spawn|scope)/) {
-      print FILENAME ": " name; found = 1 }
+    name && (name !~ /processes/ && /told_by_a_process\(|Command::new/ ||
+             name !~ /threads/ && /thread::(spawn|scope)/) { print FILENAME ": " name; found = 1 }
     END { exit found }' tests/*.rs tests/*/*.rs
 }
 

@@ -94,7 +94,11 @@ fn named(word: &str) -> Result<Item> {
         "i16" => Item::I16(value.parse::<i16>()?),
         "i32" => Item::I32(value.parse::<i32>()?),
         "i64" => Item::I64(value.parse::<i64>()?),
-        "isize" => value.parse().map_or(Item::I64(value.parse()?), Item::Isize),
+        "isize" => value
+            .parse()
+            .ok()
+            .filter(|it: &isize| isize::BITS == 64 || *it >= 0)
+            .map_or(Item::I64(value.parse()?), Item::Isize),
         "i128" => Item::I128(value.parse::<i128>()?),
         _ => bail!("no item {word}"),
     })
