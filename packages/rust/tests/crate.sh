@@ -252,11 +252,7 @@ has_its_features() {
     getrandom_04 nightly rand rng rng_06 std unsafe)
 }
 
-needs cargo rustc
-cd "$top/packages/rust" || exit 1
-printf '%s\n' '[source.crates-io]' 'replace-with = "debian"' '[source.debian]' \
-  'directory = "/usr/share/cargo/registry"' >"$room/registry.toml"
-# Checks the names of the tests that start threads or processes, by which machines without them skip these tests.
+# Checks that the names of tests that start threads or processes say so: tests/release/machines.sh skips tests by name.
 names_its_threads() {
   awk '/^ *#\[test\]/ { is_test = 1 }
     /^ *fn / { name = is_test ? $2 : ""; is_test = 0 }
@@ -265,6 +261,10 @@ names_its_threads() {
     END { exit found }' tests/*.rs tests/*/*.rs
 }
 
+needs cargo rustc
+cd "$top/packages/rust" || exit 1
+printf '%s\n' '[source.crates-io]' 'replace-with = "debian"' '[source.debian]' \
+  'directory = "/usr/share/cargo/registry"' >"$room/registry.toml"
 try_with current rustfmt "$top/scripts/rust_crate" --check
 try names_of_tests names_its_threads
 try licences has_the_licences .

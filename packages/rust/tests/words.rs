@@ -12,7 +12,7 @@ use std::sync::atomic::{AtomicUsize, Ordering};
 /// The name of the variable with which this program runs itself: what the test does in that process.
 const INNER: &str = "RAPIDHASH_WORDS";
 
-/// Returns what a test tells in a process of its own. Its name has `processes`, which an emulator skips.
+/// Returns what a test prints in its own process. Emulators skip such tests because their names contain `processes`.
 fn told_by_a_process(test: &str, inner: &str) -> String {
     let program = std::env::current_exe().unwrap();
     let words = [test, "--exact", "--nocapture"];

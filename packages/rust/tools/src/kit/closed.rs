@@ -1,5 +1,5 @@
-//! The standard streams that a program is started without. Rust's runtime opens /dev/null for them, so that reads would
-//! find nothing and writes would be lost.
+//! Standard streams that were closed when the program started. Rust's runtime opens /dev/null for them, so that reads
+//! would find nothing and writes would be lost.
 #![allow(unsafe_code)]
 
 use std::sync::atomic::{AtomicUsize, Ordering};
@@ -12,7 +12,7 @@ extern "C" {
     fn fcntl(descriptor: i32, command: i32, ...) -> i32;
 }
 
-/// Runs before Rust's runtime, and keeps which of standard input and output are closed.
+/// Runs before Rust's runtime, and records whether standard input and output are closed.
 #[used]
 #[cfg_attr(target_vendor = "apple", link_section = "__DATA,__mod_init_func")]
 #[cfg_attr(not(target_vendor = "apple"), link_section = ".init_array")]
@@ -27,7 +27,7 @@ extern "C" fn look() {
     }
 }
 
-/// Lets each use of a stream fail that was closed.
+/// Makes each use of a closed stream fail.
 pub fn refuse() {
     rapidhash_tool::kit::set_closed(CLOSED.load(Ordering::Relaxed));
 }

@@ -96,7 +96,7 @@ fn is_terminal(stream: &str) -> bool {
     std::fs::read_link(stream).map_or(false, |path| is_one(&path))
 }
 
-/// The bits of the standard streams that the program was started without.
+/// The standard streams that were closed when the program started, as bits.
 static CLOSED: AtomicUsize = AtomicUsize::new(0);
 /// The error of a descriptor that is not open.
 const EBADF: i32 = 9;
