@@ -40,8 +40,7 @@ def low(first, second):
 
 
 def schoolbook(first, second):
-    """Returns the high half of a product from 32-bit halves, which is equal for all words: with H = 2^32,
-    (a H + b) (c H + d) = a c H H + a d H + (b c H + b d), and no sum below reaches 2^64."""
+    """Returns the high half of a product from 32-bit halves, as `high_half` in crates/test_definitions is proved to."""
     a, b, c, d = shift_right(first, 32), low_bits(first, 32), shift_right(second, 32), low_bits(second, 32)
     cross = low(a, d)
     middle = add(add(shift_right(low(b, d), 32), low_bits(cross, 32)), low(b, c))

@@ -2,4 +2,5 @@ pub mod BlocksLemmas
 pub mod Cases
 pub mod HasherLemmas
 pub mod LanesLemmas
+pub mod ProductLemmas
 pub mod WordsLemmas

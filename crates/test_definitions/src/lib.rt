@@ -13,6 +13,7 @@ mod forms;
 mod generator;
 mod hasher;
 mod hashes;
+mod product;
 mod secrets;
 mod streams;
 mod walk;

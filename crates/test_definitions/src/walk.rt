@@ -9,9 +9,9 @@ ghost use Rattle.rapidhash_portable.specs.Multiply.{mix, multiply};
 ghost use Rattle.rapidhash_portable.specs.Tail.{after_tail, picked};
 
 use crate::forms::{masks, mixed_words, shape_of, start_seed, tail_places, tail_seed};
+use crate::product::high_half;
 use crate::secrets::secret;
 use rapidhash_portable::form::{Form, Options, Shape};
-use rapidhash_portable::util::{rapid_mix, rapid_mum};
 
 /// A source of pairs.
 pub(crate) trait Pairs {
@@ -28,25 +28,25 @@ pub(crate) trait Pairs {
 }
 
 /// The low and the high half of a product, protected or not.
+#[tactic(auto, unfolding(rapidhash_portable::specs::Multiply::multiply))]
 fn multiply(protected: bool, a: u64, b: u64) -> (u64, u64)
     ensures { result ≡ multiply protected a b }
 {
+    let (low, high) = (a.wrapping_mul(b), high_half(a, b));
     if protected {
-        rapid_mum::<true>(a, b)
+        (a ^ low, b ^ high)
     } else {
-        rapid_mum::<false>(a, b)
+        (low, high)
     }
 }
 
 /// Returns the two folded into one word.
+#[tactic(auto, unfolding(rapidhash_portable::specs::Multiply::mix))]
 pub fn mix(protected: bool, a: u64, b: u64) -> u64
     ensures { result ≡ mix protected a b }
 {
-    if protected {
-        rapid_mix::<true>(a, b)
-    } else {
-        rapid_mix::<false>(a, b)
-    }
+    let (low, high) = multiply(protected, a, b);
+    low ^ high
 }
 
 /// One step of a lane on a pair.

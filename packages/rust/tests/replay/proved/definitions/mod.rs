@@ -16,6 +16,7 @@ pub mod forms;
 pub mod generator;
 pub mod hasher;
 pub mod hashes;
+pub mod product;
 pub mod secrets;
 pub mod streams;
 pub mod walk;

@@ -6,9 +6,9 @@
 use crate::replay::kit::*;
 
 use super::forms::{masks, mixed_words, shape_of, start_seed, tail_places, tail_seed};
+use super::product::high_half;
 use super::secrets::secret;
 use crate::replay::proved::form::{Form, Options, Shape};
-use crate::replay::proved::util::{rapid_mix, rapid_mum};
 
 /// A source of pairs.
 pub(crate) trait Pairs {
@@ -22,20 +22,18 @@ pub(crate) trait Pairs {
 
 /// The low and the high half of a product, protected or not.
 fn multiply(protected: bool, a: u64, b: u64) -> (u64, u64) {
+    let (low, high) = (a.wrapping_mul(b), high_half(a, b));
     if protected {
-        rapid_mum::<true>(a, b)
+        (a ^ low, b ^ high)
     } else {
-        rapid_mum::<false>(a, b)
+        (low, high)
     }
 }
 
 /// Returns the two folded into one word.
 pub fn mix(protected: bool, a: u64, b: u64) -> u64 {
-    if protected {
-        rapid_mix::<true>(a, b)
-    } else {
-        rapid_mix::<false>(a, b)
-    }
+    let (low, high) = multiply(protected, a, b);
+    low ^ high
 }
 
 /// One step of a lane on a pair.
