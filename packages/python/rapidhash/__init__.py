@@ -122,7 +122,7 @@ def each_row(data, width, version="v3", seed=None, secrets=None, out=None):
     if rest:
         raise ValueError(f"data has {view.nbytes} bytes, which is no multiple of the width {width}")
     out = _room(count) if out is None else out
-    _extension.each_row(view, version, seed, secrets, out, None, width)
+    _extension.each_row(view, version, seed, secrets, out, None, width if count else 1)
     return out
 
 

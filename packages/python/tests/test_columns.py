@@ -210,6 +210,7 @@ class Refused(unittest.TestCase):
         for width in (2, 4, 2**32 + 3, 2**64 + 3):
             with self.assertRaisesRegex(ValueError, "^data has 3 bytes, which is no multiple of the width"):
                 rapidhash.each_row(b"abc", width)
+        self.assertEqual(len(rapidhash.each_row(b"", 2**70)), 0)
         with self.assertRaisesRegex(TypeError, "^width must be an integer"):
             rapidhash.each_row(b"abc", 1.0)
 
