@@ -45,7 +45,8 @@ CREATE OPERATOR CLASS rapidhash_v3_bytea_ops FOR TYPE bytea USING hash AS
     OPERATOR 1 =, FUNCTION 1 rapidhash_v3_ops(bytea), FUNCTION 2 rapidhash_v3_ops(bytea, bigint);
 
 -- Creates each version for bytea, text, and bigint: by default, with a seed, and with secrets made from a number. Those
--- that can be streamed are also aggregates.
+-- that can be streamed are also aggregates. The script runs with all rights, so it never calls a function of the schema
+-- where it creates its own, whose owner may have none.
 DO $body$
 DECLARE
     version text;
@@ -58,19 +59,20 @@ BEGIN
     FOREACH version IN ARRAY ARRAY['v1', 'v2_0', 'v2_1', 'v2_2', 'v3', 'v3_micro', 'v3_nano', 'v3_protected'] LOOP
         FOREACH type IN ARRAY ARRAY['bytea', 'text', 'bigint'] LOOP
             kind := CASE type WHEN 'bigint' THEN 'integer' ELSE 'bytes' END;
-            EXECUTE format('CREATE FUNCTION rapidhash_%s(%s)' || returning_hash,
-                           version, type, format('sql_%s_%s', version, kind));
-            EXECUTE format('CREATE FUNCTION rapidhash_%s(%s, seed bigint)' || returning_hash,
-                           version, type, format('sql_%s_with_seed_%s', version, kind));
-            EXECUTE format('CREATE FUNCTION rapidhash_%s_with_secrets(%s, number bigint)' || returning_hash,
-                           version, type, format('sql_%s_with_secrets_%s', version, kind));
+            EXECUTE pg_catalog.format('CREATE FUNCTION rapidhash_%s(%s)' || returning_hash,
+                                      version, type, pg_catalog.format('sql_%s_%s', version, kind));
+            EXECUTE pg_catalog.format('CREATE FUNCTION rapidhash_%s(%s, seed bigint)' || returning_hash,
+                                      version, type, pg_catalog.format('sql_%s_with_seed_%s', version, kind));
+            EXECUTE pg_catalog.format('CREATE FUNCTION rapidhash_%s_with_secrets(%s, number bigint)' || returning_hash,
+                                      version, type, pg_catalog.format('sql_%s_with_secrets_%s', version, kind));
             CONTINUE WHEN version NOT IN ('v3', 'v3_micro', 'v3_nano');
             FOREACH seed IN ARRAY ARRAY['', ', seed bigint'] LOOP
-                EXECUTE format('CREATE FUNCTION rapidhash_%s_agg_row(internal, %s%s) RETURNS internal ' || attributes,
-                               version, type, seed, format('add_%s_%s', version, kind));
-                EXECUTE format('CREATE AGGREGATE rapidhash_%s_agg(%s%s) (SFUNC = rapidhash_%1$s_agg_row, '
-                               'STYPE = internal, FINALFUNC = rapidhash_agg_finish, PARALLEL = SAFE)',
-                               version, type, seed);
+                EXECUTE pg_catalog.format(
+                    'CREATE FUNCTION rapidhash_%s_agg_row(internal, %s%s) RETURNS internal ' || attributes,
+                    version, type, seed, pg_catalog.format('add_%s_%s', version, kind));
+                EXECUTE pg_catalog.format(
+                    'CREATE AGGREGATE rapidhash_%s_agg(%s%s) (SFUNC = rapidhash_%1$s_agg_row, STYPE = internal, '
+                    'FINALFUNC = rapidhash_agg_finish, PARALLEL = SAFE)', version, type, seed);
             END LOOP;
         END LOOP;
     END LOOP;

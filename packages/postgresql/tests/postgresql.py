@@ -193,8 +193,10 @@ def rest():
     [query] = re.findall(r"^SELECT .*_agg.*;$", blocks(PAGE, "sql")[0], re.M)
     compare("rows_in_order", ask(query), [str(HELLO)])
     ask("DROP EXTENSION rapidhash; CREATE ROLE owner; GRANT CREATE ON DATABASE postgres TO owner")
-    query = "SET ROLE owner; CREATE SCHEMA one; CREATE SCHEMA two; CREATE EXTENSION rapidhash SCHEMA one; RESET ROLE; "
-    query += "ALTER EXTENSION rapidhash SET SCHEMA two; SELECT two.rapidhash_v3('hello')"
+    # A function of the owner's, which must not run with the rights of the script.
+    own = "CREATE FUNCTION one.format(text, VARIADIC text[]) RETURNS text LANGUAGE sql AS 'SELECT current_user'"
+    query = f"SET ROLE owner; CREATE SCHEMA one; CREATE SCHEMA two; {own}; CREATE EXTENSION rapidhash SCHEMA one; "
+    query += "RESET ROLE; ALTER EXTENSION rapidhash SET SCHEMA two; SELECT two.rapidhash_v3('hello')"
     compare("owner_and_schema", ask(query), [str(HELLO)])
     compare("dropped", ask(f"DROP EXTENSION rapidhash; {FUNCTIONS}"), [])
     compare("hint", ask(f"\\i '{TOP}/packages/postgresql/rapidhash--1.0.sql'"), [
