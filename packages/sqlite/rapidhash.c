@@ -6,6 +6,10 @@ SQLITE_EXTENSION_INIT1
 
 /* SQLite 3.25 introduced sqlite3_create_window_function. */
 #define OLDEST_SQLITE 3025000
+/* The headers have this flag from SQLite 3.31 on, and an older SQLite ignores it. */
+#ifndef SQLITE_INNOCUOUS
+#define SQLITE_INNOCUOUS 0x200000
+#endif
 #define FLAGS (SQLITE_UTF8 | SQLITE_DETERMINISTIC | SQLITE_INNOCUOUS)
 
 /* An SQL function. `word` is the name of its second argument, a word, or NULL if it has no second argument. */

@@ -40,6 +40,9 @@ ERRORS = {
     "rapidhash_bucket(7, 4294967296)": "rapidhash_bucket: the count must be from 1 to 4294967295, not 4294967296",
     "rapidhash_fingerprint(1.5)": "rapidhash_fingerprint: the hash must be an INTEGER",
 }
+# Writes headers without the flag that SQLite 3.31 introduced.
+OLDER = """mkdir older
+for header in sqlite3.h sqlite3ext.h; do grep -v 'define SQLITE_INNOCUOUS' /usr/include/$header >older/$header; done"""
 MEMORY = """cc -std=c99 -g -Wall -Wextra -Werror -fsanitize=address,undefined -fno-sanitize-recover=all \
     -Ipackages/c/include packages/sqlite/rapidhash.c packages/sqlite/tests/test_memory.c \
     -lsqlite3 -o "$ROOM/test_memory"
@@ -51,8 +54,9 @@ def commands():
     [page] = blocks(PAGE, "sh")
     (ROOM / "first").mkdir()
     compare("page", (page.count("\n"), shell(page, ROOM / "first")), (2, (0, f"{HELLO}\n")))
-    command = unpack(ROOM, "sqlite")
-    compare("unpacked_archive", shell(f"{command}\n{page.splitlines()[1]}", ROOM), (0, f"{HELLO}\n"))
+    command, query = unpack(ROOM, "sqlite"), page.splitlines()[1]
+    older = f"{OLDER}\n{command.replace(' -I', ' -Iolder -I', 1)}"
+    compare("unpacked_archive", shell(f"{command}\n{query}\n{older}\n{query}", ROOM), (0, f"{HELLO}\n" * 2))
     compare("make_without_the_toolchain", shell("make -s -B sqlite", PATH="/usr/bin:/bin"), (0, ""))
 
 
