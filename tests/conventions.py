@@ -152,6 +152,8 @@ def source(language, column, value, field):
         return field.hex() if language == "SQLite" else ", ".join(map(str, field))
     if column == "time t" and language == "JavaScript":
         return value[:-3]
+    if column == "time t" and language == "SQLite":  # has milliseconds of its own, and no fraction of whole seconds
+        return value.rstrip("0").rstrip(".")
     if column == "date d" and language == "C++":
         return str(field)
     if column in ("date d", "time t") and language in ("C++", "Rust"):
