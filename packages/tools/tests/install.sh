@@ -164,9 +164,12 @@ links_both_by_cmake() (
     [ "$(grep -oE "[UTt] rapidhash_v3(@|$)" "$room/nm" | cut -c 1 | xargs)" = "U T t" ]
 )
 
-# Nobody, not even root, can create a directory in /proc.
+# Nobody, not even root, can create a directory in /proc. A directory with the name of a file must not receive it.
 fails_if_a_copy_fails() {
-  ! installs PREFIX="$room/failed" DATADIR=/proc/none
+  local held
+  ! installs PREFIX="$room/failed" DATADIR=/proc/none && for held in include/rapidhash_c.h lib/librapidhash_c.so; do
+    mkdir -p "$room/$held/$held" && ! installs PREFIX="$room/$held" && [ -z "$(ls "$room/$held/$held")" ] || return 1
+  done
 }
 
 # Installs below DESTDIR, with separate directories for programs and libraries.
