@@ -11,7 +11,7 @@ SELECT arguments, string_agg(proname, ' ' ORDER BY proname COLLATE "C") AS names
 SELECT rapidhash_v3('hello') AS literal, rapidhash_v3('hello'::text) AS text, rapidhash_v3('\x68656c6c6f'::bytea) AS bytea;
 SELECT rapidhash_v3('') AS text, rapidhash_v3(''::bytea) AS bytea, rapidhash_v3_agg(''::text) AS rows;
 SELECT rapidhash_v3(42) AS integer, rapidhash_v3(42::bigint) AS bigint, rapidhash_v3((-42)::smallint) AS smallint;
-SELECT rapidhash_v3(E'h\u00e9llo \u20ac\U0001F600') AS text;
+SELECT rapidhash_v3(E'h\u00e9llo \u20ac\U0001F600') AS text, rapidhash_v3('hello'::char(7)) AS char;
 SELECT rapidhash_v3(1.5);
 SELECT rapidhash_v3(1.5::real);
 -- A call with secrets requires their number.
