@@ -719,6 +719,9 @@ RAPIDHASH_FORCE_INLINE_ void rapidhash_write_slow_(
     const uint8_t *rest = p + room;
     uint64_t lane[7];
     RAPIDHASH_ASSERT(stream->len <= row && n > room);
+#if defined(__GNUC__) && !defined(__clang__) && __GNUC__ >= 11
+    if (n <= room) __builtin_unreachable(); /* -flto warns of those copies too, and forgets the pragmas. */
+#endif
     memcpy(lane, stream->lane, sizeof lane);
     rapidhash_copy_(buffer + 16 + stream->len, p, room);
     rapidhash_fold_rows_(lanes, 1, false, lane, buffer + 16, s);

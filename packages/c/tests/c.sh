@@ -210,20 +210,24 @@ rapidhash::fingerprint(std::array<int, 2>())|a hash of a fingerprint is an unsig
 VALUES
 }
 
-# Compiles a stream of one piece without a warning: its length is constant, so that a compiler follows each copy.
+# Compiles a stream of one piece without a warning: its length is constant, so that a compiler follows each copy, and
+# with -flto the linker too.
 compiles_a_constant_piece() {
-  local level
-  for level in 1 2 3 s; do
-    gcc "-O$level" -Wall -Wextra -Werror "-I$include" -x c -c -o /dev/null - <<'C' || return 1
+  local options
+  for options in -O{1,2,3,s}\ -f{no-,}lto; do
+    gcc "${options% *}" "${options#* }" -Wall -Wextra -Werror "-I$include" -x c -o "$room/piece" - <<'C' || return 1
 #include "rapidhash_c.h"
-uint64_t hash(const struct rapidhash_secrets *own)
+int main(void)
 {
+    struct rapidhash_secrets own;
     struct rapidhash_stream stream;
-    rapidhash_v3_start(&stream, own);
+    rapidhash_seed_secrets(0, &own);
+    rapidhash_v3_start(&stream, &own);
     rapidhash_stream_write(&stream, "hello", 5);
-    return rapidhash_stream_finish(&stream);
+    return rapidhash_stream_finish(&stream) != 3327445792987248966;
 }
 C
+    "$room/piece" || return 1
   done
 }
 
