@@ -144,6 +144,7 @@ for version in --v1 --v2.2 --v3; do
 done
 try memory_of_input grows_by_a_factor "$program" --v1 <ten_million
 fails closed_input "$stdin_fault" "$program" --v1 <&-
+fails input_that_is_only_written "$stdin_fault" "$program" 0>written
 fails v1_in_little_memory "$memory_fault" in_kibibytes 8000 "$program" --v1 <ten_million
 fails v2_in_little_memory "$memory_fault" in_kibibytes 8000 "$program" --v2.2 <ten_million
 hash=$("$program" --v1 ten_million)

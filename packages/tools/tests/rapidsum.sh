@@ -47,6 +47,7 @@ case_sums_of_standard_input() { "$sum" <first && "$sum" - first <first; }
 case_missing_file() { "$sum" first nothing 'second name'; }
 case_folder() { mkdir folder && "$sum" folder first; }
 case_folder_as_input() { "$sum" - first <.; }
+case_input_that_is_only_written() { "$sum" - first 0>written; }
 case_name_of_300_bytes() { "$sum" "$(printf %300s '')" first; }
 case_read_fails_later() { failing read:error=EIO:when=2 first "$sum" first 'second name'; }
 case_read_of_input_fails_later() { failing read:error=EIO:when=2 first "$sum" - 'second name' <first; }
@@ -54,7 +55,7 @@ case_words_behind_two_hyphens() { cp first -- -first && "$sum" -- -first; }
 case_full_disk() { "$sum" first >/dev/full; }
 case_full_disk_without_newlines() { "$sum" -z first >/dev/full; }
 case_full_disk_after_a_missing_file() { "$sum" nothing first >/dev/full; }
-case_no_output() { "$sum" first >&-; }
+case_no_output() { ! "$sum" first >&- && "$sum" first 1<first; }
 case_no_output_of_a_check() { list && "$sum" -c list >&-; }
 case_binary() { "$sum" -b first 'second name' $'line\nback\\return\r'; }
 case_last_of_binary_and_text() { "$sum" -t -b first && "$sum" -b -t first; }
