@@ -26,6 +26,27 @@ int find_bytes(const struct arrow *arrow, Py_ssize_t row, struct message *messag
     return from >= 0 && to >= from ? 0 : -1;
 }
 
+static int overlaps_part(const Py_buffer *out, const void *start, int64_t len, const char *name)
+{
+    Py_buffer range = *out;
+    range.buf = (void *)start;
+    range.len = (Py_ssize_t)len;
+    return start != NULL && len > 0 && overlaps(out, &range, name);
+}
+
+int overlaps_arrow(const Py_buffer *out, const struct arrow *arrow, const char *name)
+{
+    const struct ArrowArray *const array = &arrow->array;
+    const int has_bytes = arrow->letter == 0 && array->length > 0;
+    const int64_t rows = array->length, skipped = array->offset / 8, bits = (array->offset + rows + 7) / 8 - skipped;
+    const int64_t from = has_bytes ? offset_of(arrow, 0) : 0, to = has_bytes ? offset_of(arrow, rows) : 0;
+    if (array->null_count != 0 && array->buffers[0] != NULL &&
+        overlaps_part(out, (const char *)array->buffers[0] + skipped, bits, name))
+        return 1;
+    return overlaps_part(out, arrow->first, (rows + has_bytes) * arrow->width, name) ||
+           (from < to && overlaps_part(out, (const char *)array->buffers[2] + from, to - from, name));
+}
+
 static void release(PyObject *capsule)
 {
     struct arrow *const arrow = PyCapsule_GetPointer(capsule, ARROW);
@@ -125,6 +146,10 @@ PyObject *each_arrow(PyObject *module, PyObject *const *args, Py_ssize_t count)
                             "each_key hashes integers", arrow->schema.format);
     if (open_column(module, args + 1, (size_t)arrow->array.length, &column) < 0)
         return NULL;
+    if (overlaps_arrow(&column.out, arrow, "items")) {
+        PyBuffer_Release(&column.out);
+        return NULL;
+    }
     Py_BEGIN_ALLOW_THREADS
     row = hash_rows(&column, arrow);
     Py_END_ALLOW_THREADS

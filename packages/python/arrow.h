@@ -42,6 +42,9 @@ int is_null(const struct arrow *arrow, Py_ssize_t row);
 /* Finds the bytes of a row. Returns 0, or -1 without an error set if its offsets do not ascend. */
 int find_bytes(const struct arrow *arrow, Py_ssize_t row, struct message *message);
 
+/* Returns whether the hashes would overwrite a part of a column. If so, sets an error. */
+int overlaps_arrow(const Py_buffer *out, const struct arrow *arrow, const char *name);
+
 #ifdef __GNUC__
 #pragma GCC visibility pop
 #endif

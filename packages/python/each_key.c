@@ -176,7 +176,8 @@ static int overwrites(const Py_buffer *out, const struct fields *fields, Py_ssiz
     for (at = 0; at < columns; at++) {
         const Py_buffer *const buffer = &fields[at].buffer;
         PyOS_snprintf(name, sizeof name, "columns[%zd]", at);
-        if (buffer->obj != NULL && overlaps_items(out, buffer, fields[at].stride, name))
+        if (fields[at].arrow != NULL ? overlaps_arrow(out, fields[at].arrow, name)
+                                     : buffer->obj != NULL && overlaps_items(out, buffer, fields[at].stride, name))
             return 1;
     }
     return 0;

@@ -142,6 +142,9 @@ class Arrow(unittest.TestCase):
         other = Schema()
         kinds = "must be an Arrow array of strings, bytes or integers, "
         short, below = ([None, array.array("i", places).tobytes(), b"ab"] for places in ([0, 2, 1], [-1, 1]))
+        ones = array.array("i", range(9)).tobytes()
+        room = array.array("Q", [0] * 4)
+        place = room.buffer_info()[0]
         each, key = rapidhash.each, rapidhash.each_key
         for call, kind, error in (
                 (lambda: each(self.column("u", TEXTS)), TypeError,
@@ -166,6 +169,14 @@ class Arrow(unittest.TestCase):
                 (lambda: key(self.column("u", ["", ""], buffers=short)), ValueError, r"^columns\[0\]\[1\] has offsets"),
                 (lambda: each(self.column("u", ["a"]), out=array.array("Q")), ValueError,
                  "^out must have room for exactly 1"),
+                (lambda: key([1] * 4, self.column("i", [7] * 4, buffers=[None, place]), out=room), ValueError,
+                 r"^out must not overlap columns\[1\]$"),
+                (lambda: key(self.column("u", [""] * 4, buffers=[None, place + 28, b""]), [1] * 4, out=room),
+                 ValueError, r"^out must not overlap columns\[0\]$"),
+                (lambda: each(self.column("u", [""] * 4, buffers=[None, ones, place + 30]), out=room), ValueError,
+                 "^out must not overlap items$"),
+                (lambda: each(self.column("u", [None] * 4, 3, buffers=[place, ones, b"ab"]), out=room, missing=0),
+                 ValueError, "^out must not overlap items$"),
                 (lambda: each(self.column("u", ["a"]), version="v99"), ValueError, "^version must be"),
                 (lambda: each(Column("u", ["a"], is_owner=False, name=b"other")), ValueError, "incorrect name")):
             with self.subTest(error):
