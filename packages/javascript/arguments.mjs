@@ -121,8 +121,11 @@ export function piecesOf(source) {
   if (typeof source?.[Symbol.asyncIterator] === "function") return source;
   if (typeof source?.getReader === "function") return readAll(source.getReader());
   if (typeof source?.stream === "function") return piecesOf(source.stream());
-  if (typeof source?.arrayBuffer === "function" && source.body !== undefined)
+  if (typeof source?.arrayBuffer === "function" && source.body !== undefined) {
+    // Its stream would have no piece.
+    if (source.bodyUsed) throw new TypeError("updateFrom: the body of the source was read before");
     return source.body === null ? [] : piecesOf(source.body);
+  }
   throw new TypeError(`updateFrom: source must be a stream, a Blob, a Response, or another async iterable, not ${
     whatIs(source)}`);
 }

@@ -186,6 +186,10 @@ test("a stream that fails, and what is none", async () => {
   for (const [source, what] of refused)
     await assert.rejects(new V3().updateFrom(source), { name: "TypeError",
       message: `updateFrom: source must be a stream, a Blob, a Response, or another async iterable, not ${what}` });
+  const used = new Response("text");
+  await new V3().updateFrom(used);
+  await assert.rejects(new V3().updateFrom(used), { name: "TypeError",
+    message: "updateFrom: the body of the source was read before" });
   let [cancelled, pulled] = [0, 0];
   const numbers = () => new ReadableStream({
     pull(controller) {
