@@ -52,24 +52,26 @@ char kind_of(PyObject *object)
     return letter;
 }
 
-/* Returns whether a buffer of this format has addresses of objects. The names of fields stand between colons. */
-static int has_objects(const char *format)
+/* Returns whether a buffer of this format has addresses: of objects, or those of ctypes. The names of fields stand
+ * between colons, and a complex number of NumPy has two letters, such as Zd. */
+static int has_addresses(const char *format)
 {
     int is_name = 0;
     for (; *format != 0; format++) {
-        if (*format == 'O' && !is_name)
+        const int is_complex = *format == 'Z' && format[1] != 0 && strchr("fdg", format[1]) != NULL;
+        if (!is_name && !is_complex && strchr("OPXZz&", *format) != NULL)
             return 1;
         is_name ^= *format == ':';
     }
     return 0;
 }
 
-/* Refuses the arrays of NumPy whose bytes are addresses, or also those of masked values. */
+/* Refuses arrays whose bytes are addresses, or also those of masked values. */
 static int refuse_array(PyObject *data, const char *name, const Py_buffer *buffer)
 {
-    if (buffer->format != NULL && has_objects(buffer->format)) {
-        PyErr_Format(PyExc_TypeError, "%s must not be an array of objects, whose bytes are addresses: %R", name,
-                     Py_TYPE(data));
+    if (buffer->format != NULL && has_addresses(buffer->format)) {
+        PyErr_Format(PyExc_TypeError, "%s must not be an array of objects or pointers, whose bytes are addresses: %R",
+                     name, Py_TYPE(data));
         return -1;
     }
     if (!PyByteArray_Check(data) && !PyMemoryView_Check(data) && has_attribute(data, "mask")) {

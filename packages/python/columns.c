@@ -165,20 +165,20 @@ PyObject *each(PyObject *module, PyObject *const *args, Py_ssize_t count)
     return status == 0 ? PyLong_FromSsize_t(size) : NULL;
 }
 
-/* each_row(buffer, version, seed, secrets, out, None, width), in which the width is a positive divisor of the
+/* each_row(memoryview, version, seed, secrets, out, None, width), in which the width is a positive divisor of the
  * length. */
 PyObject *each_row(PyObject *module, PyObject *const *args, Py_ssize_t count)
 {
     struct column column;
-    Py_buffer data;
+    struct message data;
     PyObject *result = NULL;
     const Py_ssize_t width = count == 7 ? PyLong_AsSsize_t(args[6]) : -1;
-    if (width <= 0 || PyObject_GetBuffer(args[0], &data, PyBUF_SIMPLE) < 0)
+    if (width <= 0 || read_message(args[0], "data", &data) < 0)
         return NULL;
-    if (open_column(module, args + 1, (size_t)(data.len / width), &column) == 0) {
-        if (!overlaps(&column.out, &data, "data")) {
-            const char *bytes = data.buf;
-            Py_ssize_t at, size = data.len / width;
+    if (open_column(module, args + 1, data.len / (size_t)width, &column) == 0) {
+        if (!overlaps(&column.out, &data.buffer, "data")) {
+            const char *bytes = data.bytes;
+            Py_ssize_t at, size = (Py_ssize_t)data.len / width;
             Py_BEGIN_ALLOW_THREADS
             for (at = 0; at < size; at++)
                 put(&column, at, bytes + at * width, (size_t)width);
@@ -187,6 +187,6 @@ PyObject *each_row(PyObject *module, PyObject *const *args, Py_ssize_t count)
         }
         PyBuffer_Release(&column.out);
     }
-    PyBuffer_Release(&data);
+    release_message(&data);
     return result;
 }

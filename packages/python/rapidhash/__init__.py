@@ -115,8 +115,6 @@ def each_row(data, width, version="v3", seed=None, secrets=None, out=None):
     Raises ValueError if `width` does not divide the number of bytes, or if `out` overlaps `data`."""
     _refuse_masked("data", data)
     view, width = memoryview(data), _integer("width", width)
-    if "O" in "".join(view.format.split(":")[::2]):  # the names of fields stand between colons
-        raise TypeError("data must not be an array of objects, whose bytes are addresses")
     if width < 1:
         raise ValueError(f"width must be at least 1, not {width}")
     count, rest = divmod(view.nbytes, width)

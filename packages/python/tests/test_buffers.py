@@ -104,7 +104,7 @@ class Buffers(unittest.TestCase):
         self.assertEqual(rapidhash.v3(Fields(104, 105)), rapidhash.v3(b"hi"))
         self.assertEqual(rapidhash.each_row(Fields(104, 105), 2)[0], rapidhash.v3(b"hi"))
         for call in (rapidhash.v3, lambda data: rapidhash.each_row(data, 8)):
-            with self.assertRaisesRegex(TypeError, "must not be an array of objects"):
+            with self.assertRaisesRegex(TypeError, "must not be an array of objects or pointers"):
                 call(Objects())
 
     @unittest.skipIf(sys.version_info < (3, 12), "classes define buffers from 3.12 on")

@@ -39,11 +39,16 @@ class Columns(unittest.TestCase):
                 rapidhash.each(items)
 
     def test_objects_are_no_messages(self):
+        class Pointers(ctypes.Structure):
+            _fields_ = [("size", ctypes.c_size_t), ("text", ctypes.c_char_p)]
+
         objects = (ctypes.py_object * 2)("a", "b")
-        with self.assertRaisesRegex(TypeError, "^data must not be an array of objects, whose bytes are addresses"):
-            rapidhash.v3(objects)
-        with self.assertRaisesRegex(TypeError, "^data must not be an array of objects, whose bytes are addresses"):
-            rapidhash.each_row(objects, 8)
+        words = ctypes.c_char_p(b"abc"), ctypes.c_wchar_p("abc"), ctypes.c_void_p(7), ctypes.pointer(ctypes.c_int(7))
+        why = "^data must not be an array of objects or pointers, whose bytes are addresses"
+        for data in (objects, Pointers(3, b"abc"), (ctypes.c_char_p * 2)(), ctypes.CFUNCTYPE(None)(print), *words):
+            for call in (rapidhash.v3, rapidhash.V3, lambda data: rapidhash.each_row(data, 8)):
+                with self.assertRaisesRegex(TypeError, why):
+                    call(data)
         with self.assertRaisesRegex(TypeError, r"^items\[1\] must be bytes, another buffer, or a str, not "):
             rapidhash.each([b"", objects])
 
