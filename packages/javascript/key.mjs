@@ -73,7 +73,7 @@ function putInteger(number, place, view, at) {
 /** Writes the size of a field's bytes as 8 bytes. */
 function putSize(size, view, at) {
   view.setUint32(at, size, true);
-  view.setUint32(at + 4, 0, true);
+  view.setUint32(at + 4, Math.floor(size / 2 ** 32), true);
 }
 
 /** Writes the encoding of a key to an array of `room` bytes, of which `view` is a view. Returns the number of bytes; if
