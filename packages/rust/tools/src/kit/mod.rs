@@ -10,7 +10,7 @@ pub use alloc::Vec;
 use alloc::{AllocError, AllocFailed, Global};
 use std::fmt;
 use std::io::{self, ErrorKind, Read, Write};
-use std::path::Path;
+use std::path::{Path, PathBuf};
 use std::sync::atomic::{AtomicUsize, Ordering};
 
 /// The options of the hashes, as the library names them.
@@ -85,15 +85,16 @@ impl HostRuntime {
     }
 }
 
-/// Returns whether a standard stream is a terminal. `std` has this only from Rust 1.70 on, so the name of the device
-/// decides, on Linux.
+/// Returns whether a standard stream is a terminal. `std` has this only from Rust 1.70 on, so the start of the
+/// device's name decides, on Linux: a serial console is /dev/ttyS0.
 fn is_terminal(stream: &str) -> bool {
-    let is_one = |path: &Path| {
-        ["/dev/pts", "/dev/tty", "/dev/console"]
+    let is_one = |path: PathBuf| {
+        let path = path.to_string_lossy();
+        ["/dev/pts/", "/dev/tty", "/dev/console", "/dev/hvc"]
             .iter()
-            .any(|name| path.starts_with(name))
+            .any(|start| path.starts_with(start))
     };
-    std::fs::read_link(stream).map_or(false, |path| is_one(&path))
+    std::fs::read_link(stream).map_or(false, is_one)
 }
 
 /// The standard streams that were closed when the program started, as bits.
