@@ -1,12 +1,12 @@
 # Completion of rapidsum for bash, with the options and versions in its help. If no option is expected,
 # bash completes files, variables and the rest by itself. A word that begins with a hyphen names no file but
-# after --, and after the help none counts.
+# after --, and after the help none counts. An equals sign is a word of its own.
 _rapidsum() {
-  local help options word=${COMP_WORDS[COMP_CWORD]}
+  local help options word=${COMP_WORDS[COMP_CWORD]#=} before=" ${COMP_WORDS[*]:1:COMP_CWORD-1} "
   help=$(rapidsum --help 2>/dev/null)
   options=" $(grep -oE '^ +(-., )?--[a-z0-9-]+' <<<"$help")"
   COMPREPLY=()
-  case " ${COMP_WORDS[*]:1:COMP_CWORD-1} " in
+  case ${before/% = / } in
     *" --help "* | *" -h "* | *" --version "* | *" -V "*) options= ;;
     *" -- "*) return ;;
     *" --algorithm " | *" -a ") options=$(sed -n 's/.*values: \(.*\)]/\1/p' <<<"$help") word=" $word" ;;

@@ -44,6 +44,7 @@ LINES = [
     ("a second file for sums", "rapidsum only o", "rapidsum|only|only"),
     ("an option for sums", "rapidsum -c --ig", "rapidsum|-c|--ignore-missing"),
     ("a version for sums", "rapidsum -a v3-m", "rapidsum|-a|v3-micro"),
+    ("a version after an equals sign", "rapidsum --algorithm=v3-m", "rapidsum|--algorithm=v3-micro"),
     ("a list of names for sums", "rapidsum --files0-from=o", "rapidsum|--files0-from=only"),
     ("a hyphen before two hyphens", "rapidsum -d", "rapidsum|-d"),
     ("a hyphen after two hyphens", "rapidsum -- -d", "rapidsum|--|-dash"),
