@@ -113,6 +113,15 @@ static int read_item(PyObject *item, struct message *message)
     return -1;
 }
 
+/* Returns whether hashes of earlier items have overwritten a message. If so, sets an error. */
+static int is_overwritten(const struct column *column, Py_ssize_t at, const struct message *message)
+{
+    Py_buffer written = column->out;
+    written.len = 8 * at;
+    return at > 0 && message->buffer.obj != NULL && message->len > 0 &&
+           overlaps(&written, &message->buffer, "an item");
+}
+
 /* Without the global lock, another thread can remove the item before this one holds it. */
 PyObject *item_of(PyObject *items, int is_list, Py_ssize_t at)
 {
@@ -136,6 +145,10 @@ static int hash_item(const struct column *column, Py_ssize_t at, PyObject *item)
         return put_hash(column, at, column->missing), 0;
     if (read_item(item, &message) < 0)
         return name_item(at, item), -1;
+    if (is_overwritten(column, at, &message)) {
+        release_message(&message);
+        return -1;
+    }
     if (message.len > LONG) {
         Py_BEGIN_ALLOW_THREADS
         put(column, at, message.bytes, message.len);

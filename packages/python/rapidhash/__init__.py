@@ -90,7 +90,7 @@ def each(items, version="v3", seed=None, secrets=None, out=None, missing=None):
     returns it. If a call raises an error, the contents of `out` are unspecified. `missing`, an integer, is the hash of
     an item that is None, null in Arrow, masked in NumPy, or missing in a Series of pandas. Without it, such an item
     raises TypeError. So does a number: `each_key` hashes integers. Raises ValueError if `out` overlaps an Arrow
-    array."""
+    array, or a later item."""
     if isinstance(items, (str, bytes, bytearray)) or hasattr(items, "columns"):
         raise TypeError(f"items must be an iterable of messages, not {type(items)!r}")
     if hasattr(items, "__arrow_c_array__"):

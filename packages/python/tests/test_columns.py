@@ -144,12 +144,16 @@ class Out(unittest.TestCase):
             (lambda: rapidhash.each([b""], out=array.array("d", [0])), TypeError, "out must be a buffer of unsigned"),
             (lambda: rapidhash.each([b""], out=bytes(8)), BufferError, ""),
             (lambda: rapidhash.each([b"", b""], out=memoryview(array.array("Q", bytes(32)))[::2]), BufferError, ""),
+            (lambda: rapidhash.each([b"", two[:1]], out=two), ValueError, "out must not overlap an item$"),
             (lambda: rapidhash.each_row(one, 8, out=one), ValueError, "out must not overlap data"),
             (lambda: rapidhash.each_slice(b"", two[:2], out=two[1:2]), ValueError, "out must not overlap offsets$"),
             (lambda: rapidhash.each_slice(one, array.array("i", [0, 1]), out=one), ValueError, "out must not overlap"),
         ):
             with self.assertRaisesRegex(kind, f"^{error}"):
                 call()
+        two[0] = two[1] = 7
+        each = rapidhash.each([bytes(two[:1])] * 2)
+        self.assertEqual(rapidhash.each([two[:1], two[1:]], out=two).tolist(), list(each))  # A row is read before.
 
     def test_buffers_are_released(self):
         rows, room, offsets = bytearray(16), array.array("Q", [0, 0]), array.array("i", [0, 8, 16])
