@@ -87,11 +87,14 @@ static int open_validity(PyObject *validity, PyObject *missing, struct slices *s
         return 0;
     if (missing == Py_None)
         return PyErr_SetString(PyExc_TypeError, "pass `missing`, the hash of a missing string, with validity"), -1;
-    if (PyObject_GetBuffer(validity, buffer, PyBUF_SIMPLE) < 0)
+    if (PyObject_GetBuffer(validity, buffer, PyBUF_FORMAT | PyBUF_C_CONTIGUOUS) < 0)
         return -1;
-    if (slices->size <= 8 * (size_t)buffer->len)
+    if (buffer->format != NULL && strchr(buffer->format, '?') != NULL)
+        PyErr_Format(PyExc_TypeError, "validity must have a bit for each string, not a bool: %R", Py_TYPE(validity));
+    else if (slices->size <= 8 * (size_t)buffer->len)
         return 0;
-    PyErr_Format(PyExc_ValueError, "validity must have a bit for each of %zu strings, and it has %zd bytes",
+    else
+        PyErr_Format(PyExc_ValueError, "validity must have a bit for each of %zu strings, and it has %zd bytes",
                  slices->size, buffer->len);
     PyBuffer_Release(buffer);
     return -1;

@@ -131,7 +131,7 @@ def each_slice(data, offsets, version="v3", seed=None, secrets=None, out=None, v
 
     `offsets` is a buffer of 32-bit or 64-bit integers. `validity` is a buffer with a bit for each slice, the lowest of
     a byte first: `missing` is the hash of a slice whose bit is 0. Raises ValueError if the offsets do not ascend within
-    `data`, if there are too few bits, or if `out` overlaps another argument."""
+    `data`, if there are too few bits, or if `out` overlaps another argument, and TypeError for an array of bools."""
     view = memoryview(offsets)
     out = _room(max(view.nbytes // max(view.itemsize, 1) - 1, 0)) if out is None else out
     _extension.each_slice(data, version, seed, secrets, out, missing, view, validity)

@@ -75,6 +75,8 @@ class Missing(unittest.TestCase):
                  "^pass `missing`, the hash of a missing string, with validity$"),
                 (lambda: rapidhash.each_slice(data, places, validity=bits[:1], missing=0), ValueError,
                  "^validity must have a bit for each of 10 strings, and it has 1 bytes$"),
+                (lambda: rapidhash.each_slice(data, places, validity=memoryview(bits * 5).cast("?"), missing=0),
+                 TypeError, "^validity must have a bit for each string, not a bool: <class 'memoryview'>$"),
                 (lambda: rapidhash.each_slice(data, places, validity="text", missing=0), TypeError,
                  "bytes-like object"),
                 (lambda: rapidhash.each_slice(b"ab", array.array("i", [0, 2, 1]), validity=b"\0", missing=0),
