@@ -95,7 +95,7 @@ static int open_validity(PyObject *validity, PyObject *missing, struct slices *s
         return 0;
     else
         PyErr_Format(PyExc_ValueError, "validity must have a bit for each of %zu strings, and it has %zd bytes",
-                 slices->size, buffer->len);
+                     slices->size, buffer->len);
     PyBuffer_Release(buffer);
     return -1;
 }
