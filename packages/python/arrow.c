@@ -103,7 +103,10 @@ PyObject *arrow(PyObject *module, PyObject *const *args, Py_ssize_t count)
     PyObject *schema, *array, *capsule = NULL, *result = NULL;
     char why[80] = "";
     (void)module;
-    if (pair != NULL && PyArg_Parse(pair, "(OO)", &schema, &array))
+    /* Another sequence could create its items anew, which nothing holds. */
+    if (pair != NULL && !PyTuple_Check(pair))
+        PyErr_Format(PyExc_TypeError, "%S: __arrow_c_array__ must return a tuple, not %R", args[1], Py_TYPE(pair));
+    else if (pair != NULL && PyArg_ParseTuple(pair, "OO", &schema, &array))
         capsule = take(schema, array);
     Py_XDECREF(pair);
     Py_XDECREF(lend);

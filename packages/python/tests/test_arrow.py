@@ -236,8 +236,13 @@ class Arrow(unittest.TestCase):
         self.assertTrue(lets_others_run(lambda: rapidhash.each(column), 20_000))
 
     def test_what_is_no_pair(self):
-        for pair in (None, 7, (), (1, 2), (1, 2, 3)):
-            with self.assertRaises((TypeError, ValueError)):
+        texts = Column("u", ["a"])
+        fresh = type("Fresh", (list,), {"__getitem__": lambda self, at: texts.__arrow_c_array__()[at]})
+        for pair in (None, 7, (), (1, 2), (1, 2, 3), fresh([1, 2])):
+            kinds, error = (TypeError, ValueError), ""
+            if not isinstance(pair, tuple):
+                kinds, error = TypeError, "^items: __arrow_c_array__ must return a tuple, not <class "
+            with self.assertRaisesRegex(kinds, error):
                 rapidhash.each(type("Odd", (), {"__arrow_c_array__": lambda self: pair})())
 
 
