@@ -113,13 +113,12 @@ static int read_item(PyObject *item, struct message *message)
     return -1;
 }
 
-/* Returns whether hashes of earlier items have overwritten a message. If so, sets an error. */
-static int is_overwritten(const struct column *column, Py_ssize_t at, const struct message *message)
+int is_overwritten(const Py_buffer *out, Py_ssize_t hashes, const struct message *message, const char *name)
 {
-    Py_buffer written = column->out;
-    written.len = 8 * at;
-    return at > 0 && message->buffer.obj != NULL && message->len > 0 &&
-           overlaps(&written, &message->buffer, "an item");
+    Py_buffer written = *out;
+    written.len = 8 * hashes;
+    return hashes > 0 && message->buffer.obj != NULL && message->len > 0 &&
+           overlaps(&written, &message->buffer, name);
 }
 
 /* Without the global lock, another thread can remove the item before this one holds it. */
@@ -145,7 +144,7 @@ static int hash_item(const struct column *column, Py_ssize_t at, PyObject *item)
         return put_hash(column, at, column->missing), 0;
     if (read_item(item, &message) < 0)
         return name_item(at, item), -1;
-    if (is_overwritten(column, at, &message)) {
+    if (is_overwritten(&column->out, at, &message, "an item")) {
         release_message(&message);
         return -1;
     }

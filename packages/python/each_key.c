@@ -144,21 +144,22 @@ static int hash_rows(const struct fields *fields, Py_ssize_t columns, Py_ssize_t
 
 /* Hashes the rows, without the global lock if no column has items. Returns 0, or -1 with an error set. */
 static int run_rows(const struct fields *fields, Py_ssize_t columns, Py_ssize_t rows,
-                    const struct rapidhash_secrets *secrets, char *out)
+                    const struct rapidhash_secrets *secrets, const Py_buffer *out)
 {
     struct key key;
     Py_ssize_t at, place[2];
     int status, has_items = 0;
     key.secrets = secrets;
     key.integers = NULL;
+    key.out = out;
     for (at = 0; at < columns; at++)
         has_items |= fields[at].items != NULL;
     if (has_items) {
-        status = hash_rows(fields, columns, rows, &key, out, place);
+        status = hash_rows(fields, columns, rows, &key, out->buf, place);
         release_key(&key);
     } else {
         Py_BEGIN_ALLOW_THREADS
-        status = hash_rows(fields, columns, rows, &key, out, place);
+        status = hash_rows(fields, columns, rows, &key, out->buf, place);
         Py_END_ALLOW_THREADS
     }
     if (status == TOO_LARGE)
@@ -200,7 +201,7 @@ PyObject *each_key(PyObject *module, PyObject *const *args, Py_ssize_t count)
     if (opened == columns && read_own(module, args[1], args[2], &own) == 0 &&
         open_out(args[3], (size_t)rows, &out) == 0) {
         if (!overwrites(&out, fields, columns))
-            status = run_rows(fields, columns, rows, &own, out.buf);
+            status = run_rows(fields, columns, rows, &own, &out);
         PyBuffer_Release(&out);
     }
     while (opened-- > 0)

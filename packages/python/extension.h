@@ -75,6 +75,9 @@ int overlaps(const Py_buffer *out, const Py_buffer *buffer, const char *name);
 /* Does the same for the items of a buffer in one dimension, which have this stride. */
 int overlaps_items(const Py_buffer *out, const Py_buffer *items, Py_ssize_t stride, const char *name);
 
+/* Returns whether the first hashes have overwritten a message. If so, sets an error. */
+int is_overwritten(const Py_buffer *out, Py_ssize_t hashes, const struct message *message, const char *name);
+
 /* Returns a new reference to an item of a list or tuple, or NULL with an error set. */
 PyObject *item_of(PyObject *items, int is_list, Py_ssize_t at);
 

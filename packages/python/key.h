@@ -5,10 +5,11 @@
 #include <rapidhash_c.h>
 
 /* The encoding of a key. A long one is in the stream, but for its last bytes. `integers` is NULL, or a type that is
- * known to have integers. */
+ * known to have integers, and `out` is NULL, or the buffer of the hashes of rows. */
 struct key {
     const struct rapidhash_secrets *secrets;
     void *integers;
+    const void *out;
     struct rapidhash_stream stream;
     int is_long;
     size_t len;

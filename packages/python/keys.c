@@ -60,7 +60,9 @@ static int add_bytes(PyObject *field, Py_ssize_t at, Py_ssize_t row, struct key 
         message.len = (size_t)buffer->len;
         are_bytes = buffer->format == NULL || strcmp(buffer->format, "B") == 0;
     }
-    if (are_bytes) {
+    if (are_bytes && key->out != NULL && is_overwritten(key->out, row, &message, "a field")) {
+        are_bytes = 0;
+    } else if (are_bytes) {
         append_number(key, 2, message.len);
         append(key, message.bytes, message.len);
     } else {
@@ -121,6 +123,7 @@ PyObject *key_of(PyObject *module, PyObject *const *args, Py_ssize_t count)
         return NULL;
     key.secrets = &own;
     key.integers = NULL;
+    key.out = NULL;
     key.is_long = 0;
     key.len = 0;
     for (at = 0; at < size; at++)

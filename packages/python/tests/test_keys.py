@@ -63,6 +63,10 @@ class Keys(unittest.TestCase):
         words = memoryview(array.array("Q", [0, 0, 0]))
         with self.assertRaisesRegex(ValueError, r"^out must not overlap columns\[1\]$"):
             rapidhash.each_key([1, 2], words[:2], out=words[1:])
+        field = words.cast("B")[:8]
+        self.assertEqual(rapidhash.each_key([field, b""], out=words[:2])[0], rapidhash.v3_key(bytes(8)))
+        with self.assertRaisesRegex(ValueError, "^out must not overlap a field$"):
+            rapidhash.each_key([None, field], out=words[:2])
 
     def test_what_is_no_field(self):
         class Date(bytearray):  # as a date of NumPy, which has a buffer
