@@ -143,8 +143,8 @@ class Arrow(unittest.TestCase):
         kinds = "must be an Arrow array of strings, bytes or integers, "
         short, below = ([None, array.array("i", places).tobytes(), b"ab"] for places in ([0, 2, 1], [-1, 1]))
         ones = array.array("i", range(9)).tobytes()
-        room = array.array("Q", [0] * 4)
-        place = room.buffer_info()[0]
+        held = array.array("Q", [0] * 6)
+        room, place = memoryview(held)[:4], held.buffer_info()[0]
         each, key = rapidhash.each, rapidhash.each_key
         for call, kind, error in (
                 (lambda: each(self.column("u", TEXTS)), TypeError,
