@@ -46,9 +46,16 @@ leaves_nothing() {
   (cd "$room/source" && find . | sort) | diff "$room/listed" -
 }
 
+# Checks that a build can write to its copy of a directory that is read-only.
+copies_what_is_read_only() {
+  cd "$room/source/packages/python" && chmod a-w . && "$python" -Bc 'import backend, os
+with backend._setuptools_in_a_copy():
+    assert os.stat(".").st_mode & 0o200' && chmod u+w .
+}
+
 # Installs from the directory, as pip install ./packages/python does, with Debian's setuptools.
 installs_from_source() {
-  "$python" -m venv --system-site-packages "$room/compiled" &&
+  copies_what_is_read_only && "$python" -m venv --system-site-packages "$room/compiled" &&
     "$room/compiled/bin/pip" install --no-build-isolation "$room/source/packages/python" && leaves_nothing && cd / &&
     "$room/compiled/bin/python" -c 'import rapidhash; print(rapidhash.v3(b"hello"))' | grep -x 3327445792987248966
 }
