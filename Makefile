@@ -153,7 +153,7 @@ words_of_sums = tool sums
 
 # scripts/install reads the directories from variables, so that the shell interprets none of their characters.
 folders = PREFIX BINDIR LIBDIR INCLUDEDIR DATADIR DESTDIR
-$(foreach name,$(folders),$(eval install uninstall: export $(name) := $$($(name))))
+$(foreach name,$(folders),$(eval install uninstall installcheck: export $(name) := $$($(name))))
 
 install:
 	@$(MAKE) -q --no-print-directory built || \
@@ -166,12 +166,12 @@ uninstall:
 
 # Replays the cases with the installed library, and asks the installed programs for a known hash.
 installcheck:
-	@mkdir -p build && cc -O2 -DRAPIDHASH_LINK -I'$(DESTDIR)$(INCLUDEDIR)' packages/c/tests/cases.c \
-	  -L'$(DESTDIR)$(LIBDIR)' -Wl,-rpath,'$(DESTDIR)$(LIBDIR)' -lrapidhash_c -o build/installcheck
+	@mkdir -p build && cc -O2 -DRAPIDHASH_LINK -I"$$DESTDIR$$INCLUDEDIR" packages/c/tests/cases.c \
+	  -L"$$DESTDIR$$LIBDIR" -Wl,-rpath,"$$DESTDIR$$LIBDIR" -lrapidhash_c -o build/installcheck
 	@build/installcheck <crates/test_replay/data/cases.tsv
-	@if [ -e '$(DESTDIR)$(BINDIR)/rapidsum' ]; then \
-	  [ "$$(echo something | '$(DESTDIR)$(BINDIR)/rapidhash' --v1)" = 15965596575264898037 ] && \
-	  [ "$$(echo something | '$(DESTDIR)$(BINDIR)/rapidsum')" = 'a1266b469390773a  -' ] && \
+	@if [ -e "$$DESTDIR$$BINDIR/rapidsum" ]; then \
+	  [ "$$(echo something | "$$DESTDIR$$BINDIR/rapidhash" --v1)" = 15965596575264898037 ] && \
+	  [ "$$(echo something | "$$DESTDIR$$BINDIR/rapidsum")" = 'a1266b469390773a  -' ] && \
 	  echo 'the programs have known hashes'; \
 	else echo 'no programs are installed'; fi
 
@@ -179,7 +179,7 @@ help:
 	@sed -n '/^# /!q; s/^# //p' Makefile
 
 vendor:
-	@scripts/vendor "$(INTO)"
+	@scripts/vendor "$$INTO"
 
 clean:
 	rm -rf crates/*/out build

@@ -11,7 +11,7 @@ dist:
 	@$(call needs_the_kit,dist)
 	$(MAKE) -s all $(packed)
 	rm -rf build/$(name)
-	$(MAKE) -s install DESTDIR= PREFIX='$(CURDIR)/build/$(name)'
+	$(MAKE) -s install DESTDIR= PREFIX="$$PWD/build/$(name)"
 	tar --exclude=__pycache__ --exclude=target --exclude=Cargo.lock --exclude=tests --exclude=make.mk -hcf - \
 	  packages/c/include \
 	  packages/go packages/java packages/postgresql packages/python packages/rust packages/sqlite | \

@@ -3,7 +3,7 @@ build/cargo/release/rapid%: $(wildcard packages/rust/*.toml packages/rust/build.
     $(shell find packages/rust/src packages/rust/tools/src -name '*.rs' 2>/dev/null)
 	@command -v cargo >/dev/null || { echo 'make: neither rt, of the Rattle kit, nor cargo is on PATH' >&2; exit 2; }
 	@$(unproved)
-	@cd packages/rust/tools && CARGO_TARGET_DIR='$(CURDIR)/build/cargo' CARGO_PROFILE_RELEASE_LTO=fat \
+	@cd packages/rust/tools && CARGO_TARGET_DIR=../../../build/cargo CARGO_PROFILE_RELEASE_LTO=fat \
 	  CARGO_PROFILE_RELEASE_CODEGEN_UNITS=1 CARGO_PROFILE_RELEASE_PANIC=abort CARGO_PROFILE_RELEASE_STRIP=symbols \
 	  cargo build --release --offline --quiet --bin rapid$*
 	@touch $@

@@ -240,6 +240,11 @@ has_the_modes() {
       <(printf '%s\n' librapidhash_c.so.1; ! has "$builder" || printf '%s\n' rapidhash rapidsum)
 }
 
+# Checks that the installed files pass in a stage with a quote in its name.
+checks_a_stage() {
+  ln -s "$room" "$room/a'b" && make -s -C "$top" installcheck DESTDIR="$room/a'b" PREFIX=/usr
+}
+
 # Checks that a removal leaves a file of another alone, and no directory of its own.
 removes_its_files() {
   mkdir -p "$prefix/bin" && echo mine >"$prefix/bin/mine" && make -s -C "$top" uninstall PREFIX="$prefix" &&
@@ -250,7 +255,7 @@ try build make -s -C "$top"
 try build_again builds_nothing_anew
 try install installs PREFIX="$prefix"
 try_with program "$builder" prints_the_known_hash "$prefix"
-try installcheck make -s -C "$top" installcheck PREFIX="$prefix"
+try installcheck checks_a_stage
 try_with program_of_sums "$builder" prints_and_checks_a_sum
 try_with shared_library pkg-config builds_by_pkg_config "$prefix/lib"
 try_with first_program 'pkg-config c++' runs_as_the_pages_say

@@ -3,8 +3,8 @@
 # Runs bin/rapidhash in a small copy of the repository. A script instead of rt builds a program that prints the sources
 # and its arguments, so no case needs a proof.
 . "$(dirname "$0")/../../../tests/cases.sh"
-# A checkout may be below a directory with a space.
-place="$room/a b"
+# A checkout may be below a directory with a space or a quote.
+place="$room/a 'b"
 mkdir "$place" && cd "$place" || exit 1
 
 # The substitute for rt. For the program, it waits for the lock as rt does, reads the text of the sources, runs the file
