@@ -24,7 +24,7 @@ def _setuptools_in_a_copy():
     with tempfile.TemporaryDirectory() as room:
         copy = Path(room) / "copy"
         shutil.copytree(HERE, copy, ignore=shutil.ignore_patterns("__pycache__", "build", "dist", "*.egg-info"))
-        copy.chmod(0o755)  # That of a directory that is read-only would be too.
+        copy.chmod(0o755)  # The copy of a read-only directory is read-only too.
         for path in map(Path, SHARED):
             if not (HERE / path.name).exists():
                 shutil.copy(HERE.parent.parent / path, copy)
