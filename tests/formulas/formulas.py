@@ -54,6 +54,9 @@ NATIVE, CUT, CUTS, CRATE, CRATE_V3 = (int(it.replace(",", "")) for it in re.find
 STREAMS = (CUT + 1) * (CUT + 2) // 2 + CUTS + 1
 COUNTS = {"native": 8 * (17 * 64 + NATIVE - 16) + 3 * STREAMS, "v3": 17 * 64 + NATIVE - 16,
           "kernels": 46 * (17 * 64 + CRATE - 16) + 10 * (17 * 64 + CRATE_V3 - 16) + 12 * STREAMS}
+# What the definition has here in place of its own text: random loads and a random product.
+RANDOM = {"rapidhash_portable::": "crate::", "crate::product::high_half": "crate::util::rapid_mum",
+          "(a.wrapping_mul(b), high_half(a, b))": "rapid_mum::<false>(a, b)"}
 
 
 def build_definition():
@@ -64,7 +67,9 @@ def build_definition():
     for crate, names in sources.items():
         for name in names.split():
             text = erase((TOP / "crates" / crate / "src" / f"{name}.rt").read_text())
-            (folder / f"{name}.rs").write_text(text.replace("rapidhash_portable::", "crate::"))
+            for own, random in RANDOM.items():
+                text = text.replace(own, random)
+            (folder / f"{name}.rs").write_text(text)
     for name in ("util", "main"):
         shutil.copy(FOLDER / f"{name}.rs", folder)
     return shell("rustc -O --edition 2021 -A dead_code definition/main.rs -o compare", ROOM)
