@@ -139,15 +139,15 @@ REPLACED = [
     ("tools/src/proved/rapidsum/main tools/src/proved/rapidhash", "#![forbid(unsafe_code)]", "#![deny(unsafe_code)]",
      "Rust's runtime ignores the signal, and opens closed streams"),
     ("tools/src/proved/rapidsum/main", "mod usage;\n",
-     "mod usage;\n\n#[cfg(unix)]\n#[path = \"../../kit/closed.rs\"]\nmod closed;\n"
-     "#[cfg(unix)]\n#[path = \"../../kit/pipe.rs\"]\nmod pipe;\n", "as above"),
+     "mod usage;\n\n#[cfg(unix)]\n#[path = \"../../kit/pipe.rs\"]\nmod pipe;\n"
+     "#[cfg(unix)]\n#[path = \"../../kit/streams.rs\"]\nmod streams;\n", "as above"),
     ("tools/src/proved/rapidsum/main", "    let rt = HostRuntime::new();\n",
-     "    #[cfg(unix)]\n    pipe::restore();\n    #[cfg(unix)]\n    closed::refuse();\n"
+     "    #[cfg(unix)]\n    pipe::restore();\n    #[cfg(unix)]\n    streams::tell();\n"
      "    let rt = HostRuntime::new();\n", "as above"),
     ("tools/src/proved/rapidhash", "    let rt = HostRuntime::new();\n",
-     "    #[cfg(unix)]\n    closed::refuse();\n    let rt = HostRuntime::new();\n", "as above"),
+     "    #[cfg(unix)]\n    streams::tell();\n    let rt = HostRuntime::new();\n", "as above"),
     ("tools/src/proved/rapidhash", "use std::process::ExitCode;\n",
-     "use std::process::ExitCode;\n\n#[cfg(unix)]\n#[path = \"../kit/closed.rs\"]\nmod closed;\n", "as above"),
+     "use std::process::ExitCode;\n\n#[cfg(unix)]\n#[path = \"../kit/streams.rs\"]\nmod streams;\n", "as above"),
     ("tools/src/proved/rapidsum/main",
      "        Err(problem) if problem.is_broken_pipe() => ExitCode::from(BROKEN_PIPE),\n", "", "as above"),
     ("tools/src/proved/rapidsum/problem", "    /// Returns whether a line was written to a pipe",

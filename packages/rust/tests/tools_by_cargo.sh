@@ -11,9 +11,9 @@ cd "$top/packages/rust/tools" || exit 1
 prepare_by make -s -C "$top" kit= build/cargo/release/rapid{hash,sum}
 try_with layout cargo-fmt cargo fmt --check
 try_with lints cargo-clippy env CARGO_TARGET_DIR="$top/build/cargo" cargo clippy --release -- -D warnings
-# The signal of a closed pipe and streams that are closed at the start alone need unsafe code.
+# The signal of a closed pipe and the state of the standard streams alone need unsafe code.
 try no_other_unsafe bash -c '[ "$(grep -rlE "^#!\[(forbid|deny)\(unsafe_code\)\]$" src | wc -l)" -eq 3 ] &&
-  [ "$(grep -rl "allow(unsafe_code)" src | sort | xargs)" = "src/kit/closed.rs src/kit/pipe.rs" ]'
+  [ "$(grep -rl "allow(unsafe_code)" src | sort | xargs)" = "src/kit/pipe.rs src/kit/streams.rs" ]'
 for script in rapidhash_cli rapidsum; do
   has rt || break
   BUILT=$built/${script%_cli} "$top/packages/tools/tests/$script.sh" >"$room/lines" || failed=$((failed + 1))

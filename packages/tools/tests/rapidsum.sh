@@ -407,25 +407,17 @@ writes_whole_lines() {
     sed 's/.*= //' "$room/calls" | awk '$1 > 4096 { exit 1 }' &&
     grep -q 'at most 4 KiB, or one longer line, elsewhere' "$top/packages/tools/rapidsum.1"
 }
-traced="strace -qqo calls -e trace=write $program first first"
 writes_lines() {
-  rm -f calls
-  can_trace && script -qec "$1" log </dev/null >/dev/null 2>&1 &&
+  can_trace && script -qec "strace -qqo calls -e trace=write $program first first" log </dev/null >/dev/null 2>&1 &&
     [ "$(grep -c 'write(1, "a1266b469390773a' calls)" -eq 2 ]
 }
 try blocks_of_lines writes_blocks
 try whole_lines_into_a_pipe writes_whole_lines
-try lines_on_a_terminal writes_lines "$traced"
-# A console is no window: here it has the name /dev/tty9.
-if unshare -m mount --bind /dev/null /dev/tty9 2>/dev/null; then
-  try lines_on_a_console writes_lines "unshare -m sh -c 'mount --bind \$(tty) /dev/tty9 && $traced >/dev/tty9'"
-else
-  skip lines_on_a_console 'no mounts here'
-fi
+try lines_on_a_terminal writes_lines
 # Whether standard error is a terminal is asked once, for all files.
 asks_once() {
-  can_trace && strace -qqo "$room/calls" -e trace=readlink,ioctl "$program" first first first &&
-    [ "$(grep -cE '"/proc/self/fd/2"|ioctl\(2,' "$room/calls")" -eq 1 ]
+  can_trace && strace -qqo "$room/calls" -e trace=ioctl "$program" first first first &&
+    [ "$(grep -c 'ioctl(2,' "$room/calls")" -eq 1 ]
 }
 try asks_for_a_terminal_once asks_once
 answers no_progress_elsewhere 'c266dafd0143ba3a  sparse\n' '' "$program" sparse

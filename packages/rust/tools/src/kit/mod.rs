@@ -10,7 +10,7 @@ pub use alloc::Vec;
 use alloc::{AllocError, AllocFailed, Global};
 use std::fmt;
 use std::io::{self, ErrorKind, Read, Write};
-use std::path::{Path, PathBuf};
+use std::path::Path;
 use std::sync::atomic::{AtomicUsize, Ordering};
 
 /// The options of the hashes, as the library names them.
@@ -85,31 +85,28 @@ impl HostRuntime {
     }
 }
 
-/// Returns whether a standard stream is a terminal. `std` has this only from Rust 1.70 on, so the start of the
-/// device's name decides, on Linux: a serial console is /dev/ttyS0.
-fn is_terminal(stream: &str) -> bool {
-    let is_one = |path: PathBuf| {
-        let path = path.to_string_lossy();
-        ["/dev/pts/", "/dev/tty", "/dev/console", "/dev/hvc"]
-            .iter()
-            .any(|start| path.starts_with(start))
-    };
-    std::fs::read_link(stream).map_or(false, is_one)
-}
-
-/// The standard streams that were closed when the program started, as bits.
-static CLOSED: AtomicUsize = AtomicUsize::new(0);
-/// The error of a descriptor that is not open.
+/// The standard streams that were closed when the program started, or opened for the other direction, as bits.
+static UNUSABLE: AtomicUsize = AtomicUsize::new(0);
+/// The standard streams that are terminals, as bits.
+static TERMINALS: AtomicUsize = AtomicUsize::new(0);
+/// The error of a descriptor that is not open, or not in this direction.
 const EBADF: i32 = 9;
 
-/// Sets which standard streams are closed: bit 0 for the input, bit 1 for the output.
-pub fn set_closed(streams: usize) {
-    CLOSED.store(streams, Ordering::Relaxed);
+/// Sets which standard streams cannot be used, and which are terminals: bit 0 for the input, bit 1 for the output, and
+/// bit 2 for errors.
+pub fn set_streams(unusable: usize, terminals: usize) {
+    UNUSABLE.store(unusable, Ordering::Relaxed);
+    TERMINALS.store(terminals, Ordering::Relaxed);
 }
 
-/// Fails if a standard stream is closed.
-fn check_open(stream: usize) -> io::Result<()> {
-    if (CLOSED.load(Ordering::Relaxed) >> stream) & 1 == 1 {
+/// Returns whether a standard stream is one of these.
+fn is_among(streams: &AtomicUsize, stream: usize) -> bool {
+    (streams.load(Ordering::Relaxed) >> stream) & 1 == 1
+}
+
+/// Fails if a standard stream cannot be used.
+fn check_usable(stream: usize) -> io::Result<()> {
+    if is_among(&UNUSABLE, stream) {
         return Err(io::Error::from_raw_os_error(EBADF));
     }
     Ok(())
@@ -120,7 +117,7 @@ pub struct Stdin(io::Stdin);
 
 impl Read for Stdin {
     fn read(&mut self, buf: &mut [u8]) -> io::Result<usize> {
-        check_open(0)?;
+        check_usable(0)?;
         self.0.read(buf)
     }
 }
@@ -131,13 +128,13 @@ pub struct Stdout;
 impl Stdout {
     /// Returns whether it is a terminal.
     pub fn is_terminal(&self) -> bool {
-        is_terminal("/proc/self/fd/1")
+        is_among(&TERMINALS, 1)
     }
 }
 
 impl Write for Stdout {
     fn write(&mut self, buf: &[u8]) -> io::Result<usize> {
-        check_open(1)?;
+        check_usable(1)?;
         let mut out = io::stdout().lock();
         let count = out.write(buf)?;
         out.flush()?;
@@ -155,7 +152,7 @@ pub struct Stderr;
 impl Stderr {
     /// Returns whether it is a terminal.
     pub fn is_terminal(&self) -> bool {
-        is_terminal("/proc/self/fd/2")
+        is_among(&TERMINALS, 2)
     }
 }
 

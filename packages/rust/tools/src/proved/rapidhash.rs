@@ -13,8 +13,8 @@ use std::io::{Error, ErrorKind, Write};
 use std::process::ExitCode;
 
 #[cfg(unix)]
-#[path = "../kit/closed.rs"]
-mod closed;
+#[path = "../kit/streams.rs"]
+mod streams;
 
 // All arguments, the program's name first. If one is not UTF-8, `env::args` fails and returns none.
 // The error is that of a file that cannot be opened, since such an argument nearly always names a
@@ -80,7 +80,7 @@ fn run(rt: &HostRuntime) -> Result<(), CliFault> {
 
 fn main() -> ExitCode {
     #[cfg(unix)]
-    closed::refuse();
+    streams::tell();
     let rt = HostRuntime::new();
     match run(&rt) {
         Ok(()) => ExitCode::SUCCESS,

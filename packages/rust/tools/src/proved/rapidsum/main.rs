@@ -27,11 +27,11 @@ mod tag;
 mod usage;
 
 #[cfg(unix)]
-#[path = "../../kit/closed.rs"]
-mod closed;
-#[cfg(unix)]
 #[path = "../../kit/pipe.rs"]
 mod pipe;
+#[cfg(unix)]
+#[path = "../../kit/streams.rs"]
+mod streams;
 
 use rapidhash_tool::kit::HostRuntime;
 use arguments::arguments_of;
@@ -63,7 +63,7 @@ fn main() -> ExitCode {
     #[cfg(unix)]
     pipe::restore();
     #[cfg(unix)]
-    closed::refuse();
+    streams::tell();
     let rt = HostRuntime::new();
     match run(&rt) {
         Ok(true) => ExitCode::SUCCESS,

@@ -1,5 +1,6 @@
-//! Standard streams that were closed when the program started, or opened for the other direction. Rust's runtime opens
-//! /dev/null for the former and hides the error of the latter: reads would find nothing and writes would be lost.
+//! What Rust's `std` does not tell of the standard streams. Its runtime opens /dev/null for those that were closed when
+//! the program started, and hides the errors of those that were opened for the other direction: reads would find
+//! nothing and writes would be lost. It knows terminals only from Rust 1.70 on.
 #![allow(unsafe_code)]
 
 use std::sync::atomic::{AtomicUsize, Ordering};
@@ -10,10 +11,11 @@ const O_ACCMODE: i32 = 3;
 const O_RDONLY: i32 = 0;
 const O_WRONLY: i32 = 1;
 
-static CLOSED: AtomicUsize = AtomicUsize::new(0);
+static UNUSABLE: AtomicUsize = AtomicUsize::new(0);
 
 extern "C" {
     fn fcntl(descriptor: i32, command: i32, ...) -> i32;
+    fn isatty(descriptor: i32) -> i32;
 }
 
 /// Runs before Rust's runtime, and records whether standard input can be read and standard output written.
@@ -27,12 +29,18 @@ extern "C" fn look() {
         // SAFETY: this command has no further argument, and changes nothing.
         let flags = unsafe { fcntl(stream, F_GETFL) };
         if flags == -1 || flags & O_ACCMODE == other {
-            CLOSED.fetch_or(1 << stream, Ordering::Relaxed);
+            UNUSABLE.fetch_or(1 << stream, Ordering::Relaxed);
         }
     }
 }
 
-/// Makes each use of such a stream fail.
-pub fn refuse() {
-    rapidhash_tool::kit::set_closed(CLOSED.load(Ordering::Relaxed));
+/// Makes each use of such a stream fail, and tells the programs which are terminals.
+pub fn tell() {
+    // SAFETY: this accepts each number, and changes nothing.
+    let is_terminal = |stream: &i32| unsafe { isatty(*stream) } == 1;
+    let terminals = [1, 2].iter().filter(|stream| is_terminal(stream));
+    rapidhash_tool::kit::set_streams(
+        UNUSABLE.load(Ordering::Relaxed),
+        terminals.map(|stream| 1 << stream).sum(),
+    );
 }
