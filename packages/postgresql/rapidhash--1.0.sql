@@ -45,8 +45,8 @@ CREATE OPERATOR CLASS rapidhash_v3_bytea_ops FOR TYPE bytea USING hash AS
     OPERATOR 1 =, FUNCTION 1 rapidhash_v3_ops(bytea), FUNCTION 2 rapidhash_v3_ops(bytea, bigint);
 
 -- Creates each version for bytea, text, and bigint: by default, with a seed, and with secrets made from a number. Those
--- that can be streamed are also aggregates. The script runs with all rights, so it never calls a function of the schema
--- where it creates its own, whose owner may have none.
+-- that can be streamed are also aggregates. The script runs as a superuser, so each call names the schema of its
+-- function: otherwise one that a user has created in the extension's schema could take its place.
 DO $body$
 DECLARE
     version text;

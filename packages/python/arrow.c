@@ -26,6 +26,7 @@ int find_bytes(const struct arrow *arrow, Py_ssize_t row, struct message *messag
     return from >= 0 && to >= from ? 0 : -1;
 }
 
+/* As overlaps_arrow, of a part that may be missing. */
 static int overlaps_part(const Py_buffer *out, const void *start, int64_t len, const char *name)
 {
     Py_buffer range = *out;
