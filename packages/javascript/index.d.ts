@@ -6,8 +6,8 @@ export type Message = string | ArrayBuffer | ArrayBufferView;
  * eight for every other version. Never both. A seed word does not protect against chosen input: use makeSecrets.
  */
 export type Options =
-  | { readonly seed?: bigint | number; readonly secrets?: undefined }
-  | { readonly seed?: undefined; readonly secrets?: BigUint64Array };
+  | { readonly seed?: bigint | number | undefined; readonly secrets?: undefined }
+  | { readonly seed?: undefined; readonly secrets?: BigUint64Array | undefined };
 
 /** A web stream, if it is not an async iterable. */
 export interface WebStream {

@@ -75,7 +75,8 @@ bundles() {
 
 # Compiles with all checks of tsc: ARGUMENT..
 compiles() {
-  cd "$room/first" && tsc --noEmit --strict --target es2020 --module node16 --moduleResolution node16 "$@"
+  cd "$room/first" && tsc --noEmit --strict --exactOptionalPropertyTypes --target es2020 --module node16 \
+    --moduleResolution node16 "$@"
 }
 
 # Starts a server for the temporary directory and stores its address in the variable `server`.

@@ -7,11 +7,14 @@ const later: Promise<Rapidhash> = load(new WebAssembly.Module(new Uint8Array(8))
 const data = new Uint8Array(3);
 const messages: Message[] = ["text", data, data.buffer, new DataView(data.buffer), new Float64Array(2)];
 const options: Options[] = [{}, { seed: 1 }, { seed: 1n }, { secrets: library.makeSecrets(1n) }];
+const optional = (seed?: bigint, secrets?: BigUint64Array): Options[] => [
+  { seed, secrets: undefined }, { seed: undefined, secrets }, ...options,
+];
 const hash: bigint = library.v3("text", { seed: 7n }) ^ library.v1(data) ^ library.v2_0(data);
 type Version = { [Name in keyof Rapidhash]: `${Name}Hex` extends keyof Rapidhash ? Name : never }[keyof Rapidhash];
 const hashes: Record<Version, (data: Message, options?: Options) => bigint> = library;
 const text: string = hex(hash) + library.v3Hex("text", { seed: 7n });
-const hasher: Hasher = new library.V3(options[1]).update(data).clone().reset();
+const hasher: Hasher = new library.V3(optional(1n)[0]).update(data).clone().reset();
 const digits: string = hasher.load(hasher.save()).digest("hex");
 
 async function pieces(): Promise<bigint> {
