@@ -118,14 +118,14 @@ export function isHex(encoding) {
 /** Returns the pieces of a web stream or a Node stream, or of a Blob, a File or a Response, which have one. Some
  * engines have no iterator for web streams. */
 export function piecesOf(source) {
+  // A stream that was read to its end would have no piece.
+  if (source?.bodyUsed === true || source?.readableEnded === true)
+    throw new TypeError("updateFrom: the source was read before");
   if (typeof source?.[Symbol.asyncIterator] === "function") return source;
   if (typeof source?.getReader === "function") return readAll(source.getReader());
   if (typeof source?.stream === "function") return piecesOf(source.stream());
-  if (typeof source?.arrayBuffer === "function" && source.body !== undefined) {
-    // Its stream would have no piece.
-    if (source.bodyUsed) throw new TypeError("updateFrom: the body of the source was read before");
+  if (typeof source?.arrayBuffer === "function" && source.body !== undefined)
     return source.body === null ? [] : piecesOf(source.body);
-  }
   throw new TypeError(`updateFrom: source must be a stream, a Blob, a Response, or another async iterable, not ${
     whatIs(source)}`);
 }

@@ -23,6 +23,10 @@ test("streams of Node", async () => {
     const text = createReadStream(large, "latin1");
     assert.equal((await new Stream().updateFrom(text)).digest(), value);
   }
+  const used = Readable.from(["text"]);
+  await new V3().updateFrom(used);
+  await assert.rejects(new V3().updateFrom(used), { name: "TypeError",
+    message: "updateFrom: the source was read before" });
   const odd = Readable.from([{ a: 7 }]);
   await assert.rejects(new V3().updateFrom(odd), { name: "TypeError", message: /^update: data must be a string/ });
   const missing = createReadStream(new URL("missing", import.meta.url));

@@ -189,7 +189,7 @@ test("a stream that fails, and what is none", async () => {
   const used = new Response("text");
   await new V3().updateFrom(used);
   await assert.rejects(new V3().updateFrom(used), { name: "TypeError",
-    message: "updateFrom: the body of the source was read before" });
+    message: "updateFrom: the source was read before" });
   let [cancelled, pulled] = [0, 0];
   const numbers = () => new ReadableStream({
     pull(controller) {
