@@ -12,6 +12,7 @@ ghost use Rattle.rapidsum.specs.Parse.{
   place_of,
   role_after,
   role_of,
+  value,
 };
 
 use crate::algorithm::version_named;
@@ -201,6 +202,9 @@ impl<'a> State<'a> {
             MayFollow rows.now (values_of self.entry.options) option →
             word.now ≡ 45 ∷ 45 ∷ text_of rows.now option →
             Adds self.entry.options option result }
+        ensures value { role_of self.entry.next ≡ value →
+            IfOk result (λ state. values_of state.options
+            ≡ with_value (values_of self.entry.options) (place_of self.entry.next) word.now) }
         ensures ended { role_of self.entry.next ≡ any → word.now ≡ 45 ∷ 45 ∷ [] →
             IsOkAnd result (λ state. values_of state.options ≡ values_of self.entry.options) }
     {
