@@ -61,8 +61,8 @@ inline secrets seed_secrets(seed start) noexcept
 }
 
 /* A view of bytes, the argument of the functions below. A std::string, string_view, vector, array, or span of bytes or
- * characters converts implicitly, and so do a C string, without its terminating zero, and an array of char, up to its
- * first zero or its end. It owns nothing. */
+ * characters converts implicitly, and so do a C string, without its terminating zero, an array of characters, up to its
+ * first zero or its end, and an array of other bytes as a whole. It owns nothing. */
 class bytes {
     template <class Range>
     using element = typename std::remove_pointer<decltype(std::declval<const Range &>().data())>::type;
@@ -70,21 +70,29 @@ class bytes {
     using if_byte = typename std::enable_if<
         sizeof(Element) == 1 && (std::is_integral<Element>::value || std::is_enum<Element>::value)
         && !std::is_same<typename std::remove_cv<Element>::type, bool>::value>::type;
+#ifdef __cpp_char8_t
+    using utf8 = char8_t;
+#else
+    using utf8 = char;
+#endif
+    template <class Element>
+    using is_character = std::integral_constant<bool, std::is_same<Element, char>::value
+                                                          || std::is_same<Element, utf8>::value>;
     template <class Text>
-    using if_text = typename std::enable_if<
-        std::is_same<Text, const char *>::value || std::is_same<Text, char *>::value, int>::type;
+    using if_text = typename std::enable_if<std::is_pointer<Text>::value && is_character<
+        typename std::remove_cv<typename std::remove_pointer<Text>::type>::type>::value, int>::type;
 
 public:
     bytes(const void *data, std::size_t size) noexcept : data_(chars(data)), size_(size) {}
+    template <class Text, if_text<typename std::decay<Text>::type> = 0>
+    RAPIDHASH_CONSTEXPR bytes(const Text &text, std::size_t size) noexcept : data_(chars(text)), size_(size) {}
     template <class Text, if_text<Text> = 0>
-    RAPIDHASH_CONSTEXPR bytes(const Text &text, std::size_t size) noexcept : data_(text), size_(size) {}
-    template <class Text, if_text<Text> = 0>
-    RAPIDHASH_CONSTEXPR bytes(const Text &text) noexcept : data_(text), size_(std::char_traits<char>::length(text)) {}
-    template <std::size_t Size>
-    RAPIDHASH_CONSTEXPR bytes(const char (&text)[Size]) noexcept : data_(text), size_(Size)
+    RAPIDHASH_CONSTEXPR bytes(const Text &text) noexcept : data_(chars(text)), size_(length(text)) {}
+    template <class Element, std::size_t Size, class = if_byte<Element>>
+    RAPIDHASH_CONSTEXPR bytes(const Element (&array)[Size]) noexcept : data_(chars(array)), size_(Size)
     {
-        if (const char *const end = std::char_traits<char>::find(text, Size, '\0'))
-            size_ = static_cast<std::size_t>(end - text);
+        if (is_character<Element>::value)
+            size_ = length_below(data_, Size);
     }
     bytes(std::nullptr_t) = delete;
     template <class Range, class = if_byte<element<Range>>>
@@ -96,6 +104,15 @@ public:
 private:
     static constexpr const char *chars(const char *data) noexcept { return data; }
     static const char *chars(const void *data) noexcept { return static_cast<const char *>(data); }
+    template <class Character> static RAPIDHASH_CONSTEXPR std::size_t length(const Character *text) noexcept
+    {
+        return std::char_traits<Character>::length(text);
+    }
+    static RAPIDHASH_CONSTEXPR std::size_t length_below(const char *text, std::size_t size) noexcept
+    {
+        const char *const end = std::char_traits<char>::find(text, size, '\0');
+        return end ? static_cast<std::size_t>(end - text) : size;
+    }
 
     const char *data_;
     std::size_t size_;
@@ -104,6 +121,10 @@ private:
 /* Selects a function for values that are neither a text nor bytes. */
 template <class Value>
 using if_no_bytes = typename std::enable_if<!std::is_convertible<const Value &, bytes>::value, int>::type;
+
+/* Selects a function for secrets, which a list in braces does not become. */
+template <class Secrets>
+using if_secrets = typename std::enable_if<std::is_base_of<secrets, Secrets>::value, int>::type;
 
 /* Returns the hash with the default seed and secrets, with a seed word, or with the caller's seed and secrets. A number
  * is neither: pass a pointer and a length as {pointer, length}, and a seed word as seed(word). */
@@ -121,20 +142,25 @@ RAPIDHASH_CONSTEXPR std::uint64_t hash(bytes message, seed start) noexcept
     return ::rapidhash_v3_with_seed(message.data(), message.size(), start.word);
 }
 
-RAPIDHASH_CONSTEXPR std::uint64_t hash(bytes message, const secrets &own) noexcept
+template <class Secrets, if_secrets<Secrets> = 0>
+RAPIDHASH_CONSTEXPR std::uint64_t hash(bytes message, const Secrets &own) noexcept
 {
     RAPIDHASH_IF_CONSTANT(constant::v3(message.data(), message.size(), own.seed, own.secrets));
     return ::rapidhash_v3_with_secrets(message.data(), message.size(), &own);
 }
 
-/* Hashes a message in pieces, with the version that a function of C starts. It contains its secrets and can be copied
- * and moved. One thread at a time. */
-template <void (&Start)(::rapidhash_stream *, const secrets *)>
+/* Hashes a message in pieces, by V3 with 7, 5 or 3 lanes. It contains its secrets and can be copied and moved. One
+ * thread at a time. */
+template <std::size_t Lanes>
 class basic_stream {
 public:
     basic_stream() noexcept : basic_stream(seed(0)) {}
     explicit basic_stream(seed start) noexcept : basic_stream(seed_secrets(start)) {}
-    explicit basic_stream(const secrets &own) noexcept : secrets_(own) { Start(&state_, &secrets_); }
+    template <class Secrets, if_secrets<Secrets> = 0>
+    explicit basic_stream(const Secrets &own) noexcept : secrets_(own)
+    {
+        ::rapidhash_stream_start_(&state_, Lanes, &secrets_);
+    }
     basic_stream(const basic_stream &other) noexcept { *this = other; }
 
     basic_stream &operator=(const basic_stream &other) noexcept
@@ -182,9 +208,9 @@ private:
     ::rapidhash_stream state_;
 };
 
-using stream = basic_stream<::rapidhash_v3_start>;
-using micro_stream = basic_stream<::rapidhash_v3_micro_start>;
-using nano_stream = basic_stream<::rapidhash_v3_nano_start>;
+using stream = basic_stream<7>;
+using micro_stream = basic_stream<5>;
+using nano_stream = basic_stream<3>;
 
 /* Convert a hash to 8 bytes, most significant first, and back: the same on every machine, so they can be stored. */
 inline std::array<unsigned char, 8> to_canonical(std::uint64_t hash) noexcept
@@ -224,7 +250,7 @@ RAPIDHASH_CONSTANT_ inline std::uint64_t fingerprint(const std::uint64_t *hashes
 
 /* Returns the same of a range, as a std::vector of hashes. */
 template <class Hashes>
-RAPIDHASH_CONSTANT_ std::uint64_t fingerprint(const Hashes &hashes) noexcept
+RAPIDHASH_CONSTANT_ std::uint64_t fingerprint(Hashes &&hashes) noexcept
 {
     std::uint64_t sum = 0;
     for (const auto &hash : hashes) {

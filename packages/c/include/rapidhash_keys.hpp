@@ -71,7 +71,7 @@ template <class Value, class = void> struct field {
 
 template <class Value> void add_field(::rapidhash_stream *state, const Value &value) noexcept
 {
-    field<Value>::add(state, value);
+    field<typename std::remove_cv<Value>::type>::add(state, value);
 }
 
 template <> struct field<std::nullptr_t> {
@@ -81,6 +81,8 @@ template <> struct field<std::nullptr_t> {
 template <class Integer>
 struct field<Integer, typename std::enable_if<std::is_integral<Integer>::value || std::is_enum<Integer>::value>::type> {
     static_assert(sizeof(Integer) <= 8, "an integer of a key has at most 64 bits");
+    static_assert(!std::is_same<Integer, char>::value,
+                  "a char has a sign on some machines alone: cast it to an unsigned char, or pass a text");
     static void add(::rapidhash_stream *state, Integer value) noexcept
     {
         ::rapidhash_key_integer(state, static_cast<std::int64_t>(value));
@@ -186,9 +188,11 @@ template <class Value> struct is_compound : std::false_type {};
 template <class Value> struct is_compound<std::optional<Value>> : std::true_type {};
 template <class... Values> struct is_compound<std::pair<Values...>> : std::true_type {};
 template <class... Values> struct is_compound<std::tuple<Values...>> : std::true_type {};
+template <> struct is_compound<std::nullptr_t> : std::true_type {};
 
 template <class Value> struct field<std::optional<Value>> {
-    static_assert(!is_compound<Value>::value, "an optional field is itself no optional, pair or tuple");
+    static_assert(!is_compound<typename std::remove_cv<Value>::type>::value,
+                  "an optional field is itself no optional, pair, tuple or nullptr");
     static void add(::rapidhash_stream *state, const std::optional<Value> &value) noexcept
     {
         value ? add_field(state, *value) : add_field(state, nullptr);
@@ -213,8 +217,8 @@ template <> struct field<std::filesystem::path> {
 
 /* Returns the hash of a key of several fields, the same in every language. An integer of more than 63 bits is its two's
  * complement. Different keys are different messages. */
-template <class... Fields>
-std::uint64_t key(const secrets &own, const Fields &...fields) noexcept
+template <class Secrets, class... Fields, if_secrets<Secrets> = 0>
+std::uint64_t key(const Secrets &own, const Fields &...fields) noexcept
 {
     ::rapidhash_stream state;
     ::rapidhash_v3_start(&state, &own);
@@ -236,12 +240,10 @@ std::uint64_t key(const Fields &...fields) noexcept
 }
 
 /* Hashes the keys of an unordered container with the default seed and secrets: a text or bytes by hash, and every other
- * value by key. It has no state, so that a table is as small as with std::hash. Since C++20, a container with
- * std::equal_to<> finds a std::string by a string_view or a C string, without a copy. Every bit of a hash depends on
- * each bit of the key, as is_avalanching tells other tables. */
+ * value by key. It has no state, so that a table is as small as with std::hash. Every bit of a hash depends on each bit
+ * of the key, as is_avalanching tells other tables. */
 class hasher {
 public:
-    using is_transparent = void;
     using is_avalanching = void;
 
     RAPIDHASH_CONSTEXPR std::size_t operator()(bytes value) const noexcept
@@ -257,11 +259,11 @@ public:
  *     0, rapidhash::seeded_hasher(rapidhash::make_secrets(number))); */
 class seeded_hasher {
 public:
-    using is_transparent = void;
     using is_avalanching = void;
 
     explicit seeded_hasher(seed start) noexcept : secrets_(seed_secrets(start)) {}
-    explicit seeded_hasher(const secrets &own) noexcept : secrets_(own) {}
+    template <class Secrets, if_secrets<Secrets> = 0>
+    explicit seeded_hasher(const Secrets &own) noexcept : secrets_(own) {}
 
     std::size_t operator()(bytes value) const noexcept { return static_cast<std::size_t>(hash(value, secrets_)); }
     template <class Value, if_no_bytes<Value> = 0>
@@ -270,6 +272,21 @@ public:
 private:
     secrets secrets_;
 };
+
+/* Hash texts and bytes alone. Since C++20, a container with std::equal_to<> finds a std::string by a string_view or a C
+ * string, without a copy. Values of other types may be equal and have different hashes, such as a path and a text. */
+template <class Hasher>
+class basic_text_hasher : private Hasher {
+public:
+    using is_transparent = void;
+    using is_avalanching = void;
+    using Hasher::Hasher;
+
+    RAPIDHASH_CONSTEXPR std::size_t operator()(bytes value) const noexcept { return Hasher::operator()(value); }
+};
+
+using text_hasher = basic_text_hasher<hasher>;
+using seeded_text_hasher = basic_text_hasher<seeded_hasher>;
 
 } /* namespace rapidhash */
 

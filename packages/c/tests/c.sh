@@ -131,7 +131,7 @@ int main()
 {
     const rapidhash::hasher hasher;
     const rapidhash::seeded_hasher seeded(rapidhash::seed(7));
-    const auto value = std::make_tuple(1, std::make_pair("a", 'b'), std::optional<long>(), std::filesystem::path("a/b"),
+    const auto value = std::make_tuple(1, std::make_pair("a", 2), std::optional<long>(), std::filesystem::path("a/b"),
                                        std::vector<bool>(), std::array<long, 1>(), std::chrono::system_clock::now());
     return hasher(value) == seeded(value) && rapidhash::micro_stream().update("a").finish() == rapidhash::hash("a");
 }
@@ -187,12 +187,23 @@ refuses_what_is_no_field() {
 std::uint64_t hash() { return rapidhash::key($value); }" && grep "$why" "$room/said" || { echo "$value" && return 1; }
   done <<VALUES
 static_cast<__int128>(1)|an integer of a key has at most 64 bits
+'a'|a char has a sign on some machines alone: cast it to an unsigned char, or pass a text
+{1, 2}|error: no matching function for call to .key
+{}|error: no matching function for call to .key
+{}, 5|error: no matching function for call to .key
+{1, 2, 3}|error: no matching function for call to .key
+rapidhash::hash("x", {std::uint64_t(5)})|error: .*\(would use explicit constructor\|no matching\)
+rapidhash::hash("x", {})|error: no matching function for call to .hash
+rapidhash::seeded_hasher({std::uint64_t(5)})(1)|error: .*\(would use explicit constructor\|no matching\)
+rapidhash::stream({std::uint64_t(5)}).finish()|error: .*\(would use explicit constructor\|no matching\)
 1.5|a field is nullptr, an integer, an enumerator, a text, bytes, a time, a duration, or a pair, tuple, vector, array, \
 span, optional or path
 std::wstring()|a field is nullptr, an integer,
-std::optional<std::optional<int>>()|an optional field is itself no optional, pair or tuple
+std::optional<std::optional<int>>()|an optional field is itself no optional, pair, tuple or nullptr
 std::optional<std::pair<int, int>>()|an optional field is itself no optional,
 std::optional<std::tuple<int>>()|an optional field is itself no optional,
+std::optional<const std::optional<int>>()|an optional field is itself no optional,
+std::optional<std::nullptr_t>()|an optional field is itself no optional,
 std::vector<double>()|a field is nullptr, an integer,
 L"user"|a field is nullptr, an integer,
 static_cast<const int *>(nullptr)|a pointer is no field: pass what it points to, nullptr, or \
@@ -204,10 +215,23 @@ std::variant<int, long>()|a variant is no field: pass its index(), and then its 
 std::chrono::nanoseconds(1)|a duration of a key has whole microseconds: round it by duration_cast<microseconds>
 std::chrono::duration<double>(1)|a time or duration of a key has a signed integer of at most 64 bits: convert it by
 std::chrono::duration<std::uint64_t>(1)|a time or duration of a key has a signed integer of at most 64 bits:
+std::chrono::duration<__int128>(1)|a time or duration of a key has a signed integer of at most 64 bits:
 std::chrono::steady_clock::now()|a time of a key is of the system clock, which counts from 1970-01-01 in UTC: convert it
 rapidhash::hash(std::array<bool, 2>())|error: no matching function for call to .hash
 rapidhash::fingerprint(std::array<int, 2>())|a hash of a fingerprint is an unsigned integer of 64 bits
+rapidhash::fingerprint(std::vector<std::uint32_t>())|a hash of a fingerprint is an unsigned integer of 64 bits
+rapidhash::fingerprint(std::vector<std::int64_t>())|a hash of a fingerprint is an unsigned integer of 64 bits
 VALUES
+}
+
+# Checks that a class may have a stream, and a shared library export a function of one: COMPILER
+exports_a_stream() {
+  "$1" -std=c++11 -O2 -fPIC -shared -Wall -Wextra -Werror "-I$include" -x c++ -o "$room/stream.so" - <<'CPP' &&
+#include <rapidhash.hpp>
+struct checksum { rapidhash::stream state; };
+void feed(rapidhash::stream &state, const checksum &other) { state = other.state; }
+CPP
+    nm -DC --defined-only "$room/stream.so" | grep ' T feed('
 }
 
 # Compiles a stream of one piece without a warning: its length is constant, so that a compiler follows each copy, and
@@ -366,6 +390,23 @@ $left
 SAID
     make_by_cc_alone install PREFIX="$room/usr" >"$room/said" 2>&1 && diff "$room/said" - <<<"$left" &&
     [ ! -e "$room/usr/bin" ]
+}
+
+# Checks that a packager's flags reach the compiler and the linker, and that no older header is in the way of ours.
+takes_the_flags() {
+  mkdir "$room/old" && sed 's/VERSION_MINOR 0/VERSION_MINOR 77/' "$header" >"$room/old/rapidhash_c.h" &&
+    make_by_cc_alone clean && make_by_cc_alone library CFLAGS='-m32 -O2' CPPFLAGS="-I$room/old" &&
+    readelf -h "$room/bare/build/header/librapidhash_c.so.1" | grep ELF32 &&
+    objdump -d --disassemble=rapidhash_c_version "$room/bare/build/header/rapidhash_c.o" | grep 'mov *\$0x64,%eax'
+}
+
+# Checks that make builds a product again if it and its compiler were killed. The compiler had begun to write.
+survives_a_kill() {
+  make_by_cc_alone clean
+  printf '%s\n' '#!/bin/sh' 'for last; do :; done' ': >"$last"' \
+    'kill -9 $(ps -o ppid= $PPID) $PPID' >"$room/killed" && chmod +x "$room/killed" || return
+  ! make_by_cc_alone library CC="$room/killed" && make_by_cc_alone library &&
+    defines_the_header @@RAPIDHASH_1 -D "$room/bare/build/header/librapidhash_c.so.1"
 }
 
 # Runs make in that copy: ARGUMENT..
@@ -534,7 +575,10 @@ done
 for compiler in g++ clang++; do
   try_with "cpp_definitions_$compiler" "$compiler" shares_its_definitions "$compiler"
 done
-for compiler in g++ clang++; do try_with "cpp_fields_$compiler" "$compiler" refuses_what_is_no_field "$compiler"; done
+for compiler in g++ clang++; do
+  try_with "cpp_fields_$compiler" "$compiler" refuses_what_is_no_field "$compiler"
+  try_with "cpp_streams_$compiler" "$compiler" exports_a_stream "$compiler"
+done
 for compiler in gcc clang; do try_with "visibility_$compiler" "$compiler" is_as_visible_as_asked "$compiler"; done
 try_with all_warnings_of_clang 'clang clang++' has_no_warning
 try_with casts_of_c g++ includes_the_headers g++ -Wall -Wextra -Wold-style-cast -Wuseless-cast
@@ -547,6 +591,7 @@ try_with cpp_header_32_bits "g++ $multilib/libstdc++.a" calls_from_cpp g++ c++11
 # the functions of MSVC.
 both='product streams'
 try properties has_the_properties "$both" cc -O2 -DTEST_PRODUCTS=16777216
+try fingerprint_of_32_gib has_the_properties count cc -O2 -D_GNU_SOURCE -DTEST_COUNT
 try_with properties_clang clang has_the_properties "$both" clang -O2
 try_with properties_tcc tcc has_the_properties "$both" tcc
 try properties_without_int128 has_the_properties "$both" cc -O2 -DRAPIDHASH_NO_INT128
@@ -591,6 +636,8 @@ try_with preconditions_of_the_manual mandoc manual_has_the_preconditions
 
 # The library that cc builds from the header, which replaces the proved one on other machines.
 try header_build builds_from_the_header
+try_with header_flags "gcc $multilib/libgcc.a" takes_the_flags
+try header_killed survives_a_kill
 try_with header_first_program c++ first_program_runs
 test_library header_ cc "$room"/usr/lib/librapidhash_c.{a,so.1}
 try_with header_shared pkg-config builds_by_pkg_config "$room/usr/lib"

@@ -1,5 +1,5 @@
-/* Replays the cases of V3, of streams, and of what hashes decide by rapidhash.hpp: c++ cases.cpp && ./a.out <cases.tsv.
- * cases.c replays all cases by the header of C, and cpp_keys.cpp has keys, whose fields are types here. */
+/* Replays the cases of V3, of keys, of streams, and of what hashes decide by rapidhash.hpp: c++ cases.cpp && ./a.out
+ * <cases.tsv. cases.c replays all cases by the header of C, and cpp_keys.cpp has keys of further types. */
 #include <rapidhash.hpp>
 
 #include <cstdio>
@@ -85,14 +85,16 @@ static void compare(const Start &start, const bytes &message, std::uint64_t know
     expect("in pieces", pieces.finish() == known);
 }
 
-/* Compares the hash of so many bytes of 0, which need no memory if nobody writes them. */
-static void compare_zeros(std::uint64_t size, std::uint64_t known)
+/* Compares the hash of so many bytes of 0, which need no memory if nobody writes them, as a message or as a key. */
+static void compare_zeros(std::uint64_t size, std::uint64_t known, bool is_key = false)
 {
     const std::unique_ptr<void, void (*)(void *)> zeros(
         size <= SIZE_MAX ? std::calloc(static_cast<std::size_t>(size), 1) : nullptr, std::free);
     const rapidhash::bytes range(zeros.get(), static_cast<std::size_t>(zeros ? size : 0));
 
-    if (zeros)
+    if (zeros && is_key)
+        expect("key of zeros", rapidhash::key(range) == known);
+    else if (zeros)
         expect("zeros", rapidhash::hash(range) == known && rapidhash::hash(range, rapidhash::seed(0)) == known
                             && rapidhash::stream().update(range).finish() == known);
 }
@@ -125,6 +127,40 @@ static void replay_hash(const std::string &rule, const std::string &argument, st
         expect("default", rapidhash::hash(message) == known);
     if (rule == "default" || rule[0] == 'w')
         compare(rapidhash::seed(rule == "default" ? 0 : number(rule.substr(5))), message, known);
+}
+
+/* Appends a field to a key, and returns the hash of the key of this field alone. */
+template <class Field>
+static std::uint64_t append(::rapidhash_stream *state, const rapidhash::secrets &own, const Field &field)
+{
+    rapidhash::add_field(state, field);
+    return rapidhash::key(own, field);
+}
+
+static std::uint64_t append_text(::rapidhash_stream *state, const rapidhash::secrets &own, const std::string &text)
+{
+    if (text == "-")
+        return append(state, own, nullptr);
+    if (text[0] == 'x')
+        return append(state, own, message_of(text.substr(1)));
+    if (text[0] == '-')
+        return append(state, own, std::strtoll(text.c_str(), nullptr, 10));
+    return append(state, own, number(text));
+}
+
+static void replay_key(const std::string &rule, const std::string &argument, std::uint64_t known)
+{
+    const rapidhash::secrets own = secrets_of(rule);
+    std::istringstream fields(argument);
+    ::rapidhash_stream state;
+    std::uint64_t last = known, count = 0;
+
+    if (argument.compare(0, 6, "zeros:") == 0)
+        return compare_zeros(number(argument.substr(6)), known, true);
+    ::rapidhash_v3_start(&state, &own);
+    for (std::string text; fields >> text && text != "()"; count++)
+        last = append_text(&state, own, text);
+    expect("key", ::rapidhash_stream_finish(&state) == known && (count != 1 || last == known));
 }
 
 /* Plays the operations of a stream that change no saved bytes with the right check: cases.c plays those. */
@@ -193,6 +229,8 @@ int main()
             std::getline(columns, *word, '\t');
         if (kind == "hash" && version == "v3")
             replay_hash(rule, argument, number(value));
+        else if (kind == "key")
+            replay_key(rule, argument, number(value));
         else if (kind == "stream" && version == "v3")
             replay_stream<rapidhash::stream>(rule, argument, value);
         else if (kind == "stream" && version == "v3_micro")
@@ -201,7 +239,7 @@ int main()
             replay_stream<rapidhash::nano_stream>(rule, argument, value);
         else if (kind != "hash" && version == "-")
             replay_shards(kind, argument, value);
-        else if (kind != "hash" && kind != "secrets" && kind != "key" && row[0] != '#' && kind != "kind")
+        else if (kind != "hash" && kind != "secrets" && row[0] != '#' && kind != "kind")
             expect("kind", false);
     }
     expect("too few", replayed > 5000);

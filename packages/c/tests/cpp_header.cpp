@@ -60,10 +60,15 @@ static void check_texts()
     const char unterminated[5] = {'h', 'e', 'l', 'l', 'o'};
     const char *const pointer = text.c_str();
     char buffer[16] = "hello";
+    const unsigned char octets[8] = {'h', 'e', 'l', 'l', 'o'};
 
     compare("a literal", rapidhash::hash("hello"), hash_of_hello);
     compare("an array that no zero ends", rapidhash::hash(unterminated), hash_of_hello);
     compare("a buffer", rapidhash::hash(buffer), hash_of_hello);
+    compare("a buffer of bytes", rapidhash::hash(octets), 11466462472174515294U);
+    compare("a text of UTF-8", rapidhash::hash(u8"hello"), hash_of_hello);
+    compare("a C string of UTF-8", rapidhash::hash(&u8"hello"[0]), hash_of_hello);
+    compare("a part of a text of UTF-8", rapidhash::hash({u8"hello, world", 5}), hash_of_hello);
     compare("a C string", rapidhash::hash(pointer), hash_of_hello);
     compare("a string", rapidhash::hash(text), hash_of_hello);
     compare("a vector", rapidhash::hash(vector), hash_of_hello);
@@ -80,7 +85,7 @@ static void check_texts()
 #endif
 #if __cplusplus >= 202002L
     compare("a span", rapidhash::hash(std::as_bytes(std::span(text))), hash_of_hello);
-    compare("a text of UTF-8", rapidhash::hash(std::u8string_view(u8"hello")), hash_of_hello);
+    compare("a view of UTF-8", rapidhash::hash(std::u8string_view(u8"hello")), hash_of_hello);
 #endif
 }
 
@@ -171,9 +176,12 @@ static void check_tables()
     compare("the keys of a set", names.size(), 1000);
     compare("a key that is not there", names.count("1000"), 0);
 #if __cplusplus >= 202002L
-    std::unordered_map<std::string, int, rapidhash::hasher, std::equal_to<>> found(counts.begin(), counts.end());
+    std::unordered_map<std::string, int, rapidhash::text_hasher, std::equal_to<>> found(counts.begin(), counts.end());
+    std::unordered_set<std::string, rapidhash::seeded_text_hasher, std::equal_to<>> seeds(
+        {"77"}, 0, rapidhash::seeded_text_hasher(rapidhash::seed(7)));
     compare("a key by a view", found.count(std::string_view("77")), 1);
     compare("a key by a text", static_cast<std::uint64_t>(found.find("77")->second), 10);
+    compare("a key by a view with a seed", seeds.count(std::string_view("77")), 1);
 #endif
 }
 
@@ -192,6 +200,7 @@ static void check_stored()
     compare("15 digits before another one", rapidhash::from_hex({"0e2d7a115cd0b9f6", 15}, read), 0);
     compare("the hash after that", read, 7);
     compare("a hash of digits", rapidhash::from_hex("0e2d7a115cd0b9f6", read) ? read : 0, 0x0e2d7a115cd0b9f6U);
+    compare("16 zeros", rapidhash::from_hex("0000000000000000", read) ? read : 7, 0);
     compare("digits in upper case", rapidhash::from_hex(std::string("ABCDEF0123456789"), read) ? read : 0,
             0xabcdef0123456789U);
 }

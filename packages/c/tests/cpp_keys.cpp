@@ -4,6 +4,7 @@
 
 #include <array>
 #include <chrono>
+#include <numeric>
 #include <unordered_map>
 #include <unordered_set>
 #include <vector>
@@ -85,6 +86,9 @@ static void check_lists()
     const std::vector<std::vector<int>> lists = {{1, 2}, {3}};
     const std::vector<std::pair<std::string, long>> pairs = {{"user", 4711}, {"", -5}};
     const std::array<bool, 3> truths = {{true, false, true}};
+    const std::array<const std::pair<int, int>, 1> constant = {{{2, 3}}};
+    std::vector<int> many(300);
+    std::iota(many.begin(), many.end(), 0);
 
     compare_hashers("a vector", std::vector<short>{1, 2, 3}, 5274283684956059766U, 8846790870064972352U);
     compare_hashers("an array", std::array<const std::uint64_t, 3>{{1, 2, 3}}, 5274283684956059766U,
@@ -98,9 +102,17 @@ static void check_lists()
                     12594252446880725228U);
     compare_hashers("a vector of vectors", lists, 16365743134400273687U, 17557123899752749624U);
     compare_hashers("a vector of pairs", pairs, 4633099409459385466U, 10745796545195027368U);
+    compare_hashers("a vector of 300 integers", many, 3262792477141326892U, 58619643111436865U);
+    compare("an array of constant pairs", rapidhash::key(constant), rapidhash::key(1, 2, 3));
     compare("a list in a key", rapidhash::key(std::vector<int>{1, 2}, std::vector<int>{3}),
             rapidhash::key(2, 1, 2, 1, 3));
+    const unsigned char array[] = {1, 2, 3};
+    const char *const text = "user";
+    volatile int changing = 4711;
     compare("a vector of bytes", rapidhash::key(bytes), 15013185985414520456U);
+    compare("an array of C", rapidhash::key(array), 15013185985414520456U);
+    compare("a C string", rapidhash::key(text), 3380280911089133350U);
+    compare("a volatile integer", rapidhash::key(changing), 17387702299298608986U);
     compare("an array of bytes", rapidhash::key(std::array<signed char, 3>{{1, 2, 3}}), 15013185985414520456U);
     compare("the hash of a vector of bytes", rapidhash::hasher()(bytes),
             static_cast<std::size_t>(1935367403401278886U));
@@ -128,6 +140,7 @@ static void check_times()
     using time = std::chrono::system_clock;
     using frames = duration<int, std::ratio<1, 3>>;
     using days_of_c11 = duration<int, std::ratio<86400>>;
+    using weeks_of_c11 = duration<int, std::ratio<604800>>;
     const microseconds now(1795921445678901);
     const auto of = [](nanoseconds since) { return time_point<time, nanoseconds>(since); };
 
@@ -146,6 +159,12 @@ static void check_times()
                     1226254199588022146U);
     compare_hashers("a date before 1970", time_point<time, days_of_c11>(days_of_c11(-1)), 8262727485331911684U,
                     13414414892000826377U);
+    compare_hashers("a date of 2100", time_point<time, days_of_c11>(days_of_c11(47482)), 17387444946565547109U,
+                    17551301660944293196U);
+    compare_hashers("a date of 1800", time_point<time, days_of_c11>(days_of_c11(-62091)), 11672669946971207733U,
+                    2692211593521990345U);
+    compare("a time in weeks", rapidhash::key(time_point<time, weeks_of_c11>(weeks_of_c11(1))),
+            rapidhash::key(hours(168)));
     compare_hashers("a duration in minutes", minutes(90), 1140894827498793034U, 5122025725715897668U);
     compare_hashers("a duration in microseconds", microseconds(-1), 8262727485331911684U, 13414414892000826377U);
     compare_hashers("a duration in days", days_of_c11(3), 13367503737575725187U, 14921215492117392322U);

@@ -34,9 +34,23 @@ static_assert(std::is_empty<hasher>::value && sizeof(std::unordered_set<std::str
                   == sizeof(std::unordered_set<std::string>), "a table is as small as with std::hash");
 static_assert(!std::is_default_constructible<seeded_hasher>::value, "a seeded hasher has a seed");
 static_assert(std::is_void<hasher::is_avalanching>::value && std::is_void<seeded_hasher::is_avalanching>::value
-                  && std::is_void<hasher::is_transparent>::value && std::is_void<seeded_hasher::is_transparent>::value,
+                  && std::is_void<text_hasher::is_avalanching>::value,
               "other tables need not mix a hash");
-static_assert(noexcept(hasher()(std::string())) && noexcept(seeded_hasher(seed(1))(""))
+
+/* A container with std::equal_to<> must not look up a value that is equal and has another hash. */
+template <class Hasher, class = void> struct is_transparent : std::false_type {};
+template <class Hasher>
+struct is_transparent<Hasher, typename std::enable_if<std::is_void<typename Hasher::is_transparent>::value>::type>
+    : std::true_type {};
+template <class Value, class = void> struct takes : std::false_type {};
+template <class Value>
+struct takes<Value, decltype(void(text_hasher()(std::declval<Value>())))> : std::true_type {};
+static_assert(is_transparent<text_hasher>::value && is_transparent<seeded_text_hasher>::value
+                  && !is_transparent<hasher>::value && !is_transparent<seeded_hasher>::value
+                  && takes<const char *>::value && takes<std::string>::value && !takes<int>::value,
+              "texts alone are looked up as other types");
+static_assert(std::is_empty<text_hasher>::value && !noexcept(to_hex(1)), "a hash of texts has no state");
+static_assert(noexcept(hasher()(std::string())) && noexcept(text_hasher()("")) && noexcept(seeded_hasher(seed(1))(""))
                   && noexcept(seeded_hasher(own)({"", 0}))
                   && noexcept(hash("")) && noexcept(hash({bytes("").data(), 0}, own))
                   && noexcept(bytes("").size())

@@ -1,7 +1,8 @@
 /* Tests properties of the header that no table of values shows. The argument selects one:
  *   product  the loads, the canonical bytes, and the product of words at which a carry or a half could be wrong
- *   streams  a stream that was reset, copied, or assigned to itself after each length up to three rows, and the finish
- *            of a stream in memory that cannot be written
+ *   streams  a stream that was reset, copied, or assigned to itself after each length up to three rows and at each cut,
+ *            and the finish of a stream in memory that cannot be written
+ *   count    the fingerprint of more than 2^32 hashes
  *   threads  calls of several threads at a time, under ThreadSanitizer
  *   content  that no branch and no address depends on the contents of messages, seeds or secrets, under memcheck, which
  *            reports each use of undefined bytes. The comparison as formulas, of random contents, relies on it. */
@@ -107,7 +108,7 @@ struct form {
 #define STREAM(version, lanes) {rapidhash_##version##_start, rapidhash_##version##_with_secrets, 16 * lanes},
 static const struct form forms[] = {RAPIDHASH_C_STREAMS(STREAM)};
 
-/* Writes a message of each length up to three rows to a stream that had another of each such length. */
+/* Writes a message of each length up to three rows, with each cut, to a stream that had another of such a length. */
 static void test_streams_of(const struct form *form)
 {
     const size_t most = 3 * form->row + 1;
@@ -117,16 +118,17 @@ static void test_streams_of(const struct form *form)
     for (before = 0; before <= most; before++)
         for (length = 0; length <= most; length++) {
             const uint64_t known = form->hash(message, length, &own);
+            const size_t cut = before % (length + 1);
 
             form->start(&stream, &own);
             rapidhash_stream_write(&stream, message + 9, before);
             rapidhash_stream_reset(&stream);
-            rapidhash_stream_write(&stream, message, length / 3);
+            rapidhash_stream_write(&stream, message, cut);
             copy = stream;
             stream = *&stream;
-            rapidhash_stream_write(&stream, message + length / 3, length - length / 3);
+            rapidhash_stream_write(&stream, message + cut, length - cut);
             expect("a stream after a reset", before * 1000 + length, rapidhash_stream_finish(&stream) == known);
-            rapidhash_stream_write(&copy, message + length / 3, length - length / 3);
+            rapidhash_stream_write(&copy, message + cut, length - cut);
             expect("a copy", before * 1000 + length, rapidhash_stream_finish(&copy) == known);
         }
 }
@@ -154,6 +156,22 @@ static void test_streams(void)
     (void)length;
 #endif
 }
+
+#ifdef TEST_COUNT
+/* Zeros that nobody writes need no memory. */
+static void test_count(void)
+{
+    const size_t count = ((size_t)1 << 32) + 2;
+    uint64_t *const hashes = (uint64_t *)mmap(NULL, 8 * count, PROT_READ | PROT_WRITE,
+                                              MAP_PRIVATE | MAP_ANONYMOUS | MAP_NORESERVE, -1, 0);
+
+    if (hashes == MAP_FAILED || madvise(hashes, 8 * count, MADV_HUGEPAGE) != 0)
+        return expect("memory", count, false);
+    hashes[0] = 5;
+    hashes[count - 1] = 7;
+    expect("the fingerprint", count, rapidhash_fingerprint(hashes, count) == 12);
+}
+#endif
 
 /* Returns a number that depends on each hash of the first n bytes, also in two pieces cut at each `step` bytes. */
 static uint64_t all_hashes(size_t n, uint64_t word, size_t step)
@@ -248,6 +266,10 @@ int main(int count, char **words)
         test_streams();
     else if (strcmp(test, "content") == 0)
         test_content();
+#ifdef TEST_COUNT
+    else if (strcmp(test, "count") == 0)
+        test_count();
+#endif
 #ifdef TEST_THREADS
     else if (strcmp(test, "threads") == 0)
         test_threads();
