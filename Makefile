@@ -23,12 +23,20 @@
 # make test-vendor runs the merge gate of such a repository, which proves everything from scratch
 # make clean       removes all build results
 
-PREFIX = /usr/local
-BINDIR = $(PREFIX)/bin
-LIBDIR = $(PREFIX)/lib
-INCLUDEDIR = $(PREFIX)/include
-DATADIR = $(PREFIX)/share
-DESTDIR =
+# Directories: by the names of the GNU Coding Standards, or in capitals, also from the environment. DESTDIR has no value
+# here, so that one of the environment counts.
+prefix = /usr/local
+exec_prefix = $(PREFIX)
+bindir = $(exec_prefix)/bin
+libdir = $(exec_prefix)/lib
+includedir = $(PREFIX)/include
+datarootdir = $(PREFIX)/share
+datadir = $(datarootdir)
+PREFIX ?= $(prefix)
+BINDIR ?= $(bindir)
+LIBDIR ?= $(libdir)
+INCLUDEDIR ?= $(includedir)
+DATADIR ?= $(datadir)
 
 soname = librapidhash_c.so.1
 kit_archive = crates/rapidhash_c/out/librapidhash_c.a
@@ -43,13 +51,15 @@ else
 archive = build/header/librapidhash_c.a
 shared = build/header/$(soname)
 cargo := $(shell command -v cargo)
-tools = $(if $(cargo),build/cargo/release/rapidhash build/cargo/release/rapidsum)
+# Programs that cargo has built are installed by a user, such as root, who has no cargo on the PATH.
+tools = $(if $(cargo)$(wildcard build/cargo/release/rapidsum),$(addprefix build/cargo/release/,rapidhash rapidsum))
 endif
-name = yervound-1.0-x86_64-linux
+name = yervound-1.0.0-x86_64-linux
 release = 1.0.0
 
 .PHONY: help installcheck sources crate javadoc gomodule all built tool sums library wasm npm page wheel jar sqlite \
   postgresql deb check check-source quick test fmt bench install uninstall clean dist vendor release products \
+  wheel-alone page-alone postgresql-alone deb-alone dist-alone \
   test-edits test-machines test-windows test-debian test-dieharder test-source test-vendor test-machine-code \
   rapidhash_c rapidhash_cli rapidsum example_bloom example_perfect example_shards example_dedupe
 .DELETE_ON_ERROR:
@@ -73,6 +83,13 @@ sources := $(shell find crates.txt crates/*/src crates/*/specs crates/*/proofs 2
 # Prints of the output of rt how many functions of a crate it has checked so far.
 show_progress = sed -unE '/^== /{s///;h;}; \
   /^so far: [1-9]/{G;s/^so far: ([0-9]+ of [0-9]+ functions) checked.*\n(.*)/make: \2: \1 checked/p;}' >&2
+
+# Writes a product under another name, in the shell's variable new, and renames it. So a make that was killed or runs at
+# the same time leaves no part of it: COMMAND
+made = @new=$@.$$$$; { $(1); } && mv -f "$$new" $@ || { rm -f "$$new"; exit 2; }
+# Makes a product while no other make builds a package, if flock is on the PATH.
+alone = +@mkdir -p build && $(if $(YERVOUND_LOCKED),,$(if $(shell command -v flock),YERVOUND_LOCKED=yes flock build/lock)) \
+  $(MAKE) --no-print-directory -s
 
 # The rule for a crate's product: CRATE, PRODUCT, the arguments for rt, the libraries that it uses. Each library has its
 # own call, because rt reads the sources again, for about 10 seconds, if it builds several.
@@ -112,9 +129,9 @@ unproved = $(if $(said),:,$(eval said := yes)echo 'make: $(if $(shell command -v
 # has the same bytes everywhere.
 readable = u=rwX,go=rX
 epoch = $(or $(SOURCE_DATE_EPOCH),$(shell git log -1 --format=%ct 2>/dev/null || date +%s))
-# Packs directories without their owners and in the order of their names: DIRECTORY-ABOVE NAME
-packs = umask 022 && tar -C $(1) --sort=name --mtime=@$(epoch) --owner=0 --group=0 --numeric-owner \
-  --mode=$(readable) -cf - $(2) | gzip -n9
+# Packs a directory without its owner and in the order of the names: DIRECTORY-ABOVE NAME
+packs = tar -C $(1) --sort=name --mtime=@$(epoch) --owner=0 --group=0 --numeric-owner --mode=$(readable) \
+  -I 'gzip -n9' -cf - $(2)
 
 include packages/*/make.mk
 
@@ -155,19 +172,22 @@ words_of_sums = tool sums
 folders = PREFIX BINDIR LIBDIR INCLUDEDIR DATADIR DESTDIR
 $(foreach name,$(folders),$(eval install uninstall installcheck: export $(name) := $$($(name))))
 
+# With a source from the future, everything is always out of date.
 install:
-	@$(MAKE) -q --no-print-directory built || \
+	@$(MAKE) -q --no-print-directory built 2>/dev/null || \
+	  { ls $(archive) $(shared) $(tools) && find crates packages -newermt now -print -quit | grep .; } >/dev/null 2>&1 || \
 	  { echo 'make install: something is missing or out of date: run make first' >&2; exit 2; }
 	@ARCHIVE='$(archive)' SHARED='$(shared)' TOOLS='$(tools)' scripts/install
 	$(say_left_out)
 
 uninstall:
-	@scripts/install --remove
+	@env -u ARCHIVE -u SHARED -u TOOLS scripts/install --remove
 
 # Replays the cases with the installed library, and asks the installed programs for a known hash.
 installcheck:
-	@mkdir -p build && cc -O2 -DRAPIDHASH_LINK -I"$$DESTDIR$$INCLUDEDIR" packages/c/tests/cases.c \
-	  -L"$$DESTDIR$$LIBDIR" -Wl,-rpath,"$$DESTDIR$$LIBDIR" -lrapidhash_c -o build/installcheck
+	@mkdir -p build && $(CC) $(CPPFLAGS) $(or $(CFLAGS),-O2) -DRAPIDHASH_LINK -I"$$DESTDIR$$INCLUDEDIR" \
+	  packages/c/tests/cases.c -L"$$DESTDIR$$LIBDIR" $(LDFLAGS) -Wl,-rpath,"$$DESTDIR$$LIBDIR" -lrapidhash_c \
+	  -o build/installcheck
 	@build/installcheck <crates/test_replay/data/cases.tsv
 	@if [ -e "$$DESTDIR$$BINDIR/rapidsum" ]; then \
 	  [ "$$(echo something | "$$DESTDIR$$BINDIR/rapidhash" --v1)" = 15965596575264898037 ] && \
@@ -184,6 +204,11 @@ vendor:
 clean:
 	rm -rf crates/*/out build
 
+# What is published, but for wheels and Debian's packages, whose directories hold no other version.
+released = build/sources/yervound-$(release).tar.gz build/$(name).tar.gz $(package) \
+  build/yervound-rapidhash-$(release).crate build/yervound-rapidhash-go-$(release).zip \
+  $(jar) $(jar:.jar=-javadoc.jar) $(jar:.jar=-sources.jar)
+
 # Without changes, the results are those of a commit.
 release:
 	@$(call needs_the_kit,release)
@@ -193,15 +218,15 @@ release:
 	  { echo 'make release: build/gate.md has no gate of this commit that passed: run make check first' >&2; exit 2; }
 	@$(MAKE) -s dist deb sources crate javadoc gomodule
 	@rm -rf build/release && mkdir build/release && git rev-parse HEAD >build/release/COMMIT
-	@cp build/gate.md packages/archive/RELEASE.md build/sources/*.tar.gz build/*.t*gz build/*.crate build/*.zip \
-	  build/*.jar build/wheels/*.* build/debian/*.deb build/debian/*.dsc build/debian/*.tar.xz build/release
+	@cp build/gate.md packages/archive/RELEASE.md $(released) build/wheels/*.* build/debian/*.deb build/debian/*.dsc \
+	  build/debian/*.tar.xz build/release
 	@chmod -R $(readable) build/release
 	@cd build/release && sha256sum -- * >SHA256SUMS
 
 # What registries take, and the sources of the commit.
 sources:
-	@mkdir -p build/sources && git archive --format=tar --prefix=yervound-$(release)/ HEAD | \
-	  gzip -n9 >build/sources/yervound-$(release).tar.gz
+	@mkdir -p build/sources && git -c tar.umask=0022 -c tar.tar.gz.command='gzip -n9' archive \
+	  --prefix=yervound-$(release)/ -o build/sources/yervound-$(release).tar.gz HEAD
 
 crate:
 	@cd packages/rust && cargo package --quiet --offline --no-verify --target-dir ../../build/package

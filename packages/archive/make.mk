@@ -7,15 +7,16 @@ has_jar = $(shell command -v javac)
 packed = $(foreach part,npm wheel jar,$(if $(filter-out yes,$(PARTIAL))$(has_$(part)),$(part)))
 unpacked = $(filter-out $(packed),npm wheel jar)
 
-dist:
+dist: ; $(alone) dist-alone
+dist-alone:
 	@$(call needs_the_kit,dist)
 	$(MAKE) -s all $(packed)
 	rm -rf build/$(name)
-	$(MAKE) -s install DESTDIR= PREFIX="$$PWD/build/$(name)"
-	tar --exclude=__pycache__ --exclude=target --exclude=Cargo.lock --exclude=tests --exclude=make.mk -hcf - \
-	  packages/c/include \
-	  packages/go packages/java packages/postgresql packages/python packages/rust packages/sqlite | \
-	  tar -C build/$(name) -xf -
+	env -u BINDIR -u LIBDIR -u INCLUDEDIR -u DATADIR $(MAKE) -s install DESTDIR="$$PWD/build" PREFIX='/$(name)'
+	tar --exclude=__pycache__ --exclude=target --exclude=Cargo.lock --exclude=tests --exclude=make.mk \
+	  -hcf build/packages.tar packages/c/include \
+	  packages/go packages/java packages/postgresql packages/python packages/rust packages/sqlite
+	tar -C build/$(name) -xf build/packages.tar && rm build/packages.tar
 	$(if $(filter npm,$(packed)),cp -r build/npm build/$(name)/packages/javascript)
 	$(if $(filter wheel,$(packed)),install -D -m 644 -t build/$(name)/wheels $(wheels)/*.whl $(wheels)/*.tar.gz)
 	$(if $(filter jar,$(packed)),install -m 644 $(jar) build/$(name)/packages/java)

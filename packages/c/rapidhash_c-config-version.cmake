@@ -1,6 +1,6 @@
 # Tells find_package whether this version will do: it serves programs that ask for it, or for an older version of the
 # same major number, and that have pointers of 64 bits, unless the headers alone are installed.
-set(PACKAGE_VERSION "1.0")
+set(PACKAGE_VERSION "1.0.0")
 string(REGEX MATCH "^[0-9]+" _rapidhash_c_major "${PACKAGE_VERSION}")
 
 if(PACKAGE_FIND_VERSION_MAJOR EQUAL _rapidhash_c_major AND NOT PACKAGE_FIND_VERSION VERSION_GREATER PACKAGE_VERSION)

@@ -1,5 +1,6 @@
 # The source package has the files that git lists; Debian's own tools build it.
-deb:
+deb: ; $(alone) deb-alone
+deb-alone:
 	@rm -rf build/debian && mkdir -p build/debian/source
 	@git ls-files -z | xargs -0 cp --parents -t build/debian/source && cp -r packages/debian/debian build/debian/source
 	@chmod -R $(readable) build/debian/source

@@ -2,8 +2,9 @@
 module = build/rapidhash.wasm
 folder = build/npm/rapidhash.cjs
 package = build/yervound-rapidhash-1.0.0.tgz
-wasm: $(module)
-npm: $(package)
+wasm: ; $(alone) $(module)
+npm: ; $(alone) $(package)
+page: ; $(alone) page-alone
 
 # The linker is called by itself, because clang would run wasm-opt if it is installed.
 $(module): packages/javascript/rapidhash.c packages/javascript/string.h packages/c/include/rapidhash_c.h \
@@ -13,7 +14,7 @@ $(module): packages/javascript/rapidhash.c packages/javascript/string.h packages
 	@mkdir -p build
 	@clang --target=wasm32 -std=c99 -Os -Wall -Wextra -Werror -ffreestanding -mbulk-memory \
 	  -isystem packages/javascript -Ipackages/c/include -c $< -o build/wasm.o
-	@wasm-ld --no-entry --strip-all --export=__heap_base -z stack-size=16384 build/wasm.o -o $@
+	$(call made,wasm-ld --no-entry --strip-all --export=__heap_base -z stack-size=16384 build/wasm.o -o "$$new")
 
 # Lays out the directory of the package. module.mjs contains the module as text, and rapidhash.cjs is for `require`.
 $(folder): $(module) $(wildcard packages/javascript/*.*) LICENSE-MIT LICENSE-APACHE NOTICE
@@ -22,12 +23,14 @@ $(folder): $(module) $(wildcard packages/javascript/*.*) LICENSE-MIT LICENSE-APA
 	@cd packages/javascript && cp *.mjs index.d.ts package.json README.md ../../build/npm
 	@cp LICENSE-MIT LICENSE-APACHE NOTICE build/npm && cp packages/javascript/index.d.ts build/npm/index.d.cts
 	@{ printf 'export default "' && base64 -w 0 $(module) && echo '";'; } >build/npm/module.mjs
-	@esbuild build/npm/rapidhash.mjs --bundle --platform=node --target=node18 --log-level=warning --outfile=$@
+	$(call made,esbuild build/npm/rapidhash.mjs --bundle --platform=node --target=node18 --log-level=warning \
+	  --outfile="$$new")
 
 $(package): $(folder)
 	@command -v npm >/dev/null || { echo 'make: npm is not on PATH' >&2; exit 2; }
-	@chmod -R $(readable) build/npm && umask 022 && cd build && npm pack --silent ./npm >npm.log
+	@chmod -R $(readable) build/npm && rm -rf build/packed && mkdir build/packed && umask 022 && \
+	  npm pack --silent --pack-destination build/packed ./build/npm >build/npm.log && mv -f build/packed/*.tgz $@
 
-page: $(folder)
+page-alone: $(folder)
 	@rm -rf build/browser && mkdir build/browser
 	@cp packages/javascript/page/*.* build/npm/*.mjs LICENSE-MIT LICENSE-APACHE NOTICE build/browser

@@ -2,7 +2,7 @@
 # The system's Python can build a wheel with its packages python3-setuptools, python3-wheel and python3-dev.
 PYTHON = /usr/bin/python3
 wheels = build/wheels
-wheel: $(wheels)/made
+wheel: ; $(alone) $(wheels)/made
 
 $(wheels)/made: packages/c/include/rapidhash_c.h LICENSE-MIT LICENSE-APACHE NOTICE \
     $(wildcard packages/python/*.* packages/python/rapidhash/*.*)

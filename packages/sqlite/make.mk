@@ -1,8 +1,9 @@
 # The extension for SQLite.
 extension = build/rapidhash.so
-sqlite: $(extension)
+hardened = -Wl,-z,relro,-z,now
+sqlite: ; $(alone) $(extension)
 
 $(extension): packages/sqlite/rapidhash.c packages/c/include/rapidhash_c.h packages/sqlite/make.mk
 	@mkdir -p build
-	@cc -std=c99 -O2 -Wall -Wextra -Wpedantic -Werror -fPIC -fvisibility=hidden -shared -Ipackages/c/include $< \
-	  -Wl,-z,relro,-z,now -o $@
+	$(call made,$(CC) -std=c99 -Ipackages/c/include -Wall -Wextra -Wpedantic -Werror $(CPPFLAGS) $(or $(CFLAGS),-O2) \
+	  -fPIC -fvisibility=hidden -shared $< $(LDFLAGS) $(hardened) -o "$$new")

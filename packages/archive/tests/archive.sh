@@ -94,12 +94,16 @@ refuses_to_release() {
 }
 
 # Checks that a release has the page of its gate, each product of make, for which empty files stand in, its commit and
-# all checksums. Without a page, or with that of another commit or of a gate that failed, there is none.
+# all checksums, and no product of an older version. Without a page, or with that of another commit or of a gate that
+# failed, there is none.
 releases_a_commit() {
-  local gate file files=(gate.md sources/s.tar.gz a.tar.gz a.tgz a.crate a.zip a.jar wheels/a.whl wheels/b.tar.gz
+  local gate file files=(gate.md {sources/yervound-1.0.0,yervound-1.0.0-x86_64-linux}.tar.gz
+    yervound-rapidhash-{1.0.0{.tgz,.crate,{,-javadoc,-sources}.jar},go-1.0.0.zip} wheels/a.whl wheels/b.tar.gz
     debian/a.deb debian/b.deb debian/a.dsc debian/a.tar.xz)
   git clone -q -s "$top" "$room/released" && cd "$room/released" || return
-  for file in "${files[@]}" wheels/made debian/log; do install -D /dev/null "build/$file" || return; done
+  for file in "${files[@]}" "${files[@]//1.0.0/0.9.0}" wheels/made debian/log; do
+    install -D /dev/null "build/$file" || return
+  done
   rm build/gate.md && refuses_to_release || return
   for gate in 'HEAD 1' 'HEAD~1 0'; do
     printf '| %s |\n' "commit | $(git rev-parse "${gate% *}")" "result | 9 passed, ${gate#* } failed" >build/gate.md

@@ -187,12 +187,29 @@ serves_a_packager() {
     make -s -C "$top" uninstall "${folders[@]}" && [ -z "$(listed "$stage")" ]
 }
 
+# Checks that the environment also sets the directories, and that so do the names of the GNU Coding Standards.
+reads_each_name() {
+  local stage=$room/named file
+  DESTDIR=$stage PREFIX=/one INCLUDEDIR=/two/ installs libdir=/three datarootdir=/four &&
+    DESTDIR=$stage installs prefix=/five exec_prefix=/six || return
+  for file in two/rapidhash_c.h three/librapidhash_c.a four/man/man3/rapidhash_c.3 five/include/rapidhash_c.h \
+    six/lib/librapidhash_c.a five/share/man/man3/rapidhash_c.3; do
+    [ -e "$stage/$file" ] || { echo "no $file" && return 1; }
+  done
+}
+
 # Checks that headers outside PREFIX keep their full path.
 serves_headers_elsewhere() {
   local lib=$room/elsewhere/usr/lib
   installs DESTDIR="$room/elsewhere" PREFIX=/usr INCLUDEDIR=/opt/headers &&
     grep -x 'includedir=/opt/headers' "$lib/pkgconfig/rapidhash_c.pc" &&
     grep -F '"/opt/headers"' "$lib/cmake/rapidhash_c/rapidhash_c-config.cmake"
+}
+
+# Checks that the library is found if a directory of PREFIX is a link to another depth.
+serves_a_linked_folder() {
+  mkdir -p "$room/linked/a/b/lib" && ln -s a/b/lib "$room/linked/lib" && installs PREFIX="$room/linked" &&
+    builds_by_pkg_config "$room/linked/lib"
 }
 
 # Checks that nothing is copied if a single product is missing, and that a line names the command to run first.
@@ -212,15 +229,16 @@ wants_a_build_first() {
 products=(crates/rapidhash_cli/out/rapidhash_cli crates/rapidsum/out/rapidsum
   crates/rapidhash_c/out/librapidhash_c.a build/librapidhash_c.so.1)
 
-# Checks that make without the kit prints one line, builds the same files by cc and cargo, and installs them, and that
-# make check stops before it installs anything.
+# Checks that make without the kit prints one line, builds the same files by cc and cargo, and installs them, also for a
+# user without cargo and from a header of the future, and that make check stops before it installs anything.
 serves_without_the_kit() {
   local place=$room/without sources=$room/sources
   copy_sources "$sources" && export PATH=$path &&
     ! make -s -C "$sources" check >"$room/check" 2>&1 && grep -q 'make check-source' "$room/check" &&
     [ "$(make -s -j3 -C "$sources" 2>&1)" = \
       'make: rt is not on PATH: building with cc and cargo, which is not the proved build' ] &&
-    [ -z "$(make -s -C "$sources" 2>&1)" ] && make -s -C "$sources" install PREFIX="$place" &&
+    [ -z "$(make -s -C "$sources" 2>&1)" ] && touch -d 'next year' "$sources/packages/c/include/rapidhash_c.h" &&
+    make -s -C "$sources" install PREFIX="$place" cargo= &&
     diff <(listed "$prefix") <(listed "$place") && builds_by_pkg_config "$place/lib" &&
     [ -z "$(nm "$place/bin/rapidsum" 2>/dev/null)" ] && prefix=$place prints_and_checks_a_sum &&
     prints_the_known_hash "$place" && prints_the_known_hash "$sources" && make -s -C "$sources" clean &&
@@ -240,14 +258,16 @@ has_the_modes() {
       <(printf '%s\n' librapidhash_c.so.1; ! has "$builder" || printf '%s\n' rapidhash rapidsum)
 }
 
-# Checks that the installed files pass in a stage with a quote in its name.
+# Checks that the installed files pass in a stage with a quote in its name, by the compiler that CC names.
 checks_a_stage() {
-  ln -s "$room" "$room/a'b" && make -s -C "$top" installcheck DESTDIR="$room/a'b" PREFIX=/usr
+  ln -s "$room" "$room/a'b" && make -s -C "$top" installcheck DESTDIR="$room/a'b" PREFIX=/usr &&
+    ! make -s -C "$top" installcheck DESTDIR="$room" PREFIX=/usr CC=false &&
+    ! grep -nE '(^|[^"(a-z])cc -' "$top"/Makefile "$top"/packages/*/make.mk
 }
 
-# Checks that a removal leaves a file of another alone, and no directory of its own.
+# Checks that a removal leaves a file of another alone, also if a variable names it, and no directory of its own.
 removes_its_files() {
-  mkdir -p "$prefix/bin" && echo mine >"$prefix/bin/mine" && make -s -C "$top" uninstall PREFIX="$prefix" &&
+  mkdir -p "$prefix/bin" && echo mine >"$prefix/bin/mine" && TOOLS=mine make -s -C "$top" uninstall PREFIX="$prefix" &&
     [ "$(listed "$prefix")" = ./bin/mine ] && [ -z "$(find "$prefix" -name 'rapidhash*')" ]
 }
 
@@ -283,7 +303,9 @@ try quiet installs_quietly
 try full_disk leaves_no_part
 try failed_copy fails_if_a_copy_fails
 try_with folders_of_a_packager pkg-config serves_a_packager
+try names_of_folders reads_each_name
 try headers_elsewhere serves_headers_elsewhere
+try_with linked_folder pkg-config serves_a_linked_folder
 try nothing_built wants_a_build_first
 try_with without_the_kit 'rt /usr/bin/rustc /usr/bin/cargo' eval '(serves_without_the_kit)'
 try uninstall removes_its_files

@@ -61,11 +61,13 @@ chmod -R u+w repo
 becomes_the_tool() {
   local started
   mkfifo waits && exec 5<>waits
-  PATH=$programs "$tool" <waits >/dev/null 2>&1 &
+  PATH=$programs "$tool" <waits >/dev/null 2>&1 5>&- &
   started=$!
   for _ in {1..100}; do [ "$(cat "/proc/$started/comm")" != rapidhash_cli ] || break; sleep 0.05; done
   cat "/proc/$started/comm" && kill $started && wait $started
-  [ $? -eq 143 ] && exec 5>&- && grep -qx rapidhash_cli "$room/log"
+  [ $? -eq 143 ] && exec 5>&- && grep -qx rapidhash_cli "$room/log" &&
+    for _ in {1..100}; do [ -n "$(find /proc/[0-9]*/fd -lname "$PWD/waits" 2>/dev/null)" ] || return 0; sleep 0.05; done
+  return 1
 }
 try signals becomes_the_tool
 
