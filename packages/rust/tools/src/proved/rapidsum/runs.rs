@@ -18,7 +18,7 @@ use rapidhash_tool::kit::alloc::Global;
 use std::io;
 use std::io::Read;
 
-/// A list has a well-formed line in this many bytes, or none.
+/// A list has a well-formed line in this many bytes, or is a text with lines there.
 const HEAD: u64 = 65536;
 
 /// Prints or checks the files of a call, or standard input if it names none. Returns whether all
@@ -114,14 +114,16 @@ fn text_of(
     }
 }
 
-// Reads a list. Of a file whose first bytes have no well-formed line, it reads no others.
+// Reads a list. Of a file whose first bytes have no well-formed line, and are no lines of a text, it
+// reads no others.
 fn read_from(alloc: Global, disk: &Disk<'_>, name: &[u8]) -> Result<List, Problem> {
     let mut reader = disk.open(name).map_err(Problem::Read)?;
     let mut text = Vec::new(alloc);
     let mut head = (&mut reader).take(HEAD);
     rapidhash_tool::kit::read_to_end(&mut head, &mut text).map_err(Problem::Read)?;
     let list = read_list(alloc, text.as_slice())?;
-    if list.entries.is_empty() {
+    let has_lines = text.contains(&b'\n') && !text.contains(&0);
+    if list.entries.is_empty() && !has_lines {
         return Ok(list);
     }
     rapidhash_tool::kit::read_to_end(&mut reader, &mut text).map_err(Problem::Read)?;
