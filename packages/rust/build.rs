@@ -1,10 +1,14 @@
-//! Tells the sources what an old compiler lacks: `rapidhash_old_const` before Rust 1.83, `rapidhash_no_once_lock`
-//! before 1.70. A build without this script is one for a compiler that lacks nothing.
+//! Tells the sources what an old compiler lacks: `rapidhash_old_const` before Rust 1.83, `rapidhash_no_diagnostic`
+//! before 1.78, `rapidhash_no_once_lock` before 1.70. A build without this script is one for a compiler that lacks nothing.
 
 use std::env;
 use std::process::Command;
 
-const MISSING: [(&str, u32); 2] = [("rapidhash_old_const", 83), ("rapidhash_no_once_lock", 70)];
+const MISSING: [(&str, u32); 3] = [
+    ("rapidhash_old_const", 83),
+    ("rapidhash_no_diagnostic", 78),
+    ("rapidhash_no_once_lock", 70),
+];
 
 /// Returns the minor version of the compiler that cargo runs.
 fn minor() -> Option<u32> {

@@ -28,6 +28,14 @@ use std::{
 };
 
 /// A value that is a single field of a key.
+#[cfg_attr(
+    not(rapidhash_no_diagnostic),
+    diagnostic::on_unimplemented(
+        message = "`{Self}` is no field of a key",
+        note = "a field is an integer of up to 64 bits, a `bool`, a text, bytes, or an `Option` of one, and a key is a \
+                field or a tuple of up to twelve; pass a `char` as a text, by `encode_utf8`"
+    )
+)]
 pub trait KeyField {
     /// Returns the field. A text is its UTF-8 bytes.
     fn field(&self) -> Field<'_>;
@@ -53,6 +61,14 @@ pub trait KeyField {
 /// let user = User { name: "user".to_owned(), id: Some(4711) };
 /// assert_eq!(key::hash(&user), key::hash(&("user", 4711)));
 /// ```
+#[cfg_attr(
+    not(rapidhash_no_diagnostic),
+    diagnostic::on_unimplemented(
+        message = "`{Self}` is no key",
+        note = "a field is an integer of up to 64 bits, a `bool`, a text, bytes, or an `Option` of one, and a key is a \
+                field or a tuple of up to twelve; pass a `char` as a text, by `encode_utf8`"
+    )
+)]
 pub trait Key {
     /// Passes each field to a function, in order.
     fn fields(&self, each: &mut dyn FnMut(Field<'_>));

@@ -74,7 +74,7 @@
 #![cfg_attr(docsrs, feature(doc_cfg))]
 #![cfg_attr(
     docsrs,
-    doc(auto_cfg(hide(rapidhash_old_const, rapidhash_no_once_lock)))
+    doc(auto_cfg(hide(rapidhash_old_const, rapidhash_no_diagnostic, rapidhash_no_once_lock)))
 )]
 #![forbid(unsafe_code)]
 #![deny(missing_docs)]

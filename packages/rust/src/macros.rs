@@ -55,6 +55,20 @@ pub(crate) fn array<const N: usize>(bytes: &[u8], offset: usize) -> [u8; N] {
     bytes[offset..offset + N].try_into().unwrap()
 }
 
+const_fn! {
+/// Returns the little-endian number of the 8 bytes from `offset` on, which must lie in `bytes`. A build without
+/// optimization indexes them, because its calls take longer.
+#[inline(always)]
+pub(crate) const fn word(bytes: &[u8], offset: usize) -> u64 {
+    if cfg!(debug_assertions) {
+        let (b, i) = (bytes, offset);
+        u64::from_le_bytes([b[i], b[i + 1], b[i + 2], b[i + 3], b[i + 4], b[i + 5], b[i + 6], b[i + 7]])
+    } else {
+        u64::from_le_bytes(array(bytes, offset))
+    }
+}
+}
+
 /// Defines the integer writes of `Hasher`, each with the proved method of the same name. Through
 /// them, `derive(Hash)` and maps reach the sponge, as in the crate `rapidhash`.
 macro_rules! forward_integers {

@@ -87,17 +87,20 @@ has_the_metadata() {
     [ "$(sed -n 's/^categories = //p' Cargo.toml)" = '["algorithms", "data-structures", "no-std"]' ]
 }
 
-# Checks that build.rs finds what an old compiler lacks: constant functions before 1.83, and OnceLock before 1.70.
+# Checks that build.rs finds what an old compiler lacks: constant functions before 1.83, the attribute of a diagnostic
+# before 1.78, and OnceLock before 1.70.
 finds_its_features() {
   local minor lacking
   rustc --edition 2021 build.rs -o "$room/build_script" || return
-  for minor in 63 69 70 82 83; do
+  for minor in 63 69 70 77 78 82 83; do
     printf '#!/bin/sh\necho "rustc 1.%s.0 (a 2023-01-01)"\n' "$minor" >"$room/rustc" && chmod +x "$room/rustc" || return
-    lacking=$([ "$minor" -ge 83 ] || echo rapidhash_old_const; [ "$minor" -ge 70 ] || echo rapidhash_no_once_lock)
+    lacking=$([ "$minor" -ge 83 ] || echo rapidhash_old_const
+      [ "$minor" -ge 78 ] || echo rapidhash_no_diagnostic
+      [ "$minor" -ge 70 ] || echo rapidhash_no_once_lock)
     [ "$(RUSTC=$room/rustc "$room/build_script" | sed -n 's/^cargo:rustc-cfg=//p')" = "$lacking" ] || return
   done
   minor=$(rustc --version | cut -d . -f 2)
-  [ "$(cargo rustc --lib -- --print cfg | grep -c '^rapidhash_')" -eq $(((minor < 83) + (minor < 70))) ]
+  [ "$(cargo rustc --lib -- --print cfg | grep -c '^rapidhash_')" -eq $(((minor < 83) + (minor < 78) + (minor < 70))) ]
 }
 
 # Builds the crate and compat as systems do that run no build script, with the newest language: FEATURE..
@@ -110,11 +113,21 @@ builds_without_script() {
       --extern proved="$room/libproved.rlib" -o "$room/libcompat.rlib"
 }
 
-# Checks that the compiler refuses calls with invalid constants, and names the reason.
+# Checks that the compiler refuses calls with invalid constants, and a char in a key, and names the reason.
 refuses_constants() {
   local project=$room/constants call reason
   rm -rf "$project" && mkdir -p "$project/src" && printf '%s\n' '[package]' 'name = "first"' 'version = "0.0.0"' \
     'edition = "2021"' '[dependencies]' "yervound-rapidhash = { path = \"$top/packages/rust\" }" >"$project/Cargo.toml"
+  cat >"$room/calls" <<'CALLS'
+rapidhash_v2_inline::<2, true, false, false>(b"", &DEFAULT_RAPID_SECRETS)|
+rapidhash_v2_inline::<3, true, false, false>(b"", &DEFAULT_RAPID_SECRETS)|MINOR must be 0, 1 or 2
+rapidhash_v2_file_inline::<&[u8], 3, false>(&mut &b""[..], 0, &DEFAULT_RAPID_SECRETS)|MINOR must be 0, 1 or 2
+RapidStreamHasherLanes::<4, true, false>::new(&DEFAULT_RAPID_SECRETS)|LANES must be 7, 5 or 3
+rapidhash_v3_file_lanes::<&[u8], 6, 1, false>(b"", &DEFAULT_RAPID_SECRETS)|LANES must be 7, 5 or 3
+rapidhash_v3_file_sized::<&[u8], 0, false>(b"", &DEFAULT_RAPID_SECRETS)|SIZE must be at least 1
+CALLS
+  [ "$(rustc --version | cut -d . -f 2)" -lt 78 ] ||
+    echo "rapidhash::key::hash(&('a', 1))|pass a .char. as a text" >>"$room/calls"
   while IFS='|' read -r call reason; do
     echo "fn main() { use rapidhash::{v2::*, v3::{*, DEFAULT_RAPID_SECRETS}}; let _ = $call; }" >"$project/src/main.rs"
     if [ -z "$reason" ]; then
@@ -123,14 +136,7 @@ refuses_constants() {
       echo "$call" && cat "$room/refused"
       return 1
     fi
-  done <<'CALLS'
-rapidhash_v2_inline::<2, true, false, false>(b"", &DEFAULT_RAPID_SECRETS)|
-rapidhash_v2_inline::<3, true, false, false>(b"", &DEFAULT_RAPID_SECRETS)|MINOR must be 0, 1 or 2
-rapidhash_v2_file_inline::<&[u8], 3, false>(&mut &b""[..], 0, &DEFAULT_RAPID_SECRETS)|MINOR must be 0, 1 or 2
-RapidStreamHasherLanes::<4, true, false>::new(&DEFAULT_RAPID_SECRETS)|LANES must be 7, 5 or 3
-rapidhash_v3_file_lanes::<&[u8], 6, 1, false>(b"", &DEFAULT_RAPID_SECRETS)|LANES must be 7, 5 or 3
-rapidhash_v3_file_sized::<&[u8], 0, false>(b"", &DEFAULT_RAPID_SECRETS)|SIZE must be at least 1
-CALLS
+  done <"$room/calls"
 }
 
 # Runs the tests of packages/rust/compat in a project whose dependency is the crate rapidhash, replaced by that package.

@@ -71,7 +71,7 @@ const_fn! {
 #[inline]
 #[must_use]
 pub const fn read_u64(bytes: &[u8], offset: usize) -> u64 {
-    u64::from_le_bytes(crate::macros::array(bytes, offset))
+    crate::macros::word(bytes, offset)
 }
 }
 
