@@ -89,8 +89,9 @@ function isPlain(value) {
   return prototype === null || getPrototypeOf(prototype) === null;
 }
 
-/** Returns the seed or the secrets of a call, if any. Reads own properties alone, and refuses unknown ones. */
-export function choose(options, call) {
+/** Returns the seed or the `count` words of secrets of a call, if any. Reads own properties alone, and refuses unknown
+ * ones. */
+export function choose(options, call, count) {
   if (options === undefined) return { seed: undefined, secrets: undefined };
   if (!isPlain(options))
     throw new TypeError(`${call}: options must be an object: { seed } or { secrets }, not ${whatIs(options)}`);
@@ -105,6 +106,9 @@ export function choose(options, call) {
     throw new TypeError(`${call}: pass either seed or secrets, not both`);
   if (secrets !== undefined && kindOf(secrets) !== "BigUint64Array")
     throw new TypeError(`${call}: secrets must be a BigUint64Array, the seed first, not ${whatIs(secrets)}`);
+  if (secrets !== undefined && sizeOf(secrets) !== 8 * count)
+    throw new TypeError(`${call}: secrets must have ${count} words for this version, the seed first, not ${
+      sizeOf(secrets) / 8}`);
   return { seed: seed === undefined ? undefined : word(`${call}: seed`, seed), secrets };
 }
 
@@ -115,17 +119,45 @@ export function isHex(encoding) {
   return encoding === "hex";
 }
 
+/** Returns the error for a source that was read before: it would have no piece. */
+export const readBefore = () => new TypeError("updateFrom: the source was read before");
+
+/** Returns whether a stream was read before, at least in part, or cancelled. The rest may be the caller's message. */
+export function wasRead(source) {
+  if (source?.readableDidRead === true) return true; // a Node stream
+  if (typeof Response !== "function" || typeof ReadableStream !== "function" || !(source instanceof ReadableStream))
+    return false;
+  try {
+    return !new Response(source); // which reads nothing, and refuses such a stream
+  } catch {
+    return true;
+  }
+}
+
+/** Returns whether a web stream has a reader, or a Node stream has ended or was destroyed. The iterator of a Node
+ * stream that failed throws its error. */
+function isUsedUp(source) {
+  if (typeof source?.getReader === "function") return source.locked === true;
+  return typeof source?.pipe === "function" && source.readable === false && !source.errored;
+}
+
+/** Returns the pieces of a Response, or of a Request. */
+function piecesOfBody(source) {
+  if (source.bodyUsed === true) throw readBefore();
+  if (source.body !== null) return piecesOf(source.body);
+  if (/^(opaque|opaqueredirect|error)$/.test(source.type))
+    throw new TypeError(`updateFrom: a Response of the type '${source.type}' shows no body`);
+  return [];
+}
+
 /** Returns the pieces of a web stream or a Node stream, or of a Blob, a File or a Response, which have one. Some
  * engines have no iterator for web streams. */
 export function piecesOf(source) {
-  // A stream that was read to its end would have no piece.
-  if (source?.bodyUsed === true || source?.readableEnded === true)
-    throw new TypeError("updateFrom: the source was read before");
+  if (isUsedUp(source)) throw readBefore();
   if (typeof source?.[Symbol.asyncIterator] === "function") return source;
   if (typeof source?.getReader === "function") return readAll(source.getReader());
   if (typeof source?.stream === "function") return piecesOf(source.stream());
-  if (typeof source?.arrayBuffer === "function" && source.body !== undefined)
-    return source.body === null ? [] : piecesOf(source.body);
+  if (typeof source?.arrayBuffer === "function" && source.body !== undefined) return piecesOfBody(source);
   throw new TypeError(`updateFrom: source must be a stream, a Blob, a Response, or another async iterable, not ${
     whatIs(source)}`);
 }

@@ -22,19 +22,28 @@ export type Pieces = AsyncIterable<Message> | WebStream | { stream(): WebStream 
 
 /** Hashes a message in pieces. */
 export interface Hasher {
-  /** Appends a piece to the message. Returns the hasher. */
+  /**
+   * Appends a piece to the message. Returns the hasher. The first half of a surrogate pair at the end of a string waits
+   * for the next string, so pieces of a string hash as the string. Before bytes and in a digest it is U+FFFD.
+   */
   update(data: Message): this;
-  /** Appends all pieces of a stream. Resolves to the hasher. */
+  /**
+   * Appends all pieces of a stream. Resolves to the hasher. Rejects with a TypeError if the stream was read before and
+   * has no more pieces, or if a Response hides its body. After an error the hasher has the pieces before it.
+   */
   updateFrom(source: Pieces): Promise<this>;
   /** Returns the hash of the message so far. More pieces may follow. */
   digest(): bigint;
   /** Returns the same hash as 16 lower-case hexadecimal digits. */
   digest(encoding: "hex"): string;
+  /** Returns the hash as an encoding that is known at run time says. */
+  digest(encoding: "hex" | undefined): bigint | string;
   /** Empties the message but keeps the secrets. Returns the hasher. */
   reset(): this;
-  /** Returns an independent hasher with the same message so far. */
+  /** Returns an independent hasher with the same message so far. A subclass is constructed without an argument. */
   clone(): this;
-  /** Returns the saved hasher: 208 bytes, the same in every language. They have bytes of the message but no secrets. */
+  /** Returns the saved hasher: 208 bytes, the same in every language. They have bytes of the message but no secrets.
+   * Throws a TypeError if the message ends in half of a surrogate pair. */
   save(): Uint8Array;
   /** Replaces the message by that of a saved hasher of the same class, seed and secrets. Returns the hasher. Throws a
    * TypeError that names the reason if the bytes are changed or of another hasher, and then changes nothing. */
@@ -132,5 +141,8 @@ export const seedSecrets: Rapidhash["seedSecrets"];
 export const makeSecretsV1: Rapidhash["makeSecretsV1"];
 export const seedSecretsV1: Rapidhash["seedSecretsV1"];
 export const V3: Rapidhash["V3"];
+export type V3 = Hasher;
 export const V3Micro: Rapidhash["V3Micro"];
+export type V3Micro = Hasher;
 export const V3Nano: Rapidhash["V3Nano"];
+export type V3Nano = Hasher;

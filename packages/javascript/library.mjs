@@ -1,6 +1,7 @@
 // The module's exports and its memory. After the module's own part, the memory has the default secrets, the secrets of
 // a call, the state of a stream after its secrets, and the bytes of a single call. It grows to the longest message of
-// V1, V2, or protected V3 and keeps that size.
+// V1, V2, or protected V3 and keeps that size. Its words are little-endian on every machine, so typed arrays over it
+// have bytes, and a DataView reads and writes words.
 import { bytesOf, callOf, encodeInto, kindOf, sizeOf, word } from "./arguments.mjs";
 
 const page = 65536;
@@ -10,8 +11,6 @@ const most = 2 ** 32;
 export const piece = 2 * page;
 /** The secrets of a stream and the stream. */
 export const stateSize = 64 + 208;
-/** The states outside of the memory that share an array. The engine takes long to create an array for each. */
-const statesPerArray = 64;
 /** Up to this many bytes, a loop is faster than set(), and up to this many letters faster than encodeInto(). */
 const few = 8;
 const fewLetters = 20;
@@ -33,9 +32,6 @@ export function checkModule(isOurs) {
 export class Library {
   /** The stream whose state is in the memory, if any. */
   owner;
-  /** The array for states outside of the memory, and the end of its unused part. */
-  #states;
-  #unused = 0;
 
   constructor({ exports }) {
     checkModule(needed.every((name) => name in exports) && exports.version() === version);
@@ -55,12 +51,11 @@ export class Library {
   /** Creates the views of the memory, which become invalid when it grows. */
   look() {
     const { buffer } = this.exports.memory;
-    this.secrets = new BigUint64Array(buffer, this.atSecrets, 8);
-    this.secretsOfState = new BigUint64Array(buffer, this.atState, 8);
+    this.secrets = new DataView(buffer, this.atSecrets, 64);
+    this.secretsOfState = new DataView(buffer, this.atState, 64);
     this.state = new Uint8Array(buffer, this.atState, stateSize);
     this.bytes = new Uint8Array(buffer, this.atBytes);
     this.view = new DataView(buffer, this.atBytes);
-    this.words = new Int32Array(buffer, this.atBytes, fewLetters / 4);
   }
 
   /** Makes room for the bytes of a message. */
@@ -78,14 +73,14 @@ export class Library {
 
   /** Writes a string as UTF-8 to the memory, which has room for it. Returns the number of bytes. */
   putText(text) {
-    const { bytes, words } = this;
+    const { bytes, view } = this;
     const { length } = text;
     if (length > fewLetters) return encodeInto(text, bytes);
     let [at, all] = [0, 0];
     for (; at + 4 <= length; at += 4) {
       const [a, b] = [text.charCodeAt(at), text.charCodeAt(at + 1)];
       const [c, d] = [text.charCodeAt(at + 2), text.charCodeAt(at + 3)];
-      words[at >> 2] = a | b << 8 | c << 16 | d << 24;
+      view.setInt32(at, a | b << 8 | c << 16 | d << 24, true);
       all |= a | b | c | d;
     }
     for (; at < length; at++) all |= bytes[at] = text.charCodeAt(at);
@@ -109,16 +104,6 @@ export class Library {
     return typeof message === "string" ? this.putText(message) : this.putBytes(message, sizeOf(message));
   }
 
-  /** Returns room for a state outside of the memory: an array and an index. */
-  reserve() {
-    if (this.#unused === 0) {
-      this.#states = new Uint8Array(statesPerArray * stateSize);
-      this.#unused = this.#states.length;
-    }
-    this.#unused -= stateSize;
-    return [this.#states, this.#unused];
-  }
-
   /** Writes the secrets of a call, those of a seed or the caller's own, to the memory: of a call or, at atState, of a
    * stream. Returns their offset. */
   give({ seed, secrets }, count, at = this.atSecrets) {
@@ -128,17 +113,17 @@ export class Library {
       else exports.seed_secrets(seed ?? 0n, at);
       return at;
     }
-    if (sizeOf(secrets) !== 8 * count)
-      throw new TypeError(`secrets must have ${count} words for this version, the seed first, not ${
-        sizeOf(secrets) / 8}`);
-    (at === this.atState ? this.secretsOfState : this.secrets).set(secrets);
+    const view = at === this.atState ? this.secretsOfState : this.secrets;
+    for (let place = 0; place < count; place++) view.setBigUint64(8 * place, secrets[place], true);
     return at;
   }
 
   /** Returns the secrets that the export `name` makes from a number. */
   take(name, count, number) {
     this.exports[name](word(`${callOf(name)}: number`, number), this.atSecrets);
-    return this.secrets.slice(0, count);
+    const secrets = new BigUint64Array(count);
+    for (let place = 0; place < count; place++) secrets[place] = this.secrets.getBigUint64(8 * place, true);
+    return secrets;
   }
 
   /** Returns the digits of a hash, of which an export returned the lower half. */

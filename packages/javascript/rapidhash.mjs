@@ -7,7 +7,7 @@
 import { bytesOf, callOf, choose, kindOf, sizeOf, word } from "./arguments.mjs";
 import { encodeKey } from "./key.mjs";
 import { checkModule, isLong, Library, messageOf, piece } from "./library.mjs";
-import { Stream } from "./stream.mjs";
+import { names, Stream } from "./stream.mjs";
 import code from "./module.mjs";
 
 /** Returns the bytes of the module inside the package. */
@@ -76,7 +76,7 @@ function form(library, name, count, lanes) {
     if (options === undefined && typeof data === "string" && 3 * data.length <= piece && !encoding)
       return BigInt.asUintN(64, whole(atBytes, library.putText(data), standard));
     const call = encoding ? ofDigits : ofHash;
-    const choice = options === undefined ? undefined : choose(options, call);
+    const choice = options === undefined ? undefined : choose(options, call, count);
     const message = messageOf(data, call);
     if (lanes && isLong(message)) return new Stream(library, lanes, choice).update(message).digest(encoding);
     const secrets = choice === undefined ? standard : library.give(choice, count);
@@ -100,7 +100,7 @@ function form(library, name, count, lanes) {
 function keys(library, v3) {
   const { atBytes, atDefault, exports } = library;
   return (fields, options) => {
-    const choice = options === undefined ? undefined : choose(options, "v3KeyWith");
+    const choice = options === undefined ? undefined : choose(options, "v3KeyWith", 8);
     const key = encodeKey(fields, library, piece);
     if (typeof key !== "number") return v3(key, choice);
     const secrets = choice === undefined ? atDefault : library.give(choice, 8);
@@ -110,11 +110,12 @@ function keys(library, v3) {
 
 /** Returns the class of the hashers with `lanes` lanes, over the library that a function returns. */
 function hashers(libraryNeeded, lanes) {
-  return class extends Stream {
+  const name = names[lanes];
+  return { [name]: class extends Stream {
     constructor(options) {
       super(libraryNeeded(), lanes, options);
     }
-  };
+  } }[name];
 }
 
 /** Returns the result of load: each call takes data and, optionally, { seed } or { secrets }. `room` is

@@ -1,13 +1,13 @@
 // Messages in pieces.
-import { bytesOf, choose, isHex, part, piecesOf, sizeOf } from "./arguments.mjs";
+import { bytesOf, choose, isHex, part, piecesOf, readBefore, sizeOf, wasRead } from "./arguments.mjs";
 import { isLong, messageOf, piece, stateSize } from "./library.mjs";
 
 /** The offset of the stream of the C header in a state: the secrets come first. */
 const atPointer = 64;
 /** The size of a saved hasher, which begins with the name and the version of its format. */
 const savedSize = 208;
-/** The classes with these numbers of lanes, for the text of an error. */
-const names = { 7: "V3", 5: "V3Micro", 3: "V3Nano" };
+/** The classes with these numbers of lanes. */
+export const names = { 7: "V3", 5: "V3Micro", 3: "V3Nano" };
 const format = Array.from("rapidV3\x01", (letter) => letter.charCodeAt(0));
 
 /** Returns why a hasher with `lanes` lanes does not accept a saved one. */
@@ -24,16 +24,18 @@ function reasonOf(saved, lanes) {
 export class Stream {
   #library;
   #lanes;
-  /** The room of the state outside of the memory, if it has left that: an array and an index. */
+  /** The array of the state outside of the memory, if it has left that. Hashers share none: one that lives long would
+   * keep the states of others. */
   #room;
-  #at;
+  /** Half of a surrogate pair at the end of the last string, which the next string may complete, or "". */
+  #half = "";
 
   constructor(library, lanes, options) {
     const { exports, atState, atDefault } = library;
     this.#library = library;
     this.#lanes = lanes;
     // Options may have getters, which may hash.
-    const choice = options === undefined ? undefined : choose(options, names[lanes]);
+    const choice = options === undefined ? undefined : choose(options, names[lanes], 8);
     library.owner?.#leave();
     const secrets = choice === undefined ? atDefault : library.give(choice, 8, atState);
     exports.start(atState + atPointer, lanes, secrets);
@@ -53,21 +55,42 @@ export class Stream {
 
   /** Copies the state out of the memory, in which another stream needs the space. */
   #leave() {
-    const library = this.#library;
-    if (this.#room === undefined) [this.#room, this.#at] = library.reserve();
-    this.#room.set(library.state, this.#at);
+    (this.#room ??= new Uint8Array(stateSize)).set(this.#library.state);
   }
 
   /** Copies the state, which has left the memory before, into it. */
   #fill() {
-    this.#library.state.set(this.#room.subarray(this.#at, this.#at + stateSize));
+    this.#library.state.set(this.#room);
+  }
+
+  /** Copies the state to another hasher, whose start has sent this one's out of the memory. Returns the other. */
+  #copyTo(other) {
+    other.#enter();
+    this.#fill();
+    return other;
+  }
+
+  /** Returns a string after the half that waits for it, without the half at its own end, which waits for the next. */
+  #join(text) {
+    const whole = this.#half + text;
+    const isCut = (whole.charCodeAt(whole.length - 1) & 0xfc00) === 0xd800;
+    this.#half = isCut ? whole.slice(-1) : "";
+    return isCut ? whole.slice(0, -1) : whole;
   }
 
   /** Appends a piece to the message. Returns the hasher. */
   update(data, ...others) {
     if (others.length > 0) throw new TypeError("update takes one piece: an encoding or an option has no effect");
-    const library = this.#library;
+    if (typeof data === "string") return this.#add(messageOf(this.#join(data), "update"));
     const message = messageOf(data, "update");
+    if (this.#half !== "") this.#add("\ufffd");
+    this.#half = "";
+    return this.#add(message);
+  }
+
+  /** Appends a message of `messageOf`. Returns the hasher. */
+  #add(message) {
+    const library = this.#library;
     const stream = this.#enter();
     if (!isLong(message)) {
       library.exports.write(stream, library.atBytes, library.put(message));
@@ -80,34 +103,45 @@ export class Stream {
 
   /** Appends all pieces of a web stream or a Node stream. Resolves to the hasher. */
   async updateFrom(source) {
-    for await (const data of piecesOf(source)) this.update(data);
+    const isRest = wasRead(source);
+    let isEmpty = true;
+    for await (const data of piecesOf(source)) {
+      this.update(data);
+      isEmpty = false;
+    }
+    if (isRest && isEmpty) throw readBefore();
     return this;
   }
 
   /** Returns the hash of the message so far, as a BigInt or as "hex" digits. More pieces may follow. */
   digest(encoding) {
+    const isDigits = isHex(encoding);
+    // The half may be completed later, so another hasher ends it.
+    if (this.#half !== "")
+      return this.#copyTo(new Stream(this.#library, this.#lanes)).#add("\ufffd").digest(encoding);
     const { exports } = this.#library;
-    if (isHex(encoding)) return this.#library.digits(exports.finish_low(this.#enter()));
+    if (isDigits) return this.#library.digits(exports.finish_low(this.#enter()));
     return BigInt.asUintN(64, exports.finish(this.#enter()));
   }
 
   /** Empties the message but keeps the secrets. Returns the hasher. */
   reset() {
     this.#library.exports.reset(this.#enter());
+    this.#half = "";
     return this;
   }
 
   /** Returns an independent hasher with the same message so far. */
   clone() {
     this.#enter();
-    const other = new this.constructor();
-    other.#enter(); // This one has left the memory. So has the other, if its constructor hashes.
-    this.#fill();
+    const other = this.#copyTo(new this.constructor()); // which has left the memory too, if its constructor hashes
+    other.#half = this.#half;
     return other;
   }
 
   /** Returns the saved hasher: bytes of the message, but no secrets. They are the same in every language. */
   save() {
+    if (this.#half !== "") throw new TypeError("save: the message ends in half of a surrogate pair");
     const { exports, atBytes } = this.#library;
     exports.save(this.#enter(), atBytes);
     return this.#library.bytes.slice(0, savedSize);
@@ -119,6 +153,7 @@ export class Stream {
     const { exports, atBytes } = this.#library;
     if (sizeOf(saved) !== savedSize || !exports.restore(this.#enter(), atBytes, this.#library.put(saved)))
       throw new TypeError(reasonOf(saved, this.#lanes));
+    this.#half = "";
     return this;
   }
 }

@@ -51,6 +51,13 @@ runs_required() {
     node --test shared.mjs
 }
 
+# Checks that words of the module's memory, and of a key, have an explicit byte order: typed arrays over it have bytes.
+# tests/release/machines.sh runs the tests on a machine that is big-endian.
+states_the_byte_order() {
+  ! grep -nE '(int|Int|Float)(16|32|64)Array\(.*buffer|\.[gs]et(Big)?(Uint|Int|Float)(16|32|64)\(' \
+    "$top"/packages/javascript/{,page/}*.mjs | grep -v ', true);'
+}
+
 # Checks that the types name each export of the package, and no other.
 names_each_export() {
   cd "$room/first" &&
@@ -115,6 +122,7 @@ try changed_files refuses_changed_files
 try node_require runs_required
 try_with esbuild esbuild bundles esbuild src/index.js --bundle --outfile=bundle/main.js
 try_with webpack webpack bundles webpack --mode production --output-path bundle
+try byte_order states_the_byte_order
 try types_of_each_export names_each_export
 # A type that accepts anything would hide mistakes.
 try types_without_any [ "$(grep -cE '[^a-z ] any\b' "$top/packages/javascript/index.d.ts")" = 0 ]

@@ -78,7 +78,7 @@ test("what is no field", () => {
       kind}; docs/BINDINGS.md lists conversions`;
     assert.throws(() => v3Key(1, 2, field), { name: "TypeError", message });
   }
-  for (const half of ["a\ud800", "\udc00", "\ud800a", "\ud800\ud800", `${"a".repeat(99)}\ud800`])
+  for (const half of ["a\ud800", "\udc00", "\ud800a", "\ud800\ud800", "\udc00\udc00", `${"a".repeat(99)}\ud800`])
     assert.throws(() => v3Key(half), { name: "TypeError", message: "fields[0] has half of a surrogate pair" });
   const view = new Uint8Array(8);
   structuredClone(view.buffer, { transfer: [view.buffer] });

@@ -127,6 +127,13 @@ test("a hasher keeps its secrets when the caller's change", () => {
   assert.equal(hasher.digest(), 13105958653737073913n);
 });
 
+test("hashers of three classes in turn", () => {
+  const hashers = [[V3, v3], [V3Micro, v3Micro], [V3Nano, v3Nano]].map(([Stream, whole]) => [new Stream(), whole]);
+  for (let at = 0; at < 120; at += 10) for (const [hasher] of hashers) hasher.update(data.subarray(at, at + 10));
+  for (const [hasher, whole] of hashers) assert.equal(hasher.digest(), whole(data));
+  assert.deepEqual([V3.name, V3Micro.name, V3Nano.name], ["V3", "V3Micro", "V3Nano"]);
+});
+
 test("a clone goes on alone", () => {
   for (const Stream of [V3, V3Micro, V3Nano]) {
     const first = new Stream({ seed: 9 }).update("left ");
@@ -185,6 +192,44 @@ test("strings are their UTF-8", () => {
     assert.equal(new V3({ seed: 3n }).update(text).digest(), v3(bytes, { seed: 3n }));
   }
   assert.equal(v3("\ud800"), v3("\ufffd"));
+  for (let length = 1; length < 30; length++)
+    for (let at = 0; at < length; at++) {
+      const text = `${"a".repeat(at)}\u00e9${"b".repeat(length - at - 1)}`;
+      assert.equal(v3(text), v3(encoder.encode(text)));
+    }
+});
+
+test("a text above a piece, in a memory that has not grown", () => {
+  const text = "\u2192".repeat(65536);
+  const hash = v3(encoder.encode(text), { seed: 3n });
+  assert.equal(loadSync().v3(text, { seed: 3n }), hash);
+  assert.equal(loadSync().v3Hex(text, { seed: 3n }), hex(hash));
+  assert.equal(new (loadSync().V3)({ seed: 3n }).update(text).digest(), hash);
+});
+
+test("texts that are cut inside a surrogate pair", () => {
+  const [text, high, low] = ["a\u{1f600}", "\ud83d", "\ude00"];
+  const hasher = new V3().update(`a${high}`);
+  assert.equal(hasher.digest(), v3(`a${high}`));
+  assert.equal(hasher.digest("hex"), hex(v3("a\ufffd")));
+  assert.throws(() => hasher.digest("base64"), TypeError);
+  const saved = new V3().update("b").save();
+  assert.throws(() => hasher.save(),
+    { name: "TypeError", message: "save: the message ends in half of a surrogate pair" });
+  assert.throws(() => hasher.update(7), TypeError);
+  const clone = hasher.clone();
+  assert.equal(hasher.clone().load(saved).update(low).digest(), v3(`b${low}`));
+  assert.equal(hasher.update("").update(low).digest(), v3(text));
+  assert.equal(new V3().load(hasher.save()).digest(), v3(text));
+  assert.equal(clone.update(encoder.encode("b")).update(low).digest(), v3(`a\ufffdb${low}`));
+  assert.equal(hasher.update(high).reset().update(low).digest(), v3(low));
+  assert.equal(hasher.reset().update(high).update(high).update(low).digest(), v3(high + high + low));
+  const long = "\u{1f600}".repeat(150000);
+  for (const size of [1, 65535, 131073]) {
+    const pieces = new V3Nano();
+    for (let at = 0; at < long.length; at += size) pieces.update(long.slice(at, at + size));
+    assert.equal(pieces.digest(), v3Nano(long));
+  }
 });
 
 test("hexadecimal digits", () => {

@@ -2,11 +2,14 @@
 // too large for the memory. The file `large` in this directory is the output of
 // `seq 1 20000000 | head -c 100000000`, and its hashes are those of the Rust crate.
 import assert from "node:assert/strict";
+import { once } from "node:events";
 import { createReadStream } from "node:fs";
-import { readFile } from "node:fs/promises";
+import { open, readFile } from "node:fs/promises";
 import { createRequire } from "node:module";
-import { Readable } from "node:stream";
+import { PassThrough, Readable } from "node:stream";
 import { test } from "node:test";
+import { setTimeout } from "node:timers/promises";
+import { setFlagsFromString } from "node:v8";
 import { runInNewContext } from "node:vm";
 
 import { load, loadSync } from "yervound-rapidhash";
@@ -25,8 +28,28 @@ test("streams of Node", async () => {
   }
   const used = Readable.from(["text"]);
   await new V3().updateFrom(used);
-  await assert.rejects(new V3().updateFrom(used), { name: "TypeError",
-    message: "updateFrom: the source was read before" });
+  const destroyed = Readable.from(["text"]).destroy();
+  const drained = Readable.from(["text"], { objectMode: false });
+  drained.once("readable", () => { while (drained.read() !== null); });
+  await once(drained, "end");
+  const web = Readable.toWeb(Readable.from(["text"]));
+  await new V3().updateFrom(web);
+  const closing = new Readable({ read() {} });
+  closing.push("text");
+  closing.push(null);
+  closing.read(); // The stream has no more bytes, and ends after this tick.
+  for (const source of [closing, used, destroyed, drained, web])
+    await assert.rejects(new V3().updateFrom(source), { name: "TypeError",
+      message: "updateFrom: the source was read before" });
+  const rest = Readable.from(["header", "hel", "lo"]);
+  for await (const header of rest.iterator({ destroyOnReturn: false })) if (header === "header") break;
+  assert.equal((await new V3().updateFrom(rest)).digest(), 3327445792987248966n);
+  const handle = await open(new URL("rapidhash.wasm", import.meta.url));
+  const whole = library.v3(await handle.readFile());
+  const again = await open(new URL("rapidhash.wasm", import.meta.url));
+  assert.equal((await new V3().updateFrom(again.readableWebStream())).digest(), whole);
+  await Promise.all([handle.close(), again.close()]);
+  assert.equal((await new V3().updateFrom(new PassThrough().end())).digest(), library.v3(""));
   const odd = Readable.from([{ a: 7 }]);
   await assert.rejects(new V3().updateFrom(odd), { name: "TypeError", message: /^update: data must be a string/ });
   const missing = createReadStream(new URL("missing", import.meta.url));
@@ -66,6 +89,21 @@ test("a key costs at most what JSON.stringify of its fields costs", () => {
       costs[which] = Math.min(costs[which], Number(process.hrtime.bigint() - start));
     });
   assert.ok(costs[0] <= costs[1], `${costs[0] / 20000} ns, and ${costs[1] / 20000} ns`);
+});
+
+test("a hasher keeps no memory of others", async () => {
+  setFlagsFromString("--expose-gc");
+  const gc = runInNewContext("gc");
+  const used = async () => {
+    for (let round = 0; round < 3; round++, gc()) await setTimeout(10);
+    return process.memoryUsage().arrayBuffers;
+  };
+  const before = await used();
+  const kept = Array.from({ length: 2000 }, () => {
+    for (let at = 0; at < 63; at++) new V3().update("other");
+    return new V3().update("kept");
+  });
+  assert.ok((await used() - before) / kept.length < 512);
 });
 
 test("objects of another realm", () => {

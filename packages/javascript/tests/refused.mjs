@@ -6,7 +6,7 @@ import { hex, load, loadSync } from "yervound-rapidhash";
 
 const library = loadSync();
 const { v1, v2_2, v3, v3Protected, V3 } = library;
-const hashes = Object.keys(library).filter((name) => `${name}Hex` in library).map((name) => library[name]);
+const hashes = Object.keys(library).filter((name) => `${name}Hex` in library);
 const data = Uint8Array.from({ length: 120 }, (_, at) => at);
 const own = BigUint64Array.of(1n, 2n, 3n, 5n, 7n, 11n, 13n, 17n);
 
@@ -26,6 +26,7 @@ test("refused options", () => {
     [{ seed: null }, `${kind} null`], [{ seed: "7" }, `${kind} string`], [{ seed: true }, `${kind} boolean`],
     [{ secrets: null }, `${words} null`], [{ secrets: [1n, 2n, 3n, 4n] }, `${words} Array`],
     [{ seed: 1n, secrets: own }, "pass either seed or secrets, not both"],
+    [{ seed: 0, secrets: own }, "pass either seed or secrets, not both"],
   ];
   for (const [given, message] of refused)
     for (const [name, call] of Object.entries({ v3, v2_2, v3Micro: library.v3Micro, v1Hex: library.v1Hex,
@@ -50,13 +51,27 @@ test("refused words", () => {
 });
 
 test("refused counts", () => {
-  const message = (count) => `secrets must have ${count} words for this version, the seed first, not ${12 - count}`;
-  for (const call of hashes.filter((hash) => hash !== v1))
-    assert.throws(() => call(data, { secrets: own.slice(0, 4) }), { name: "TypeError", message: message(8) });
+  const wanted = (call, count) => ({ name: "TypeError",
+    message: `${call}: secrets must have ${count} words for this version, the seed first, not ${12 - count}` });
+  const secrets = own.slice(0, 4);
+  for (const name of hashes.filter((name) => name !== "v1"))
+    assert.throws(() => library[name](data, { secrets }), wanted(name, 8));
   const hasher = new V3().update("hello");
-  assert.throws(() => new V3({ secrets: own.slice(0, 4) }), { name: "TypeError", message: message(8) });
+  assert.throws(() => new V3({ secrets }), wanted("V3", 8));
+  assert.throws(() => library.v3KeyWith({ secrets }), wanted("v3KeyWith", 8));
   assert.equal(hasher.digest(), 3327445792987248966n);
-  assert.throws(() => v1(data, { secrets: own }), { name: "TypeError", message: message(4) });
+  assert.throws(() => library.v1Hex(data, { secrets: own }), wanted("v1Hex", 4));
+});
+
+test("options are read once", () => {
+  let count = 0;
+  const options = { get seed() { return count += 1; } };
+  const long = new Uint8Array(300000);
+  for (const call of [v3, library.v3NanoHex, (message, given) => new V3(given).update(message)]) {
+    call(long, options);
+    call(data, options);
+  }
+  assert.equal(count, 6);
 });
 
 // Runs a call while each plain object inherits a seed and secrets.
@@ -117,15 +132,15 @@ test("detached and resized buffers", () => {
   for (const view of kept) for (const call of calls) assert.throws(() => call(view), refused);
   const secrets = own.slice();
   structuredClone(secrets.buffer, { transfer: [secrets.buffer] });
-  assert.throws(() => v3(data, { secrets }), { name: "TypeError", message: /^secrets must have 8 words/ });
+  assert.throws(() => v3(data, { secrets }), { name: "TypeError", message: /^v3: secrets must have 8 words/ });
   if (!("resize" in ArrayBuffer.prototype)) return;
   const buffer = new ArrayBuffer(64, { maxByteLength: 128 });
-  const [fixed, fixedView] = [new Uint8Array(buffer, 8, 40), new DataView(buffer, 8, 40)];
+  const fixed = [new Uint8Array(buffer, 8, 40), new Uint16Array(buffer, 8, 20), new DataView(buffer, 8, 40)];
   const tracking = new Uint8Array(buffer);
   buffer.resize(100);
   for (const call of [v1, v3]) assert.equal(call(tracking), call(new Uint8Array(100)));
   buffer.resize(16);
-  for (const view of [fixed, fixedView]) for (const call of calls) assert.throws(() => call(view), refused);
+  for (const view of fixed) for (const call of calls) assert.throws(() => call(view), refused);
   for (const call of [v1, v3]) assert.equal(call(tracking), call(new Uint8Array(16)));
   buffer.resize(0);
   assert.equal(v3(tracking), 232177599295442350n);
@@ -162,7 +177,7 @@ test("refused messages", () => {
     for (const [name, call] of Object.entries({ v1, v2_2, v3, v3Protected, v3MicroHex, update }))
       assert.throws(() => call(message), { name: "TypeError",
         message: `${name}: data must be a string, an ArrayBuffer or a view of one, not ${what}` });
-    for (const call of hashes) assert.throws(() => call(message), TypeError);
+    for (const name of hashes) assert.throws(() => library[name](message), TypeError);
   }
 });
 
@@ -186,10 +201,6 @@ test("a stream that fails, and what is none", async () => {
   for (const [source, what] of refused)
     await assert.rejects(new V3().updateFrom(source), { name: "TypeError",
       message: `updateFrom: source must be a stream, a Blob, a Response, or another async iterable, not ${what}` });
-  const used = new Response("text");
-  await new V3().updateFrom(used);
-  await assert.rejects(new V3().updateFrom(used), { name: "TypeError",
-    message: "updateFrom: the source was read before" });
   let [cancelled, pulled] = [0, 0];
   const numbers = () => new ReadableStream({
     pull(controller) {
@@ -203,4 +214,59 @@ test("a stream that fails, and what is none", async () => {
   for (const source of [numbers(), { getReader: () => numbers().getReader() }])
     await assert.rejects(new V3().updateFrom(source), { name: "TypeError", message: /^update: data must be a string/ });
   assert.equal(cancelled, 2);
+});
+
+/** Checks that `updateFrom` refuses a source: its bytes are gone. */
+async function isRefused(source) {
+  await assert.rejects(new V3().updateFrom(source), { name: "TypeError",
+    message: "updateFrom: the source was read before" });
+}
+
+const streamOf = (...pieces) => new ReadableStream({
+  start(controller) {
+    for (const piece of pieces) controller.enqueue(piece);
+    controller.close();
+  },
+});
+
+test("sources that were read before", async () => {
+  const response = new Response("hello");
+  const streams = [new Blob(["hello"]).stream(), new Response("hello").body, streamOf("hello"), response.body,
+    ...streamOf("hello").tee(), streamOf("hello").pipeThrough(new TransformStream())];
+  for (const stream of streams) {
+    assert.equal((await new V3().updateFrom(stream)).digest(), 3327445792987248966n);
+    await isRefused(stream);
+  }
+  await isRefused(response);
+  const [cancelled, piped, locked] = [streamOf("hello"), streamOf("hello"), streamOf("hello")];
+  await cancelled.cancel();
+  await piped.pipeTo(new WritableStream());
+  const reader = locked.getReader();
+  for (const stream of [cancelled, piped, locked]) await isRefused(stream);
+  reader.releaseLock();
+  assert.equal((await new V3().updateFrom(locked)).digest(), 3327445792987248966n);
+  const request = new Request("http://localhost/", { method: "POST", body: "hello" });
+  if (request.body === undefined) return; // as in Firefox
+  assert.equal((await new V3().updateFrom(request)).digest(), 3327445792987248966n);
+  await isRefused(request);
+});
+
+test("the rest of a stream, and streams without a piece", async () => {
+  const stream = streamOf("header", "hel", "lo");
+  const reader = stream.getReader();
+  await reader.read();
+  reader.releaseLock();
+  assert.equal((await new V3().updateFrom(stream)).digest(), 3327445792987248966n);
+  for (const source of [streamOf(), new Blob([]), new Response(null), new Response(null, { status: 204 })])
+    assert.equal((await new V3().updateFrom(source)).digest(), v3(""));
+});
+
+test("responses that hide their body", async () => {
+  await assert.rejects(new V3().updateFrom(Response.error()), { name: "TypeError",
+    message: "updateFrom: a Response of the type 'error' shows no body" });
+  for (const type of ["opaque", "opaqueredirect"]) {
+    const response = Object.defineProperty(new Response(null), "type", { value: type });
+    await assert.rejects(new V3().updateFrom(response), { name: "TypeError",
+      message: `updateFrom: a Response of the type '${type}' shows no body` });
+  }
 });

@@ -1,6 +1,6 @@
 // Code that the types accept or refuse. tsc compiles it, and nothing runs it.
-import { hex, load, loadSync, ready, v3, v3Hex, V3, type Hasher, type Message, type Options, type Rapidhash }
-  from "yervound-rapidhash";
+import { hex, load, loadSync, ready, v3, v3Hex, V3, V3Micro, V3Nano, type Hasher, type Message, type Options,
+  type Rapidhash } from "yervound-rapidhash";
 
 const library: Rapidhash = loadSync();
 const later: Promise<Rapidhash> = load(new WebAssembly.Module(new Uint8Array(8)));
@@ -16,6 +16,9 @@ const hashes: Record<Version, (data: Message, options?: Options) => bigint> = li
 const text: string = hex(hash) + library.v3Hex("text", { seed: 7n });
 const hasher: Hasher = new library.V3(optional(1n)[0]).update(data).clone().reset();
 const digits: string = hasher.load(hasher.save()).digest("hex");
+const isHasher = (value: unknown): value is V3 => value instanceof V3;
+const micro: V3Micro = new V3Micro();
+const known = (encoding?: "hex"): bigint | string => new V3Nano().update(data).digest(encoding);
 
 async function pieces(): Promise<bigint> {
   async function* parts() {
@@ -61,4 +64,4 @@ loadSync("rapidhash.wasm");
 // @ts-expect-error The properties are read-only.
 library.room = 7;
 
-export { digits, pieces, rounded, shared, text };
+export { digits, isHasher, known, micro, pieces, rounded, shared, text };
