@@ -26,8 +26,14 @@ func Integer(value int64) Field { return Field{tag: integerTag, value: value} }
 // Text returns a field that is the bytes of a string.
 func Text(text string) Field { return Field{tag: bytesTag, text: text} }
 
-// Bytes returns a field of bytes. It equals the Text of the same bytes.
-func Bytes(data []byte) Field { return Field{tag: bytesTag, text: textOf(data)} }
+// Bytes returns a field of bytes, which equals the Text of the same bytes. A nil slice is nothing, as database/sql reads
+// NULL into a []byte. An empty one that is not nil is no bytes.
+func Bytes(data []byte) Field {
+	if data == nil {
+		return Nothing()
+	}
+	return Field{tag: bytesTag, text: textOf(data)}
+}
 
 // V3Key returns the hash of a key of several fields, with the default seed and secrets. It is the same in every
 // language. Different keys are hashed as different messages.

@@ -12,7 +12,8 @@ func TestFields(t *testing.T) {
 	compare(t, "bytes", V3Key(Bytes([]byte("user")), Integer(4711), Field{}), user)
 	unsigned := uint64(1) << 63
 	compare(t, "64 bits", V3Key(Integer(int64(unsigned))), V3Key(Integer(math.MinInt64)))
-	compare(t, "no bytes", V3Key(Bytes(nil)), V3Key(Text("")))
+	compare(t, "nil", V3Key(Bytes(nil)), V3Key(Nothing()))
+	compare(t, "no bytes", V3Key(Bytes([]byte{})), V3Key(Text("")))
 	stream := New()
 	stream.WriteField(Text("user"))
 	stream.WriteField(Integer(4711))

@@ -24,7 +24,9 @@ func (stream *Stream) MarshalBinary() ([]byte, error) {
 
 // AppendBinary appends the saved stream, as MarshalBinary returns it. The error is always nil.
 func (stream *Stream) AppendBinary(out []byte) ([]byte, error) {
-	stream.ensureStarted()
+	if stream.count == 0 {
+		return New().AppendBinary(out)
+	}
 	from, start, flag := len(out), foldedSize, uint8(0)
 	if stream.isFolded {
 		start, flag = 0, 1

@@ -1,6 +1,7 @@
 package rapidhash
 
 import (
+	"encoding/json"
 	"fmt"
 	"strings"
 	"testing"
@@ -17,6 +18,15 @@ func TestDefaultSeeds(t *testing.T) {
 			MakeSecrets(word) == MakeSecrets(word) {
 			t.Error("two calls share their secrets")
 		}
+	}
+}
+
+// TestStoredSecrets checks that a program can store secrets as JSON, which logs must not have.
+func TestStoredSecrets(t *testing.T) {
+	var again Secrets
+	text, err := json.Marshal(MakeSecrets(7))
+	if err != nil || json.Unmarshal(text, &again) != nil || again != *MakeSecrets(7) {
+		t.Errorf("%s: %v", text, err)
 	}
 }
 

@@ -48,13 +48,6 @@ func (stream *Stream) start(count int, secrets *Secrets) *Stream {
 	return stream
 }
 
-// ensureStarted starts a zero stream.
-func (stream *Stream) ensureStarted() {
-	if stream.count == 0 {
-		stream.start(7, nil)
-	}
-}
-
 // Write appends a piece to the message. It never returns an error.
 func (stream *Stream) Write(data []byte) (int, error) {
 	stream.add(textOf(data))
@@ -103,7 +96,9 @@ func (stream *Stream) fold(data string) {
 
 // Sum64 returns the hash of the message so far. More pieces may follow.
 func (stream *Stream) Sum64() uint64 {
-	stream.ensureStarted()
+	if stream.count == 0 {
+		return Sum64(nil)
+	}
 	ending := textOf(stream.kept[:foldedSize+stream.size])
 	if !stream.isFolded { // a message without a row, whose hash is that of V3 in each version
 		return v3(ending[foldedSize:], V3, stream.secrets.Seed, &stream.secrets.Secrets)
@@ -118,7 +113,9 @@ func (stream *Stream) Sum(data []byte) []byte {
 
 // Reset empties the message but keeps the secrets and the version.
 func (stream *Stream) Reset() {
-	stream.ensureStarted()
+	if stream.count == 0 {
+		return
+	}
 	stream.lanes.start(stream.secrets.Seed)
 	stream.size, stream.isFolded = 0, false
 }
@@ -128,6 +125,8 @@ func (stream *Stream) Size() int { return 8 }
 
 // BlockSize returns the number of bytes that the hash folds at a time.
 func (stream *Stream) BlockSize() int {
-	stream.ensureStarted()
+	if stream.count == 0 {
+		return int(V3)
+	}
 	return 16 * stream.count
 }

@@ -153,3 +153,31 @@ func FuzzPieces(f *testing.F) {
 		}
 	})
 }
+
+// TestGettersOfZeroStreams checks that a call which changes no message leaves the zero Stream as it is, so that it still
+// accepts any version, and allocates nothing.
+func TestGettersOfZeroStreams(t *testing.T) {
+	var zero Stream
+	micro := V3Micro.New()
+	micro.Write(data())
+	saved, _ := micro.MarshalBinary()
+	room := make([]byte, 0, 300)
+	for _, call := range []func(){func() { zero.Sum64() }, func() { zero.Sum(room) }, func() { zero.BlockSize() },
+		func() { zero.AppendBinary(room) }, zero.Reset, func() { zero.Write(nil) }} {
+		if allocations := testing.AllocsPerRun(100, call); allocations != 0 || zero != (Stream{}) {
+			t.Errorf("%v allocations, and %d lanes", allocations, zero.count)
+		}
+	}
+	if err := zero.UnmarshalBinary(saved); err != nil {
+		t.Error(err)
+	}
+	compare(t, "restored", zero.Sum64(), micro.Sum64())
+}
+
+// TestNames checks the texts of versions, which logs show.
+func TestNames(t *testing.T) {
+	names := fmt.Sprint(V1, V20, V21, V22, V3, V3Micro, V3Nano, V3Protected, VersionV2(3), VersionV3(7))
+	if names != "V1 V20 V21 V22 V3 V3Micro V3Nano V3Protected VersionV2(3) VersionV3(7)" {
+		t.Error(names)
+	}
+}

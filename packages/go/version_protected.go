@@ -6,6 +6,9 @@ type VersionProtected struct{}
 // V3Protected is V3 with products in which a factor of 0 does not erase the other.
 var V3Protected VersionProtected
 
+// String returns the name of the version.
+func (VersionProtected) String() string { return "V3Protected" }
+
 // Sum64 returns the hash of data with the default seed and secrets.
 func (VersionProtected) Sum64(data []byte) uint64 {
 	return protected(textOf(data), defaultSeed, &defaults)

@@ -6,6 +6,9 @@ type VersionV1 struct{}
 // V1 is the oldest version of the Rust crate.
 var V1 VersionV1
 
+// String returns the name of the version.
+func (VersionV1) String() string { return "V1" }
+
 // Sum64 returns the hash of data with the default seed and secrets.
 func (VersionV1) Sum64(data []byte) uint64 { return v1(textOf(data), defaultSeedV1, &defaultsV1) }
 

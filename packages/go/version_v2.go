@@ -1,5 +1,7 @@
 package rapidhash
 
+import "fmt"
+
 // VersionV2 is the type of V20, V21 and V22, which have no streams. Another number panics.
 type VersionV2 uint
 
@@ -9,6 +11,14 @@ const (
 	V21
 	V22
 )
+
+// String returns the name of the version.
+func (v VersionV2) String() string {
+	if v > V22 {
+		return fmt.Sprintf("VersionV2(%d)", uint(v))
+	}
+	return [...]string{"V20", "V21", "V22"}[v]
+}
 
 // Sum64 returns the hash of data with the default seed and secrets.
 func (v VersionV2) Sum64(data []byte) uint64 { return v2(textOf(data), v, defaultSeed, &defaults) }

@@ -1,5 +1,7 @@
 package rapidhash
 
+import "fmt"
+
 // VersionV3 is the type of V3, V3Micro and V3Nano, which also have streams. Another number panics when it starts a
 // stream or hashes more than 112 bytes. Up to there it panics or returns the hash of V3.
 type VersionV3 uint
@@ -10,6 +12,19 @@ const (
 	V3Micro VersionV3 = 80
 	V3Nano  VersionV3 = 48
 )
+
+// String returns the name of the version.
+func (v VersionV3) String() string {
+	switch v {
+	case V3:
+		return "V3"
+	case V3Micro:
+		return "V3Micro"
+	case V3Nano:
+		return "V3Nano"
+	}
+	return fmt.Sprintf("VersionV3(%d)", uint(v))
+}
 
 // noVersion is the panic of a number that is no version.
 const noVersion = "rapidhash: the number is no version: use V20, V21, V22, V3, V3Micro or V3Nano"

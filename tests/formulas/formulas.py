@@ -22,7 +22,8 @@ CPP = "-x c++ " + C.replace("c99", "c++17")
 JAVA = ("mkdir java && cp -r $YERVOUND/packages/java/src/main/java/. $YERVOUND/packages/java/src/formulas/java/. java"
         " && rm java/module-info.java && javac --release 11 -d classes $(find java -name '*.java')")
 SANITIZERS = "/usr/lib/llvm-*/lib/clang/*/lib/linux/libclang_rt.fuzzer-x86_64.a"
-GO = "(cd $YERVOUND/packages/go && GOCACHE=$OLDPWD/cache GOPROXY=off go test -tags formulas -c -o $OLDPWD/go)"
+GO = ("cp -r $YERVOUND/packages/go package && cp $YERVOUND/tests/formulas/go/* package && cd package &&"
+      " export GOCACHE=$ROOM/cache GOPROXY=off && go vet . && go test -c -o ../go && cd ..")
 
 
 def rust(rustc, name):

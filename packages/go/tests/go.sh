@@ -1,5 +1,5 @@
 #!/usr/bin/env bash
-# reads: packages/go crates/test_replay/data docs/BINDINGS.md
+# reads: packages/go crates/test_replay/data docs/BINDINGS.md tests/formulas/go
 # Tests the Go package over all cases, also under emulation on other machines, and by the commands on its page.
 . "$(dirname "$0")/../../../tests/cases.sh"
 export GOCACHE=$room/go GOPROXY=off
@@ -60,10 +60,10 @@ needs go
 cd "$top/packages/go" || exit 1
 try licences has_the_licences .
 try version requires_the_go_of_the_page
-try layout bash -c '[ -z "$(gofmt -l .)" ]'
+try layout bash -c '[ -z "$(gofmt -l . ../../tests/formulas/go)" ]'
 # The functions, types and values of the release, and all with the methods.
 try names bash -c '[ "$(go doc -all | grep -cE "^(func [A-Z]|type |var |\s(V[23]\w+|V3) )|^\s(V\w+)$")" -eq 34 ]'
-try methods bash -c '[ "$(go doc -all | grep -cE "^(func|type) ")" -eq 70 ]'
+try methods bash -c '[ "$(go doc -all | grep -cE "^(func|type) ")" -eq 74 ]'
 try tests passes_every_test
 try race go test -timeout 0 -count 1 -short -race .
 try fuzz go test -timeout 0 -run - -fuzz FuzzPieces -fuzztime 20000x .
@@ -75,7 +75,8 @@ try rows_per_iteration folds_many_rows
 try copies copies_whole_pieces
 try key_alone writes_fields_alone
 try clone clones
-try vet_formulas go vet -tags formulas ./...
+# A build tag is a word of the user's: none but those of Go may select a file.
+try build_tags bash -c '! grep -rnE "^//go:build|^// \+build" --include "*.go" . | grep -vE "go:build go1\.[0-9]+$"'
 try lines_of_the_page runs_the_page
 try page works_as_its_page_says README.md
 

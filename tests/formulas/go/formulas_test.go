@@ -1,5 +1,3 @@
-//go:build formulas
-
 package rapidhash
 
 import (

@@ -1,11 +1,10 @@
-//go:build formulas
-
 package rapidhash
 
 import "encoding/binary"
 
-// In this build the loads and the product are random functions of a key. Two programs that then return the same hash
-// of a random message compute the same formula, except with probability 2^-64. formulas_test.go runs it.
+// This file replaces that of the package: the loads and the product are random functions of a key. Two programs that
+// then return the same hash of a random message compute the same formula, except with probability 2^-64.
+// formulas_test.go runs it.
 
 // formulasKey is the key of the random functions.
 var formulasKey uint64
