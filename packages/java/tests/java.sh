@@ -201,7 +201,7 @@ contains_the_licences() {
 # Checks that the classes have the number of public types and members that the package had at its release.
 has_its_names() {
   jar -tf "$jar" | sed -n 's|^\(example/.*\)\.class$|\1|p' | xargs javap -cp "$jar" -public >"$room/names" &&
-    cat "$room/names" && [ "$(grep -c '\bpublic ' "$room/names")" -eq 76 ]
+    cat "$room/names" && [ "$(grep -c '\bpublic ' "$room/names")" -eq 74 ]
 }
 
 # Checks that all classes but those for later JDKs are for the oldest JDK that README.md names: JDK 11 reads major

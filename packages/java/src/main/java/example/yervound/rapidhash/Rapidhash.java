@@ -1,6 +1,9 @@
 package example.yervound.rapidhash;
 
+import java.io.IOException;
+import java.io.InputStream;
 import java.nio.ByteBuffer;
+import java.nio.charset.StandardCharsets;
 import java.util.List;
 import java.util.Objects;
 
@@ -17,7 +20,7 @@ import java.util.Objects;
  *
  * @param <S> the secrets of the version: {@link SecretsV1} or {@link Secrets}
  */
-public abstract class Rapidhash<S extends SeedAndSecrets> implements Values<S> {
+public abstract class Rapidhash<S extends SeedAndSecrets> {
     /** V1. */
     public static final Rapidhash<SecretsV1> V1 = new Rapidhash<>("V1", SecretsV1.DEFAULT) {
         @Override
@@ -131,21 +134,18 @@ public abstract class Rapidhash<S extends SeedAndSecrets> implements Values<S> {
     abstract long of(ByteBuffer data, int at, int n, long seed, SeedAndSecrets s);
 
     /** Returns the hash of all bytes with the default seed and secrets. */
-    @Override
     public long hash(byte[] bytes) {
         Objects.requireNonNull(bytes, "bytes");
         return of(bytes, 0, bytes.length, defaults.seed, defaults);
     }
 
     /** Returns the hash of all bytes with the default secrets and a seed word. */
-    @Override
     public long hash(byte[] bytes, long seed) {
         Objects.requireNonNull(bytes, "bytes");
         return of(bytes, 0, bytes.length, SeedAndSecrets.seedOf(seed, this == V1), defaults);
     }
 
     /** Returns the hash of all bytes with a seed and secrets. */
-    @Override
     public long hash(byte[] bytes, S secrets) {
         Objects.requireNonNull(bytes, "bytes");
         return of(bytes, 0, bytes.length, Objects.requireNonNull(secrets, "secrets").seed, secrets);
@@ -196,8 +196,78 @@ public abstract class Rapidhash<S extends SeedAndSecrets> implements Values<S> {
         return ofBuffer(buffer, Objects.requireNonNull(secrets, "secrets").seed, secrets);
     }
 
+    /** Returns the hash of a number's 8 bytes, least significant first, with the default seed and secrets. */
+    public long hash(long number) {
+        return hash(Primitives.bytes(number));
+    }
+
+    /** Returns the hash of a number's 8 bytes, least significant first, with the default secrets and a seed word. */
+    public long hash(long number, long seed) {
+        return hash(Primitives.bytes(number), seed);
+    }
+
+    /** Returns the hash of a number's 8 bytes, least significant first, with a seed and secrets. */
+    public long hash(long number, S secrets) {
+        return hash(Primitives.bytes(number), secrets);
+    }
+
+    /**
+     * Returns the hash of a text's UTF-8, which it copies, with the default seed and secrets. Half of a surrogate pair
+     * is encoded as '?', as {@link String#getBytes(java.nio.charset.Charset)} does.
+     */
+    public long hash(CharSequence text) {
+        return hash(encode(text));
+    }
+
+    /** Returns the hash of a text's UTF-8 with the default secrets and a seed word. */
+    public long hash(CharSequence text, long seed) {
+        return hash(encode(text), seed);
+    }
+
+    /** Returns the hash of a text's UTF-8 with a seed and secrets. */
+    public long hash(CharSequence text, S secrets) {
+        return hash(encode(text), secrets);
+    }
+
+    /**
+     * Returns the hash of a letter as a text, with the default seed and secrets. Without this method, Java would take
+     * the letter for a number.
+     */
+    public long hash(char letter) {
+        return hash(String.valueOf(letter));
+    }
+
+    /** Returns the hash of a letter as a text with the default secrets and a seed word. */
+    public long hash(char letter, long seed) {
+        return hash(String.valueOf(letter), seed);
+    }
+
+    /** Returns the hash of a letter as a text with a seed and secrets. */
+    public long hash(char letter, S secrets) {
+        return hash(String.valueOf(letter), secrets);
+    }
+
+    /**
+     * Returns the hash of the bytes that remain in an input, with the default seed and secrets. Does not close it.
+     *
+     * @throws UnsupportedOperationException if this is not V3, micro or nano
+     * @throws IOException if a read fails
+     */
+    public long hash(InputStream input) throws IOException {
+        return read(input, stream());
+    }
+
+    /** Returns the hash of the bytes that remain in an input with the default secrets and a seed word. */
+    public long hash(InputStream input, long seed) throws IOException {
+        return read(input, stream(seed));
+    }
+
+    /** Returns the hash of the bytes that remain in an input with a seed and secrets. */
+    public long hash(InputStream input, S secrets) throws IOException {
+        return read(input, stream(secrets));
+    }
+
     /** Starts a stream with the default seed and secrets. */
-    @Override
     public RapidhashStream stream() {
         return new RapidhashStream(lanes(), defaults);
     }
@@ -240,5 +310,14 @@ public abstract class Rapidhash<S extends SeedAndSecrets> implements Values<S> {
         int at = Objects.requireNonNull(buffer, "buffer").position();
         return buffer.hasArray() ? of(buffer.array(), buffer.arrayOffset() + at, buffer.remaining(), seed, secrets)
             : of(buffer, at, buffer.remaining(), seed, secrets);
+    }
+
+    private static long read(InputStream input, RapidhashStream stream) throws IOException {
+        stream.update(input);
+        return stream.getValue();
+    }
+
+    private static byte[] encode(CharSequence text) {
+        return Objects.requireNonNull(text, "text").toString().getBytes(StandardCharsets.UTF_8);
     }
 }

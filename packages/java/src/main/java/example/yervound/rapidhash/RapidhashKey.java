@@ -13,7 +13,8 @@ import java.util.Objects;
  * <p>A field is null (as SQL's NULL), a Byte, Short, Integer or Long, a CharSequence as UTF-8, a byte[], or the
  * remaining bytes of a ByteBuffer. Different keys are hashed as different messages by {@link Rapidhash#V3}. A method
  * throws IllegalArgumentException, naming the field's place and type, for any other field, such as a Double, and for a
- * text with half of a surrogate pair.
+ * text with half of a surrogate pair. The key of a single null is {@code RapidhashKey.hash((Object) null)}: without the
+ * cast, Java takes null for the array of fields.
  */
 public final class RapidhashKey {
     private static final byte NOTHING = 0;

@@ -139,8 +139,8 @@ public final class RapidhashStream implements Checksum {
         check(saved.length == SAVED, "a saved stream has 208 bytes, not " + saved.length);
         check(Arrays.equals(saved, 0, NAME.length, NAME, 0, NAME.length),
             "saved is not a saved stream, or one of another version of the format");
-        check(saved[8] == count && saved[9] == 1, "the stream was saved with " + saved[8] + " lanes and options "
-            + saved[9] + ", not " + count + " and 1");
+        check(saved[8] == count && saved[9] == 1, "the stream was saved with " + Byte.toUnsignedInt(saved[8])
+            + " lanes and options " + Byte.toUnsignedInt(saved[9]) + ", not " + count + " and 1");
         RapidhashStream restored = new RapidhashStream(count, secrets);
         check(restored.load(fields) && Arrays.equals(restored.save(), saved),
             "the saved stream was changed, or has another seed or other secrets");

@@ -141,6 +141,11 @@ public class RapidhashStreamTest {
                 stream.update(zeros.rewind());
                 assertEquals(version.toString(), known[Rapidhash.ALL.indexOf(version)], stream.getValue());
             }
+            // More rows than 24 bits can count, if the heap has the room.
+            byte[] array = new byte[(int) Math.min(850_000_000, Runtime.getRuntime().maxMemory() / 2)];
+            for (Rapidhash<?> version : Rapidhash.ALL) {
+                assertEquals(version.toString(), version.hash(zeros.rewind().limit(array.length)), version.hash(array));
+            }
         } finally {
             Files.delete(file);
         }

@@ -9,7 +9,9 @@ import static org.junit.Assert.assertThrows;
 import static org.junit.Assert.assertTrue;
 
 import com.sun.management.ThreadMXBean;
+import java.lang.invoke.MethodHandles;
 import java.lang.management.ManagementFactory;
+import java.lang.reflect.Method;
 import java.nio.ByteBuffer;
 import java.nio.ByteOrder;
 import java.nio.charset.StandardCharsets;
@@ -156,6 +158,8 @@ public class RapidhashTest {
                 differ(SecretsV1.of(words[0], Arrays.copyOfRange(words, 1, 4)), OWN_V1);
             }
         }
+        assertNotEquals(Secrets.of(0, 2, 3, 5, 7, 11, 13, 17), Secrets.of(0x100000001L, 2, 3, 5, 7, 11, 13, 17));
+        assertNotEquals(Secrets.of(1, 0, 3, 5, 7, 11, 13, 17), Secrets.of(1, 0x100000001L, 3, 5, 7, 11, 13, 17));
         OWN.secrets()[0] = 9;
         assertArrayEquals(new long[] {2, 3, 5, 7, 11, 13, 17}, OWN.secrets());
         assertEquals("Secrets[hidden]", OWN.toString());
@@ -232,6 +236,20 @@ public class RapidhashTest {
     @Test
     public void theListOfVersionsDoesNotChange() {
         assertThrows(UnsupportedOperationException.class, () -> Rapidhash.ALL.sort(null));
+    }
+
+    /** Programs that call by reflection need methods whose class is public. */
+    @Test
+    public void reflection() throws Exception {
+        int count = 0;
+        for (Class<?> type : List.of(Rapidhash.class, RapidhashKey.class, RapidhashShards.class, RapidhashStream.class,
+            SeedAndSecrets.class, Secrets.class, SecretsV1.class, Rapidhash.V3.getClass())) {
+            for (Method method : type.getMethods()) {
+                MethodHandles.publicLookup().unreflect(method);
+                count += method.getName().equals("hash") ? 1 : 0;
+            }
+        }
+        assertEquals(2 * 21 + 1, count);
     }
 
     @Test

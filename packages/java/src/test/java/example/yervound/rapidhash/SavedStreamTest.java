@@ -46,6 +46,9 @@ public class SavedStreamTest {
         refuse(Rapidhash.V3.stream(OWN), saved, "the stream was saved with 5 lanes and options 1, not 7 and 1");
         saved[9] = 3;
         refuse(stream, saved, "the stream was saved with 5 lanes and options 3, not 5 and 1");
+        saved[8] = (byte) 200;
+        saved[9] = (byte) 255;
+        refuse(stream, saved, "the stream was saved with 200 lanes and options 255, not 5 and 1");
         assertEquals("saved", assertThrows(NullPointerException.class, () -> stream.restore(null)).getMessage());
     }
 

@@ -5,11 +5,18 @@ import static org.junit.Assert.assertEquals;
 import static org.junit.Assert.assertThrows;
 import static org.junit.Assert.assertTrue;
 
+import java.io.BufferedInputStream;
 import java.io.ByteArrayInputStream;
 import java.io.EOFException;
+import java.io.FileInputStream;
 import java.io.IOException;
 import java.io.InputStream;
 import java.nio.CharBuffer;
+import java.nio.channels.Channels;
+import java.nio.channels.FileChannel;
+import java.nio.file.Files;
+import java.nio.file.Path;
+import java.nio.file.StandardOpenOption;
 import java.util.Arrays;
 import java.util.List;
 import org.junit.Test;
@@ -18,6 +25,7 @@ import org.junit.Test;
 public class ValuesTest {
     private static final byte[] OF_NUMBER = {8, 7, 6, 5, 4, 3, 2, (byte) 0x81};
     private static final long NUMBER = 0x8102030405060708L;
+    private static final long SEED = 0x8070605040302010L;
     /** The bytes of the text, whose last letter is half of a surrogate pair. */
     private static final byte[] OF_TEXT = {
         'n', 'a', (byte) 0xc3, (byte) 0xaf, ' ', (byte) 0xe4, (byte) 0xb8, (byte) 0xad, ' ',
@@ -34,7 +42,7 @@ public class ValuesTest {
     private static <S extends SeedAndSecrets> void compareNumbers(Rapidhash<S> version) {
         S own = Messages.own(version);
         assertEquals(version.hash(OF_NUMBER), version.hash(NUMBER));
-        assertEquals(version.hash(OF_NUMBER, 7L), version.hash(NUMBER, 7L));
+        assertEquals(version.hash(OF_NUMBER, SEED), version.hash(NUMBER, SEED));
         assertEquals(version.hash(OF_NUMBER, own), version.hash(NUMBER, own));
     }
 
@@ -48,7 +56,7 @@ public class ValuesTest {
         S own = Messages.own(version);
         for (CharSequence text : List.of(TEXT, new StringBuilder(TEXT), CharBuffer.wrap("<" + TEXT + ">", 1, 10))) {
             assertEquals(version.hash(OF_TEXT), version.hash(text));
-            assertEquals(version.hash(OF_TEXT, 7L), version.hash(text, 7L));
+            assertEquals(version.hash(OF_TEXT, SEED), version.hash(text, SEED));
             assertEquals(version.hash(OF_TEXT, own), version.hash(text, own));
         }
     }
@@ -67,7 +75,7 @@ public class ValuesTest {
         for (String text : List.of("a", "\u00ef", "\u4e2d", "\ud83d")) {
             char letter = text.charAt(0);
             assertEquals(version.hash(text), version.hash(letter));
-            assertEquals(version.hash(text, 7L), version.hash(letter, 7L));
+            assertEquals(version.hash(text, SEED), version.hash(letter, SEED));
             assertEquals(version.hash(text, own), version.hash(letter, own));
         }
         assertEquals(version.hash((long) 'a'), version.hash('a' + 0));
@@ -101,6 +109,8 @@ public class ValuesTest {
                 Pieces input = new Pieces(message);
                 assertEquals(version.hash(message), version.hash(input));
                 assertTrue(!input.isClosed);
+                assertEquals(version.hash(message, SEED), version.hash(new Pieces(message), SEED));
+                assertEquals(version.hash(message, OWN), version.hash(new Pieces(message), OWN));
                 RapidhashStream stream = version.stream(OWN);
                 stream.update(new Pieces(Arrays.copyOf(message, length / 2)));
                 stream.update(new ByteArrayInputStream(message, length / 2, length));
@@ -108,6 +118,20 @@ public class ValuesTest {
             }
         }
         assertThrows(UnsupportedOperationException.class, () -> Rapidhash.V1.hash(InputStream.nullInputStream()));
+    }
+
+    @Test
+    public void closedInputs() throws IOException {
+        Path file = Files.createTempFile("hello", null);
+        FileChannel channel = FileChannel.open(file, StandardOpenOption.READ);
+        for (InputStream input : List.of(Files.newInputStream(file), new FileInputStream(file.toFile()),
+            InputStream.nullInputStream(), new BufferedInputStream(Channels.newInputStream(channel)))) {
+            assertEquals(Rapidhash.V3.hash(""), Rapidhash.V3.hash(input));
+            input.close();
+            assertThrows(IOException.class, () -> Rapidhash.V3.hash(input));
+            assertThrows(IOException.class, () -> Rapidhash.V3.stream().update(input));
+        }
+        Files.delete(file);
     }
 
     @Test
@@ -143,6 +167,9 @@ public class ValuesTest {
         RapidhashTest.names("text", () -> v3.hash((String) null));
         RapidhashTest.names("text", () -> v3.hash((String) null, 1L));
         RapidhashTest.names("input", () -> v3.hash((InputStream) null));
+        RapidhashTest.names("input", () -> v3.hash((InputStream) null, 1L));
+        RapidhashTest.names("input", () -> v3.hash((InputStream) null, OWN));
+        RapidhashTest.names("secrets", () -> v3.hash(InputStream.nullInputStream(), null));
         RapidhashTest.names("input", () -> v3.stream().update((InputStream) null));
         RapidhashTest.names("secrets", () -> v3.hash(5, null));
         RapidhashTest.names("secrets", () -> v3.hash("hello", null));
