@@ -26,8 +26,8 @@ func Integer(value int64) Field { return Field{tag: integerTag, value: value} }
 // Text returns a field that is the bytes of a string.
 func Text(text string) Field { return Field{tag: bytesTag, text: text} }
 
-// Bytes returns a field of bytes, which equals the Text of the same bytes. A nil slice is nothing, as database/sql reads
-// NULL into a []byte. An empty one that is not nil is no bytes.
+// Bytes returns a field of bytes, which equals the Text of the same bytes. A nil slice is nothing, as database/sql
+// reads NULL into a []byte, and an empty one that is not nil is empty bytes.
 func Bytes(data []byte) Field {
 	if data == nil {
 		return Nothing()

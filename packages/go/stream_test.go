@@ -154,8 +154,8 @@ func FuzzPieces(f *testing.F) {
 	})
 }
 
-// TestGettersOfZeroStreams checks that a call which changes no message leaves the zero Stream as it is, so that it still
-// accepts any version, and allocates nothing.
+// TestGettersOfZeroStreams checks that a call which changes no message leaves the zero Stream as it is, so that it
+// still accepts any version, and allocates nothing.
 func TestGettersOfZeroStreams(t *testing.T) {
 	var zero Stream
 	micro := V3Micro.New()

@@ -3,7 +3,8 @@
 # WebAssembly, which has no threads, and for which Rust ignores the tests that panic. Debian's cargo builds them with
 # rustc 1.63, the oldest compiler that the crate supports. The C header, compiled for each machine and for powerpc,
 # which is big-endian with 32 bits, must have the values of all vectors, with a 128-bit product and without. Cargo
-# builds the programs too, except for WebAssembly.
+# builds the programs too, except for WebAssembly. Debian's Node for s390x, which is big-endian, runs tests of the
+# package for JavaScript.
 #
 # The other Debian packages are unpacked in build/machines, or in the directory that RAPIDHASH_MACHINES names, which
 # later runs reuse. They are not installed.
@@ -23,12 +24,16 @@ machines=(
   'armhf armhf armv7-unknown-linux-gnueabihf arm-linux-gnueabihf arm'
   'powerpc powerpc - powerpc-linux-gnu ppc'
   'wasm32 - wasm32-wasi - -'
+  'node s390x - - s390x'
 )
 # The number of machines that are built and run in parallel.
 jobs=2
 # The compiler, the libraries that it and the linkers need, and the emulators.
 compiler=(rustc libstd-rust-1.63 libstd-rust-dev libllvm14 lib{z3-4,edit2,bsd0,md0,xml2,icu72,ffi8,jansson4,binutils}
   qemu-user-static)
+# Node, its libraries, and its parts that are packages of their own.
+node=({nodejs,libnode108,libc6,libgcc-s1,libstdc++6,libicu72,libssl3,libuv1,libnghttp2-14,libbrotli1,libc-ares2}:s390x
+  zlib1g:s390x node-{undici,busboy,acorn,cjs-module-lexer,xtend})
 
 # Prepares an apt with its own index, so that neither the packages nor the architectures of the system change. It has
 # no sandbox, because the sandbox's user cannot write here.
@@ -102,6 +107,7 @@ try() {
 machine() {
   local name=$1 debian=$2 target=$3 gnu=$4 qemu=$5 of_target
   local packages=() tests=(--tests) cc=(cc) run=() flags='-D warnings' product
+  [ "$name" != node ] || { in_node "$debian" "$qemu"; return; }
   of_target=CARGO_TARGET_$(tr a-z- A-Z_ <<<"$target")
   export CARGO_BUILD_TARGET=$target CARGO_TARGET_DIR=$room/$name.out CARGO_NET_OFFLINE=true
   case $name in
@@ -155,6 +161,31 @@ has_the_tools() {
 has_the_values() {
   "${cc[@]}" -O2 ${1:+"$1"} -I"$top/packages/c/include" "$top/packages/c/tests/cases.c" -o "$room/$name.c" &&
     "${run[@]}" "$room/$name.c" <"$top/crates/test_replay/data/cases.tsv"
+}
+
+# Runs tests of the package for JavaScript in Node on a machine, which has a directory of its own, because that of the
+# compiler has programs of this machine. The cases of 4 GiB would take hours there: DEBIAN QEMU
+in_node() {
+  local run=("$root/usr/bin/qemu-$2-static" -L "$folder/node.$1" "$folder/node.$1/usr/bin/node")
+  local root=$folder/node.$1 test reason
+  if reason=$(lacks clang wasm-ld esbuild npm); then
+    skip node "$reason"
+  elif ! has_all node "${node[@]}" >"$room/node.log" 2>&1; then
+    skip node "$(tail -n 1 "$room/node.log")"
+  else
+    try "node_$1_package" lay_out_for_node
+    for test in cases known refused keys saved; do
+      try "node_$1_$test" env -C "$room/node" "${run[@]}" --no-warnings "$test.mjs"
+    done
+  fi
+}
+
+# Lays out tests of the package for JavaScript beside it.
+lay_out_for_node() {
+  make -s -C "$top" npm && mkdir -p "$room/node/node_modules" &&
+    cp -r "$top/build/npm" "$room/node/node_modules/yervound-rapidhash" &&
+    cp "$top"/packages/javascript/tests/*.mjs "$room/node" &&
+    grep -v zeros: "$top/crates/test_replay/data/cases.tsv" >"$room/node/cases.tsv"
 }
 
 fetch_compiler >"$room/compiler.log" 2>&1 && touch "$room/compiler"
