@@ -23,6 +23,17 @@ function messageOf(text) {
   return rule === "ramp" ? Uint8Array.from({ length: Number(size) }, (_, at) => at % 251) : bytesOf(text);
 }
 
+const decoder = new TextDecoder("utf-8", { fatal: true, ignoreBOM: true });
+
+/** Returns the string of which a message is the UTF-8, or the message if there is none. */
+function textOf(message) {
+  try {
+    return decoder.decode(message);
+  } catch {
+    return message;
+  }
+}
+
 /** Adds a message in pieces of 1, 2, 3 bytes, and so on, or so many bytes of 0. */
 function addInPieces(hasher, message) {
   const zeros = typeof message === "number" ? new Uint8Array(2 ** 24) : undefined;
@@ -63,7 +74,8 @@ function replayHash(version, rule, argument) {
     if (typeof message === "number") return found;
     const digits = library[`${name}Hex`](message, options);
     const hash = library[name](message, options);
-    return [...found, hash, BigInt(`0x${digits}`), its.hex(hash) === digits ? hash : -1n];
+    const ofText = library[name](textOf(message), options);
+    return [...found, hash, ofText, BigInt(`0x${digits}`), its.hex(hash) === digits ? hash : -1n];
   }));
 }
 

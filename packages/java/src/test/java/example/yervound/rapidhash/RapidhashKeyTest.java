@@ -29,6 +29,7 @@ public class RapidhashKeyTest {
             }
         }
         assertEquals(1, direct.position());
+        assertEquals(RapidhashKey.hash(new Object[] {null}), RapidhashKey.hash((Object) null));
         assertEquals(RapidhashKey.hash((byte) -1), RapidhashKey.hash(-1L));
         assertEquals(RapidhashKey.hash("中文"), RapidhashKey.hash((Object) "中文".getBytes(StandardCharsets.UTF_8)));
         assertEquals(Rapidhash.V3.hash(new byte[0]), RapidhashKey.hash());
