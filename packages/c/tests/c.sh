@@ -400,11 +400,13 @@ takes_the_flags() {
     objdump -d --disassemble=rapidhash_c_version "$room/bare/build/header/rapidhash_c.o" | grep 'mov *\$0x64,%eax'
 }
 
-# Checks that make builds a product again if it and its compiler were killed. The compiler had begun to write.
+# Checks that make builds a product again if it was killed, with the shell that it may have started, when the compiler
+# had begun to write.
 survives_a_kill() {
   make_by_cc_alone clean
-  printf '%s\n' '#!/bin/sh' 'for last; do :; done' ': >"$last"' \
-    'kill -9 $(ps -o ppid= $PPID) $PPID' >"$room/killed" && chmod +x "$room/killed" || return
+  printf '%s\n' '#!/bin/sh' 'for last; do :; done' ': >"$last"' 'for caller in $(ps -o ppid= $PPID) $PPID; do' \
+    'case $(ps -o comm= $caller) in sh | make) kill -9 $caller ;; esac' done >"$room/killed" &&
+    chmod +x "$room/killed" || return
   ! make_by_cc_alone library CC="$room/killed" && make_by_cc_alone library &&
     defines_the_header @@RAPIDHASH_1 -D "$room/bare/build/header/librapidhash_c.so.1"
 }
