@@ -162,9 +162,12 @@ static int fill(PyObject *module)
     return status;
 }
 
+/* Before 3.9, the garbage collector also visits a module that has no state yet. */
 static int visit_classes(PyObject *module, visitproc visit, void *arg)
 {
     PyObject **classes = PyModule_GetState(module);
+    if (classes == NULL)
+        return 0;
     Py_VISIT(classes[0]);
     Py_VISIT(classes[1]);
     return 0;
@@ -173,6 +176,8 @@ static int visit_classes(PyObject *module, visitproc visit, void *arg)
 static int clear_classes(PyObject *module)
 {
     PyObject **classes = PyModule_GetState(module);
+    if (classes == NULL)
+        return 0;
     Py_CLEAR(classes[0]);
     Py_CLEAR(classes[1]);
     return 0;

@@ -11,7 +11,12 @@ import unittest
 import rapidhash
 from test_rapidhash import DATA, KNOWN, VERSIONS, WITH_SEED_1, Power, run
 
+
 class Package(unittest.TestCase):
+    def test_a_collection_during_the_import(self):
+        """Before 3.9, the garbage collector also visits a module that has no state yet."""
+        self.assertEqual(run("import gc; gc.set_threshold(1); import rapidhash"), (0, ""))
+
     def test_version(self):
         self.assertEqual(rapidhash.__version__, importlib.metadata.version("yervound-rapidhash"))
 
