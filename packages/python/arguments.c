@@ -29,19 +29,25 @@ PyObject *attribute_of(PyObject *object, const char *name)
     return value;
 }
 
-int has_attribute(PyObject *object, const char *name)
+int class_has(PyObject *object, const char *name)
 {
     PyObject *const interned = PyUnicode_InternFromString(name);
-    const int has = interned != NULL && PyObject_HasAttr(object, interned);
+    const int has = interned != NULL && PyObject_HasAttr((PyObject *)Py_TYPE(object), interned);
     if (interned == NULL)
         PyErr_Clear();
     Py_XDECREF(interned);
     return has;
 }
 
+int is_masked(PyObject *object)
+{
+    return !PyByteArray_Check(object) && !PyMemoryView_Check(object) && class_has(object, "mask") &&
+           class_has(object, "filled");
+}
+
 char kind_of(PyObject *object)
 {
-    PyObject *const dtype = has_attribute(object, "dtype") ? attribute_of(object, "dtype") : NULL;
+    PyObject *const dtype = class_has(object, "dtype") ? attribute_of(object, "dtype") : NULL;
     PyObject *const kind = dtype == NULL ? NULL : attribute_of(dtype, "kind");
     PyObject *const text = kind != NULL && PyUnicode_Check(kind) ? PyUnicode_AsASCIIString(kind) : NULL;
     const char letter = text == NULL ? 0 : *PyBytes_AsString(text);
@@ -66,20 +72,46 @@ static int has_addresses(const char *format)
     return 0;
 }
 
-/* Refuses arrays whose bytes are addresses, or also those of masked values. */
-static int refuse_array(PyObject *data, const char *name, const Py_buffer *buffer)
+/* Returns whether an object of ctypes, or a view of one, has addresses that its format hides, or -1 with an error set.
+ * Unions and packed structures have the format of a byte, but are larger. */
+static int hides_addresses(PyObject *data, const Py_buffer *buffer)
 {
-    if (buffer->format != NULL && has_addresses(buffer->format)) {
+    PyObject *owner, *package, *answer;
+    int hides;
+    if (buffer->itemsize == 1 || strchr(format_of(buffer), 'B') == NULL)
+        return 0;
+    owner = PyMemoryView_Check(data) ? attribute_of(data, "obj") : (Py_INCREF(data), data);
+    package = owner == NULL ? NULL : PyImport_ImportModule("rapidhash");
+    answer = package == NULL ? NULL : PyObject_CallMethod(package, "_has_addresses", "O", Py_TYPE(owner));
+    hides = answer == NULL ? -1 : PyObject_IsTrue(answer);
+    Py_XDECREF(owner);
+    Py_XDECREF(package);
+    Py_XDECREF(answer);
+    return hides;
+}
+
+/* Refuses an array whose bytes are addresses. */
+static int refuse_addresses(PyObject *data, const char *name, const Py_buffer *buffer)
+{
+    const int are = has_addresses(format_of(buffer)) ? 1 : hides_addresses(data, buffer);
+    if (are > 0)
         PyErr_Format(PyExc_TypeError, "%s must not be an array of objects or pointers, whose bytes are addresses: %R",
                      name, Py_TYPE(data));
-        return -1;
-    }
-    if (!PyByteArray_Check(data) && !PyMemoryView_Check(data) && has_attribute(data, "mask")) {
+    return are == 0 ? 0 : -1;
+}
+
+int open_argument(PyObject *object, const char *name, int flags, Py_buffer *buffer)
+{
+    if (!PyObject_CheckBuffer(object))
+        PyErr_Format(PyExc_TypeError, "%s must be a buffer, not %R", name, Py_TYPE(object));
+    else if (is_masked(object))
         PyErr_Format(PyExc_TypeError, "%s must not be a masked array, whose bytes are also those of masked values: %R",
-                     name, Py_TYPE(data));
-        return -1;
-    }
-    return 0;
+                     name, Py_TYPE(object));
+    else if (PyObject_GetBuffer(object, buffer, flags) == 0)
+        return 0;
+    else if (*name != 0)
+        name_error(name);
+    return -1;
 }
 
 /* A str is immutable and keeps its UTF-8. The contents of bytes need no buffer, but a subclass may have its own. */
@@ -96,9 +128,9 @@ int read_message(PyObject *data, const char *name, struct message *message)
         if (message->bytes == NULL)
             return -1;
     } else if (PyObject_CheckBuffer(data)) {
-        if (PyObject_GetBuffer(data, &message->buffer, PyBUF_FORMAT | PyBUF_C_CONTIGUOUS) < 0)
+        if (open_argument(data, name, PyBUF_FORMAT | PyBUF_C_CONTIGUOUS, &message->buffer) < 0)
             return -1;
-        if (refuse_array(data, name, &message->buffer) < 0) {
+        if (refuse_addresses(data, name, &message->buffer) < 0) {
             PyBuffer_Release(&message->buffer);
             return -1;
         }

@@ -16,10 +16,11 @@ static void read_secrets(const struct form *form, const struct start *start, str
 
 char letter_of(const Py_buffer *buffer)
 {
-    const char *format = buffer->format == NULL ? "B" : buffer->format, *letters;
+    const char *format = format_of(buffer), *letters;
     if (*format == '@' || *format == '=' || (PY_LITTLE_ENDIAN && *format == '<'))
         format++;
-    if (*format == 0 || format[1] != 0 || strchr("bhilqBHILQ", *format) == NULL || buffer->itemsize > 8)
+    if (*format == 0 || format[1] != 0 || strchr("bhilqBHILQ", *format) == NULL || buffer->itemsize > 8 ||
+        (strchr("bB", *format) == NULL) == (buffer->itemsize == 1))
         return 0;
     letters = strchr("bhilq", *format) != NULL ? "\0bh\0i\0\0\0q" : "\0BH\0I\0\0\0Q";
     return letters[buffer->itemsize];
@@ -28,7 +29,7 @@ char letter_of(const Py_buffer *buffer)
 int open_out(PyObject *out, size_t count, Py_buffer *buffer)
 {
     char letter;
-    if (PyObject_GetBuffer(out, buffer, PyBUF_WRITABLE | PyBUF_FORMAT | PyBUF_C_CONTIGUOUS) < 0)
+    if (open_argument(out, "out", PyBUF_WRITABLE | PyBUF_FORMAT | PyBUF_C_CONTIGUOUS, buffer) < 0)
         return -1;
     letter = letter_of(buffer);
     if (letter != 'Q')
@@ -104,7 +105,7 @@ static int is_number(PyObject *item, const Py_buffer *buffer)
 /* Reads an item. Returns 0, or -1 with an error set. */
 static int read_item(PyObject *item, struct message *message)
 {
-    if (read_message(item, "item", message) < 0)
+    if (read_message(item, "", message) < 0)
         return -1;
     if (!is_number(item, &message->buffer))
         return 0;
@@ -177,7 +178,7 @@ PyObject *each(PyObject *module, PyObject *const *args, Py_ssize_t count)
     return status == 0 ? PyLong_FromSsize_t(size) : NULL;
 }
 
-/* each_row(memoryview, version, seed, secrets, out, None, width), in which the width is a positive divisor of the
+/* each_row(buffer, version, seed, secrets, out, None, width), in which the width is a positive divisor of the
  * length. */
 PyObject *each_row(PyObject *module, PyObject *const *args, Py_ssize_t count)
 {
@@ -188,7 +189,7 @@ PyObject *each_row(PyObject *module, PyObject *const *args, Py_ssize_t count)
     if (width <= 0 || read_message(args[0], "data", &data) < 0)
         return NULL;
     if (open_column(module, args + 1, data.len / (size_t)width, &column) == 0) {
-        if (!overlaps(&column.out, &data.buffer, "data")) {
+        if (data.buffer.obj == NULL || !overlaps(&column.out, &data.buffer, "data")) {
             const char *bytes = data.bytes;
             Py_ssize_t at, size = (Py_ssize_t)data.len / width;
             Py_BEGIN_ALLOW_THREADS

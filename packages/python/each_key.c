@@ -15,22 +15,22 @@ struct fields {
 /* Why a row has no key: an error is set, an integer is too large, or offsets of Arrow do not ascend. */
 enum { HASHED, REFUSED, TOO_LARGE, NOT_ASCENDING };
 
-/* Opens a column of integers in a buffer. Returns their number, or -1 with an error set. */
+/* Opens a column of integers in a buffer. A single time of NumPy has one of its bytes. Returns their number, or -1 with an error set. */
 static Py_ssize_t open_buffer(PyObject *column, Py_ssize_t at, struct fields *fields)
 {
     Py_buffer *const buffer = &fields->buffer;
-    char place[64];
-    if (PyObject_GetBuffer(column, buffer, PyBUF_FORMAT | PyBUF_STRIDES) < 0) {
-        PyOS_snprintf(place, sizeof place, "columns[%zd]", at);
-        return name_error(place), -1;
-    }
-    fields->letter = letter_of(buffer);
+    char place[64], kind;
+    PyOS_snprintf(place, sizeof place, "columns[%zd]", at);
+    if (open_argument(column, place, PyBUF_FORMAT | PyBUF_STRIDES, buffer) < 0)
+        return -1;
+    kind = kind_of(column);
+    fields->letter = kind == 'm' || kind == 'M' ? 0 : letter_of(buffer);
     if (fields->letter != 0 && buffer->ndim == 1) {
         fields->stride = buffer->strides[0];
         return buffer->shape[0];
     }
     PyErr_Format(PyExc_TypeError, "columns[%zd] must be a list, a tuple, or a buffer of integers in a row, and "
-                 "it is %R of the format '%s'", at, Py_TYPE(column), buffer->format);
+                 "it is %R of the format '%s'", at, Py_TYPE(column), format_of(buffer));
     PyBuffer_Release(buffer);
     return -1;
 }

@@ -132,6 +132,9 @@ MAKER(seeded, "seed", rapidhash_seed_secrets, rapidhash_secrets)
      PyDoc_STR(#name "_hexdigest($module, data, seed=None, secrets=None)\n--\n\n" \
                "Returns the same hash as " #name ", as 16 hexadecimal digits.")},
 
+static PyObject *masked(PyObject *module, PyObject *object)
+{ return (void)module, PyBool_FromLong(is_masked(object)); }
+
 static PyMethodDef calls[] = {
     RAPIDHASH_C_VERSIONS(CALLS)
     {"made", made, METH_O, NULL}, {"made_v1", made_v1, METH_O, NULL}, {"seeded", seeded, METH_O, NULL},
@@ -140,7 +143,7 @@ static PyMethodDef calls[] = {
     {"each_key", FAST(each_key), METH_FASTCALL, NULL}, {"arrow", FAST(arrow), METH_FASTCALL, NULL},
     {"each_arrow", FAST(each_arrow), METH_FASTCALL, NULL}, {"shard", FAST(shard), METH_FASTCALL, NULL},
     {"first_hash", FAST(first_hash), METH_FASTCALL, NULL}, {"bucket", FAST(bucket), METH_FASTCALL, NULL},
-    {"fingerprint", fingerprint, METH_O, NULL}, {NULL, NULL, 0, NULL}};
+    {"fingerprint", fingerprint, METH_O, NULL}, {"is_masked", masked, METH_O, NULL}, {NULL, NULL, 0, NULL}};
 
 /* The module's state: the classes of secrets, that of V1 second. Each interpreter has its own. */
 static int fill(PyObject *module)

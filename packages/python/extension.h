@@ -37,9 +37,11 @@ struct message {
     Py_buffer buffer;
 };
 
-/* Each of these functions returns 0, or -1 with an error set that names the argument. */
+/* Each of these functions returns 0, or -1 with an error set that names the argument. A message without a name has an
+ * error of its buffer that does not, and open_argument opens no masked array. */
 int read_word(PyObject *number, const char *name, uint64_t *word);
 int read_message(PyObject *data, const char *name, struct message *message);
+int open_argument(PyObject *object, const char *name, int flags, Py_buffer *buffer);
 int read_start(PyObject *module, const struct form *form, PyObject *seed, PyObject *secrets, struct start *start);
 
 void release_message(struct message *message);
@@ -47,8 +49,12 @@ void release_message(struct message *message);
 /* Returns a new reference to an attribute, or NULL with an error set. */
 PyObject *attribute_of(PyObject *object, const char *name);
 
-/* Returns whether an object has an attribute. */
-int has_attribute(PyObject *object, const char *name);
+/* Returns whether the class of an object has an attribute. An object can have one that its user named, such as a field
+ * of a structure or a label of a Series. */
+int class_has(PyObject *object, const char *name);
+
+/* Returns whether an object is an array of NumPy with masked items. */
+int is_masked(PyObject *object);
 
 /* Returns the letter of the kind that an array or a scalar of NumPy has, such as b for a bool, and 0 for any other. */
 char kind_of(PyObject *object);
@@ -61,6 +67,10 @@ const struct form *form_of(PyObject *version);
 
 /* V3. */
 extern const struct form *const form_v3;
+
+/* Returns the format of a buffer, which is that of bytes if its object did not say. */
+static inline const char *format_of(const Py_buffer *buffer)
+{ return buffer->format == NULL ? "B" : buffer->format; }
 
 /* Returns b, h, i or q for a buffer of integers of 1, 2, 4 or 8 bytes in the machine's byte order, in capitals if they
  * are unsigned, and 0 for any other. A letter of a standard format, such as =l, has another size than its type in C. */

@@ -50,15 +50,15 @@ static int add_bytes(PyObject *field, Py_ssize_t at, Py_ssize_t row, struct key 
     int are_bytes = PyUnicode_Check(field) || PyBytes_Check(field);
     message.buffer.obj = NULL;
     if (are_bytes) {
-        if (read_message(field, "field", &message) < 0)
+        if (read_message(field, "the field", &message) < 0)
             return refuse_field(at, row);
-    } else if (PyObject_CheckBuffer(field) && !has_attribute(field, "dtype")) {
+    } else if (PyObject_CheckBuffer(field) && !class_has(field, "dtype")) {
         const Py_buffer *const buffer = &message.buffer;
         if (PyObject_GetBuffer(field, &message.buffer, PyBUF_FORMAT | PyBUF_C_CONTIGUOUS) < 0)
             return refuse_field(at, row);
         message.bytes = buffer->buf;
         message.len = (size_t)buffer->len;
-        are_bytes = buffer->format == NULL || strcmp(buffer->format, "B") == 0;
+        are_bytes = buffer->itemsize == 1 && strcmp(format_of(buffer), "B") == 0;
     }
     if (are_bytes && key->out != NULL && is_overwritten(key->out, row, &message, "a field")) {
         are_bytes = 0;

@@ -22,12 +22,13 @@ static int read_count(PyObject *number, uint64_t most, uint64_t *count)
 /* Opens a column of hashes. Returns 0, or -1 with an error set. */
 static int open_hashes(PyObject *hashes, Py_buffer *buffer)
 {
-    if (PyObject_GetBuffer(hashes, buffer, PyBUF_FORMAT | PyBUF_STRIDES) < 0)
+    if (open_argument(hashes, "hashes", PyBUF_FORMAT | PyBUF_STRIDES, buffer) < 0)
         return -1;
     if (buffer->ndim == 1 && letter_of(buffer) == 'Q')
         return 0;
     PyErr_Format(PyExc_TypeError, "hashes must be unsigned 64-bit integers in one dimension, such as array('Q'), "
-                 "not %R", Py_TYPE(hashes));
+                 "not %R of the format '%s'; .astype(\"uint64\") converts integers of pandas and NumPy",
+                 Py_TYPE(hashes), format_of(buffer));
     PyBuffer_Release(buffer);
     return -1;
 }
@@ -54,7 +55,7 @@ static int open_results(PyObject *room, const Py_buffer *hashes, Py_buffer *out)
 }
 
 /* Decides for each row of a column. The arguments are the column, the count, and the room for the results. */
-static PyObject *decide_each(PyObject *const *args, decide *decide, uint64_t count)
+static PyObject *decide_each(PyObject *const *args, decide *call, uint64_t count)
 {
     Py_buffer hashes, out;
     Py_ssize_t at;
@@ -66,7 +67,7 @@ static PyObject *decide_each(PyObject *const *args, decide *decide, uint64_t cou
     }
     Py_BEGIN_ALLOW_THREADS
     for (at = 0; at < hashes.shape[0]; at++) {
-        const uint64_t result = decide(hash_at(&hashes, at), count);
+        const uint64_t result = call(hash_at(&hashes, at), count);
         memcpy((char *)out.buf + 8 * at, &result, sizeof result);
     }
     Py_END_ALLOW_THREADS
@@ -75,14 +76,14 @@ static PyObject *decide_each(PyObject *const *args, decide *decide, uint64_t cou
     Py_RETURN_NONE;
 }
 
-static PyObject *decide_by(PyObject *const *args, decide *decide, uint64_t most)
+static PyObject *decide_by(PyObject *const *args, decide *call, uint64_t most)
 {
     uint64_t hash, count;
     if (read_count(args[1], most, &count) < 0)
         return NULL;
     if (args[2] != Py_None)
-        return decide_each(args, decide, count);
-    return read_word(args[0], "hash", &hash) < 0 ? NULL : PyLong_FromUnsignedLongLong(decide(hash, count));
+        return decide_each(args, call, count);
+    return read_word(args[0], "hash", &hash) < 0 ? NULL : PyLong_FromUnsignedLongLong(call(hash, count));
 }
 
 PyObject *shard(PyObject *module, PyObject *const *args, Py_ssize_t count)

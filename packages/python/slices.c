@@ -63,7 +63,7 @@ static int open_offsets(PyObject *offsets, struct slices *slices)
 {
     Py_buffer *const buffer = &slices->offsets;
     char letter;
-    if (PyObject_GetBuffer(offsets, buffer, PyBUF_FORMAT | PyBUF_C_CONTIGUOUS) < 0)
+    if (open_argument(offsets, "offsets", PyBUF_FORMAT | PyBUF_C_CONTIGUOUS, buffer) < 0)
         return -1;
     letter = letter_of(buffer);
     if (letter == 0 || strchr("iqIQ", letter) == NULL || buffer->ndim != 1) {
@@ -77,7 +77,7 @@ static int open_offsets(PyObject *offsets, struct slices *slices)
     return 0;
 }
 
-/* Opens the bits of the strings, if any. Returns 0, or -1 with an error set. */
+/* Opens the bits of the strings, if any. Wider items could be one for each string, as bools are. Returns 0, or -1 with an error set. */
 static int open_validity(PyObject *validity, PyObject *missing, struct slices *slices)
 {
     Py_buffer *const buffer = &slices->validity;
@@ -87,10 +87,11 @@ static int open_validity(PyObject *validity, PyObject *missing, struct slices *s
         return 0;
     if (missing == Py_None)
         return PyErr_SetString(PyExc_TypeError, "pass `missing`, the hash of a missing string, with validity"), -1;
-    if (PyObject_GetBuffer(validity, buffer, PyBUF_FORMAT | PyBUF_C_CONTIGUOUS) < 0)
+    if (open_argument(validity, "validity", PyBUF_FORMAT | PyBUF_C_CONTIGUOUS, buffer) < 0)
         return -1;
-    if (buffer->format != NULL && strchr(buffer->format, '?') != NULL)
-        PyErr_Format(PyExc_TypeError, "validity must have a bit for each string, not a bool: %R", Py_TYPE(validity));
+    if (buffer->itemsize != 1 || strchr(format_of(buffer), '?') != NULL)
+        PyErr_Format(PyExc_TypeError, "validity must have a bit for each string, in bytes, and it is %R of the format "
+                     "'%s'", Py_TYPE(validity), format_of(buffer));
     else if (slices->size <= 8 * (size_t)buffer->len)
         return 0;
     else

@@ -178,9 +178,7 @@ static PyObject *restore(PyObject *object, PyObject *data)
     Py_buffer saved;
     size_t lanes;
     bool is_restored;
-    if (!PyObject_CheckBuffer(data))
-        return PyErr_Format(PyExc_TypeError, "saved must be bytes or another buffer, not %R", Py_TYPE(data));
-    if (PyObject_GetBuffer(data, &saved, PyBUF_SIMPLE) < 0)
+    if (open_argument(data, "saved", PyBUF_SIMPLE, &saved) < 0)
         return NULL;
     if (enter(self) < 0) {
         PyBuffer_Release(&saved);

@@ -59,25 +59,45 @@ def _room(count):
     return array("Q", (0,)) * count
 
 
-def _is_masked(array):
-    """Returns whether an object is an array of NumPy with masked items."""
-    return hasattr(array, "filled") and hasattr(array, "mask")
+def _has(value, name):
+    """Returns whether the class of a value has an attribute. A value can have one that its user named, such as a label
+    of a Series."""
+    return hasattr(type(value), name)
 
 
-def _refuse_masked(name, array):
-    if _is_masked(array):
-        raise TypeError(f"{name} must not be a masked array, whose bytes are also those of masked values")
+def _has_addresses(kind):
+    """Returns whether a class of ctypes has pointers or objects. The formats of its unions hide them."""
+    item = getattr(kind, "_type_", None)
+    if isinstance(item, str):
+        return item in "OPXZz"
+    if item is not None:  # of an array, or the target of a pointer
+        return not hasattr(kind, "_length_") or _has_addresses(item)
+    fields = (field for base in kind.__mro__ for field in vars(base).get("_fields_", ()))
+    return hasattr(kind, "_restype_") or any(_has_addresses(field[1]) for field in fields)
+
+
+def _view(name, data):
+    """Returns the buffer of an argument. The extension opens it again, to name its class in errors."""
+    try:
+        return memoryview(data)
+    except TypeError:
+        raise TypeError(f"{name} must be a buffer, not {type(data)!r}") from None
+    except ValueError as error:  # of times of NumPy, or of a released view
+        raise ValueError(f"{name}: {error}") from None
 
 
 def _listed(column):
     """Returns a Series or an Index of pandas, or a masked array of NumPy, as a list with None for its missing
     values."""
-    if type(getattr(getattr(column, "dtype", None), "na_value", None)).__name__ == "NAType":
+    dtype = getattr(column, "dtype", None)
+    if type(getattr(dtype, "na_value", None)).__name__ == "NAType":
         return column.to_numpy(dtype=object, na_value=None).tolist()  # Its own tolist() is slow.
+    if getattr(dtype, "kind", "O") in "mM" and not _has(column, "isna"):
+        raise TypeError("docs/BINDINGS.md lists conversions of dates")  # NumPy lists some as numbers.
     items = column.tolist()
-    if hasattr(column, "isna"):
+    if _has(column, "isna"):
         missing = column.isna()
-        for at in itertools.compress(itertools.count(), missing.tolist() if hasattr(missing, "tolist") else missing):
+        for at in itertools.compress(itertools.count(), missing.tolist() if _has(missing, "tolist") else missing):
             items[at] = None
     return items
 
@@ -91,17 +111,17 @@ def each(items, version="v3", seed=None, secrets=None, out=None, missing=None):
     an item that is None, null in Arrow, masked in NumPy, or missing in a Series of pandas. Without it, such an item
     raises TypeError. So does a number: `each_key` hashes integers. Raises ValueError if `out` overlaps an Arrow
     array, or a later item."""
-    if isinstance(items, (str, bytes, bytearray)) or hasattr(items, "columns"):
+    if isinstance(items, (str, bytes, bytearray)) or _has(items, "columns"):
         raise TypeError(f"items must be an iterable of messages, not {type(items)!r}")
-    if hasattr(items, "__arrow_c_array__"):
+    if _has(items, "__arrow_c_array__"):
         column, rows = _extension.arrow(items, "items")
         out = _room(rows) if out is None else out
         _extension.each_arrow(column, version, seed, secrets, out, missing)
         return out
-    if hasattr(items, "isna") or _is_masked(items):
+    if _has(items, "isna") or _extension.is_masked(items):
         try:
             items = _listed(items)
-        except NotImplementedError as error:  # of a MultiIndex
+        except (AttributeError, NotImplementedError, TypeError) as error:  # of Dask, or of a MultiIndex
             raise TypeError(f"items must be an iterable of messages, not {type(items)!r}: {error}") from None
     items = items if type(items) in (list, tuple) else tuple(items)
     out = _room(len(items)) if out is None else out
@@ -113,15 +133,14 @@ def each_row(data, width, version="v3", seed=None, secrets=None, out=None):
     """Returns the hash of each `width` bytes of a buffer, in the same way as `each`.
 
     Raises ValueError if `width` does not divide the number of bytes, or if `out` overlaps `data`."""
-    _refuse_masked("data", data)
-    view, width = memoryview(data), _integer("width", width)
+    view, width = _view("data", data), _integer("width", width)
     if width < 1:
         raise ValueError(f"width must be at least 1, not {width}")
     count, rest = divmod(view.nbytes, width)
     if rest:
         raise ValueError(f"data has {view.nbytes} bytes, which is no multiple of the width {width}")
     out = _room(count) if out is None else out
-    _extension.each_row(view, version, seed, secrets, out, None, width if count else 1)
+    _extension.each_row(data, version, seed, secrets, out, None, width if count else 1)
     return out
 
 
@@ -129,12 +148,13 @@ def each_slice(data, offsets, version="v3", seed=None, secrets=None, out=None, v
     """Returns the hash of data[offsets[i]:offsets[i + 1]] for each i, in the same way as `each`: the columns of strings
     and of bytes in Apache Arrow's layout.
 
-    `offsets` is a buffer of 32-bit or 64-bit integers. `validity` is a buffer with a bit for each slice, the lowest of
-    a byte first: `missing` is the hash of a slice whose bit is 0. Raises ValueError if the offsets do not ascend within
-    `data`, if there are too few bits, or if `out` overlaps another argument, and TypeError for an array of bools."""
-    view = memoryview(offsets)
+    `offsets` is a buffer of 32-bit or 64-bit integers. `validity` is a buffer of bytes with a bit for each slice, the
+    lowest of a byte first: `missing` is the hash of a slice whose bit is 0. A byte of 0 or 1 for each slice is no bit.
+    Raises ValueError if the offsets do not ascend within `data`, if there are too few bits, or if `out` overlaps
+    another argument, and TypeError for an array of bools or of wider items, and for a masked array."""
+    view = _view("offsets", offsets)
     out = _room(max(view.nbytes // max(view.itemsize, 1) - 1, 0)) if out is None else out
-    _extension.each_slice(data, version, seed, secrets, out, missing, view, validity)
+    _extension.each_slice(data, version, seed, secrets, out, missing, offsets, validity)
     return out
 
 
@@ -150,31 +170,27 @@ def v3_key(*fields, seed=None, secrets=None):
     return _extension.key(fields, seed, secrets)
 
 
-def _viewed(column):
-    """Returns the buffer of a column, or its items."""
-    try:
-        return memoryview(column)
-    except TypeError:
-        return tuple(column)
-
-
 def _fields(at, column):
     """Returns a column as a list, a tuple, a buffer of integers, or a capsule of Arrow's, and the number of rows, if it
     is the first."""
-    if isinstance(column, (str, bytes, bytearray)) or hasattr(column, "columns"):
+    if isinstance(column, (str, bytes, bytearray)) or _has(column, "columns"):
         raise TypeError(f"columns[{at}] must be a column of fields, not {type(column)!r}")
-    if hasattr(column, "__arrow_c_array__"):
+    if _has(column, "__arrow_c_array__"):
         return _extension.arrow(column, f"columns[{at}]")
     try:
-        if hasattr(column, "isna"):  # a Series or an Index of pandas
+        if _has(column, "isna"):  # a Series or an Index of pandas
             whole = getattr(column.dtype, "kind", "O") in "iu" and not hasattr(column.dtype, "na_value")
             column = column.to_numpy() if whole else _listed(column)
-        elif _is_masked(column):
+        elif _extension.is_masked(column):
             column = _listed(column)
-        elif not isinstance(column, (list, tuple)):
-            column = _viewed(column)
-        return column, len(column) if at == 0 else None
-    except (BufferError, NotImplementedError, TypeError, ValueError) as error:
+        elif type(column) not in (list, tuple):
+            try:
+                view = memoryview(column)
+                return column, view.shape[0] if view.ndim else 1
+            except TypeError:
+                column = tuple(column)
+        return column, len(column)
+    except (AttributeError, BufferError, NotImplementedError, TypeError, ValueError) as error:
         raise TypeError(f"columns[{at}] must be a column of fields, not {type(column)!r}: {error}") from None
 
 
@@ -293,18 +309,18 @@ class V3Nano(_Hasher):
 
 
 def _hashes(column):
-    """Returns the buffer of a column of hashes, or None for a single hash and for other items."""
-    _refuse_masked("hashes", column)
+    """Returns a column of hashes and their number, or None for a single hash and for other items."""
+    column = column.to_numpy() if _has(column, "to_numpy") else column
     try:
-        view = memoryview(column.to_numpy() if hasattr(column, "to_numpy") else column)
+        view = _view("hashes", column)
     except TypeError:
         return None
-    return view if view.ndim else None
+    return (column, view.shape[0]) if view.ndim else None
 
 
 def _hash(number):
     """Returns a number that may be a hash."""
-    number = operator.index(number)
+    number = _integer("a hash", number)
     if not 0 <= number < 2**64:
         raise OverflowError(f"a hash must be from 0 to 2**64 - 1, not {number}")
     return number
@@ -312,10 +328,14 @@ def _hash(number):
 
 def _decided(call, hashes, count, out):
     """Returns what a hash decides, or what each hash of a column does."""
-    column = None if isinstance(hashes, int) else _hashes(hashes)
-    if column is None:
-        return call(hashes, count, None)
-    out = _room(len(column)) if out is None else out
+    opened = None if isinstance(hashes, int) else _hashes(hashes)
+    if opened is None:
+        decided = call(hashes, count, None)
+        if out is not None:
+            raise TypeError("out needs a column of hashes, and this is one hash")
+        return decided
+    column, rows = opened
+    out = _room(rows) if out is None else out
     call(column, count, out)
     return out
 
@@ -348,8 +368,14 @@ def fingerprint(hashes):
 
     Two tables with equally many rows and one fingerprint of their `each_key` have the same rows, but for a chance of
     one in 2**64. That does not hold against someone who chooses the rows."""
-    column = _hashes(hashes)
-    return sum(map(_hash, hashes)) % 2**64 if column is None else _extension.fingerprint(column)
+    opened = _hashes(hashes)
+    if opened is not None:
+        return _extension.fingerprint(opened[0])
+    try:
+        numbers = iter(hashes)
+    except TypeError:
+        raise TypeError(f"hashes must be a column or an iterable of integers, not {type(hashes)!r}") from None
+    return sum(map(_hash, numbers)) % 2**64
 
 
 def file_digest(fileobj, digest=V3, /):

@@ -29,7 +29,41 @@ def ways(items, **words):
         yield rapidhash.each_row(whole, len(items[0]), **words)
 
 
+class Named:
+    """An object with an attribute of any name, as a Series of pandas has those of its labels."""
+    kind = "m"
+
+    def __getattr__(self, name):
+        return self
+
+
 class Columns(unittest.TestCase):
+    def test_names_that_are_the_users(self):
+        class Data(Named, bytearray):
+            pass
+
+        class Items(Named, list):
+            pass
+
+        class Field(bytes):
+            mask = 5
+
+        class Header(ctypes.Structure):
+            _fields_ = [("mask", ctypes.c_uint16), ("columns", ctypes.c_uint16)]
+
+        class Order(ctypes.Structure):
+            _fields_ = [("filled", ctypes.c_uint16), ("to_numpy", ctypes.c_uint16)]
+
+        for data in (Data(b"\1\0\2\0"), Field(b"\1\0\2\0"), Header(1, 2), Order(1, 2)):
+            wanted = array.array("Q", [rapidhash.v3(bytes(data))])
+            for found in ([rapidhash.v3(data)], [rapidhash.V3(data).intdigest()], rapidhash.each([data]),
+                          rapidhash.each_row(data, 4), rapidhash.each_slice(data, array.array("i", [0, 4]))):
+                self.assertEqual(list(found), list(wanted), type(data))
+        self.assertEqual(rapidhash.v3_key(Data(b"abc")), rapidhash.v3_key(b"abc"))
+        self.assertEqual(rapidhash.each(Items(["a", "b"])), rapidhash.each(["a", "b"]))
+        self.assertEqual(rapidhash.each_key(Items([1, 2])), rapidhash.each_key([1, 2]))
+        self.assertEqual(rapidhash.fingerprint(Items([1, 2])), 3)
+
     def test_what_is_no_column(self):
         class Frame(dict):
             columns = ["a"]
@@ -51,6 +85,39 @@ class Columns(unittest.TestCase):
                     call(data)
         with self.assertRaisesRegex(TypeError, r"^items\[1\] must be bytes, another buffer, or a str, not "):
             rapidhash.each([b"", objects])
+
+    def test_pointers_that_a_format_hides(self):
+        """ctypes describes a union, and up to 3.12 a packed structure, as bytes."""
+        def union(kind, base=ctypes.Union, **words):
+            return type("Union", (base,), {**words, "_fields_": [("first", kind), ("number", ctypes.c_uint64)]})
+
+        text, number = union(ctypes.c_char_p), union(ctypes.c_uint32)
+        kinds = [*map(union, (ctypes.c_void_p, ctypes.c_wchar_p, ctypes.py_object, ctypes.POINTER(ctypes.c_int),
+                              ctypes.CFUNCTYPE(None), ctypes.c_char_p * 2, text, text * 3)),
+                 union(ctypes.c_char_p, ctypes.Structure, _pack_=1), union(text, ctypes.Structure),
+                 type("Derived", (text,), {"_fields_": [("other", ctypes.c_uint64)]}), text * 2, (text * 2) * 2]
+        for kind in kinds:
+            for data in (kind(), memoryview(kind())):
+                for call in (rapidhash.v3, rapidhash.V3, lambda data: rapidhash.each_row(data, 8)):
+                    with self.assertRaisesRegex(TypeError, "^data must not be an array of objects or pointers, "):
+                        call(data)
+                self.assertRaises(TypeError, rapidhash.each, [data])
+                self.assertRaises(TypeError, rapidhash.v3_key, data)
+        for kind in (number, number * 2, union(ctypes.c_wchar * 2), union(ctypes.c_char * 8),
+                     union(number, ctypes.Structure), union(number, ctypes.Structure, _pack_=1)):
+            self.assertEqual(rapidhash.v3(kind()), rapidhash.v3(bytes(ctypes.sizeof(kind))))
+
+    def test_unions_are_no_integers(self):
+        class Number(ctypes.Union):
+            _fields_ = [("number", ctypes.c_uint64), ("byte", ctypes.c_uint8)]
+
+        room = (Number * 2)()
+        for error, call in ((r"columns\[0\] must be a list", lambda: rapidhash.each_key(room)),
+                            ("offsets must be", lambda: rapidhash.each_slice(b"a", room)),
+                            ("hashes must be", lambda: rapidhash.fingerprint(room)),
+                            ("out must be", lambda: rapidhash.each([b"", b""], out=room))):
+            with self.assertRaisesRegex(TypeError, f"^{error}"):
+                call()
 
     def test_they_have_the_hashes_of_the_calls(self):
         for version in VERSIONS:

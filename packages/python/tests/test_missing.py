@@ -76,15 +76,25 @@ class Missing(unittest.TestCase):
                 (lambda: rapidhash.each_slice(data, places, validity=bits[:1], missing=0), ValueError,
                  "^validity must have a bit for each of 10 strings, and it has 1 bytes$"),
                 (lambda: rapidhash.each_slice(data, places, validity=memoryview(bits * 5).cast("?"), missing=0),
-                 TypeError, "^validity must have a bit for each string, not a bool: <class 'memoryview'>$"),
+                 TypeError, "^validity must have a bit for each string, in bytes, and it is <class 'memoryview'> of the "
+                 "format '\\?'$"),
+                (lambda: rapidhash.each_slice(data, places, validity=array.array("q", [-1]), missing=0), TypeError,
+                 "^validity must have a bit for each string, in bytes, and it is <class 'array.array'> of the "
+                 "format 'q'$"),
                 (lambda: rapidhash.each_slice(data, places, validity="text", missing=0), TypeError,
-                 "bytes-like object"),
+                 "^validity must be a buffer, not <class 'str'>$"),
+                (lambda: rapidhash.each_slice(data, [0, 1]), TypeError, "^offsets must be a buffer, not <class 'list'>$"),
+                (lambda: rapidhash.each_slice([], places), TypeError, "^data must be bytes, another buffer, or a str"),
+                (lambda: rapidhash.each_row([], 1), TypeError, "^data must be a buffer, not <class 'list'>$"),
+                (lambda: rapidhash.each([], out=[]), TypeError, "^out must be a buffer, not <class 'list'>$"),
+                (lambda: rapidhash.each([], out=b""), BufferError, "^out: "),
+                (lambda: rapidhash.each_row(memoryview(data)[::2], 1), BufferError, "^data: "),
                 (lambda: rapidhash.each_slice(b"ab", array.array("i", [0, 2, 1]), validity=b"\0", missing=0),
                  ValueError, r"^offsets\[1\] and offsets\[2\] must ascend")):
             with self.subTest(error):
                 self.assertRaisesRegex(kind, error, call)
         with memoryview(pair) as view, self.assertRaisesRegex(ValueError, "^out must not overlap validity$"):
-            rapidhash.each_slice(b"a", array.array("i", [0, 1]), out=view[:1], validity=view, missing=0)
+            rapidhash.each_slice(b"a", array.array("i", [0, 1]), out=view[:1], validity=view.cast("B"), missing=0)
         pair.append(0)  # An array refuses this while its buffer is exported.
 
 

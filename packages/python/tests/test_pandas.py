@@ -59,6 +59,53 @@ class Pandas(unittest.TestCase):
         self.assertEqual(list(rapidhash.each(texts, missing=3)), [rapidhash.v3("a"), 3])
         self.refused(r"^items\[1\] is None: pass `missing`", TypeError, rapidhash.each, texts)
 
+    def test_masked_times_are_no_integers(self):
+        """Where a time has no date or duration of Python, NumPy's lists have its number."""
+        class Masked(numpy.ma.MaskedArray):
+            pass
+
+        for kind in ("M8[ns]", "M8[as]", "M8[s]", "M8[D]", "m8[ns]", "m8[Y]", "m8[D]", "m8"):
+            times = numpy.array([2**40, 2**40], "i8").view(kind)
+            for mask in (False, [0, 1], [1, 1]):
+                masked = numpy.ma.array(times, mask=mask)
+                for column in (masked, masked[0:0], masked[::-1], masked.reshape(2, 1), masked.view(Masked)):
+                    self.refused(r"^columns\[1\]", TypeError, rapidhash.each_key, [1] * len(column), column)
+                    self.refused("^items", TypeError, rapidhash.each, column, missing=0)
+            for column in list(times), numpy.ma.array(list(times), object, mask=[0, 1]):
+                self.refused(r"^columns\[0\]\[0\] must be None", TypeError, rapidhash.each_key, column)
+            self.refused(r"^columns\[0\]\[0\] must be None", TypeError, rapidhash.each_key,
+                         pandas.Series(list(times), dtype=object))
+            self.refused(r"^columns\[0\] must be", TypeError, rapidhash.each_key, numpy.ma.array(times)[0])
+            self.refused(r"^fields\[0\]", TypeError, rapidhash.v3_key, numpy.ma.array(times)[0])
+        pairs = numpy.ma.array([(1, 2)], dtype=[("time", "m8[ns]"), ("number", "i8")])
+        self.refused(r"^columns\[0\]\[0\] must be None", TypeError, rapidhash.each_key, pairs)
+        self.refused(r"^columns\[0\] must be", TypeError, rapidhash.each_key, numpy.ma.masked)
+        for times in (pandas.Series([1], dtype="M8[ns]"), pandas.Series([1], dtype="m8[ns]"),
+                      pandas.Series([1]).astype("M8[ns, UTC]"), pandas.Index([1], dtype="m8[ns]"),
+                      pandas.array([1], "M8[ns]"), pandas.period_range("2020", periods=1),
+                      pandas.Series(pandas.arrays.SparseArray([1], dtype="M8[ns]"))):
+            self.refused(r"^columns\[0\]\[0\] must be None", TypeError, rapidhash.each_key, times)
+
+    def test_labels_are_the_users(self):
+        labels = "filled columns __arrow_c_array__ isna mask dtype kind".split()
+        series = pandas.Series(range(7), labels, "uint64")
+        self.assertEqual(rapidhash.fingerprint(series), 21)
+        self.assertEqual(list(rapidhash.shard(series, 2**64 - 1)), [0, *range(6)])
+        self.assertEqual(list(rapidhash.each_key(series)), keys(range(7)))
+        texts = pandas.Series(list("abcdefg"), labels)
+        self.assertEqual(list(rapidhash.each(texts)), [rapidhash.v3(text) for text in "abcdefg"])
+        self.assertEqual(list(rapidhash.each_key(texts)), keys("abcdefg"))
+        records = numpy.rec.array([(1, 2)], dtype=[("mask", "i4"), ("filled", "i4")])
+        self.assertEqual(rapidhash.v3(records), rapidhash.v3(records.tobytes()))
+        self.assertEqual(rapidhash.each_row(records, 8)[0], rapidhash.v3(records.tobytes()))
+        self.assertEqual(rapidhash.v3(numpy.zeros(1, "G")), rapidhash.v3(bytes(32)))
+
+    def test_packed_bits(self):
+        valid = numpy.array([True, False, True])
+        found = rapidhash.each_slice("abc", numpy.arange(4), validity=numpy.packbits(valid, bitorder="little"),
+                                     missing=0)
+        self.assertEqual(found, rapidhash.each(["a", None, "c"], missing=0))
+
     def test_masked_arrays_are_no_bytes(self):
         masked = numpy.ma.array(NUMBERS[:2], mask=[0, 1])
         error = "^data must not be a masked array, whose bytes are also those of masked values"
@@ -68,6 +115,15 @@ class Pandas(unittest.TestCase):
         hashes = numpy.ma.array([1, 2], mask=[0, 1], dtype="uint64")
         for call, *count in (rapidhash.fingerprint,), (rapidhash.shard, 10), (rapidhash.bucket, 10):
             self.refused(error.replace("data", "hashes"), TypeError, call, hashes, *count)
+        for name in ("data", "offsets", "validity", "out"):
+            words = dict(data=b"a", offsets=numpy.array([0, 1]), validity=b"\1", out=numpy.zeros(1, "u8"), missing=0)
+            words[name] = numpy.ma.array(words[name] if name[0] == "o" else numpy.frombuffer(words[name], "u1"))
+            self.refused(error.replace("data", name), TypeError, rapidhash.each_slice, **words)
+        out = numpy.ma.zeros(1, "u8")
+        for call, *arguments in ((rapidhash.each, [b""]), (rapidhash.each_row, b"a", 1), (rapidhash.each_key, [1])):
+            self.refused(error.replace("data", "out"), TypeError, call, *arguments, out=out)
+        self.refused(error.replace("data", "out"), TypeError, rapidhash.shard, numpy.zeros(1, "u8"), 2, out)
+        self.refused(error.replace("data", "saved"), TypeError, rapidhash.V3.restore, numpy.ma.zeros(208, "u1"))
         self.refused(r"^items\[1\] must be bytes", TypeError, rapidhash.each, [b"", masked])
         self.refused(r"^fields\[0\]: ", TypeError, rapidhash.v3_key, numpy.ma.masked)
         self.refused(r"^columns\[1\]\[1\]: ", TypeError, rapidhash.each_key, [1, 2], [1, numpy.ma.masked])
