@@ -30,7 +30,8 @@ static Py_ssize_t open_buffer(PyObject *column, Py_ssize_t at, struct fields *fi
         return buffer->shape[0];
     }
     PyErr_Format(PyExc_TypeError, "columns[%zd] must be a list, a tuple, or a buffer of integers in a row, and "
-                 "it is %R of the format '%s'", at, Py_TYPE(column), format_of(buffer));
+                 "it is %R of the format '%s'%s", at, Py_TYPE(column), format_of(buffer),
+                 strpbrk(format_of(buffer), "Osw") == NULL ? "" : "; .tolist() makes a list");
     PyBuffer_Release(buffer);
     return -1;
 }

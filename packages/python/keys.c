@@ -68,7 +68,8 @@ static int add_bytes(PyObject *field, Py_ssize_t at, Py_ssize_t row, struct key 
     } else {
         name_place(place, sizeof place, at, row);
         PyErr_Format(PyExc_TypeError, "%s must be None, an int, a str or bytes, not %R; "
-                     "docs/BINDINGS.md lists conversions", place, Py_TYPE(field));
+                     "docs/BINDINGS.md lists conversions%s", place, Py_TYPE(field), row < 0 || !PyFloat_Check(field)
+                     ? "" : ", and .astype(\"Int64\") makes integers of a Series");
     }
     release_message(&message);
     return are_bytes ? 0 : -1;

@@ -83,6 +83,9 @@ static PyObject *decide_by(PyObject *const *args, decide *call, uint64_t most)
         return NULL;
     if (args[2] != Py_None)
         return decide_each(args, call, count);
+    if (!PyIndex_Check(args[0]))
+        return PyErr_Format(PyExc_TypeError, "hash must be an integer, not %R: a column is a buffer, such as "
+                            "array('Q', hashes)", Py_TYPE(args[0]));
     return read_word(args[0], "hash", &hash) < 0 ? NULL : PyLong_FromUnsignedLongLong(call(hash, count));
 }
 

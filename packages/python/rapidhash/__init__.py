@@ -19,7 +19,6 @@ import copyreg
 import itertools
 import operator
 from array import array
-from types import MemberDescriptorType as _Member
 
 from . import _extension
 from ._extension import v1, v2_0, v2_1, v2_2, v3, v3_micro, v3_nano, v3_protected
@@ -86,6 +85,13 @@ def _view(name, data):
         raise ValueError(f"{name}: {error}") from None
 
 
+def _iterator(name, kind, items):
+    try:
+        return iter(items)
+    except TypeError:
+        raise TypeError(f"{name} must be {kind}, not {type(items)!r}") from None
+
+
 def _listed(column):
     """Returns a Series or an Index of pandas, or a masked array of NumPy, as a list with None for its missing
     values."""
@@ -123,7 +129,8 @@ def each(items, version="v3", seed=None, secrets=None, out=None, missing=None):
             items = _listed(items)
         except (AttributeError, NotImplementedError, TypeError) as error:  # of Dask, or of a MultiIndex
             raise TypeError(f"items must be an iterable of messages, not {type(items)!r}: {error}") from None
-    items = items if type(items) in (list, tuple) else tuple(items)
+    if type(items) not in (list, tuple):
+        items = tuple(_iterator("items", "an iterable of messages", items))
     out = _room(len(items)) if out is None else out
     _extension.each(items, version, seed, secrets, out, missing)
     return out
@@ -186,7 +193,7 @@ def _fields(at, column):
         elif type(column) not in (list, tuple):
             try:
                 view = memoryview(column)
-                return column, view.shape[0] if view.ndim else 1
+                return column, len(view) if view.ndim else 1
             except TypeError:
                 column = tuple(column)
         return column, len(column)
@@ -271,9 +278,7 @@ class _Hasher(_extension.Stream):
 
     def _slots(self):
         """Returns the attributes that subclasses keep in slots."""
-        members = (it for kind in type(self).__mro__ if "__slots__" in vars(kind) for it in vars(kind).items())
-        names = [name for name, member in members if isinstance(member, _Member)]
-        return {name: getattr(self, name) for name in names if hasattr(self, name)}
+        return {name: getattr(self, name) for name in copyreg._slotnames(type(self)) if hasattr(self, name)}
 
     def _adopt(self, attributes, slots):
         self.__dict__.update(attributes)
@@ -315,7 +320,7 @@ def _hashes(column):
         view = _view("hashes", column)
     except TypeError:
         return None
-    return (column, view.shape[0]) if view.ndim else None
+    return (column, len(view)) if view.ndim else None
 
 
 def _hash(number):
@@ -371,11 +376,7 @@ def fingerprint(hashes):
     opened = _hashes(hashes)
     if opened is not None:
         return _extension.fingerprint(opened[0])
-    try:
-        numbers = iter(hashes)
-    except TypeError:
-        raise TypeError(f"hashes must be a column or an iterable of integers, not {type(hashes)!r}") from None
-    return sum(map(_hash, numbers)) % 2**64
+    return sum(map(_hash, _iterator("hashes", "a column or an iterable of integers", hashes))) % 2**64
 
 
 def file_digest(fileobj, digest=V3, /):

@@ -246,7 +246,7 @@ class Refused(unittest.TestCase):
                 rapidhash.each(items)
         with self.assertRaises(BufferError):
             rapidhash.each([memoryview(b"abc")[::2]])
-        with self.assertRaises(TypeError):
+        with self.assertRaisesRegex(TypeError, "^items must be an iterable of messages, not <class 'int'>$"):
             rapidhash.each(7)
 
     @unittest.skipIf(sys.version_info < (3, 12), "classes define buffers from 3.12 on")

@@ -136,6 +136,15 @@ class Keys(unittest.TestCase):
         for column in (array.array("d", [1.5]), memoryview(bytes(4)).cast("B", (2, 2)), (Nothing * 2)()):
             with self.assertRaisesRegex(TypeError, r"^columns\[0\] must be a list, a tuple, or a buffer of integers"):
                 rapidhash.each_key(column)
+        class Lazy(list):  # as a Series of Dask, which has no items before it computes them
+            dtype, isna = None, list.copy
+
+        with self.assertRaisesRegex(TypeError, r"^columns\[1\] must be a column of fields, not <class '.*Lazy'>: "):
+            rapidhash.each_key([1], Lazy([1]))
+        with self.assertRaisesRegex(TypeError, "^items must be an iterable of messages, not <class '.*Lazy'>: "):
+            rapidhash.each(Lazy(["a"]))
+        with self.assertRaisesRegex(TypeError, "and it is <class 'array.array'> of the format 'd'$"):
+            rapidhash.each_key(array.array("d"))
         with self.assertRaisesRegex(ValueError, r"^columns\[1\] has 1 rows, and columns\[0\] has 2$"):
             rapidhash.each_key([1, 2], [1])
         with self.assertRaisesRegex(TypeError, "at least one column"):
@@ -160,6 +169,13 @@ class Keys(unittest.TestCase):
             self.assertEqual(list(rapidhash.each_key(whole[0])), [rapidhash.v3_key(n) for n in (1, 2**40, -3, 4)])
             with self.assertRaisesRegex(OverflowError, r"^columns\[0\]\[3\] must be from "):
                 rapidhash.each_key(whole[1])
+
+    def test_a_class_over_list(self):
+        class Other(list):
+            def __iter__(self):
+                return iter([7])
+
+        self.assertEqual(list(rapidhash.each_key(Other([1, 2]))), [rapidhash.v3_key(7)])
 
     def test_a_list_that_shrinks(self):
         names = ["a", "b", "c"]

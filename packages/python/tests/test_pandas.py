@@ -190,6 +190,17 @@ class Pandas(unittest.TestCase):
                        numpy.array(["a"], object), numpy.array([1.5])):
             self.refused(r"^columns\[0\] must be a list, a tuple, or a buffer of integers", TypeError,
                          rapidhash.each_key, column)
+        for column in (numpy.array(["a"]), numpy.array(["a"], object), numpy.array(["a"], "S1")):
+            self.refused(r"'; \.tolist\(\) makes a list$", TypeError, rapidhash.each_key, column)
+            self.assertEqual(list(rapidhash.each_key(column.tolist())), [rapidhash.v3_key("a")])
+        floats = pandas.Series([2**40, None])
+        self.refused(r"float'>; docs/.*, and \.astype\(\"Int64\"\) makes integers of a Series", TypeError,
+                     rapidhash.each_key, floats)
+        self.assertEqual(list(rapidhash.each_key(floats.astype("Int64"))), keys([2**40, None]))
+        hashes = pandas.Series([1, 2], dtype="UInt64")
+        self.refused(r"numpy.ndarray'> of the format 'O'; \.astype\(\"uint64\"\) converts", TypeError,
+                     rapidhash.shard, hashes, 16)
+        self.assertEqual(rapidhash.fingerprint(hashes.astype("uint64")), 3)
         self.refused("^items must be an iterable of messages, not .*isna is not defined", TypeError,
                      rapidhash.each, levels)
         array = numpy.array(NUMBERS)
