@@ -182,6 +182,29 @@ class Arrow(unittest.TestCase):
             with self.subTest(error):
                 self.assertRaisesRegex(kind, error, call)
 
+    def test_the_parts_that_a_slice_reads(self):
+        """The rows are the last four of the column. The room lies beside its parts, or over the last byte of one."""
+        held, places = array.array("Q", [0] * 8), array.array("i", [0] * 30).tobytes()
+        room, place = memoryview(held)[2:6], held.buffer_info()[0]
+        start, end = place + 16, place + 48
+        for offset, bits, offsets in ((6, start - 1, places), (16, start - 2, places), (0, None, start - 16),
+                                      (16, end - 3, places), (16, start - 3, places), (16, end - 2, places)):
+            lent = self.column("u", [""] * 4, offset, nulls=-1, buffers=[bits, offsets, b""])
+            if bits in (start - 3, end - 2):
+                self.assertIs(rapidhash.each(lent, out=room, missing=0), room)
+            else:
+                with self.assertRaisesRegex(ValueError, "^out must not overlap items$"):
+                    rapidhash.each(lent, out=room, missing=0)
+
+    def test_a_part_that_was_released(self):
+        for at, kind in enumerate((Schema, Array)):
+            column = Column("u", ["a"])
+            pair = column.__arrow_c_array__()
+            column.kept[at].release = RELEASES[kind]()
+            with self.assertRaisesRegex(TypeError, "^items must be an Arrow array of .*, not a released one$"):
+                rapidhash.each(type("Lent", (), {"__arrow_c_array__": lambda self: pair})())
+            self.assertEqual(column.released, [{Schema: "Array", Array: "Schema"}[kind]])
+
     def test_a_column_that_was_taken(self):
         pair = self.column("u", ["a"]).__arrow_c_array__()
         lent = type("Lent", (), {"__arrow_c_array__": lambda self: pair})()

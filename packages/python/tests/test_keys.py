@@ -2,6 +2,8 @@
 
 import array
 import ctypes
+import operator
+import sys
 import unittest
 
 import rapidhash
@@ -106,6 +108,19 @@ class Keys(unittest.TestCase):
                     call()
         with self.assertRaisesRegex(TypeError, "pass either seed or secrets, not both"):
             rapidhash.v3_key(1, seed=1, secrets=rapidhash.make_secrets(1))
+
+    def test_errors_keep_no_reference(self):
+        class Wrong:
+            def __index__(self):
+                return "1"
+
+        gaps, kinds = memoryview(b"abcd")[::2], (TypeError, BufferError, UnicodeEncodeError)
+        before = [sys.getrefcount(kind) for kind in kinds]
+        for _ in range(1000):
+            for field, kind in zip((Wrong(), gaps, "\ud800"), kinds):
+                self.assertRaises(kind, rapidhash.v3_key, field)
+        after = [sys.getrefcount(kind) for kind in kinds]
+        self.assertLess(max(map(operator.sub, after, before)), 100)
 
     def test_strides(self):
         numbers = array.array("i", range(10))
