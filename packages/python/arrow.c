@@ -1,12 +1,16 @@
-/* The columns of other packages, by Apache Arrow's C data interface: strings, bytes and integers. */
+/* The columns of other packages, by Apache Arrow's C data interface: strings, bytes, integers and nulls. */
 #include "arrow.h"
 #include "column.h"
 
+/* Returns the bits of the rows, of which those that are 0 are null, or NULL without any. */
+static const unsigned char *bits_of(const struct arrow *arrow)
+{ return arrow->array.null_count == 0 || arrow->width == 0 ? NULL : arrow->array.buffers[0]; }
+
 int is_null(const struct arrow *arrow, Py_ssize_t row)
 {
-    const unsigned char *const bits = arrow->array.null_count == 0 ? NULL : arrow->array.buffers[0];
+    const unsigned char *const bits = bits_of(arrow);
     const uint64_t at = (uint64_t)(arrow->array.offset + row);
-    return bits != NULL && (bits[at / 8] >> at % 8 & 1) == 0;
+    return arrow->width == 0 || (bits != NULL && (bits[at / 8] >> at % 8 & 1) == 0);
 }
 
 static int64_t offset_of(const struct arrow *arrow, Py_ssize_t at)
@@ -38,13 +42,11 @@ static int overlaps_part(const Py_buffer *out, const void *start, int64_t len, c
 int overlaps_arrow(const Py_buffer *out, const struct arrow *arrow, const char *name)
 {
     const struct ArrowArray *const array = &arrow->array;
-    const int has_bytes = arrow->letter == 0 && array->length > 0;
+    const int has_bytes = arrow->letter == 0 && arrow->first != NULL;
     const int64_t rows = array->length, skipped = array->offset / 8, bits = (array->offset + rows + 7) / 8 - skipped;
     const int64_t from = has_bytes ? offset_of(arrow, 0) : 0, to = has_bytes ? offset_of(arrow, rows) : 0;
-    if (array->null_count != 0 && array->buffers[0] != NULL &&
-        overlaps_part(out, (const char *)array->buffers[0] + skipped, bits, name))
-        return 1;
-    return overlaps_part(out, arrow->first, (rows + has_bytes) * arrow->width, name) ||
+    return (bits_of(arrow) != NULL && overlaps_part(out, bits_of(arrow) + skipped, bits, name)) ||
+           overlaps_part(out, arrow->first, (rows + has_bytes) * arrow->width, name) ||
            (from < to && overlaps_part(out, (const char *)array->buffers[2] + from, to - from, name));
 }
 
@@ -79,7 +81,7 @@ static PyObject *take(PyObject *schemas, PyObject *arrays)
 /* Reads the format of a column. If it cannot be hashed, writes why not to a text. */
 static void read_format(struct arrow *arrow, char *why, size_t size)
 {
-    static const char formats[] = "uzUZcCsSiIlL", letters[] = "\0\0\0\0bBhHiIqQ", widths[] = "448811224488";
+    static const char formats[] = "uzUZcCsSiIlLn", letters[] = "\0\0\0\0bBhHiIqQ", widths[] = "4488112244880";
     const int is_released = arrow->schema.release == NULL || arrow->array.release == NULL;
     const int is_coded = !is_released && arrow->schema.dictionary != NULL;
     const char *const format = is_released ? "" : arrow->schema.format;
@@ -91,7 +93,7 @@ static void read_format(struct arrow *arrow, char *why, size_t size)
     }
     arrow->letter = letters[at - formats];
     arrow->width = widths[at - formats] - '0';
-    if (arrow->array.length > 0)
+    if (arrow->array.length > 0 && arrow->width > 0)
         arrow->first = (const char *)arrow->array.buffers[1] + arrow->array.offset * arrow->width;
 }
 

@@ -22,7 +22,7 @@ struct ArrowArray {
 };
 
 /* A column, in a capsule of the name ARROW. `letter` is that of its integers in a buffer's format, or 0 for strings and
- * bytes, and `first` is its first integer or offset, of `width` bytes. */
+ * bytes, and `first` is its first integer or offset, of `width` bytes, or NULL. Without a width, all rows are null. */
 #define ARROW "rapidhash.arrow"
 struct arrow {
     struct ArrowSchema schema;

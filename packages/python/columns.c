@@ -173,6 +173,8 @@ PyObject *each(PyObject *module, PyObject *const *args, Py_ssize_t count)
         PyObject *item = item_of(args[0], is_list, at);
         status = hash_item(&column, at, item);
         Py_XDECREF(item);
+        if (status == 0 && at % ITEMS == ITEMS - 1)
+            status = PyErr_CheckSignals();
     }
     PyBuffer_Release(&column.out);
     return status == 0 ? PyLong_FromSsize_t(size) : NULL;

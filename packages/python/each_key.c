@@ -15,7 +15,8 @@ struct fields {
 /* Why a row has no key: an error is set, an integer is too large, or offsets of Arrow do not ascend. */
 enum { HASHED, REFUSED, TOO_LARGE, NOT_ASCENDING };
 
-/* Opens a column of integers in a buffer. A single time of NumPy has one of its bytes. Returns their number, or -1 with an error set. */
+/* Opens a column of integers in a buffer. A single time of NumPy has one of its bytes. Returns their number, or -1 with
+ * an error set. */
 static Py_ssize_t open_buffer(PyObject *column, Py_ssize_t at, struct fields *fields)
 {
     Py_buffer *const buffer = &fields->buffer;
@@ -106,6 +107,8 @@ static int add_row(const struct fields *fields, Py_ssize_t at, Py_ssize_t row, s
     PyObject *item;
     int status;
     if (fields->items != NULL) {
+        if (row % ITEMS == ITEMS - 1 && PyErr_CheckSignals() < 0)
+            return REFUSED;
         item = item_of(fields->items, PyList_Check(fields->items), row);
         status = item == NULL ? -1 : add_field(item, at, row, key);
         Py_XDECREF(item);

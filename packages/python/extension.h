@@ -9,6 +9,9 @@
 /* Other threads can run while more than this many bytes are hashed. */
 #define LONG 65536
 
+/* Signals are handled after each of so many items. */
+#define ITEMS 65536
+
 /* Keeps these names apart from those of other libraries in the process. */
 #ifdef __GNUC__
 #pragma GCC visibility push(hidden)

@@ -77,7 +77,8 @@ static int open_offsets(PyObject *offsets, struct slices *slices)
     return 0;
 }
 
-/* Opens the bits of the strings, if any. Wider items could be one for each string, as bools are. Returns 0, or -1 with an error set. */
+/* Opens the bits of the strings, if any. Wider items could be one for each string, as bools are. Returns 0, or -1 with
+ * an error set. */
 static int open_validity(PyObject *validity, PyObject *missing, struct slices *slices)
 {
     Py_buffer *const buffer = &slices->validity;

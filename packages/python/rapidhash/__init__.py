@@ -88,8 +88,8 @@ def _view(name, data):
 def _iterator(name, kind, items):
     try:
         return iter(items)
-    except TypeError:
-        raise TypeError(f"{name} must be {kind}, not {type(items)!r}") from None
+    except TypeError as error:
+        raise TypeError(f"{name} must be {kind}, not {type(items)!r}: {error}") from None
 
 
 def _listed(column):
@@ -177,9 +177,17 @@ def v3_key(*fields, seed=None, secrets=None):
     return _extension.key(fields, seed, secrets)
 
 
+def _rows(column):
+    """Returns the number of rows of a buffer, or None for another object."""
+    try:
+        view = memoryview(column)
+    except TypeError:
+        return None
+    return len(view) if view.ndim else 1
+
+
 def _fields(at, column):
-    """Returns a column as a list, a tuple, a buffer of integers, or a capsule of Arrow's, and the number of rows, if it
-    is the first."""
+    """Returns a column as a list, a tuple, a buffer of integers, or a capsule of Arrow's, and the number of rows."""
     if isinstance(column, (str, bytes, bytearray)) or _has(column, "columns"):
         raise TypeError(f"columns[{at}] must be a column of fields, not {type(column)!r}")
     if _has(column, "__arrow_c_array__"):
@@ -190,25 +198,22 @@ def _fields(at, column):
             column = column.to_numpy() if whole else _listed(column)
         elif _extension.is_masked(column):
             column = _listed(column)
-        elif type(column) not in (list, tuple):
-            try:
-                view = memoryview(column)
-                return column, len(view) if view.ndim else 1
-            except TypeError:
-                column = tuple(column)
-        return column, len(column)
+        rows = _rows(column)
     except (AttributeError, BufferError, NotImplementedError, TypeError, ValueError) as error:
         raise TypeError(f"columns[{at}] must be a column of fields, not {type(column)!r}: {error}") from None
+    if rows is None and type(column) not in (list, tuple):
+        column = tuple(_iterator(f"columns[{at}]", "a column of fields", column))
+    return column, len(column) if rows is None else rows
 
 
 def each_key(*columns, seed=None, secrets=None, out=None):
     """Returns the hash of each row of one or more columns, as v3_key returns it, in the same way as `each`.
 
     A column is a list, a tuple or another iterable of fields, a buffer of integers, such as a NumPy array, a Series of
-    pandas, whose missing values are None, as masked ones of NumPy are, or an Arrow array of strings, bytes or integers.
-    Other threads run if each column is a buffer of integers or an Arrow array. Raises TypeError for any other column,
-    such as a str, a DataFrame or an array of objects, and ValueError if the columns have different numbers of rows or
-    `out` overlaps one."""
+    pandas, whose missing values are None, as masked ones of NumPy are, or an Arrow array of strings, bytes, integers or
+    nulls. Other threads run if each column is a buffer of integers or an Arrow array. Raises TypeError for any other
+    column, such as a str, a DataFrame or an array of objects, and ValueError if the columns have different numbers of
+    rows or `out` overlaps one."""
     if not columns:
         raise TypeError("each_key() needs at least one column")
     opened = []

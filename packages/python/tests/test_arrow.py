@@ -70,6 +70,7 @@ class Column:
 
     def __arrow_c_array__(self, requested_schema=None):
         pointers = (c_void_p * len(self.buffers))(*(ctypes.cast(c_char_p(buffer), c_void_p) for buffer in self.buffers))
+        pointers = pointers if self.buffers else None
         schema = Schema(self.form, b"", None, 2, 0, None, self.changed.get("dictionary"),
                         RELEASES[Schema](self.release))
         column = Array(*self.shape, len(self.buffers), 0, pointers, None, None, RELEASES[Array](self.release))
@@ -136,6 +137,18 @@ class Arrow(unittest.TestCase):
         self.assertEqual(list(rapidhash.each(self.column("U", [""], buffers=far))), [rapidhash.v3("ab")])
         none, numbers, texts = (self.column(form, [], buffers=[None] * 3) for form in "ulZ")
         self.assertEqual([*rapidhash.each(none), *rapidhash.each_key(numbers, texts)], [])
+
+    def test_nulls_alone(self):
+        """A column without any value has Arrow's null type, which has no buffers."""
+        room = array.array("Q", [1] * 3)
+        for nulls in (0, 3, -1):
+            self.assertEqual(list(rapidhash.each(self.column("n", [None] * 3, 5, nulls, buffers=[]), missing=7)),
+                             [7] * 3)
+            found = rapidhash.each_key(self.column("n", [None] * 3, nulls=nulls, buffers=[]), [1, 2, 3], out=room)
+            self.assertEqual(list(found), [rapidhash.v3_key(None, number) for number in (1, 2, 3)])
+        self.assertEqual(list(rapidhash.each_key(self.column("n", [], buffers=[]))), [])
+        with self.assertRaisesRegex(TypeError, r"^items\[0\] is None: pass `missing`"):
+            rapidhash.each(self.column("n", [None], buffers=[]))
 
     def test_refused_columns(self):
         """Each column is released once, also if another one or an argument is refused."""

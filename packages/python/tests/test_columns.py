@@ -4,6 +4,7 @@ import array
 import contextlib
 import ctypes
 import mmap
+import signal
 import sys
 import unittest
 
@@ -186,6 +187,23 @@ class Columns(unittest.TestCase):
                          array.array("Q", [rapidhash.v3(bytes(200_000)), rapidhash.v3(b"x" * 200_000)]))
 
 
+class Signals(unittest.TestCase):
+    @unittest.skipUnless(hasattr(signal, "setitimer"), "no timers")
+    def test_a_signal_ends_a_long_column(self):
+        def stop(number, frame):
+            raise InterruptedError
+
+        room, before = array.array("Q", [0]) * 4_000_000, signal.signal(signal.SIGALRM, stop)
+        try:
+            for call, item in ((rapidhash.each, b""), (rapidhash.each_key, 7)):
+                items = [item] * len(room)
+                signal.setitimer(signal.ITIMER_REAL, 0.01)
+                self.assertRaises(InterruptedError, call, items, out=room)
+                self.assertEqual(room[-1], 0)
+        finally:
+            signal.signal(signal.SIGALRM, before)
+
+
 class Out(unittest.TestCase):
     def test_the_room_of_the_caller(self):
         room, wanted = array.array("Q", [7]) * 202, rapidhash.each(ITEMS)
@@ -246,7 +264,7 @@ class Refused(unittest.TestCase):
                 rapidhash.each(items)
         with self.assertRaises(BufferError):
             rapidhash.each([memoryview(b"abc")[::2]])
-        with self.assertRaisesRegex(TypeError, "^items must be an iterable of messages, not <class 'int'>$"):
+        with self.assertRaisesRegex(TypeError, "^items must be an iterable of messages, not <class 'int'>: 'int' "):
             rapidhash.each(7)
 
     @unittest.skipIf(sys.version_info < (3, 12), "classes define buffers from 3.12 on")

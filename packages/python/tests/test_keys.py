@@ -158,6 +158,9 @@ class Keys(unittest.TestCase):
             rapidhash.each_key([1], Lazy([1]))
         with self.assertRaisesRegex(TypeError, "^items must be an iterable of messages, not <class '.*Lazy'>: "):
             rapidhash.each(Lazy(["a"]))
+        for call in (rapidhash.each, rapidhash.each_key):
+            with self.assertRaisesRegex(ValueError, "^invalid literal"):
+                call(int(word) for word in ["own"])
         with self.assertRaisesRegex(TypeError, "and it is <class 'array.array'> of the format 'd'$"):
             rapidhash.each_key(array.array("d"))
         with self.assertRaisesRegex(ValueError, r"^columns\[1\] has 1 rows, and columns\[0\] has 2$"):
