@@ -57,12 +57,12 @@ def in_sqlite(database, query):
 def in_pandas(rows):
     """Returns the values of the page's expressions in Python."""
     program = f"""
-import json, sys
+import json, numpy, sys
 from pandas import DataFrame
 from rapidhash import each_key, fingerprint, shard
 frame = DataFrame(json.load(sys.stdin), columns={COLUMNS.split(", ")!r}, dtype=object)
-shards, whole = {", ".join(f"({block})" for block in blocks(PAGE, "python"))}
-print(json.dumps([list(shards), whole]))"""
+shards, sample, whole = {", ".join(f"({block})" for block in blocks(PAGE, "python"))}
+print(json.dumps([list(shards), sample, whole]))"""
     environment = dict(os.environ, PYTHONPATH=str(ROOM / "wheel"))
     said = subprocess.run(["/usr/bin/python3", "-c", program], input=json.dumps(rows), capture_output=True, text=True,
                           env=environment)
@@ -148,10 +148,10 @@ try:
     rows = people()
     fill(loaded, rows)
     by_shards, ranges, sample, equal, *finding = blocks(PAGE, "sql")
-    shards, whole = in_pandas(rows)
+    shards, in_frame, whole = in_pandas(rows)
     counts = [f"{shard}|{shards.count(shard)}" for shard in range(16)]
     compare("shards", (ask(by_shards), in_sqlite(loaded, by_shards)), (counts, counts))
-    compare("sample", ask(sample), in_sqlite(loaded, sample))
+    compare("sample", (ask(sample), in_sqlite(loaded, sample)), ([str(in_frame)], [str(in_frame)]))
     [found] = ask(equal)
     compare("equal_tables", in_sqlite(loaded, equal), [found])
     compare("equal_frame", [whole[0], whole[1] - (whole[1] >> 63 << 64)], [*map(int, found.split("|"))])
