@@ -230,15 +230,17 @@ class _Hasher(_extension.Stream):
     _seed = None
 
     def __init__(self, data=b"", seed=None, secrets=None):
+        word = None
         if secrets is None:
-            self._seed = 0 if seed is None else _integer("seed", seed)
-            secrets = _extension.seeded(self._seed)
+            word = 0 if seed is None else _integer("seed", seed)
+            secrets = _extension.seeded(word)
         elif seed is not None:
             raise TypeError("pass either seed or secrets, not both")
         elif not isinstance(secrets, Secrets):
             raise TypeError(f"secrets of {type(self).__name__} must come from make_secrets(number), "
                             f"and these are {type(secrets)!r}")
         self._start(self._lanes, secrets)
+        self._seed = word
         self.update(data)
 
     @property
@@ -389,17 +391,21 @@ def file_digest(fileobj, digest=V3, /):
 
     `digest` creates the hasher: V3, V3Micro, V3Nano, or, with a seed, `lambda: V3(seed=7)`. Raises ValueError
     for a text file, and BlockingIOError for a non-blocking file that has no data yet."""
+    if not callable(digest):
+        raise TypeError(f"digest must create a hasher, as V3 does, and it is {type(digest)!r}")
     hasher = digest()
     try:
         read = fileobj.readinto
     except AttributeError:
-        raise ValueError("the file must be opened in binary mode") from None
+        raise ValueError(f"the file must be open in binary mode and have readinto, not {type(fileobj)!r}") from None
     buffer = bytearray(1 << 18)
     view = memoryview(buffer)
     while True:
         size = read(buffer)
         if size is None:
             raise BlockingIOError("the file is non-blocking and has no data yet")
+        if not 0 <= size <= len(buffer):
+            raise OSError(f"readinto() returned {size}, not a number from 0 to {len(buffer)}")
         if size == 0:
             return hasher
         hasher.update(view[:size])

@@ -48,7 +48,7 @@ def v3_key(*fields: _Field, seed: _Seed = ..., secrets: Secrets | None = ...) ->
 class _Arrow(Protocol):
     def __arrow_c_array__(self, requested_schema: object | None = ...) -> tuple[object, object]: ...
 
-# Each of these has two overloads: for a new array, and for a buffer of the caller's.
+# Each of these has overloads for a new array, and for a buffer of the caller's, by name and by place.
 @overload
 def each(items: Iterable[_Data | None] | _Arrow, version: _Version = ..., seed: _Seed = ...,
          secrets: Secrets | SecretsV1 | None = ..., out: None = ..., missing: _Seed = ...) -> array[int]: ...
@@ -56,11 +56,17 @@ def each(items: Iterable[_Data | None] | _Arrow, version: _Version = ..., seed: 
 def each(items: Iterable[_Data | None] | _Arrow, version: _Version = ..., seed: _Seed = ...,
          secrets: Secrets | SecretsV1 | None = ..., *, out: _Out, missing: _Seed = ...) -> _Out: ...
 @overload
+def each(items: Iterable[_Data | None] | _Arrow, version: _Version, seed: _Seed, secrets: Secrets | SecretsV1 | None,
+         out: _Out, missing: _Seed = ...) -> _Out: ...
+@overload
 def each_row(data: ReadableBuffer, width: SupportsIndex, version: _Version = ..., seed: _Seed = ...,
              secrets: Secrets | SecretsV1 | None = ..., out: None = ...) -> array[int]: ...
 @overload
 def each_row(data: ReadableBuffer, width: SupportsIndex, version: _Version = ..., seed: _Seed = ...,
              secrets: Secrets | SecretsV1 | None = ..., *, out: _Out) -> _Out: ...
+@overload
+def each_row(data: ReadableBuffer, width: SupportsIndex, version: _Version, seed: _Seed,
+             secrets: Secrets | SecretsV1 | None, out: _Out) -> _Out: ...
 @overload
 def each_slice(data: _Data, offsets: ReadableBuffer, version: _Version = ..., seed: _Seed = ...,
                secrets: Secrets | SecretsV1 | None = ..., out: None = ..., validity: ReadableBuffer | None = ...,
@@ -68,6 +74,10 @@ def each_slice(data: _Data, offsets: ReadableBuffer, version: _Version = ..., se
 @overload
 def each_slice(data: _Data, offsets: ReadableBuffer, version: _Version = ..., seed: _Seed = ...,
                secrets: Secrets | SecretsV1 | None = ..., *, out: _Out, validity: ReadableBuffer | None = ...,
+               missing: _Seed = ...) -> _Out: ...
+@overload
+def each_slice(data: _Data, offsets: ReadableBuffer, version: _Version, seed: _Seed,
+               secrets: Secrets | SecretsV1 | None, out: _Out, validity: ReadableBuffer | None = ...,
                missing: _Seed = ...) -> _Out: ...
 # A column is an iterable of fields, a buffer of integers, a Series of pandas, or an Arrow array.
 @overload

@@ -4,7 +4,9 @@ from __future__ import annotations
 
 import struct
 import sys
-from typing import Any
+from typing import Any, TypeVar
+
+_Own = TypeVar("_Own", bound="_Words")
 
 
 class _Words(bytes):
@@ -13,7 +15,7 @@ class _Words(bytes):
     __slots__ = ()
     _count = 0
 
-    def __new__(cls, packed: bytes):
+    def __new__(cls: type[_Own], packed: bytes) -> _Own:
         if len(packed) != 8 * cls._count:
             raise ValueError(f"{cls.__name__} must have {8 * cls._count} bytes: use make_secrets")
         return super().__new__(cls, packed)

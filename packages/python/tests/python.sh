@@ -19,13 +19,15 @@ installs_as_the_page_says() {
     [ "$(grep -c '^assert' page.py)" = 5 ] && "$room/fresh/bin/python" page.py
 }
 
-# Checks that the wheel has its files, the licences of the repository, and no other files.
+# Checks that the wheel has its files, the licences of the repository, and no other files, and that the source
+# distribution has only the tests that run with it.
 has_its_files() {
   "$python" -m zipfile -e "$top"/build/wheels/*-cp311-abi3-linux_x86_64.whl "$room/files" && cd "$room/files" &&
     has_the_licences yervound_rapidhash-*.dist-info && [ "$(grep -cxE \
     'Name: yervound-rapidhash|License: MIT OR Apache-2\.0|Requires-Python: >=3\.8' ./*.dist-info/METADATA)" -eq 3 ] &&
     ls | diff - <(printf '%s\n' rapidhash yervound_rapidhash-1.0.0.dist-info) &&
-    LC_ALL=C ls rapidhash | diff - <(printf '%s\n' __init__.py __init__.pyi _extension.abi3.so _secrets.py py.typed)
+    LC_ALL=C ls rapidhash | diff - <(printf '%s\n' __init__.py __init__.pyi _extension.abi3.so _secrets.py py.typed) &&
+    ! tar -tzf "$top"/build/wheels/*.tar.gz | grep -v /test_ | grep /tests/.
 }
 
 # Checks that the extension needs the C library of the system alone, and exports nothing but its start.
@@ -114,7 +116,8 @@ works_with_pandas() {
 
 accepts_the_types() {
   cd "$room/tests" && mypy --strict --no-error-summary --cache-dir "$room/mypy" \
-    --python-executable "$room/fresh/bin/python" test_types.py
+    --python-executable "$room/fresh/bin/python" test_types.py &&
+    MYPYPATH=$room/files mypy --strict --no-error-summary --cache-dir "$room/mypy" -p rapidhash
 }
 
 # Checks that the code needs nothing of a Python above the oldest that pyproject.toml allows. mypy knows what each one

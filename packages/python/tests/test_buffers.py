@@ -181,6 +181,17 @@ class Files(unittest.TestCase):
         with self.assertRaisesRegex(OSError, "^the third read failed$"):
             rapidhash.file_digest(Counted(long, 3))
 
+    def test_what_is_no_binary_file(self):
+        for size in (-1, (1 << 18) + 1, 10**9):
+            lying = type("Lying", (), {"readinto": lambda self, buffer: size})()
+            with self.assertRaisesRegex(OSError, rf"^readinto\(\) returned {size}, not a number from 0 to 262144$"):
+                rapidhash.file_digest(lying)
+        for file in ("path", io.StringIO("text"), type("Reads", (), {"read": lambda self, size: b""})()):
+            with self.assertRaisesRegex(ValueError, "^the file must be open in binary mode and have readinto, not <cl"):
+                rapidhash.file_digest(file)
+        with self.assertRaisesRegex(TypeError, "^digest must create a hasher, as V3 does, and it is <class 'str'>$"):
+            rapidhash.file_digest(io.BytesIO(), "v3")
+
     def test_hashers(self):
         made = rapidhash.file_digest(io.BytesIO(DATA), lambda: rapidhash.V3Micro(seed=1))
         self.assertEqual((type(made), made.intdigest()), (rapidhash.V3Micro, 13208658450986943527))

@@ -24,6 +24,9 @@ column: array[int] = rapidhash.each(["text", b""], "v1", seed=7)
 column = rapidhash.each_row(b"", 8, out=column)
 room: bytearray = rapidhash.each_slice(b"", array("i"), secrets=made, out=bytearray())
 column = rapidhash.each(["text", None], missing=0)
+room = rapidhash.each([""], "v1", None, made_v1, room, 0)
+room = rapidhash.each_row(b"", 8, "v3", 7, None, room)
+room = rapidhash.each_slice(b"", array("i"), "v3", None, None, room, b"", 0)
 column = rapidhash.each_slice(b"", array("i"), validity=b"", missing=0)
 
 
