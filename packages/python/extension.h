@@ -40,8 +40,8 @@ struct message {
     Py_buffer buffer;
 };
 
-/* Each of these functions returns 0, or -1 with an error set that names the argument. A message without a name has an
- * error of its buffer that does not, and open_argument opens no masked array. */
+/* Each of these functions returns 0, or -1 with an error set that names the argument, unless the name is empty.
+ * open_argument refuses a masked array. */
 int read_word(PyObject *number, const char *name, uint64_t *word);
 int read_message(PyObject *data, const char *name, struct message *message);
 int open_argument(PyObject *object, const char *name, int flags, Py_buffer *buffer);

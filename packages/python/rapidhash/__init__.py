@@ -65,7 +65,9 @@ def _has(value, name):
 
 
 def _has_addresses(kind):
-    """Returns whether a class of ctypes has pointers or objects. The formats of its unions hide them."""
+    """Returns whether a class is one of ctypes and has pointers or objects. The formats of its unions hide them."""
+    if "_ctypes" not in (base.__module__ for base in kind.__mro__):
+        return False
     item = getattr(kind, "_type_", None)
     if isinstance(item, str):
         return item in "OPXZz"

@@ -99,6 +99,8 @@ class Pandas(unittest.TestCase):
         self.assertEqual(rapidhash.v3(records), rapidhash.v3(records.tobytes()))
         self.assertEqual(rapidhash.each_row(records, 8)[0], rapidhash.v3(records.tobytes()))
         self.assertEqual(rapidhash.v3(numpy.zeros(1, "G")), rapidhash.v3(bytes(32)))
+        typed = type("Typed", (numpy.ndarray,), {"_type_": "P"})  # As ctypes has it for a pointer.
+        self.assertEqual(rapidhash.v3(numpy.zeros(4, "u1,u1").view(typed)), rapidhash.v3(bytes(8)))
 
     def test_packed_bits(self):
         valid = numpy.array([True, False, True])
