@@ -100,6 +100,16 @@ static int refuse_addresses(PyObject *data, const char *name, const Py_buffer *b
     return are == 0 ? 0 : -1;
 }
 
+/* Opens a buffer. Some objects leave out the shape and the strides of an array, which their view has. */
+static int open_view(PyObject *object, int flags, Py_buffer *buffer)
+{
+    const int is_array = flags == (PyBUF_FORMAT | PyBUF_STRIDES);
+    PyObject *const view = is_array ? PyMemoryView_FromObject(object) : (Py_INCREF(object), object);
+    const int status = view == NULL ? -1 : PyObject_GetBuffer(view, buffer, flags);
+    Py_XDECREF(view);
+    return status;
+}
+
 int open_argument(PyObject *object, const char *name, int flags, Py_buffer *buffer)
 {
     if (!PyObject_CheckBuffer(object))
@@ -107,7 +117,7 @@ int open_argument(PyObject *object, const char *name, int flags, Py_buffer *buff
     else if (is_masked(object))
         PyErr_Format(PyExc_TypeError, "%s must not be a masked array, whose bytes are also those of masked values: %R",
                      name, Py_TYPE(object));
-    else if (PyObject_GetBuffer(object, buffer, flags) == 0)
+    else if (open_view(object, flags, buffer) == 0)
         return 0;
     else if (*name != 0)
         name_error(name);
