@@ -39,10 +39,16 @@ int class_has(PyObject *object, const char *name)
     return has;
 }
 
+#ifndef Py_TPFLAGS_IMMUTABLETYPE /* before 3.10 */
+#define Py_TPFLAGS_IMMUTABLETYPE 0
+#endif
+
+/* Masked arrays have a class in Python, whose names may change. To ask others for a name that they lack is slow. */
 int is_masked(PyObject *object)
 {
-    return !PyByteArray_Check(object) && !PyMemoryView_Check(object) && class_has(object, "mask") &&
-           class_has(object, "filled");
+    const unsigned long flags = PyType_GetFlags(Py_TYPE(object));
+    return (flags & Py_TPFLAGS_HEAPTYPE) != 0 && (flags & Py_TPFLAGS_IMMUTABLETYPE) == 0 &&
+           class_has(object, "mask") && class_has(object, "filled");
 }
 
 char kind_of(PyObject *object)
