@@ -40,7 +40,7 @@ exports_its_start_alone() {
 lay_out() {
   mkdir -p "$room/source" "$room/tests" && cd "$top" && cp LICENSE-* NOTICE "$room/source" &&
     git ls-files packages/python packages/c/include | xargs cp --parents -t "$room/source" &&
-    (cd "$room/source" && find . | sort) >"$room/listed" && cp packages/python/tests/test_*.py "$room/tests" &&
+    (cd "$room/source" && find . | sort) >"$room/listed" && cp packages/python/tests/{test_*,check_types}.py "$room/tests" &&
     cp crates/test_replay/data/cases.tsv "$room/tests"
 }
 
@@ -116,7 +116,7 @@ works_with_pandas() {
 
 accepts_the_types() {
   cd "$room/tests" && mypy --strict --no-error-summary --cache-dir "$room/mypy" \
-    --python-executable "$room/fresh/bin/python" test_types.py &&
+    --python-executable "$room/fresh/bin/python" check_types.py &&
     MYPYPATH=$room/files mypy --strict --no-error-summary --cache-dir "$room/mypy" -p rapidhash
 }
 
