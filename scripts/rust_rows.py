@@ -176,7 +176,7 @@ LEFT_OUT = {
                                     "use crate::replay::proved::definitions::core_hash"],
     "tests/replay/proved/definitions/bodies": ["pub fn memory_body", "use rapidhash::in_memory"],
     "tests/replay/proved/laws/mod": [f"pub {word} {name}" for word in ("mod", "use") for name in
-                                     ("forms", "keys", "lane", "words", "writes")],
+                                     ("damage", "forms", "keys", "lane", "words", "writes")],
     # Contracts state the counts.
     "tests/portable/proved/values": ["use crate::counts", "#[test]\nfn counted_hashers_hash"],
 }

@@ -85,6 +85,16 @@ def hash_of(version, m, seed, s, avalanche=True, protected=False, bug=False):
     return mix(low ^ mixed_in[0], high ^ mixed_in[1], protected) if avalanche else low ^ high
 
 
+def crc64(data):
+    """Returns CRC-64/XZ."""
+    crc = 2**64 - 1
+    for byte in data:
+        crc ^= byte
+        for _ in range(8):
+            crc = crc >> 1 ^ 0xC96C5795D7870F42 * (crc & 1)
+    return crc ^ 2**64 - 1
+
+
 def saved(count, m, seed, s):
     """Returns the 208 bytes of a stream with so many lanes after a message."""
     rows = max(0, len(m) - 1) // (16 * count)
@@ -92,9 +102,9 @@ def saved(count, m, seed, s):
     words = [int.from_bytes(m[k : k + 8], "little") for k in range(0, end, 8)]
     lanes = [lane ^ seed for lane in lanes_after([*range(count)] * rows, words, seed, s)]
     kept = m[end - 16 : end] if rows else bytes(16)
-    state = b"rapidV3" + bytes([1, count, 1, rows > 0, len(m) - end, 0, 0, 0, 0])
+    state = b"rapidV3" + bytes([2, count, 1, rows > 0, len(m) - end, 0, 0, 0, 0])
     state += b"".join(lane.to_bytes(8, "little") for lane in lanes) + (kept + m[end:]).ljust(128, b"\0")
-    check = hash_of("V3", state, seed, s) ^ hash_of("V3", state, seed, s, protected=True)
+    check = crc64(state) ^ hash_of("V3", bytes(range(240)), seed, s, protected=True)
     return state + check.to_bytes(8, "little")
 
 

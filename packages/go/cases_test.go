@@ -281,7 +281,7 @@ func replayStream(t *testing.T, it row) (values string) {
 }
 
 func (p *player) play(operation string) {
-	place, digits := 0, operation[1:]
+	digits := operation[1:]
 	switch operation[0] {
 	case 'w':
 		p.stream.Write(unhex(p.t, digits))
@@ -311,18 +311,7 @@ func (p *player) play(operation string) {
 			p.refuse(operation, changed)
 		}
 	case '^', '+':
-		if at, bytes, isBytes := strings.Cut(digits, ":"); isBytes {
-			place, _ = strconv.Atoi(at)
-			p.forge(operation, place, unhex(p.t, bytes))
-			break
-		}
-		var last int
-		if _, err := fmt.Sscanf(digits, "%d-%d", &place, &last); err != nil {
-			p.t.Fatal(operation, err)
-		}
-		for ; place <= last; place++ {
-			p.forge(operation, place, []byte{p.saved[place] ^ 1})
-		}
+		p.change(operation)
 	default:
 		p.t.Fatalf("no operation %s", operation)
 	}
@@ -336,16 +325,20 @@ func (p *player) refuse(operation string, saved []byte) {
 	}
 }
 
-// forge changes the saved bytes from a place on and gives them the right check. A ^ must be refused, and a + accepted.
-func (p *player) forge(operation string, place int, bytes []byte) {
-	forged := append([]byte(nil), p.saved[:200]...)
-	copy(forged[place:], bytes)
-	check := V3.Sum64WithSecrets(forged, p.secrets) ^ V3Protected.Sum64WithSecrets(forged, p.secrets)
-	forged = binary.LittleEndian.AppendUint64(forged, check)
+// change changes the saved bytes from a place on, and the last ones. A ^ must be refused, and a + accepted.
+func (p *player) change(operation string) {
+	parts := strings.Split(operation[1:], ":")
+	place, err := strconv.Atoi(parts[0])
+	if err != nil || len(parts) != 3 {
+		p.t.Fatal(operation, err)
+	}
+	changed := append([]byte(nil), p.saved...)
+	copy(changed[place:], unhex(p.t, parts[1]))
+	copy(changed[200:], unhex(p.t, parts[2]))
 	if operation[0] == '^' {
-		p.refuse(operation, forged)
-	} else if err := p.stream.UnmarshalBinary(forged); err != nil {
-		p.t.Errorf("%s at %d: %v", operation, place, err)
+		p.refuse(operation, changed)
+	} else if err := p.stream.UnmarshalBinary(changed); err != nil {
+		p.t.Errorf("%s: %v", operation, err)
 	}
 }
 

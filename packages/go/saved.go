@@ -5,6 +5,7 @@ import (
 	"encoding/binary"
 	"errors"
 	"fmt"
+	"hash/crc64"
 )
 
 // foldedSize is the number of folded bytes that a stream keeps: the last words of its message may begin in them.
@@ -14,7 +15,7 @@ const foldedSize = 16
 const savedSize = 208
 
 // savedName begins every saved stream. Its last byte is the version of the format.
-const savedName = "rapidV3\x01"
+const savedName = "rapidV3\x02"
 
 // MarshalBinary returns the saved stream: 208 bytes, the same on every machine and in every language. They contain
 // bytes of the message, but no secrets. The error is always nil.
@@ -41,10 +42,14 @@ func (stream *Stream) AppendBinary(out []byte) ([]byte, error) {
 	return binary.LittleEndian.AppendUint64(out, checkOf(out[from:], &stream.secrets)), nil
 }
 
-// checkOf returns the check of a saved stream. A word that equals a secret hides others from V3; if its lowest bit
-// differs, it hides them from protected V3.
+// checkOf returns the check of a saved stream. The CRC finds damage, whatever the message is; the hash of the bytes 0 to
+// 239 finds other secrets.
 func checkOf(state []byte, secrets *Secrets) uint64 {
-	return V3.Sum64WithSecrets(state, secrets) ^ V3Protected.Sum64WithSecrets(state, secrets)
+	var counted [240]byte
+	for at := range counted {
+		counted[at] = uint8(at)
+	}
+	return crc64.Checksum(state, crc64.MakeTable(crc64.ECMA)) ^ V3Protected.Sum64WithSecrets(counted[:], secrets)
 }
 
 // UnmarshalBinary replaces the message by that of a saved stream of the same version, seed and secrets. The zero Stream

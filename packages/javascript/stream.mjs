@@ -8,7 +8,7 @@ const atPointer = 64;
 const savedSize = 208;
 /** The classes with these numbers of lanes. */
 export const names = { 7: "V3", 5: "V3Micro", 3: "V3Nano" };
-const format = Array.from("rapidV3\x01", (letter) => letter.charCodeAt(0));
+const format = Array.from("rapidV3\x02", (letter) => letter.charCodeAt(0));
 
 /** Returns why a hasher with `lanes` lanes does not accept a saved one. */
 function reasonOf(saved, lanes) {

@@ -163,7 +163,7 @@ static void refuse_saved(const Py_buffer *buffer, size_t lanes)
     const unsigned char *const saved = buffer->buf;
     if (buffer->len != RAPIDHASH_STREAM_SAVED)
         PyErr_Format(PyExc_ValueError, "a saved hasher has %d bytes, not %zd", RAPIDHASH_STREAM_SAVED, buffer->len);
-    else if (memcmp(saved, "rapidV3\1", 8) != 0)
+    else if (memcmp(saved, "rapidV3\2", 8) != 0)
         PyErr_SetString(PyExc_ValueError, "saved is no saved hasher, or one of another version of the format");
     else if (saved[8] != lanes || saved[9] != 1)
         PyErr_Format(PyExc_ValueError, "the hasher was saved with %d lanes and options %d, not %zu and 1", saved[8],

@@ -7,6 +7,7 @@
 //! - [`same_blocks`]: integers of equal widths are packed one to one.
 //! - [`join_u8`], [`turn_bytes`] and their like: writes that may be joined or swapped.
 //! - [`same_keys`]: keys of several fields are encoded one to one.
+//! - [`refuses_damage`]: which damage to a saved stream is refused for certain.
 //! - [`replay`]: a stream hasher returns the hash of what was written since the last reset.
 
 ghost use Rattle.std.specs.Prelude.{◌≡◌, IfOk};
@@ -15,6 +16,7 @@ ghost use Rattle.rapidhash_portable.specs.Form.{options};
 ghost use Rattle.rapidhash.specs.Replay.{finishes};
 
 mod blocks;
+mod damage;
 mod forms;
 mod keys;
 mod lane;
@@ -22,6 +24,7 @@ mod words;
 mod writes;
 
 pub use blocks::{Num, same_blocks};
+pub use damage::refuses_damage;
 pub use forms::{micro_is_v3, nano_is_v3, v1_is_v1_with_its_bug, v2_0_is_v2_1, v2_1_is_v2_2};
 pub use keys::same_keys;
 pub use lane::lane_after_its_secret;

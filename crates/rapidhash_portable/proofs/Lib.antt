@@ -1,6 +1,8 @@
 pub mod AbsorbedLemmas
 pub mod BytesLemmas
 pub mod Cases
+pub mod CrcLemmas
+pub mod DamageLemmas
 pub mod FoldedLemmas
 pub mod FormLemmas
 pub mod HashLemmas

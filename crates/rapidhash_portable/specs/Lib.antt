@@ -1,5 +1,7 @@
 pub mod Absorbed
 pub mod Bytes
+pub mod Crc
+pub mod Damage
 pub mod Folded
 pub mod Form
 pub mod GlobalSecrets

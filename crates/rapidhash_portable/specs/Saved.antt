@@ -1,7 +1,9 @@
 -- The bytes of a saved stream.
 use Rattle.std.specs.Prelude.{◌≡◌, ℕ, map, nat_eq, slice_index, ◌-◌, ◌*◌, ◌<◌, ◌≤◌, ◌^◌, Bool, true, List, [], ◌∷◌, ◌++◌, length, take, drop, replicate, bit_xor, flat_map, All, if◌then◌else◌}
 use Rattle.std.specs.Int.{w64, from_le_bytes, to_le_bytes}
-use Rattle.rapidhash_portable.specs.Form.{guarded, standard, v3}
+use Rattle.std.specs.List.{range_with_len}
+use Rattle.rapidhash_portable.specs.Crc.{crc64}
+use Rattle.rapidhash_portable.specs.Form.{guarded, v3}
 use Rattle.rapidhash_portable.specs.Hash.{seeded_hash}
 use Rattle.rapidhash_portable.specs.Stream.{PartsRepresent, secrets_of_stream, steps_of}
 use Rattle.rapidhash_portable.specs.declared.secrets.RapidSecrets.{RapidSecrets}
@@ -15,7 +17,7 @@ option_byte avalanche protected = if protected then (if avalanche then 3 else 2)
 -- "rapidV3", the version of the format, the lanes, the options, whether there is a chunk, and the number of buffered bytes
 abbrev pub saved_head : ℕ → ℕ → Bool → ℕ → List ℕ
 saved_head lanes options any len =
-    114 ∷ 97 ∷ 112 ∷ 105 ∷ 100 ∷ 86 ∷ 51 ∷ 1 ∷ lanes ∷ options ∷ (if any then 1 else 0) ∷ len ∷ 0 ∷ 0 ∷ 0 ∷ 0 ∷ []
+    114 ∷ 97 ∷ 112 ∷ 105 ∷ 100 ∷ 86 ∷ 51 ∷ 2 ∷ lanes ∷ options ∷ (if any then 1 else 0) ∷ len ∷ 0 ∷ 0 ∷ 0 ∷ 0 ∷ []
 
 -- a lane that has folded nothing is zeros
 abbrev pub saved_lane : ℕ → ℕ → List ℕ
@@ -31,9 +33,13 @@ saved_body lanes options parts =
     saved_head lanes options parts.any parts.len ++ (flat_map (saved_lane parts.secrets.now.seed) parts.folded.lanes
     ++ (saved_carried parts ++ (take parts.len (drop 16 parts.kept) ++ replicate (112 - parts.len) 0)))
 
--- the check: a word that equals a secret hides others from the first hash; if its lowest bit differs, from the second
+-- what tells secrets apart: protected V3 of the bytes 0 to 239, so that no contents hide a secret
+unfoldable pub secrets_mark : RapidSecrets → ℕ
+secrets_mark secrets = seeded_hash v3 guarded secrets (range_with_len 0 240)
+
+-- the check: the CRC finds damage, and the mark finds other secrets
 abbrev pub saved_check : RapidSecrets → List ℕ → ℕ
-saved_check secrets body = bit_xor (seeded_hash v3 standard secrets body) (seeded_hash v3 guarded secrets body)
+saved_check secrets body = bit_xor (crc64 body) (secrets_mark secrets)
 
 -- the bytes, and the check behind them
 abbrev pub checked : RapidSecrets → List ℕ → List ℕ

@@ -14,6 +14,7 @@
 //! private.
 #![tactic(auto)]
 
+mod crc;
 pub mod form;
 pub mod in_memory;
 pub mod kernel;

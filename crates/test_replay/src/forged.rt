@@ -3,9 +3,7 @@
 ghost use Rattle.rapidhash_portable.specs.Lanes.{IsLaneCount};
 
 use anyhow::{Result, bail};
-use rapidhash_portable::v3::{
-    RapidSecrets, RapidStreamHasherLanes, SAVED_SIZE, rapidhash_v3_inline, rapidhash_v3_seeded,
-};
+use rapidhash_portable::v3::{RapidSecrets, RapidStreamHasherLanes, SAVED_SIZE};
 use std::alloc::Global;
 
 /// The bytes of a saved hasher before its check.
@@ -34,57 +32,40 @@ fn refuses_each_bit<const LANES: usize>(saved: &[u8; SAVED_SIZE], secrets: &Rapi
     refused
 }
 
-/// Returns whether bytes are restored with other ones from a place on, and with the right check.
-fn accepts<const LANES: usize>(
-    alloc: Global,
-    saved: &[u8; SAVED_SIZE],
-    secrets: &RapidSecrets,
-    place: usize,
-    others: &[u8],
-) -> Result<bool>
-    requires { IsLaneCount LANES }
-{
-    let mut bytes = saved[..CHECKED].to_vec(alloc)?;
+/// Copies bytes to a place.
+fn put(bytes: &mut [u8], place: usize, others: &[u8]) -> Result<()> {
     for (at, other) in others.iter().enumerate() {
         match bytes.get_mut(place.saturating_add(at)) {
             Some(byte) => *byte = *other,
             None => bail!("no place {place}"),
         }
     }
-    let protected = rapidhash_v3_inline::<true, false, true>(bytes.as_slice(), secrets);
-    let check = rapidhash_v3_seeded(bytes.as_slice(), secrets) ^ protected;
-    bytes.extend_from_slice(&check.to_le_bytes())?;
-    Ok(is_restored::<LANES>(bytes.as_slice(), secrets))
+    Ok(())
 }
 
-/// Replays a change with the right check: `AT:DIGITS`, or `FIRST-LAST` for the lowest bit of each
-/// byte. Returns whether the first is accepted, and all others are like it.
+/// Replays a change, `AT:DIGITS:CHECK`. Returns whether it is accepted.
 fn forge<const LANES: usize>(
     alloc: Global,
     saved: &[u8; SAVED_SIZE],
     secrets: &RapidSecrets,
     text: &str,
-    wanted: bool,
 ) -> Result<bool>
     requires { IsLaneCount LANES }
 {
-    if let Some((place, digits)) = text.split_once(":") {
-        let others = hex::decode(alloc, digits)?;
-        let place = place.parse::<usize>()?;
-        return Ok(accepts::<LANES>(alloc, saved, secrets, place, others.as_slice())? == wanted);
-    }
-    let Some((first, last)) = text.split_once("-") else {
-        bail!("no places in {text}");
+    let Some((place, rest)) = text.split_once(":") else {
+        bail!("no place in {text}");
     };
-    let (first, last) = (first.parse::<usize>()?, last.parse::<usize>()?);
-    let mut holds = first <= last && last < CHECKED;
-    for at in 0..CHECKED {
-        if first <= at && at <= last {
-            let other = [saved[at] ^ 1];
-            holds = holds && accepts::<LANES>(alloc, saved, secrets, at, &other)? == wanted;
-        }
-    }
-    Ok(holds)
+    let Some((digits, check)) = rest.split_once(":") else {
+        bail!("no check in {text}");
+    };
+    let mut bytes = *saved;
+    put(
+        &mut bytes,
+        place.parse::<usize>()?,
+        hex::decode(alloc, digits)?.as_slice(),
+    )?;
+    put(&mut bytes, CHECKED, hex::decode(alloc, check)?.as_slice())?;
+    Ok(is_restored::<LANES>(&bytes, secrets))
 }
 
 /// Replays an operation that leaves the hasher as it is. Returns whether it is as expected.
@@ -97,10 +78,10 @@ pub fn change<const LANES: usize>(
     requires { IsLaneCount LANES }
 {
     if let Some(text) = operation.strip_prefix("^") {
-        return forge::<LANES>(alloc, saved, secrets, text, false);
+        return Ok(!forge::<LANES>(alloc, saved, secrets, text)?);
     }
     if let Some(text) = operation.strip_prefix("+") {
-        return forge::<LANES>(alloc, saved, secrets, text, true);
+        return forge::<LANES>(alloc, saved, secrets, text);
     }
     if let Some(digits) = operation.strip_prefix("!") {
         let bytes = hex::decode(alloc, digits)?;

@@ -251,27 +251,42 @@ RAPIDHASH_INLINE_ void rapidhash_key_bytes(struct rapidhash_stream *stream, cons
     rapidhash_stream_write(stream, bytes, len);
 }
 
+/* Returns CRC-64/XZ of bytes, by a loop for which newer compilers use a table. Its name is private. */
+RAPIDHASH_INLINE_ uint64_t rapidhash_crc64_(const unsigned char *bytes, size_t len)
+{
+    uint64_t crc = ~UINT64_C(0);
+
+    for (size_t i = 0; i < len; i++) {
+        crc ^= bytes[i];
+        for (int bit = 0; bit < 8; bit++) crc = (crc & 1) != 0 ? crc >> 1 ^ UINT64_C(0xc96c5795d7870f42) : crc >> 1;
+    }
+    return ~crc;
+}
+
 /* Saves a stream as RAPIDHASH_STREAM_SAVED bytes, for which `saved` must have room. They are the same on every machine
  * and in every language (docs/BINDINGS.md, "Saved streams"), and contain bytes of the message but no secrets. */
 #define RAPIDHASH_STREAM_SAVED 208
 RAPIDHASH_INLINE_ void rapidhash_stream_save(const struct rapidhash_stream *stream, unsigned char *saved)
 {
     const size_t carried = stream->has_rows ? 16 : 0, lanes = stream->has_rows ? stream->lanes : 0;
+    unsigned char counted[240];
     memset(saved, 0, RAPIDHASH_STREAM_SAVED);
-    memcpy(saved, "rapidV3\1", 8);
+    memcpy(saved, "rapidV3\2", 8);
     saved[8] = (unsigned char)stream->lanes;
     saved[9] = 1;
     saved[10] = stream->has_rows;
     saved[11] = (unsigned char)stream->len;
     for (size_t i = 0; i < lanes; i++) rapidhash_put8_(stream->lane[i] ^ stream->secrets->seed, saved + 16 + 8 * i);
     memcpy(saved + 88 - carried, stream->buffer + 16 - carried, carried + stream->len);
-    /* A word that equals a secret hides others from V3; if its lowest bit differs, it hides them from protected V3. */
-    rapidhash_put8_(rapidhash_v3_with_secrets(saved, 200, stream->secrets)
-                    ^ rapidhash_v3_protected_with_secrets(saved, 200, stream->secrets), saved + 200);
+    /* The CRC finds damage, whatever the message is; the hash of 0 to 239 finds other secrets. */
+    for (size_t i = 0; i < sizeof counted; i++) counted[i] = (unsigned char)i;
+    rapidhash_put8_(rapidhash_crc64_(saved, 200)
+                    ^ rapidhash_v3_protected_with_secrets(counted, sizeof counted, stream->secrets), saved + 200);
 }
 
 /* Replaces the message of a started stream by that of a saved one. Returns false and does not modify the stream if
- * rapidhash_stream_save did not write these `len` bytes for a stream of the same version, seed and secrets. */
+ * rapidhash_stream_save did not write these `len` bytes for a stream of the same version, seed and secrets. Damage within
+ * 64 neighbouring bits is refused for certain, other damage and secrets but for one in 2^64. */
 RAPIDHASH_INLINE_ bool rapidhash_stream_restore(struct rapidhash_stream *stream, const unsigned char *saved, size_t len)
 {
     struct rapidhash_stream restored = *stream;

@@ -16,7 +16,7 @@
 #endif
 #endif
 
-enum { SAVED = RAPIDHASH_STREAM_SAVED, CHECKED = SAVED - 8 };
+enum { SAVED = RAPIDHASH_STREAM_SAVED };
 
 static const char *row;
 static unsigned differing;
@@ -188,48 +188,33 @@ static void refuse(struct rapidhash_stream *stream, const unsigned char *bytes, 
     expect("unchanged", memcmp(stream, &before, sizeof before) == 0);
 }
 
-/* Changes saved bytes from a place on, with the right check. They are then refused after ^, and not after +. */
-static void forge(char kind, struct rapidhash_stream *stream, const unsigned char *saved, size_t at,
-                  const unsigned char *bytes, size_t size)
+/* Writes the bytes of digits to a place. */
+static void put(unsigned char *place, const char *digits)
 {
-    unsigned char forged[SAVED];
-    uint64_t check;
-    int i;
+    size_t size = 0;
+    unsigned char *const bytes = message_of(digits, &size);
 
-    memcpy(forged, saved, SAVED);
-    memcpy(forged + at, bytes, size);
-    check = rapidhash_v3_with_secrets(forged, CHECKED, stream->secrets)
-            ^ rapidhash_v3_protected_with_secrets(forged, CHECKED, stream->secrets);
-    for (i = 0; i < 8; i++) forged[CHECKED + i] = (unsigned char)(check >> 8 * i & 255);
-    if (kind == '^') refuse(stream, forged, SAVED);
-    else expect("accepted", rapidhash_stream_restore(stream, forged, SAVED));
+    memcpy(place, bytes, size);
+    free(bytes);
 }
 
 /* Plays an operation on the last saved bytes that changes them. */
-static void change(const char *operation, struct rapidhash_stream *stream, unsigned char *saved)
+static void change(const char *operation, struct rapidhash_stream *stream, const unsigned char *saved)
 {
-    const char *const colon = strchr(operation, ':');
-    unsigned first = 0, last = 0, bit;
-    size_t size = 0;
-    unsigned char *bytes;
+    unsigned char changed[SAVED];
+    unsigned bit;
 
-    if (*operation == '~') {
-        for (bit = 0; bit < 8 * SAVED; bit++) {
-            saved[bit / 8] ^= (unsigned char)(1 << bit % 8);
-            refuse(stream, saved, SAVED);
-            saved[bit / 8] ^= (unsigned char)(1 << bit % 8);
-        }
-    } else if (colon != NULL) {
-        bytes = message_of(colon + 1, &size);
-        forge(*operation, stream, saved, strtoul(operation + 1, NULL, 10), bytes, size);
-        free(bytes);
-    } else {
-        expect("places", sscanf(operation + 1, "%u-%u", &first, &last) == 2 && last < CHECKED);
-        for (; first <= last; first++) {
-            const unsigned char other = saved[first] ^ 1;
-            forge(*operation, stream, saved, first, &other, 1);
-        }
+    memcpy(changed, saved, SAVED);
+    for (bit = 0; *operation == '~' && bit < 8 * SAVED; bit++) {
+        changed[bit / 8] ^= (unsigned char)(1 << bit % 8);
+        refuse(stream, changed, SAVED);
+        changed[bit / 8] ^= (unsigned char)(1 << bit % 8);
     }
+    if (*operation == '~') return;
+    put(changed + strtoul(operation + 1, NULL, 10), strchr(operation, ':') + 1);
+    put(changed + SAVED - 8, strrchr(operation, ':') + 1);
+    if (*operation == '^') refuse(stream, changed, SAVED);
+    else expect("accepted", rapidhash_stream_restore(stream, changed, SAVED));
 }
 
 /* Plays the operations of a stream. The value has its hashes and saved bytes. */

@@ -100,31 +100,20 @@ function refuse(hasher, saved) {
   assert.equal(hasher.digest(), before);
 }
 
-/** Changes saved bytes from a place on and gives them the right check. */
-function forge(kind, hasher, saved, secrets, place, others) {
-  const forged = saved.slice();
-  forged.set(others, place);
-  const state = forged.subarray(0, 200);
-  const check = library.v3(state, { secrets }) ^ library.v3Protected(state, { secrets });
-  new DataView(forged.buffer).setBigUint64(200, check, true);
-  if (kind === "^") refuse(hasher, forged);
-  else hasher.load(forged);
-}
-
 /** Plays an operation on the last saved bytes that changes them. */
-function change(kind, text, hasher, saved, secrets) {
-  if (kind === "~") {
-    for (let bit = 0; bit < 8 * saved.length; bit++) {
-      saved[bit >> 3] ^= 1 << (bit & 7);
-      refuse(hasher, saved);
-      saved[bit >> 3] ^= 1 << (bit & 7);
-    }
-  } else if (text.includes(":")) {
-    forge(kind, hasher, saved, secrets, Number(text.split(":")[0]), bytesOf(text.split(":")[1]));
-  } else {
-    const [first, last] = text.split("-").map(Number);
-    for (let at = first; at <= last; at++) forge(kind, hasher, saved, secrets, at, [saved[at] ^ 1]);
+function change(kind, text, hasher, saved) {
+  for (let bit = 0; kind === "~" && bit < 8 * saved.length; bit++) {
+    saved[bit >> 3] ^= 1 << (bit & 7);
+    refuse(hasher, saved);
+    saved[bit >> 3] ^= 1 << (bit & 7);
   }
+  if (kind === "~") return;
+  const [place, others, check] = text.split(":");
+  const changed = saved.slice();
+  changed.set(bytesOf(others), Number(place));
+  changed.set(bytesOf(check), 200);
+  if (kind === "^") refuse(hasher, changed);
+  else hasher.load(changed);
 }
 
 function replayStream(version, rule, argument) {
@@ -143,7 +132,7 @@ function replayStream(version, rule, argument) {
       hasher = new Stream(options).update("other").load(saved);
     } else if (kind === "=") hasher.load(bytesOf(text));
     else if (kind === "!") refuse(hasher, bytesOf(text));
-    else if ("~^+".includes(kind)) change(kind, text, hasher, saved, options.secrets);
+    else if ("~^+".includes(kind)) change(kind, text, hasher, saved);
     else throw new Error(operation);
   }
   return values.join(" ");

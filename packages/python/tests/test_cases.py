@@ -90,7 +90,6 @@ class Stream:
 
     def __init__(self, kind, options):
         self.kind, self.options, self.hasher, self.saved, self.values = kind, options, kind(**options), b"", []
-        self.secrets = options.get("secrets") or rapidhash.Secrets(rapidhash.V3(**options)._words())
 
     def restore(self, saved):
         hasher = self.kind.restore(saved, **self.options)
@@ -106,19 +105,10 @@ class Stream:
         else:
             raise AssertionError(f"not refused: {saved.hex()}")
 
-    def forge(self, kind, place, others):
-        state = self.saved[:place] + others + self.saved[place + len(others):200]
-        check = rapidhash.v3(state, secrets=self.secrets) ^ rapidhash.v3_protected(state, secrets=self.secrets)
-        state += check.to_bytes(8, "little")
-        return self.refuse(state) if kind == "^" else self.hasher._restore(state)
-
-    def change(self, kind, text):
-        if ":" in text:
-            place, digits = text.split(":")
-            return self.forge(kind, int(place), bytes.fromhex(digits))
-        first, last = map(int, text.split("-"))
-        for place in range(first, last + 1):
-            self.forge(kind, place, bytes([self.saved[place] ^ 1]))
+    def change(self, kind, place, others, check):
+        others, place = bytes.fromhex(others), int(place)
+        changed = self.saved[:place] + others + self.saved[place + len(others):200] + bytes.fromhex(check)
+        return self.refuse(changed) if kind == "^" else self.hasher._restore(changed)
 
     def flip(self):
         for bit in range(8 * len(self.saved)):
@@ -146,7 +136,7 @@ class Stream:
             self.flip()
         else:
             assert kind in "^+", operation
-            self.change(kind, text)
+            self.change(kind, *text.split(":"))
 
 
 def replay_stream(version, rule, argument):

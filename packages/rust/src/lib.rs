@@ -131,7 +131,7 @@ use proved::known_length;
 pub use proved::reader;
 #[doc(hidden)]
 pub use proved::util;
+use proved::{crc, in_memory, kernel, lanes, secrets, seeding, tail, words};
 pub use proved::{fingerprints, rng, shards, v1, v2, v3};
-use proved::{in_memory, kernel, lanes, secrets, seeding, tail, words};
 #[cfg(any(feature = "std", target_has_atomic = "32"))]
 pub use random::{WordsInUse, set_random_words};

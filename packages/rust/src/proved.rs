@@ -1,5 +1,6 @@
 //! The proved sources without their contracts: `scripts/rust_crate` writes every file in `proved/`.
 
+pub mod crc;
 pub mod fingerprints;
 pub mod in_memory;
 pub mod inner {

@@ -146,7 +146,7 @@ fn saved_streams() -> Result<(), Fail> {
     Ok(())
 }
 
-/// Bytes of another length, with a changed byte or of another type are refused.
+/// Bytes of another length or of another type are refused.
 #[test]
 fn refused_streams() {
     let mut hasher: RapidStreamHasherInlineV3<true, false> = RapidStreamHasherLanes::new(&SECRETS);
@@ -158,79 +158,6 @@ fn refused_streams() {
     assert!(RapidStreamHasherInlineV3::<false, false>::restore(&saved, &SECRETS).is_none());
     assert!(RapidStreamHasherInlineV3::<true, true>::restore(&saved, &SECRETS).is_none());
     assert!(RapidStreamHasherInlineMicro::<true, false>::restore(&saved, &SECRETS).is_none());
-    assert!(unseen_bit(saved, &SECRETS).is_none());
-}
-
-/// The saved micro stream of 150 bytes: a chunk and the 70 bytes after it.
-fn saved_micro() -> [u8; 208] {
-    let mut hasher: RapidStreamHasherInlineMicro<true, false> =
-        RapidStreamHasherLanes::new(&SECRETS);
-    hasher.write(&[7; 150]);
-    hasher.save()
-}
-
-/// Returns whether the bytes are accepted with the check that belongs to them.
-fn is_accepted_if_checked(mut saved: [u8; 208]) -> bool {
-    let (body, _) = saved.split_at(200);
-    let check = rapidhash_v3_inline::<true, false, false>(body, &SECRETS)
-        ^ rapidhash_v3_inline::<true, false, true>(body, &SECRETS);
-    saved[200..].copy_from_slice(&check.to_le_bytes());
-    RapidStreamHasherInlineMicro::<true, false>::restore(&saved, &SECRETS).is_some()
-}
-
-/// Even with the right check, a changed byte is only accepted if it leads to the state of another
-/// message: a lane that folds, a kept byte, or one more zero in the buffer.
-#[test]
-fn forged_streams() {
-    for at in 0..200usize {
-        let mut forged = saved_micro();
-        forged[at] ^= 1;
-        let is_state = at == 11 || (16..56).contains(&at) || (72..158).contains(&at);
-        assert!(is_accepted_if_checked(forged) == is_state, "{at}");
-    }
-    let mut longer = saved_micro();
-    longer[11] = 81;
-    assert!(!is_accepted_if_checked(longer));
-}
-
-/// A byte follows each folded chunk.
-#[test]
-fn forged_stream_without_a_last_byte() {
-    let mut forged = saved_micro();
-    forged[11] = 1;
-    forged[89..200].copy_from_slice(&[0; 111]);
-    assert!(is_accepted_if_checked(forged));
-    forged[11] = 0;
-    forged[88] = 0;
-    assert!(!is_accepted_if_checked(forged));
-}
-
-/// A word beside a secret hides no other word from the check: the factor 0 hides one from the plain
-/// hash, the factor 1 from the protected hash.
-#[test]
-fn words_beside_secrets() {
-    for word in DEFAULT_RAPID_SECRETS.secrets {
-        for factor in 0..2u64 {
-            let mut hasher = RapidStreamHasherV3::new(&DEFAULT_RAPID_SECRETS);
-            for _ in 0..21u32 {
-                hasher.write(&(word ^ factor).to_le_bytes());
-            }
-            let unseen = unseen_bit(hasher.save(), &DEFAULT_RAPID_SECRETS);
-            assert!(unseen.is_none(), "{word} {factor}");
-        }
-    }
-}
-
-/// Flips each bit of a saved stream. Returns the first bit whose change is accepted.
-fn unseen_bit(saved: [u8; 208], secrets: &RapidSecrets) -> Option<usize> {
-    for bit in 0..1664usize {
-        let mut changed = saved;
-        changed[bit / 8] ^= 1u8 << (bit % 8);
-        if RapidStreamHasherV3::restore(&changed, secrets).is_some() {
-            return Some(bit);
-        }
-    }
-    None
 }
 
 /// A stream hasher is a seed, seven secrets, seven lanes whatever their number, 128 bytes, a length and a

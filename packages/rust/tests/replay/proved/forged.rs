@@ -4,9 +4,7 @@
 
 use crate::replay::kit::*;
 
-use rapidhash::v3::{
-    RapidSecrets, RapidStreamHasherLanes, SAVED_SIZE, rapidhash_v3_inline, rapidhash_v3_seeded,
-};
+use rapidhash::v3::{RapidSecrets, RapidStreamHasherLanes, SAVED_SIZE};
 
 /// The bytes of a saved hasher before its check.
 const CHECKED: usize = 200;
@@ -30,53 +28,41 @@ fn refuses_each_bit<const LANES: usize>(saved: &[u8; SAVED_SIZE], secrets: &Rapi
     refused
 }
 
-/// Returns whether bytes are restored with other ones from a place on, and with the right check.
-fn accepts<const LANES: usize>(
-    saved: &[u8; SAVED_SIZE],
-    secrets: &RapidSecrets,
-    place: usize,
-    others: &[u8],
-) -> Result<bool> {
-    let mut bytes = saved[..CHECKED].to_vec();
+/// Copies bytes to a place.
+fn put(bytes: &mut [u8], place: usize, others: &[u8]) -> Result<()> {
     for (at, other) in others.iter().enumerate() {
         match bytes.get_mut(place.saturating_add(at)) {
             Some(byte) => *byte = *other,
             None => bail!("no place {place}"),
         }
     }
-    let protected = rapidhash_v3_inline::<true, false, true>(bytes.as_slice(), secrets);
-    let check = rapidhash_v3_seeded(bytes.as_slice(), secrets) ^ protected;
-    bytes.extend_from_slice(&check.to_le_bytes());
-    Ok(is_restored::<LANES>(bytes.as_slice(), secrets))
+    Ok(())
 }
 
-/// Replays a change with the right check: `AT:DIGITS`, or `FIRST-LAST` for the lowest bit of each
-/// byte. Returns whether the first is accepted, and all others are like it.
+/// Replays a change, `AT:DIGITS:CHECK`. Returns whether it is accepted.
 fn forge<const LANES: usize>(
     saved: &[u8; SAVED_SIZE],
     secrets: &RapidSecrets,
     text: &str,
-    wanted: bool,
 ) -> Result<bool> {
-    if let Some((place, digits)) = text.split_once(":") {
-        let others = hex::decode(digits)?;
-        let place = place.parse::<usize>()?;
-        return Ok(accepts::<LANES>(saved, secrets, place, others.as_slice())? == wanted);
-    }
-    let (first, last) = if let Some((first, last)) = text.split_once("-") {
-        (first, last)
+    let (place, rest) = if let Some((place, rest)) = text.split_once(":") {
+        (place, rest)
     } else {
-        bail!("no places in {text}");
+        bail!("no place in {text}");
     };
-    let (first, last) = (first.parse::<usize>()?, last.parse::<usize>()?);
-    let mut holds = first <= last && last < CHECKED;
-    for at in 0..CHECKED {
-        if first <= at && at <= last {
-            let other = [saved[at] ^ 1];
-            holds = holds && accepts::<LANES>(saved, secrets, at, &other)? == wanted;
-        }
-    }
-    Ok(holds)
+    let (digits, check) = if let Some((digits, check)) = rest.split_once(":") {
+        (digits, check)
+    } else {
+        bail!("no check in {text}");
+    };
+    let mut bytes = *saved;
+    put(
+        &mut bytes,
+        place.parse::<usize>()?,
+        hex::decode(digits)?.as_slice(),
+    )?;
+    put(&mut bytes, CHECKED, hex::decode(check)?.as_slice())?;
+    Ok(is_restored::<LANES>(&bytes, secrets))
 }
 
 /// Replays an operation that leaves the hasher as it is. Returns whether it is as expected.
@@ -86,10 +72,10 @@ pub fn change<const LANES: usize>(
     operation: &str,
 ) -> Result<bool> {
     if let Some(text) = operation.strip_prefix("^") {
-        return forge::<LANES>(saved, secrets, text, false);
+        return Ok(!forge::<LANES>(saved, secrets, text)?);
     }
     if let Some(text) = operation.strip_prefix("+") {
-        return forge::<LANES>(saved, secrets, text, true);
+        return forge::<LANES>(saved, secrets, text);
     }
     if let Some(digits) = operation.strip_prefix("!") {
         let bytes = hex::decode(digits)?;

@@ -4,7 +4,7 @@
 //!
 //! | from | bytes | |
 //! |---|---|---|
-//! | 0 | 8 | `rapidV3`, and the version of the format, 1 |
+//! | 0 | 8 | `rapidV3`, and the version of the format, 2 |
 //! | 8 | 1 | the number of lanes |
 //! | 9 | 1 | the options: 1 for AVALANCHE and 2 for PROTECTED |
 //! | 10 | 1 | 1 if a chunk was folded, else 0 |
@@ -12,18 +12,29 @@
 //! | 16 | 56 | the seven lanes, each XOR the seed: zeros if the lane has folded nothing |
 //! | 72 | 16 | the last 16 folded bytes, or zeros |
 //! | 88 | 112 | the buffered bytes, and zeros |
-//! | 200 | 8 | V3 XOR protected V3 of the 200 bytes before, with the stream's seed and secrets |
+//! | 200 | 8 | CRC-64/XZ of the 200 bytes before, XOR a mark of the stream's seed and secrets |
 //!
-//! All numbers are little-endian. The secrets aren't part of it.
+//! The mark is protected V3 of the bytes 0 to 239. All numbers are little-endian. The secrets aren't
+//! part of it.
 
 use super::folded::Folded;
 use super::parts::{Parts, sixteen};
+use crate::crc::crc64;
 use crate::kernel::NOT_COMPACT;
 use crate::kernel::v3::hash;
 use crate::secrets::RapidSecrets;
 
 /// The number of bytes of a saved stream.
 pub const SAVED_SIZE: usize = 208;
+
+/// Returns the bytes 0 to 239.
+fn counted() -> [u8; 240] {
+    let mut bytes = [0; 240];
+    for i in 0..240 {
+        bytes[i] = i as u8;
+    }
+    bytes
+}
 
 /// Copies `piece` to `at`, where the zeros of `out` begin. Returns where they begin then.
 fn put(out: &mut [u8], at: usize, piece: &[u8]) -> usize {
@@ -62,7 +73,7 @@ impl<'a> Parts<'a> {
     fn save_body<const LANES: usize>(&self, options: u8) -> [u8; 200] {
         let (lanes, any, len) = (LANES as u8, self.any as u8, self.len as u8);
         let head = [
-            114, 97, 112, 105, 100, 86, 51, 1, lanes, options, any, len, 0, 0, 0, 0,
+            114, 97, 112, 105, 100, 86, 51, 2, lanes, options, any, len, 0, 0, 0, 0,
         ];
         let carried = if self.any {
             sixteen(&self.kept, 0)
@@ -81,13 +92,12 @@ impl<'a> Parts<'a> {
     pub(super) fn save<const LANES: usize>(&self, options: u8) -> [u8; SAVED_SIZE] {
         let body = self.save_body::<LANES>(options);
         let (seed, secrets) = (self.secrets.seed, &self.secrets.secrets);
-        // A word that equals a secret hides others from the plain hash; if its lowest bit differs,
-        // from the protected one.
-        let plain = hash::<7, true, NOT_COMPACT, false>(&body, seed, secrets);
-        let guarded = hash::<7, true, NOT_COMPACT, true>(&body, seed, secrets);
+        // The CRC finds damage, whatever the message is, and the mark other secrets.
+        let mark = hash::<7, true, NOT_COMPACT, true>(&counted(), seed, secrets);
+        let check = crc64(&body) ^ mark;
         let mut out = [0; SAVED_SIZE];
         put(&mut out, 0, &body);
-        put(&mut out, 200, &(plain ^ guarded).to_le_bytes());
+        put(&mut out, 200, &check.to_le_bytes());
         out
     }
 

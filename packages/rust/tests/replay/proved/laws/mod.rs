@@ -9,6 +9,7 @@
 //! - [`same_blocks`]: integers of equal widths are packed one to one.
 //! - [`join_u8`], [`turn_bytes`] and their like: writes that may be joined or swapped.
 //! - [`same_keys`]: keys of several fields are encoded one to one.
+//! - [`refuses_damage`]: which damage to a saved stream is refused for certain.
 //! - [`replay`]: a stream hasher returns the hash of what was written since the last reset.
 
 use crate::replay::kit::*;

@@ -1,7 +1,9 @@
-use Rattle.std.proofs.Common.{refl, sym, ap, ◌∙◌, arith, true≢false}
+use Rattle.std.proofs.Common.{◌≡◌, ℕ, List, length, refl, sym, ap, ◌∙◌, arith, true≢false}
 use Rattle.std.proofs.lemmas.Bool.Decides.{Decides-eqb, not_from_Decides}
 use Rattle.std.proofs.lemmas.Slice.Eq.{slice_eq-Decides}
-use Rattle.rapidhash_portable.specs.Saved.{saved_parts}
+use Rattle.rapidhash_portable.specs.Damage.{IsDamaged}
+use Rattle.rapidhash_portable.specs.Saved.{checked, option_byte, saved_body, saved_parts, secrets_mark}
+use Rattle.rapidhash_portable.proofs.DamageLemmas.{are_bytes, damage_refused}
 use Rattle.rapidhash_portable.proofs.SavedLemmas.{restored-bytes, restored-fits, restored-least, restored-represents, restored-unused, size-saved}
 use Rattle.rapidhash_portable.proofs.v3.stream.RapidStreamHasherLanes.restore.Goals as goal
 use Rattle.rapidhash_portable.proofs.v3.stream.RapidStreamHasherLanes.restore.Goals.{then-parts-via-then-parts, then-parts-via-else-parts+then-parts-2}
@@ -45,3 +47,19 @@ returns-then-eq-clause-only g c = record {
   least = λ on. omega (arith, rw on at c.if-parts-2.false);
   count = c.restore-parts.ensures.data.none;
 }
+
+pub returns-then-eq-clause-damage : goal.returns-then-eq-clause-damage
+returns-then-eq-clause-damage g c = λ lanes avalanche protected x saved h bytes damage.
+    let body : List ℕ = saved_body lanes (option_byte avalanche protected) h.parts in
+    let body' : List ℕ = saved_body g.row.LANES c.option_byte.result c.restore-parts.result in
+    let is : saved ≡ checked c.args.secrets.now body = sym h.bytes_are ∙ ap (λ secrets. checked secrets body) h.secrets_are in
+    let again : c.save-saved.result ≡ checked c.args.secrets.now body' =
+    c.save-saved.ensures.bytes ∙ ap (λ secrets. checked secrets body') c.restore-parts.ensures.secrets in
+    let same = (slice_eq-Decides Decides-eqb c.save-saved.result c.args.bytes.now _ refl).0 (sym c.if-eq.ensures) in
+    let size : length (checked c.args.secrets.now body) ≡ 208 =
+    sym (ap length is) ∙ sym damage.size ∙ c.if-bytes-ne-SAVED_SIZE.false in
+    absurd (damage_refused (secrets_mark c.args.secrets.now) body body'
+    (rw is at (are_bytes saved bytes))
+    (rw again at (are_bytes c.save-saved.result c.save-saved.ensures.octets))
+    (omega (arith, size))
+    (rw (is, sym same ∙ again) at damage))

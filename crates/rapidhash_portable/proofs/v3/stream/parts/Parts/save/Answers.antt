@@ -1,12 +1,14 @@
 use Rattle.std.proofs.Common.{◌≡◌, ◌-◌, ◌++◌, ℕ, List, [], length, replicate, bit_xor, refl, sym, ap, ◌∙◌, arith}
 use Rattle.std.specs.Int.{w64, to_le_bytes}
 use Rattle.std.proofs.lemmas.List.{append-nil}
-use Rattle.rapidhash_portable.specs.Form.{standard, v3}
+use Rattle.rapidhash_portable.specs.Crc.{crc64}
+use Rattle.rapidhash_portable.specs.Form.{guarded, v3}
 use Rattle.rapidhash_portable.specs.Hash.{seeded_hash}
-use Rattle.rapidhash_portable.specs.Saved.{checked}
+use Rattle.rapidhash_portable.specs.Saved.{checked, secrets_mark}
 use Rattle.rapidhash_portable.proofs.v3.stream.parts.Parts.save.Goals as goal
 
 pub returns-clause-bytes : goal.returns-clause-bytes
+unfolding secrets_mark
 returns-clause-bytes g c =
     let body : List ℕ = c.save_body-body.result in
     let check : List ℕ = c.to_le_bytes.result in
@@ -18,6 +20,6 @@ returns-clause-bytes g c =
     ∙ ap (λ n. (body ++ check) ++ replicate n 0) none
     ∙ append-nil (body ++ check)
     ∙ ap (λ l. body ++ l) c.to_le_bytes.ensures
-    ∙ ap (λ n. body ++ to_le_bytes w64 (bit_xor n c.hash-guarded.result)) c.hash-plain.ensures
-    ∙ ap (λ n. body ++ to_le_bytes w64 (bit_xor (seeded_hash v3 standard c.args.self.now.secrets.now body) n)) c.hash-guarded.ensures
+    ∙ ap (λ n. body ++ to_le_bytes w64 (bit_xor n c.hash-mark.result)) c.crc64.ensures
+    ∙ ap (λ n. body ++ to_le_bytes w64 (bit_xor (crc64 body) n)) (c.hash-mark.ensures ∙ ap (seeded_hash v3 guarded c.args.self.now.secrets.now) c.counted.ensures)
     ∙ ap (checked c.args.self.now.secrets.now) c.save_body-body.ensures.bytes

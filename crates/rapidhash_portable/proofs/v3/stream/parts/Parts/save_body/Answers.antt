@@ -9,7 +9,7 @@ pub returns-clause-bytes : goal.returns-clause-bytes
 unfolding saved_body
 returns-clause-bytes g c =
     let s = c.args.self.now in
-    let bytes : ℕ → List ℕ = λ any. 114 ∷ 97 ∷ 112 ∷ 105 ∷ 100 ∷ 86 ∷ 51 ∷ 1 ∷ g.row.LANES ∷ c.args.options ∷ any ∷ s.len ∷ 0 ∷ 0 ∷ 0 ∷ 0 ∷ [] in
+    let bytes : ℕ → List ℕ = λ any. 114 ∷ 97 ∷ 112 ∷ 105 ∷ 100 ∷ 86 ∷ 51 ∷ 2 ∷ g.row.LANES ∷ c.args.options ∷ any ∷ s.len ∷ 0 ∷ 0 ∷ 0 ∷ 0 ∷ [] in
     let head : List ℕ = saved_head g.row.LANES c.args.options s.any s.len in
     let lanes : List ℕ = flat_map (saved_lane s.secrets.now.seed) s.folded.lanes in
     let one : c.put.new.out ≡ head ++ replicate 184 0 = c.put.ensures.put [] 200 refl refl ∙ ap (λ any. bytes any ++ replicate 184 0) (flag-byte s.any) in

@@ -19,7 +19,7 @@ public final class RapidhashStream implements Checksum {
     /** The size of a saved stream. docs/BINDINGS.md has the format. */
     private static final int SAVED = 208;
     /** The name and the version of the format. */
-    private static final byte[] NAME = "rapidV3\1".getBytes(StandardCharsets.US_ASCII);
+    private static final byte[] NAME = "rapidV3\2".getBytes(StandardCharsets.US_ASCII);
 
     private final SeedAndSecrets secrets;
     private final int count;
@@ -123,9 +123,25 @@ public final class RapidhashStream implements Checksum {
             saved.putLong(lane ^ secrets.seed);
         }
         saved.position(72 + start).put(kept, start, end - start);
-        // A word that equals a secret hides others from V3; if its lowest bit differs, from protected V3.
-        long plain = Hashes.v3(saved.array(), 0, 200, 7, secrets.seed, secrets);
-        return saved.putLong(200, plain ^ ProtectedHash.v3(saved.array(), 0, 200, secrets.seed, secrets)).array();
+        byte[] counted = new byte[240];
+        for (int at = 0; at < counted.length; at++) {
+            counted[at] = (byte) at;
+        }
+        // The CRC finds damage, whatever the message is; the hash of the bytes 0 to 239 finds other secrets.
+        long mark = ProtectedHash.v3(counted, 0, counted.length, secrets.seed, secrets);
+        return saved.putLong(200, crc64(saved.array(), 200) ^ mark).array();
+    }
+
+    /** Returns CRC-64/XZ of the first bytes. */
+    private static long crc64(byte[] bytes, int size) {
+        long crc = -1;
+        for (int at = 0; at < size; at++) {
+            crc ^= bytes[at] & 255;
+            for (int bit = 0; bit < 8; bit++) {
+                crc = (crc & 1) != 0 ? crc >>> 1 ^ 0xc96c5795d7870f42L : crc >>> 1;
+            }
+        }
+        return ~crc;
     }
 
     /**

@@ -232,7 +232,7 @@ public class CasesTest {
                 case '!': refuse(bytesOf(text)); break;
                 case '~': flip(); break;
                 case '^':
-                case '+': forge(kind, text); break;
+                case '+': change(kind, text); break;
                 default: throw new AssertionError("no operation " + kind + text);
             }
         }
@@ -262,29 +262,17 @@ public class CasesTest {
             }
         }
 
-        private void forge(char kind, String text) {
-            String[] parts = text.split("[:-]");
-            int first = Integer.parseInt(parts[0]);
-            if (text.contains(":")) {
-                forge(kind, first, bytesOf(parts[1]));
-            } else {
-                for (int at = first; at <= Integer.parseInt(parts[1]); at++) {
-                    forge(kind, at, new byte[] {(byte) (saved[at] ^ 1)});
-                }
-            }
-        }
-
-        /** Changes the saved bytes from a place on, and gives them the right check. */
-        private void forge(char kind, int at, byte[] others) {
-            byte[] forged = saved.clone();
-            System.arraycopy(others, 0, forged, at, others.length);
-            long check = Rapidhash.V3.hash(forged, 0, 200, secrets)
-                ^ Rapidhash.V3_PROTECTED.hash(forged, 0, 200, secrets);
-            ByteBuffer.wrap(forged).order(java.nio.ByteOrder.LITTLE_ENDIAN).putLong(200, check);
+        /** Changes the saved bytes from a place on, and the last ones. */
+        private void change(char kind, String text) {
+            String[] parts = text.split(":");
+            byte[] others = bytesOf(parts[1]);
+            byte[] changed = saved.clone();
+            System.arraycopy(others, 0, changed, Integer.parseInt(parts[0]), others.length);
+            System.arraycopy(bytesOf(parts[2]), 0, changed, 200, 8);
             if (kind == '^') {
-                refuse(forged);
+                refuse(changed);
             } else {
-                stream.restore(forged);
+                stream.restore(changed);
             }
         }
     }

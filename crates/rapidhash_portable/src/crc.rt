@@ -1,0 +1,40 @@
+//! CRC-64/XZ, with which saved streams are checked.
+
+ghost use Rattle.std.specs.Prelude.{◌≡◌};
+ghost use Rattle.rapidhash_portable.specs.Crc.{crc_byte, crc_shift, crc64};
+
+/// The polynomial, with its highest power in the lowest bit.
+const POLYNOMIAL: u64 = 0xc96c_5795_d787_0f42;
+
+/// Returns the register after a shift.
+#[tactic(auto, using(crate::proofs::CrcLemmas::lowest_bit), unfolding(crate::specs::Crc::crc_shift))]
+fn shift(register: u64) -> u64
+    ensures { result ≡ crc_shift register }
+{
+    if register & 1 == 1 {
+        register >> 1 ^ POLYNOMIAL
+    } else {
+        register >> 1
+    }
+}
+
+/// Returns the register after a byte. Compilers that know the CRC in this form use a table.
+fn add_byte(register: u64, byte: u8) -> u64
+    ensures { result ≡ crc_byte register byte }
+{
+    let mut shifted = register ^ byte as u64;
+    for _ in 0..8u32 {
+        shifted = shift(shifted);
+    }
+    shifted
+}
+
+/// Returns the CRC of the bytes.
+#[tactic(auto, unfolding(crate::specs::Crc::crc64))]
+pub(crate) fn crc64(bytes: &[u8]) -> u64
+    ensures { result ≡ crc64 bytes.now }
+{
+    !bytes
+        .iter()
+        .fold(u64::MAX, |register, &byte| add_byte(register, byte))
+}
