@@ -10,8 +10,8 @@ check_value : crc64 (49 ∷ 50 ∷ 51 ∷ 52 ∷ 53 ∷ 54 ∷ 55 ∷ 56 ∷ 57 
 unfolding crc64 crc_byte crc_shift crc_shifts
 check_value = refl
 
-pub lowest_bit : (n : ℕ) → bit_and n 1 ≡ n % 2
-lowest_bit n = and_mask n 1
+pub low_bit : (n : ℕ) → bit_and n 1 ≡ n % 2
+low_bit n = and_mask n 1
 
 pub xor_pairs : (a b c d : ℕ) → bit_xor (bit_xor a b) (bit_xor c d) ≡ bit_xor (bit_xor a c) (bit_xor b d)
 xor_pairs a b c d =

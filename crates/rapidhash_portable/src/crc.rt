@@ -7,7 +7,7 @@ ghost use Rattle.rapidhash_portable.specs.Crc.{crc_byte, crc_shift, crc64};
 const POLYNOMIAL: u64 = 0xc96c_5795_d787_0f42;
 
 /// Returns the register after a shift.
-#[tactic(auto, using(crate::proofs::CrcLemmas::lowest_bit), unfolding(crate::specs::Crc::crc_shift))]
+#[tactic(auto, using(crate::proofs::CrcLemmas::low_bit), unfolding(crate::specs::Crc::crc_shift))]
 fn shift(register: u64) -> u64
     ensures { result ≡ crc_shift register }
 {

@@ -14,8 +14,8 @@
 //! | 88 | 112 | the buffered bytes, and zeros |
 //! | 200 | 8 | CRC-64/XZ of the 200 bytes before, XOR a mark of the stream's seed and secrets |
 //!
-//! The mark is protected V3 of the bytes 0 to 239. All numbers are little-endian. The secrets aren't
-//! part of it.
+//! The mark is protected V3 of the bytes 0 to 239. All numbers are little-endian. The secrets
+//! aren't part of it.
 
 use super::folded::Folded;
 use super::parts::{Parts, sixteen};

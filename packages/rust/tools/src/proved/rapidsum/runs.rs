@@ -114,8 +114,8 @@ fn text_of(
     }
 }
 
-// Reads a list. Of a file whose first bytes have no well-formed line, and are no lines of a text, it
-// reads no others.
+// Reads a list. Of a file whose first bytes have no well-formed line, and are no lines of a text,
+// it reads no others.
 fn read_from(alloc: Global, disk: &Disk<'_>, name: &[u8]) -> Result<List, Problem> {
     let mut reader = disk.open(name).map_err(Problem::Read)?;
     let mut text = Vec::new(alloc);
