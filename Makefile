@@ -88,8 +88,8 @@ show_progress = sed -unE '/^== /{s///;h;}; \
 # the same time leaves no part of it: COMMAND
 made = @new=$@.$$$$; { $(1); } && mv -f "$$new" $@ || { rm -f "$$new"; exit 2; }
 # Makes a product while no other make builds a package, if flock is on the PATH.
-alone = +@mkdir -p build && $(if $(YERVOUND_LOCKED),,$(if $(shell command -v flock),YERVOUND_LOCKED=yes flock build/lock)) \
-  $(MAKE) --no-print-directory -s
+locked = $(if $(shell command -v flock),YERVOUND_LOCKED=yes flock build/lock)
+alone = +@mkdir -p build && $(if $(YERVOUND_LOCKED),,$(locked)) $(MAKE) --no-print-directory -s
 
 # The rule for a crate's product: CRATE, PRODUCT, the arguments for rt, the libraries that it uses. Each library has its
 # own call, because rt reads the sources again, for about 10 seconds, if it builds several.

@@ -42,8 +42,8 @@ func (stream *Stream) AppendBinary(out []byte) ([]byte, error) {
 	return binary.LittleEndian.AppendUint64(out, checkOf(out[from:], &stream.secrets)), nil
 }
 
-// checkOf returns the check of a saved stream. The CRC finds damage, whatever the message is; the hash of the bytes 0 to
-// 239 finds other secrets.
+// checkOf returns the check of a saved stream. The CRC finds damage, whatever the message is; the hash of the bytes 0
+// to 239 finds other secrets.
 func checkOf(state []byte, secrets *Secrets) uint64 {
 	var counted [240]byte
 	for at := range counted {

@@ -1,5 +1,5 @@
-//! Tells the sources what an old compiler lacks: `rapidhash_old_const` before Rust 1.83, `rapidhash_no_diagnostic`
-//! before 1.78, `rapidhash_no_once_lock` before 1.70. A build without this script is one for a compiler that lacks nothing.
+//! Tells the sources what an old compiler lacks: `rapidhash_old_const` before 1.83, `rapidhash_no_diagnostic` before
+//! 1.78, `rapidhash_no_once_lock` before 1.70. A build without this script is one for a compiler that lacks nothing.
 
 use std::env;
 use std::process::Command;

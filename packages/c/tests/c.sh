@@ -404,9 +404,14 @@ takes_the_flags() {
 # had begun to write.
 survives_a_kill() {
   make_by_cc_alone clean
-  printf '%s\n' '#!/bin/sh' 'for last; do :; done' ': >"$last"' 'for caller in $(ps -o ppid= $PPID) $PPID; do' \
-    'case $(ps -o comm= $caller) in sh | make) kill -9 $caller ;; esac' done >"$room/killed" &&
-    chmod +x "$room/killed" || return
+  cat >"$room/killed" <<'CC' && chmod +x "$room/killed" || return
+#!/bin/sh
+for last; do :; done
+: >"$last"
+for caller in $(ps -o ppid= $PPID) $PPID; do
+  case $(ps -o comm= "$caller") in sh | make) kill -9 "$caller" ;; esac
+done
+CC
   ! make_by_cc_alone library CC="$room/killed" && make_by_cc_alone library &&
     defines_the_header @@RAPIDHASH_1 -D "$room/bare/build/header/librapidhash_c.so.1"
 }

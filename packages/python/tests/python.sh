@@ -40,8 +40,8 @@ exports_its_start_alone() {
 lay_out() {
   mkdir -p "$room/source" "$room/tests" && cd "$top" && cp LICENSE-* NOTICE "$room/source" &&
     git ls-files packages/python packages/c/include | xargs cp --parents -t "$room/source" &&
-    (cd "$room/source" && find . | sort) >"$room/listed" && cp packages/python/tests/{test_*,check_types}.py "$room/tests" &&
-    cp crates/test_replay/data/cases.tsv "$room/tests"
+    (cd "$room/source" && find . | sort) >"$room/listed" &&
+    cp packages/python/tests/{test_*,check_types}.py crates/test_replay/data/cases.tsv "$room/tests"
 }
 
 leaves_nothing() {

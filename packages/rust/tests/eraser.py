@@ -68,7 +68,8 @@ RUST = (
     (rf"let mut (\w+) = 0 ; while \1 < (\w+) {{ ({BODY}?)\1 \+ = 1 ; }} ", r"for \1 in 0 . . \2 { \3} "),
     (r"(\w+) \. split_at \( ([^()]*)\) \. 1 ", r"& \1 [ \2. . ] "),
     (r"crate : : macros : : array \( (\w+) , (\w+) \) ", r"\1 [ \2 . . \2 + N ] . try_into ( ) . unwrap ( ) "),
-    (r"u64 : : from_le_bytes (\( \w+ \[ \w+ \. \. \w+ \+ )N ", r"u64 : : from_le_bytes \g<1>8 "),
+    (r"crate : : macros : : word \( (\w+) , (\w+) \) ",
+     r"u64 : : from_le_bytes ( \1 [ \2 . . \2 + 8 ] . try_into ( ) . unwrap ( ) ) "),
     (r"u32 : : from_le_bytes (\( \w+ \[ \w+ \. \. \w+ \+ )N ", r"u32 : : from_le_bytes \g<1>4 "),
 )
 # What a contract ensures, which the comment repeats for Rust.
