@@ -31,7 +31,7 @@ use std::{
 #[cfg_attr(
     not(rapidhash_no_diagnostic),
     diagnostic::on_unimplemented(
-        message = "`{Self}` is no field of a key",
+        message = "`{Self}` cannot be a field of a key",
         note = "a field is an integer of up to 64 bits, a `bool`, a text, bytes, or an `Option` of one, and a key is a \
                 field or a tuple of up to twelve; pass a `char` as a text, by `encode_utf8`"
     )
@@ -64,7 +64,7 @@ pub trait KeyField {
 #[cfg_attr(
     not(rapidhash_no_diagnostic),
     diagnostic::on_unimplemented(
-        message = "`{Self}` is no key",
+        message = "`{Self}` cannot be a key",
         note = "a field is an integer of up to 64 bits, a `bool`, a text, bytes, or an `Option` of one, and a key is a \
                 field or a tuple of up to twelve; pass a `char` as a text, by `encode_utf8`"
     )
