@@ -108,7 +108,8 @@ function putKey(fields, array, view, room) {
 /** Writes the encoding of a key to the library's memory and returns its length, or, if it is long, returns it as a
  * Uint8Array. */
 export function encodeKey(fields, library, room) {
-  let size = putKey(fields, library.bytes, library.view, room);
+  const { views } = library;
+  let size = putKey(fields, views.bytes, views.view, room);
   if (size <= room) return size;
   for (;;) {
     const array = new Uint8Array(Math.ceil(1.25 * size));

@@ -32,6 +32,7 @@ export function checkModule(isOurs) {
 export class Library {
   /** The stream whose state is in the memory, if any. */
   owner;
+  #views;
 
   constructor({ exports }) {
     checkModule(needed.every((name) => name in exports) && exports.version() === version);
@@ -42,38 +43,47 @@ export class Library {
     this.atState = this.atSecrets + 64;
     this.atBytes = this.atState + stateSize;
     this.room = most - this.atBytes;
-    this.look();
     this.fit(piece);
     exports.seed_secrets(0n, this.atDefault);
     exports.seed_secrets_v1(wordOfV1, this.atDefaultV1);
   }
 
-  /** Creates the views of the memory, which become invalid when it grows. */
-  look() {
-    const { buffer } = this.exports.memory;
-    this.secrets = new DataView(buffer, this.atSecrets, 64);
-    this.secretsOfState = new DataView(buffer, this.atState, 64);
-    this.state = new Uint8Array(buffer, this.atState, stateSize);
-    this.bytes = new Uint8Array(buffer, this.atBytes);
-    this.view = new DataView(buffer, this.atBytes);
+  /** Returns the views of the memory. It is the next use that creates them after the memory grows, which detaches them:
+   * the call that needs the room may stop, at the end of the stack or by a timeout of Node's vm. */
+  get views() {
+    return this.#views ?? this.#look();
   }
 
-  /** Makes room for the bytes of a message. */
+  #look() {
+    const { buffer } = this.exports.memory;
+    this.#views = {
+      secrets: new DataView(buffer, this.atSecrets, 64),
+      secretsOfState: new DataView(buffer, this.atState, 64),
+      state: new Uint8Array(buffer, this.atState, stateSize),
+      bytes: new Uint8Array(buffer, this.atBytes),
+      view: new DataView(buffer, this.atBytes),
+    };
+    return this.#views;
+  }
+
+  /** Returns the bytes of the memory, with room for those of a message. */
   fit(length) {
-    const missing = length - this.bytes.length;
-    if (missing <= 0) return;
+    const { bytes } = this.views;
+    const missing = length - bytes.length;
+    if (missing <= 0) return bytes;
+    this.#views = undefined;
     try {
       this.exports.memory.grow(Math.ceil(missing / page));
     } catch {
       throw new RangeError(`not enough memory in WebAssembly for ${length} bytes at once: ` +
         "V3, micro and nano hash such a message in pieces");
     }
-    this.look();
+    return this.views.bytes;
   }
 
   /** Writes a string as UTF-8 to the memory, which has room for it. Returns the number of bytes. */
   putText(text) {
-    const { bytes, view } = this;
+    const { bytes, view } = this.views;
     const { length } = text;
     if (length > fewLetters) return encodeInto(text, bytes);
     let [at, all] = [0, 0];
@@ -90,11 +100,10 @@ export class Library {
   /** Copies `length` bytes, all of a Uint8Array, into the memory. Returns the length. */
   putBytes(message, length) {
     if (length <= few) {
-      const { bytes } = this;
+      const { bytes } = this.views;
       for (let at = 0; at < length; at++) bytes[at] = message[at];
     } else {
-      this.fit(length);
-      this.bytes.set(message);
+      this.fit(length).set(message);
     }
     return length;
   }
@@ -113,7 +122,7 @@ export class Library {
       else exports.seed_secrets(seed ?? 0n, at);
       return at;
     }
-    const view = at === this.atState ? this.secretsOfState : this.secrets;
+    const view = at === this.atState ? this.views.secretsOfState : this.views.secrets;
     for (let place = 0; place < count; place++) view.setBigUint64(8 * place, secrets[place], true);
     return at;
   }
@@ -122,7 +131,7 @@ export class Library {
   take(name, count, number) {
     this.exports[name](word(`${callOf(name)}: number`, number), this.atSecrets);
     const secrets = new BigUint64Array(count);
-    for (let place = 0; place < count; place++) secrets[place] = this.secrets.getBigUint64(8 * place, true);
+    for (let place = 0; place < count; place++) secrets[place] = this.views.secrets.getBigUint64(8 * place, true);
     return secrets;
   }
 

@@ -53,14 +53,16 @@ export class Stream {
     return library.atState + atPointer;
   }
 
-  /** Copies the state out of the memory, in which another stream needs the space. */
+  /** Copies the state out of the memory, in which another stream needs the space. Its call may be stopped, as by a
+   * timeout of Node's vm, so this stream does not own the memory from here on. */
   #leave() {
-    (this.#room ??= new Uint8Array(stateSize)).set(this.#library.state);
+    (this.#room ??= new Uint8Array(stateSize)).set(this.#library.views.state);
+    this.#library.owner = undefined;
   }
 
   /** Copies the state, which has left the memory before, into it. */
   #fill() {
-    this.#library.state.set(this.#room);
+    this.#library.views.state.set(this.#room);
   }
 
   /** Copies the state to another hasher, whose start has sent this one's out of the memory. Returns the other. */
@@ -70,22 +72,26 @@ export class Stream {
     return other;
   }
 
-  /** Returns a string after the half that waits for it, without the half at its own end, which waits for the next. */
-  #join(text) {
-    const whole = this.#half + text;
-    const isCut = (whole.charCodeAt(whole.length - 1) & 0xfc00) === 0xd800;
-    this.#half = isCut ? whole.slice(-1) : "";
-    return isCut ? whole.slice(0, -1) : whole;
-  }
-
   /** Appends a piece to the message. Returns the hasher. */
   update(data, ...others) {
     if (others.length > 0) throw new TypeError("update takes one piece: an encoding or an option has no effect");
-    if (typeof data === "string") return this.#add(messageOf(this.#join(data), "update"));
+    if (typeof data === "string") return this.#addText(data);
     const message = messageOf(data, "update");
+    if (sizeOf(message) === 0) return this;
     if (this.#half !== "") this.#add("\ufffd");
     this.#half = "";
     return this.#add(message);
+  }
+
+  /** Appends a string after the half that waits for it, without the half at its own end, which waits for the next.
+   * Returns the hasher. */
+  #addText(text) {
+    const whole = this.#half + text;
+    const isCut = (whole.charCodeAt(whole.length - 1) & 0xfc00) === 0xd800;
+    const half = isCut ? whole.slice(-1) : "";
+    this.#add(messageOf(isCut ? whole.slice(0, -1) : whole, "update"));
+    this.#half = half;
+    return this;
   }
 
   /** Appends a message of `messageOf`. Returns the hasher. */
@@ -144,7 +150,7 @@ export class Stream {
     if (this.#half !== "") throw new TypeError("save: the message ends in half of a surrogate pair");
     const { exports, atBytes } = this.#library;
     exports.save(this.#enter(), atBytes);
-    return this.#library.bytes.slice(0, savedSize);
+    return this.#library.views.bytes.slice(0, savedSize);
   }
 
   /** Replaces the message by that of a saved hasher of the same class, seed and secrets. Returns the hasher. */

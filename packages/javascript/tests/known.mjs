@@ -219,7 +219,7 @@ test("texts that are cut inside a surrogate pair", () => {
   assert.throws(() => hasher.update(7), TypeError);
   const clone = hasher.clone();
   assert.equal(hasher.clone().load(saved).update(low).digest(), v3(`b${low}`));
-  assert.equal(hasher.update("").update(low).digest(), v3(text));
+  assert.equal(hasher.update("").update(new ArrayBuffer(0)).update(low).digest(), v3(text));
   assert.equal(new V3().load(hasher.save()).digest(), v3(text));
   assert.equal(clone.update(encoder.encode("b")).update(low).digest(), v3(`a\ufffdb${low}`));
   assert.equal(hasher.update(high).reset().update(low).digest(), v3(low));

@@ -10,7 +10,7 @@ import { PassThrough, Readable } from "node:stream";
 import { test } from "node:test";
 import { setTimeout } from "node:timers/promises";
 import { setFlagsFromString } from "node:v8";
-import { runInNewContext } from "node:vm";
+import { createContext, runInContext, runInNewContext } from "node:vm";
 
 import { load, loadSync } from "yervound-rapidhash";
 
@@ -19,6 +19,41 @@ const { V3, V3Micro, V3Nano } = library;
 const versions = Object.keys(library).filter((name) => `${name}Hex` in library);
 const large = new URL("large", import.meta.url);
 const streams = [[V3, 17274253787457370873n], [V3Micro, 463558115858540857n], [V3Nano, 4447162916058394582n]];
+
+/** Makes a call so many frames before the end of the stack. Returns whether it was made. */
+function isMade(call, frames) {
+  let [left, isDone] = [frames, false];
+  const descend = () => {
+    try {
+      descend();
+    } catch (error) {
+      if (left-- > 0) throw error;
+      try {
+        call();
+        isDone = true;
+      } catch {}
+    }
+  };
+  descend();
+  return isDone;
+}
+
+// The first test: compiled calls need less of the stack.
+test("calls at the end of the stack, which may stop halfway", () => {
+  const [long, face] = [new Uint8Array(200000), "\u{1f600}"];
+  let [fresh, hasher] = [loadSync(), new V3()];
+  const grow = () => fresh.v1(long);
+  const complete = () => hasher.update(face[1]);
+  for (const call of [grow, complete]) call();
+  for (let frames = 0; frames < 60; frames++) {
+    fresh = loadSync();
+    hasher = new fresh.V3().update(face[0]);
+    isMade(grow, frames);
+    for (const text of ["", "abc", "hello"]) assert.equal(fresh.v3(text), library.v3(text), `${frames} frames`);
+    if (!isMade(complete, frames)) complete();
+    assert.equal(hasher.digest(), library.v3(face), `${frames} frames`);
+  }
+});
 
 test("streams of Node", async () => {
   for (const [Stream, value] of streams) {
@@ -50,6 +85,9 @@ test("streams of Node", async () => {
   assert.equal((await new V3().updateFrom(again.readableWebStream())).digest(), whole);
   await Promise.all([handle.close(), again.close()]);
   assert.equal((await new V3().updateFrom(new PassThrough().end())).digest(), library.v3(""));
+  const ended = new PassThrough().on("readable", () => {}).end();
+  await once(ended, "end"); // by itself, as a socket ends: nothing was lost
+  assert.equal((await new V3().updateFrom(ended)).digest(), library.v3(""));
   const odd = Readable.from([{ a: 7 }]);
   await assert.rejects(new V3().updateFrom(odd), { name: "TypeError", message: /^update: data must be a string/ });
   const missing = createReadStream(new URL("missing", import.meta.url));
@@ -104,6 +142,16 @@ test("a hasher keeps no memory of others", async () => {
     return new V3().update("kept");
   });
   assert.ok((await used() - before) / kept.length < 512);
+});
+
+test("a call that a timeout stops leaves other hashers as they are", () => {
+  for (let round = 0; round < 400; round++) {
+    const hasher = new V3({ seed: 1 }).update("hel");
+    const context = createContext({ V3, hasher });
+    assert.throws(() => runInContext("for (;;) { hasher.digest(); new V3({ seed: 2 }); }", context, { timeout: 1 }),
+      { code: "ERR_SCRIPT_EXECUTION_TIMEOUT" });
+    assert.equal(hasher.update("lo").digest(), library.v3("hello", { seed: 1 }));
+  }
 });
 
 test("objects of another realm", () => {
