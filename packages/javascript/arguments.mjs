@@ -134,11 +134,12 @@ export function wasRead(source) {
   }
 }
 
-/** Returns whether a web stream has a reader, or a Node stream has ended or was destroyed. The iterator of a Node
- * stream that failed throws its error. */
+/** Returns whether a web stream has a reader, or a Node stream has ended after pieces or was destroyed. The iterator of
+ * a Node stream that failed throws its error. */
 function isUsedUp(source) {
   if (typeof source?.getReader === "function") return source.locked === true;
-  return typeof source?.pipe === "function" && source.readable === false && !source.errored;
+  if (typeof source?.pipe !== "function" || source.readable !== false || source.errored) return false;
+  return source.readableEnded !== true || source.readableDidRead !== false;
 }
 
 /** Returns the pieces of a Response, or of a Request. */
