@@ -69,7 +69,8 @@ public final class RapidhashStream implements Checksum {
         int at = Objects.requireNonNull(buffer, "buffer").position();
         if (buffer.hasArray()) {
             append(buffer.array(), buffer.arrayOffset() + at, buffer.remaining());
-        } else {
+        } else if (buffer.hasRemaining()) {
+            buffer.get(at); // fails before anything changes if the buffer's arena is closed
             append(buffer, at, buffer.remaining());
         }
         buffer.position(buffer.limit());

@@ -61,6 +61,32 @@ public class RapidhashStreamTest {
         }
     }
 
+    /** Updates by a buffer whose memory is gone: that of a closed arena, which JDK 22 and later have. */
+    @Test
+    public void failedUpdates() throws Exception {
+        if (Runtime.version().feature() < 22) {
+            return;
+        }
+        Class<?> type = Class.forName("java.lang.foreign.Arena");
+        Object arena = type.getMethod("ofConfined").invoke(null);
+        Object segment = type.getMethod("allocate", long.class).invoke(arena, 300);
+        ByteBuffer gone = (ByteBuffer) Class.forName("java.lang.foreign.MemorySegment").getMethod("asByteBuffer")
+            .invoke(segment);
+        type.getMethod("close").invoke(arena);
+        byte[] message = Messages.bytes(700);
+        for (Rapidhash<Secrets> version : STREAMED) {
+            for (int before = 0; before < 400; before++) {
+                RapidhashStream stream = version.stream(OWN);
+                stream.update(message, 0, before);
+                assertThrows(IllegalStateException.class, () -> stream.update(gone));
+                assertEquals(version.hash(message, 0, before, OWN), stream.getValue());
+                stream.update(message, before, 300);
+                assertEquals(version + " after " + before, version.hash(message, 0, before + 300, OWN),
+                    stream.getValue());
+            }
+        }
+    }
+
     @Test
     public void singleBytes() {
         byte[] message = Messages.bytes(300);
