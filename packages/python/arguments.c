@@ -43,12 +43,21 @@ int class_has(PyObject *object, const char *name)
 #define Py_TPFLAGS_IMMUTABLETYPE 0
 #endif
 
-/* Masked arrays have a class in Python, whose names may change. To ask others for a name that they lack is slow. */
+/* Masked arrays have a class in Python, whose names may change. To ask others for a name that they lack is slow. A
+ * field of a structure or of a named tuple is no method. */
 int is_masked(PyObject *object)
 {
     const unsigned long flags = PyType_GetFlags(Py_TYPE(object));
-    return (flags & Py_TPFLAGS_HEAPTYPE) != 0 && (flags & Py_TPFLAGS_IMMUTABLETYPE) == 0 &&
-           class_has(object, "mask") && class_has(object, "filled");
+    PyObject *method;
+    int is;
+    if ((flags & Py_TPFLAGS_HEAPTYPE) == 0 || (flags & Py_TPFLAGS_IMMUTABLETYPE) != 0 || !class_has(object, "mask") ||
+        !class_has(object, "filled"))
+        return 0;
+    method = attribute_of((PyObject *)Py_TYPE(object), "filled");
+    is = method != NULL && PyCallable_Check(method);
+    PyErr_Clear();
+    Py_XDECREF(method);
+    return is;
 }
 
 char kind_of(PyObject *object)

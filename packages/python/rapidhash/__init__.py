@@ -60,8 +60,8 @@ def _room(count):
 
 def _has(value, name):
     """Returns whether the class of a value has an attribute. A value can have one that its user named, such as a label
-    of a Series."""
-    return hasattr(type(value), name)
+    of a Series, and so can the class of a named tuple."""
+    return not isinstance(value, tuple) and hasattr(type(value), name)
 
 
 def _has_addresses(kind):

@@ -1,6 +1,7 @@
 """Tests the hashes of many messages in one call with an installed copy of the package."""
 
 import array
+import collections
 import contextlib
 import ctypes
 import mmap
@@ -55,7 +56,10 @@ class Columns(unittest.TestCase):
         class Order(ctypes.Structure):
             _fields_ = [("filled", ctypes.c_uint16), ("to_numpy", ctypes.c_uint16)]
 
-        for data in (Data(b"\1\0\2\0"), Field(b"\1\0\2\0"), Header(1, 2), Order(1, 2)):
+        class Both(ctypes.Structure):
+            _fields_ = [("mask", ctypes.c_uint16), ("filled", ctypes.c_uint16)]
+
+        for data in (Data(b"\1\0\2\0"), Field(b"\1\0\2\0"), Header(1, 2), Order(1, 2), Both(1, 2)):
             wanted = array.array("Q", [rapidhash.v3(bytes(data))])
             for found in ([rapidhash.v3(data)], [rapidhash.V3(data).intdigest()], rapidhash.each([data]),
                           rapidhash.each_row(data, 4), rapidhash.each_slice(data, array.array("i", [0, 4]))):
@@ -64,6 +68,11 @@ class Columns(unittest.TestCase):
         self.assertEqual(rapidhash.each(Items(["a", "b"])), rapidhash.each(["a", "b"]))
         self.assertEqual(rapidhash.each_key(Items([1, 2])), rapidhash.each_key([1, 2]))
         self.assertEqual(rapidhash.fingerprint(Items([1, 2])), 3)
+        for names in ("columns isna", "mask filled", "to_numpy dtype"):
+            pair = collections.namedtuple("Pair", names)
+            self.assertEqual(rapidhash.each(pair("a", "b")), rapidhash.each(["a", "b"]))
+            self.assertEqual(rapidhash.each_key(pair(1, 2)), rapidhash.each_key([1, 2]))
+            self.assertEqual(rapidhash.fingerprint(pair(1, 2)), 3)
 
     def test_what_is_no_column(self):
         class Frame(dict):
