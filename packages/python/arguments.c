@@ -4,7 +4,7 @@
 int read_word(PyObject *number, const char *name, uint64_t *word)
 {
     PyObject *index;
-    if (!PyIndex_Check(number)) {
+    if (!PyIndex_Check(number) || is_masked(number)) {
         PyErr_Format(PyExc_TypeError, "%s must be an integer, not %R", name, Py_TYPE(number));
         return -1;
     }
@@ -58,6 +58,22 @@ int is_masked(PyObject *object)
     PyErr_Clear();
     Py_XDECREF(method);
     return is;
+}
+
+/* Returns a new reference to the object that lends the memory of a view, or to any other object itself, or NULL with an
+ * error set. */
+static PyObject *owner_of(PyObject *object)
+{ return PyMemoryView_Check(object) ? attribute_of(object, "obj") : (Py_INCREF(object), object); }
+
+/* Returns whether an object is a masked array, or a view of one. A view that was released is opened in vain. */
+static int lends_masked(PyObject *object)
+{
+    PyObject *const owner = owner_of(object);
+    const int lends = owner != NULL && is_masked(owner);
+    if (owner == NULL)
+        PyErr_Clear();
+    Py_XDECREF(owner);
+    return lends;
 }
 
 char kind_of(PyObject *object)
@@ -129,7 +145,7 @@ int open_argument(PyObject *object, const char *name, int flags, Py_buffer *buff
 {
     if (!PyObject_CheckBuffer(object))
         PyErr_Format(PyExc_TypeError, "%s must be a buffer, not %R", name, Py_TYPE(object));
-    else if (is_masked(object))
+    else if (lends_masked(object))
         PyErr_Format(PyExc_TypeError, "%s must not be a masked array, whose bytes are also those of masked values: %R",
                      name, Py_TYPE(object));
     else if (open_view(object, flags, buffer) == 0)

@@ -75,13 +75,13 @@ static int add_bytes(PyObject *field, Py_ssize_t at, Py_ssize_t row, struct key 
     return are_bytes ? 0 : -1;
 }
 
-/* Returns whether an object is an integer, but no bool of Python or NumPy. The key holds the type of the last one. */
+/* Returns whether an object is an integer, but neither a bool nor masked. The key holds the type of the last one. */
 static int is_integer(PyObject *field, struct key *key)
 {
     PyTypeObject *const type = Py_TYPE(field);
     if (PyLong_CheckExact(field) || type == key->integers)
         return 1;
-    if (PyBool_Check(field) || !PyIndex_Check(field) || kind_of(field) == 'b')
+    if (PyBool_Check(field) || !PyIndex_Check(field) || kind_of(field) == 'b' || is_masked(field))
         return 0;
     release_key(key);
     Py_INCREF((PyObject *)type);

@@ -49,9 +49,11 @@ def make_secrets(number, version=3):
 
 def _integer(name, number):
     try:
-        return operator.index(number)
+        if not _extension.is_masked(number):
+            return operator.index(number)
     except TypeError:
-        raise TypeError(f"{name} must be an integer, not {type(number)!r}") from None
+        pass
+    raise TypeError(f"{name} must be an integer, not {type(number)!r}")
 
 
 def _room(count):

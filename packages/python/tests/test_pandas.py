@@ -127,8 +127,32 @@ class Pandas(unittest.TestCase):
         self.refused(error.replace("data", "out"), TypeError, rapidhash.shard, numpy.zeros(1, "u8"), 2, out)
         self.refused(error.replace("data", "saved"), TypeError, rapidhash.V3.restore, numpy.ma.zeros(208, "u1"))
         self.refused(r"^items\[1\] must be bytes", TypeError, rapidhash.each, [b"", masked])
-        self.refused(r"^fields\[0\]: ", TypeError, rapidhash.v3_key, numpy.ma.masked)
-        self.refused(r"^columns\[1\]\[1\]: ", TypeError, rapidhash.each_key, [1, 2], [1, numpy.ma.masked])
+        self.refused(r"^fields\[0\] must be None", TypeError, rapidhash.v3_key, numpy.ma.masked)
+        self.refused(r"^columns\[1\]\[1\] must be None", TypeError, rapidhash.each_key, [1, 2], [1, numpy.ma.masked])
+
+    def test_masked_arrays_in_another_coat(self):
+        error = " must not be a masked array, whose bytes are also those of masked values"
+        view = memoryview(numpy.ma.array([1, 2], mask=[0, 1], dtype="u8"))
+        for name, call in (("data", rapidhash.v3), ("data", rapidhash.V3), ("hashes", rapidhash.fingerprint),
+                           (r"columns\[0\]", rapidhash.each_key)):
+            for data in (view, view[:1]):
+                self.refused(f"^{name}{error}", TypeError, call, data)
+        self.refused(f"^offsets{error}", TypeError, rapidhash.each_slice, b"a", view)
+        self.refused(f"^out{error}", TypeError, rapidhash.each, ["a", "b"], out=view)
+        self.refused(r"^items\[0\] must be bytes", TypeError, rapidhash.each, [view])
+        self.refused(r"^fields\[0\] must be None", TypeError, rapidhash.v3_key, view)
+
+    def test_masked_numbers_are_no_integers(self):
+        number = numpy.ma.array(5, "u8", mask=True)
+        self.refused(r"^fields\[0\] must be None", TypeError, rapidhash.v3_key, number)
+        self.refused(r"^columns\[0\]\[1\] must be None", TypeError, rapidhash.each_key, [1, number])
+        for call in (rapidhash.v3, rapidhash.V3, lambda data, seed: rapidhash.each([data], seed=seed)):
+            self.refused("^seed must be an integer", TypeError, call, b"", number)
+        self.refused("^hash must be an integer", TypeError, rapidhash.shard, number, 10)
+        self.refused("^count must be an integer", TypeError, rapidhash.shard, 5, number)
+        self.refused("^missing must be an integer", TypeError, rapidhash.each, [None], missing=number)
+        self.refused("^a hash must be an integer", TypeError, rapidhash.fingerprint, [number])
+        self.refused("^width must be an integer", TypeError, rapidhash.each_row, b"", number)
 
     def test_bools_are_no_integers(self):
         for value in (numpy.bool_(True), numpy.bool_(False), *pandas.array([True], dtype="boolean")):
