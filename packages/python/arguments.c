@@ -104,14 +104,19 @@ static int has_addresses(const char *format)
 }
 
 /* Returns whether an object of ctypes, or a view of one, has addresses that its format hides, or -1 with an error set.
- * Unions and packed structures have the format of a byte, but are larger. */
+ * Unions and packed structures have the format of a byte, but are larger. A structure's format begins with T, and lacks
+ * the fields of its base class. The classes of ctypes have metaclasses of their own. */
 static int hides_addresses(PyObject *data, const Py_buffer *buffer)
 {
     PyObject *owner, *package, *answer;
     int hides;
-    if (buffer->itemsize == 1 || strchr(format_of(buffer), 'B') == NULL)
+    if (buffer->itemsize == 1 || strpbrk(format_of(buffer), "BT") == NULL)
         return 0;
-    owner = PyMemoryView_Check(data) ? attribute_of(data, "obj") : (Py_INCREF(data), data);
+    owner = owner_of(data);
+    if (owner != NULL && Py_TYPE((PyObject *)Py_TYPE(owner)) == &PyType_Type) {
+        Py_DECREF(owner);
+        return 0;
+    }
     package = owner == NULL ? NULL : PyImport_ImportModule("rapidhash");
     answer = package == NULL ? NULL : PyObject_CallMethod(package, "_has_addresses", "O", Py_TYPE(owner));
     hides = answer == NULL ? -1 : PyObject_IsTrue(answer);

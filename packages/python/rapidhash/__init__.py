@@ -16,6 +16,7 @@ Other threads run while a message of more than 64 KiB is hashed, or columns with
 """
 
 import copyreg
+import functools
 import itertools
 import operator
 from array import array
@@ -66,17 +67,19 @@ def _has(value, name):
     return not isinstance(value, tuple) and hasattr(type(value), name)
 
 
+@functools.lru_cache()
 def _has_addresses(kind):
-    """Returns whether a class is one of ctypes and has pointers or objects. The formats of its unions hide them."""
-    if "_ctypes" not in (base.__module__ for base in kind.__mro__):
-        return False
-    item = getattr(kind, "_type_", None)
-    if isinstance(item, str):
-        return item in "OPXZz"
-    if item is not None:  # of an array, or the target of a pointer
-        return not hasattr(kind, "_length_") or _has_addresses(item)
-    fields = (field for base in kind.__mro__ for field in vars(base).get("_fields_", ()))
-    return hasattr(kind, "_restype_") or any(_has_addresses(field[1]) for field in fields)
+    """Returns whether a class is one of ctypes and has pointers or objects. Formats hide those of a union, or of a base
+    class."""
+    sort = next((base.__name__ for base in kind.__mro__ if base.__module__ == "_ctypes"), None)
+    if sort == "_SimpleCData":
+        return kind._type_ in "OPXZz"
+    if sort == "Array":
+        return _has_addresses(kind._type_)
+    if sort in ("Structure", "Union"):
+        fields = (field for base in kind.__mro__ for field in vars(base).get("_fields_", ()))
+        return any(_has_addresses(field[1]) for field in fields)
+    return sort is not None  # a pointer or a function
 
 
 def _view(name, data):

@@ -97,15 +97,22 @@ class Columns(unittest.TestCase):
             rapidhash.each([b"", objects])
 
     def test_pointers_that_a_format_hides(self):
-        """ctypes describes a union, and up to 3.12 a packed structure, as bytes."""
+        """ctypes describes a union, and up to 3.12 a packed structure, as bytes, and leaves out the fields of a base
+        class. A field's name can have a colon, as the end of a name in a format."""
         def union(kind, base=ctypes.Union, **words):
             return type("Union", (base,), {**words, "_fields_": [("first", kind), ("number", ctypes.c_uint64)]})
 
         text, number = union(ctypes.c_char_p), union(ctypes.c_uint32)
+        plain = union(ctypes.c_uint32, ctypes.Structure)
+        base = union(ctypes.c_void_p, ctypes.Structure)
+        derived = type("Derived", (base,), {"_fields_": [("other", ctypes.c_uint64)]})
+        colon = type("Colon", (ctypes.Structure,), {"_fields_": [("a:", ctypes.c_int), ("b", ctypes.c_void_p)]})
+        unknown = type("Unknown", (ctypes._Pointer,), {})  # A pointer to a type that is defined later.
         kinds = [*map(union, (ctypes.c_void_p, ctypes.c_wchar_p, ctypes.py_object, ctypes.POINTER(ctypes.c_int),
                               ctypes.CFUNCTYPE(None), ctypes.c_char_p * 2, text, text * 3)),
                  union(ctypes.c_char_p, ctypes.Structure, _pack_=1), union(text, ctypes.Structure),
-                 type("Derived", (text,), {"_fields_": [("other", ctypes.c_uint64)]}), text * 2, (text * 2) * 2]
+                 type("Derived", (text,), {"_fields_": [("other", ctypes.c_uint64)]}), text * 2, (text * 2) * 2,
+                 derived, derived * 2, union(derived, ctypes.Structure), union(derived), colon, union(unknown)]
         for kind in kinds:
             for data in (kind(), memoryview(kind())):
                 for call in (rapidhash.v3, rapidhash.V3, lambda data: rapidhash.each_row(data, 8)):
@@ -114,7 +121,8 @@ class Columns(unittest.TestCase):
                 self.assertRaises(TypeError, rapidhash.each, [data])
                 self.assertRaises(TypeError, rapidhash.v3_key, data)
         for kind in (number, number * 2, union(ctypes.c_wchar * 2), union(ctypes.c_char * 8),
-                     union(number, ctypes.Structure), union(number, ctypes.Structure, _pack_=1)):
+                     union(number, ctypes.Structure), union(number, ctypes.Structure, _pack_=1), plain * 2,
+                     type("Derived", (plain,), {"_fields_": [("_type_", ctypes.c_uint64)]})):
             self.assertEqual(rapidhash.v3(kind()), rapidhash.v3(bytes(ctypes.sizeof(kind))))
 
     def test_unions_are_no_integers(self):
