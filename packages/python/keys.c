@@ -42,7 +42,7 @@ static int add_integer(PyObject *field, Py_ssize_t at, Py_ssize_t row, struct ke
 }
 
 /* Appends the bytes of a str, or of a buffer of single bytes. A buffer of numbers is none, and neither is a scalar of
- * NumPy, such as a date, which has a buffer too. */
+ * NumPy or ctypes, such as a date, which has a buffer too. */
 static int add_bytes(PyObject *field, Py_ssize_t at, Py_ssize_t row, struct key *key)
 {
     struct message message;
@@ -58,7 +58,7 @@ static int add_bytes(PyObject *field, Py_ssize_t at, Py_ssize_t row, struct key 
             return refuse_field(at, row);
         message.bytes = buffer->buf;
         message.len = (size_t)buffer->len;
-        are_bytes = buffer->itemsize == 1 && strcmp(format_of(buffer), "B") == 0;
+        are_bytes = buffer->ndim > 0 && letter_of(buffer) == 'B';
     }
     if (are_bytes && key->out != NULL && is_overwritten(key->out, row, &message, "a field")) {
         are_bytes = 0;

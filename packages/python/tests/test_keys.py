@@ -21,7 +21,8 @@ class Buffer(ctypes.Structure):
 class Keys(unittest.TestCase):
     def test_kinds_of_fields(self):
         user = 14742763072502883419
-        for text in ("user", b"user", bytearray(b"user"), memoryview(b"user"), array.array("B", b"user")):
+        for text in ("user", b"user", bytearray(b"user"), memoryview(b"user"), array.array("B", b"user"),
+                     (ctypes.c_ubyte * 4)(*b"user")):
             self.assertEqual(rapidhash.v3_key(text, 4711, None), user, type(text))
 
         class Index:
@@ -83,7 +84,7 @@ class Keys(unittest.TestCase):
                 raise KeyError("own")
 
         for value in (1.5, True, [1], {}, object(), Date(8), array.array("i", [1]), array.array("d", [1]),
-                      memoryview(b"").cast("b")):
+                      memoryview(b"").cast("b"), ctypes.c_ubyte(1), memoryview(b"a").cast("B", [])):
             with self.assertRaisesRegex(TypeError, r"^fields\[1\] must be None, an int, a str or bytes, "
                                         r"not <class '.*'>; docs/BINDINGS.md lists conversions$"):
                 rapidhash.v3_key(1, value)
