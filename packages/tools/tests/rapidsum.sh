@@ -356,7 +356,7 @@ done
 head -c 67108864 /dev/zero | tr '\0' 'x' >large
 says a_large_file_is_no_list 'no properly formatted' in_kibibytes 32768 "$program" -c large
 { yes '# a comment' | head -n 9000 && "$program" --tag first && sha256sum --tag first; } >comments
-runs list_behind_comments 0 'first: OK\n' 'rapidsum: WARNING: 1 line is improperly formatted\n' "$program" -c comments
+runs list_behind_comments 0 $'first: OK\n' $'rapidsum: WARNING: 1 line is improperly formatted\n' "$program" -c comments
 { yes "$(sha256sum --tag first)" | head -n 900 && "$program" first; } >mixed
 try list_behind_others bash -c '"$1" -c mixed | grep -x "first: OK"' - "$program"
 printf 'x\0%070000d\n' 1 | cat - large >binary
