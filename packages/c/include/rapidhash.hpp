@@ -69,7 +69,8 @@ class bytes {
     template <class Element>
     using if_byte = typename std::enable_if<
         sizeof(Element) == 1 && (std::is_integral<Element>::value || std::is_enum<Element>::value)
-        && !std::is_same<typename std::remove_cv<Element>::type, bool>::value>::type;
+        && !std::is_same<typename std::remove_const<Element>::type, bool>::value
+        && !std::is_volatile<Element>::value>::type;
 #ifdef __cpp_char8_t
     using utf8 = char8_t;
 #else
@@ -80,7 +81,7 @@ class bytes {
                                                           || std::is_same<Element, utf8>::value>;
     template <class Text>
     using if_text = typename std::enable_if<std::is_pointer<Text>::value && is_character<
-        typename std::remove_cv<typename std::remove_pointer<Text>::type>::type>::value, int>::type;
+        typename std::remove_const<typename std::remove_pointer<Text>::type>::type>::value, int>::type;
 
 public:
     bytes(const void *data, std::size_t size) noexcept : data_(chars(data)), size_(size) {}
@@ -153,6 +154,8 @@ RAPIDHASH_CONSTEXPR std::uint64_t hash(bytes message, const Secrets &own) noexce
  * thread at a time. */
 template <std::size_t Lanes>
 class basic_stream {
+    static_assert(Lanes == 7 || Lanes == 5 || Lanes == 3, "a stream has 7, 5 or 3 lanes");
+
 public:
     basic_stream() noexcept : basic_stream(seed(0)) {}
     explicit basic_stream(seed start) noexcept : basic_stream(seed_secrets(start)) {}

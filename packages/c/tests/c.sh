@@ -195,6 +195,7 @@ static_cast<__int128>(1)|an integer of a key has at most 64 bits
 rapidhash::hash("x", {std::uint64_t(5)})|error: .*\(would use explicit constructor\|no matching\)
 rapidhash::hash("x", {})|error: no matching function for call to .hash
 rapidhash::seeded_hasher({std::uint64_t(5)})(1)|error: .*\(would use explicit constructor\|no matching\)
+rapidhash::basic_stream<4>().finish()|a stream has 7, 5 or 3 lanes
 rapidhash::stream({std::uint64_t(5)}).finish()|error: .*\(would use explicit constructor\|no matching\)
 1.5|a field is nullptr, an integer, an enumerator, a text, bytes, a time, a duration, or a pair, tuple, vector, array, \
 span, optional or path

@@ -23,6 +23,8 @@ static_assert(!takes_a_number<int>::value && !takes_a_number<std::size_t>::value
 static_assert(!converts<std::wstring, bytes>::value, "a wide string is no bytes");
 static_assert(!converts<std::vector<std::uint16_t>, bytes>::value, "numbers of 16 bits are no bytes");
 static_assert(!converts<std::nullptr_t, bytes>::value, "nothing is no text");
+static_assert(!converts<volatile char *, bytes>::value && !converts<const volatile unsigned char (&)[2], bytes>::value,
+              "volatile bytes are not read");
 static_assert(!converts<int, seed>::value, "a number is no seed");
 static_assert(std::is_copy_assignable<stream>::value, "a stream can be copied");
 static_assert(!converts<seed, seeded_hasher>::value && !converts<secrets, seeded_hasher>::value
