@@ -9,7 +9,8 @@ jar: ; $(alone) $(jar)
 jar_date = $(shell jar --help-extra 2>/dev/null | grep -q -- --date= && date -u -d @$(epoch) +--date=%Y-%m-%dT%H:%M:%SZ)
 
 # The sources and the pages of the calls, as registries want them beside the jar.
-javadoc: $(jar)
+javadoc: ; $(alone) javadoc-alone
+javadoc-alone: $(jar)
 	@rm -rf build/javadoc && javadoc -quiet -notimestamp -Xdoclint:all,-missing --release 11 -d build/javadoc \
 	  $$(find packages/java/src/main/java -name '*.java')
 	@umask 022 && jar --create $(jar_date) --file $(jar:.jar=-javadoc.jar) -C build/javadoc . $(licences)
