@@ -23,8 +23,9 @@
 # make test-vendor runs the merge gate of such a repository, which proves everything from scratch
 # make clean       removes all build results
 
-# Directories: by the names of the GNU Coding Standards, or in capitals, also from the environment. DESTDIR has no value
-# here, so that one of the environment counts.
+# Directories: by the names of the GNU Coding Standards, or in capitals, also from the environment, before which the
+# command line counts. DESTDIR has no value here, so that one of the environment counts.
+directory = $(eval $(1) $(if $(filter command,$(origin $(2))),,?)= $$($(2)))
 prefix = /usr/local
 exec_prefix = $(PREFIX)
 bindir = $(exec_prefix)/bin
@@ -32,11 +33,11 @@ libdir = $(exec_prefix)/lib
 includedir = $(PREFIX)/include
 datarootdir = $(PREFIX)/share
 datadir = $(datarootdir)
-PREFIX ?= $(prefix)
-BINDIR ?= $(bindir)
-LIBDIR ?= $(libdir)
-INCLUDEDIR ?= $(includedir)
-DATADIR ?= $(datadir)
+$(call directory,PREFIX,prefix)
+$(call directory,BINDIR,bindir)
+$(call directory,LIBDIR,libdir)
+$(call directory,INCLUDEDIR,includedir)
+$(call directory,DATADIR,datadir)
 
 soname = librapidhash_c.so.1
 kit_archive = crates/rapidhash_c/out/librapidhash_c.a
@@ -59,7 +60,7 @@ release = 1.0.0
 
 .PHONY: help installcheck sources crate javadoc gomodule all built tool sums library wasm npm page wheel jar sqlite \
   postgresql deb check check-source quick test fmt bench install uninstall clean dist vendor release products \
-  wheel-alone page-alone postgresql-alone deb-alone dist-alone \
+  javadoc-alone page-alone postgresql-alone deb-alone dist-alone \
   test-edits test-machines test-windows test-debian test-dieharder test-source test-vendor test-machine-code \
   rapidhash_c rapidhash_cli rapidsum example_bloom example_perfect example_shards example_dedupe
 .DELETE_ON_ERROR:
@@ -122,6 +123,7 @@ needs_the_kit = [ -n '$(kit)' ] || { echo 'make $(1): rt, the command of the Rat
   'the proved programs and library for the archive' >&2; exit 2; }
 
 # Says so once, before the first product.
+said :=
 unproved = $(if $(said),:,$(eval said := yes)echo 'make: $(if $(shell command -v rt),,rt is \
   not on PATH: )building with $(if $(tools),cc and cargo,cc the library alone), which is not the proved build' >&2)
 

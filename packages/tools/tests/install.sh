@@ -187,11 +187,12 @@ serves_a_packager() {
     make -s -C "$top" uninstall "${folders[@]}" && [ -z "$(listed "$stage")" ]
 }
 
-# Checks that the environment also sets the directories, and that so do the names of the GNU Coding Standards.
+# Checks that the environment also sets the directories, and that so do the names of the GNU Coding Standards, which
+# count on the command line.
 reads_each_name() {
   local stage=$room/named file
-  DESTDIR=$stage PREFIX=/one INCLUDEDIR=/two/ installs libdir=/three datarootdir=/four &&
-    DESTDIR=$stage installs prefix=/five exec_prefix=/six || return
+  DESTDIR=$stage PREFIX=/one INCLUDEDIR=/two/ LIBDIR=/none installs libdir=/three datarootdir=/four &&
+    DESTDIR=$stage PREFIX=/none installs prefix=/five exec_prefix=/six || return
   for file in two/rapidhash_c.h three/librapidhash_c.a four/man/man3/rapidhash_c.3 five/include/rapidhash_c.h \
     six/lib/librapidhash_c.a five/share/man/man3/rapidhash_c.3; do
     [ -e "$stage/$file" ] || { echo "no $file" && return 1; }
@@ -265,9 +266,11 @@ checks_a_stage() {
     ! grep -nE '(^|[^"(a-z])cc -' "$top"/Makefile "$top"/packages/*/make.mk
 }
 
-# Checks that a removal leaves a file of another alone, also if a variable names it, and no directory of its own.
+# Checks that a removal leaves a file of another alone, also if a variable names it, and no directory of its own, nor
+# what a killed installation left.
 removes_its_files() {
-  mkdir -p "$prefix/bin" && echo mine >"$prefix/bin/mine" && TOOLS=mine make -s -C "$top" uninstall PREFIX="$prefix" &&
+  mkdir -p "$prefix/bin" && echo mine >"$prefix/bin/mine" && touch "$prefix/lib/librapidhash_c.a.new" &&
+    TOOLS=mine make -s -C "$top" uninstall PREFIX="$prefix" &&
     [ "$(listed "$prefix")" = ./bin/mine ] && [ -z "$(find "$prefix" -name 'rapidhash*')" ]
 }
 
