@@ -206,6 +206,9 @@ public:
         return ::rapidhash_stream_restore(&state_, static_cast<const unsigned char *>(start), saved.size());
     }
 
+    /* Restores from a whole buffer of char, in which a zero ends no text. */
+    template <std::size_t Size> bool restore(const char (&saved)[Size]) noexcept { return restore(bytes(saved, Size)); }
+
 private:
     secrets secrets_;
     ::rapidhash_stream state_;

@@ -2,6 +2,7 @@
  * value that differs. The last line counts the values, and the exit status is 1 if one differs. cases.cpp has more. */
 #include <rapidhash.hpp>
 
+#include <algorithm>
 #include <cstdio>
 #include <cstdlib>
 #include <fstream>
@@ -135,6 +136,10 @@ static void check_copies()
     first.reset();
     compare("a copied stream", copy.update(message.data() + 60, 60).finish(), known);
     compare("an assigned stream", assigned.update(message.data() + 60, 60).finish(), known);
+    char buffer[RAPIDHASH_STREAM_SAVED];
+    const auto saved = copy.save();
+    std::copy(saved.begin(), saved.end(), buffer);
+    compare("a stream from a buffer", assigned.restore(buffer) ? assigned.finish() : 0, known);
     assigned.reset();
     compare("a stream after a reset", assigned.update(message).finish(), known);
 }
