@@ -7,9 +7,11 @@ has_jar = $(shell command -v javac)
 packed = $(foreach part,npm wheel jar,$(if $(filter-out yes,$(PARTIAL))$(has_$(part)),$(part)))
 unpacked = $(filter-out $(packed),npm wheel jar)
 
-dist: ; $(alone) dist-alone
-dist-alone:
+dist:
 	@$(call needs_the_kit,dist)
+	$(alone) dist-alone
+
+dist-alone:
 	$(MAKE) -s all $(packed)
 	rm -rf build/$(name)
 	env -u BINDIR -u LIBDIR -u INCLUDEDIR -u DATADIR $(MAKE) -s install DESTDIR="$$PWD/build" PREFIX='/$(name)'

@@ -97,11 +97,13 @@ refuses_to_release() {
 # all checksums, and no product of an older version. Without a page, or with that of another commit or of a gate that
 # failed, there is none.
 releases_a_commit() {
-  local gate file files=(gate.md {sources/yervound-1.0.0,yervound-1.0.0-x86_64-linux}.tar.gz
-    yervound-rapidhash-{1.0.0{.tgz,.crate,{,-javadoc,-sources}.jar},go-1.0.0.zip} wheels/a.whl wheels/b.tar.gz
+  local gate file v files
+  v=$(sed -n 's/^release = //p' "$top/Makefile")
+  files=(gate.md {sources/yervound-$v,yervound-$v-x86_64-linux}.tar.gz
+    yervound-rapidhash-{$v{.tgz,.crate,{,-javadoc,-sources}.jar},go-$v.zip} wheels/a.whl wheels/b.tar.gz
     debian/a.deb debian/b.deb debian/a.dsc debian/a.tar.xz)
   git clone -q -s "$top" "$room/released" && cd "$room/released" || return
-  for file in "${files[@]}" "${files[@]//1.0.0/0.9.0}" wheels/made debian/log; do
+  for file in "${files[@]}" "${files[@]//$v/0.9.0}" wheels/made debian/log; do
     install -D /dev/null "build/$file" || return
   done
   rm build/gate.md && refuses_to_release || return
