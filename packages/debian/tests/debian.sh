@@ -50,7 +50,8 @@ needs_others() {
   ! in_the_root --install "$packages"/*.deb 2>"$room/refused" &&
     sed -nE 's/^ ([^: ]*).* depends on ([^ ;]+( \(.?=)?).*/\1: \2/p' "$room/refused" | sort | diff - <(printf '%s\n' \
       'librapidhash-c-dev: librapidhash-c1 (=' 'librapidhash-c1: libc6 (>=' 'postgresql-15-rapidhash: libc6 (>=' \
-      'postgresql-15-rapidhash: postgresql-15' 'rapidhash-tools: libc6 (>=' 'rapidhash-tools: libgcc-s1 (>=')
+      'postgresql-15-rapidhash: postgresql-15' 'rapidhash-tools: libc6 (>=' 'rapidhash-tools: libgcc-s1 (>=' \
+      'sqlite3-rapidhash: libc6 (>=')
 }
 
 installs() {
