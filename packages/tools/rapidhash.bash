@@ -2,6 +2,7 @@
 # files, variables and the rest by itself. A word that begins with a hyphen names no file, and after the help
 # none counts.
 _rapidhash() {
+  local IFS=$' \t\n'
   local options word=${COMP_WORDS[COMP_CWORD]}
   COMPREPLY=()
   case " ${COMP_WORDS[*]:1:COMP_CWORD-1} " in

@@ -2,6 +2,7 @@
 # bash completes files, variables and the rest by itself. A word that begins with a hyphen names no file but
 # after --, and after the help none counts. An equals sign is a word of its own.
 _rapidsum() {
+  local IFS=$' \t\n'
   local help options word=${COMP_WORDS[COMP_CWORD]#=} before=" ${COMP_WORDS[*]:1:COMP_CWORD-1} "
   help=$(rapidsum --help 2>/dev/null)
   options=" $(grep -oE '^ +(-., )?--[a-z0-9-]+' <<<"$help")"

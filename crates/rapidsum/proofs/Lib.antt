@@ -1,8 +1,6 @@
-mod Calls
 mod Checks
-mod Files
 mod Lines
 mod Lists
+mod Meaning
 mod Named
 mod Tags
-mod Values

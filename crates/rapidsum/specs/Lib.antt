@@ -1,10 +1,10 @@
 pub mod Algorithm
-pub mod Call
 pub mod Check
+pub mod Command
 pub mod Entry
 pub mod Line
 pub mod List
 pub mod Options
-pub mod Parse
+pub mod Outcome
 pub mod Seed
 pub mod Sources

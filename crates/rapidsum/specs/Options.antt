@@ -1,5 +1,5 @@
 -- The options of a table.
-use Rattle.std.specs.Prelude.{ℕ, ◌==◌, Bool, false, cond, bytes_eq, is_some, length, List, [], map, Option, None, nat_lt, option_and_then, option_map, slice_get, slice_index_or, unwrap_or}
+use Rattle.std.specs.Prelude.{ℕ, ◌==◌, ◌≡◌, Bool, true, false, codes, cond, replicate, bytes_eq, is_some, length, List, [], ◌∷◌, map, Option, None, nat_lt, option_and_then, option_map, slice_get, slice_index_or, unwrap_or}
 use Rattle.std.specs.List.{position_from}
 use Rattle.std.specs.Option.{option_map_or}
 use Rattle.rapidhash_portable.specs.declared.form.Version.TheVariants.{V3}
@@ -53,3 +53,11 @@ style_of options = record {
   layout = cond (is_given (values_of options) TAG) layout.Tagged (cond (is_given (values_of options) BINARY) layout.Binary layout.Text);
   zero = is_given (values_of options) ZERO;
 }
+
+-- the names and the letters of all options, in their order; the first three take a value
+pub record IsTable (rows : List Row) : Type 0 where
+  pub names : map (λ row. row.name.now) rows ≡ codes "algorithm" ∷ codes "seed" ∷ codes "files0-from" ∷ codes "check" ∷ codes "quiet"
+      ∷ codes "status" ∷ codes "ignore-missing" ∷ codes "strict" ∷ codes "warn" ∷ codes "binary" ∷ codes "text" ∷ codes "tag"
+      ∷ codes "zero" ∷ codes "help" ∷ codes "version" ∷ []
+  pub letters : map (λ row. unwrap_or row.letter 45) rows ≡ codes "a--c----wbt-zhV"
+  pub values : map (λ row. nat_lt 0 (length row.value.now)) rows ≡ true ∷ true ∷ true ∷ replicate 12 false

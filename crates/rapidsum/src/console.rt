@@ -30,6 +30,8 @@ pub struct Console<'a> {
     pub line: Vec<u8>,
     lines: Vec<u8>,
     block: usize,
+    /// Why a message could not be written: the call goes on, but fails at its end.
+    pub untold: Option<Problem>,
 }
 
 // Returns the most bytes of lines in a write, or 0 if each line is written at once.
@@ -64,6 +66,7 @@ impl<'a> Console<'a> {
             line: Vec::new(rt.alloc()),
             lines: Vec::new(rt.alloc()),
             block: block_of(rt),
+            untold: None,
         }
     }
 
@@ -91,7 +94,10 @@ impl<'a> Console<'a> {
     // Writes a text to standard error, after the lines so far.
     fn say(&mut self, text: &[u8]) -> Result<(), Problem> {
         self.flush()?;
-        self.rt.stderr().write_all(text).map_err(Problem::Write)
+        if let Err(error) = self.rt.stderr().write_all(text) {
+            self.untold = Some(Problem::Write(error));
+        }
+        Ok(())
     }
 
     /// Reports on standard error why a file or a list is refused.

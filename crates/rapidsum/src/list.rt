@@ -25,9 +25,9 @@ impl List {
     }
 }
 
-// Returns the number of bytes before the first byte that ends a line, or of all bytes if there is
-// none.
-fn line_length(text: &[u8], end: u8) -> usize
+/// Returns the number of bytes before the first byte that ends a line, or of all bytes if there is
+/// none.
+pub fn line_length(text: &[u8], end: u8) -> usize
     ensures within { result ≤ length text.now }
     ensures before { All (λ byte. byte ≢ end) (take result text.now) }
     ensures found { result < length text.now → slice_index text.now result ≡ end }

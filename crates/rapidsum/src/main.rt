@@ -15,10 +15,10 @@ mod parse;
 mod parts;
 mod problem;
 mod quote;
+mod reading;
 mod runs;
 mod seed;
 mod sources;
-mod state;
 mod store;
 mod sum;
 mod tag;
@@ -39,7 +39,7 @@ fn run(rt: &HostRuntime) -> Result<bool, Problem> {
     let words = arguments_of(rt, rt.alloc())?;
     match parse(rt.alloc(), rows(), words.as_slice())? {
         Ok(call) => runs::run_files(rt, &call),
-        Err(stop) => usage::report(rt, &stop),
+        Err(stop) => usage::report(rt, stop),
     }
 }
 

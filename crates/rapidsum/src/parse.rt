@@ -1,15 +1,16 @@
-//! The parser of the arguments, by the conventions of GNU's programs.
+//! The call that the arguments make.
 
-ghost use Rattle.std.specs.Prelude.{◌≡◌, ◌≢◌, ◌<◌, ℕ, List, [], ◌∷◌, ◌++◌, is_some, map, not, slice_index_or, vec_items, IfOk, IfSome, IsOk, IsOkAnd, IsTrue};
-ghost use Rattle.rapidsum.specs.Call.{Given, HasNames, IsCall, excludes_check, is_consistent, none, requires_check, values_from, written};
-ghost use Rattle.rapidsum.specs.Options.{is_given, values_of};
-ghost use Rattle.rapidsum.specs.Parse.{any, files_from};
+ghost use Rattle.std.specs.Prelude.{◌≡◌, ◌++◌, ◌<◌, map, option_map, vec_items, IfOk, IfSome};
+ghost use Rattle.rapidsum.specs.Options.{values_of};
+ghost use Rattle.rapidsum.specs.Outcome.{IsMeant, Outcome, against_check, call_of, conflict, first_given, of_check, refusal, refusal_of, rival, shown, with_value};
 
+use crate::algorithm::version_named;
 use crate::options::{
-    BINARY, CHECK, FILES_FROM, IGNORE_MISSING, Options, QUIET, STATUS, STRICT, TAG, TEXT, Table,
-    WARN, ZERO,
+    ALGORITHM, BINARY, CHECK, FILES_FROM, HELP, IGNORE_MISSING, Options, QUIET, SEED, STATUS,
+    STRICT, TAG, TEXT, Table, VERSION, WARN, ZERO,
 };
-use crate::state::{Next, State, Stop, about};
+use crate::reading::{Part, Reason, Stop, next};
+use crate::seed::seed_of;
 use std::alloc::{AllocError, Allocator};
 
 /// A call: its options and its files.
@@ -20,11 +21,61 @@ pub struct Call<'a, A: Allocator> {
     pub files: Vec<&'a [u8], A>,
 }
 
-// Returns the first option that requires `--check`, in the order of sha256sum.
-#[tactic(auto, unfolding(crate::specs::Call::requires_check))]
+// Returns why an option may not have a value behind others.
+#[tactic(auto, unfolding(crate::specs::Options::is_given))]
+fn refusal<'a>(
+    rows: &'a Table,
+    options: &Options<'_>,
+    place: usize,
+    value: &'a [u8],
+) -> Option<Stop<'a>>
+    requires { place < 15 }
+    ensures { option_map refusal_of result
+        ≡ refusal rows.now (values_of options.now) place value.now }
+{
+    if place == HELP {
+        Some((Reason::Help, b""))
+    } else if place == VERSION {
+        Some((Reason::Version, b""))
+    } else if place == ALGORITHM && version_named(value).is_none() {
+        Some((Reason::UnknownVersion, value))
+    } else if place == SEED && seed_of(value).is_none() {
+        Some((Reason::InvalidSeed, value))
+    } else if options.has(place) {
+        Some((Reason::GivenTwice, rows[place].name.as_bytes()))
+    } else {
+        None
+    }
+}
+
+// Returns the option that loses its value to another one: `--binary` or `--text`, or itself.
+fn rival(place: usize) -> usize
+    requires { place < 15 }
+    ensures is { result ≡ rival place }
+    ensures within { result < 15 }
+{
+    match place {
+        BINARY => TEXT,
+        TEXT => BINARY,
+        _ => place,
+    }
+}
+
+// Returns the options with one more.
+fn with<'a>(options: Options<'a>, place: usize, value: &'a [u8]) -> Options<'a>
+    requires { place < 15 }
+    ensures { values_of result ≡ with_value (values_of options.entry) place value.now }
+{
+    let mut values = options.values;
+    values[rival(place)] = None;
+    values[place] = Some(value);
+    Options { values }
+}
+
+// Returns the first option that only a check has, in the order of sha256sum.
 fn of_check(options: &Options<'_>) -> Option<usize>
+    ensures first { result ≡ first_given (values_of options.now) of_check }
     ensures within { IfSome result (λ place. place < 15) }
-    ensures some { is_some result ≡ requires_check (values_of options.now) }
 {
     if options.has(IGNORE_MISSING) {
         Some(IGNORE_MISSING)
@@ -41,64 +92,105 @@ fn of_check(options: &Options<'_>) -> Option<usize>
     }
 }
 
-// Returns the message about the first option that excludes `--check`, in the order of sha256sum.
-#[tactic(auto, unfolding(crate::specs::Call::excludes_check))]
-fn of_sums(options: &Options<'_>) -> Option<&'static str>
-    ensures { is_some result ≡ excludes_check (values_of options.now) }
+// Returns the first thing that no check may have, in the order of sha256sum.
+fn against_check(options: &Options<'_>) -> Option<Reason>
+    ensures { result ≡ against_check (values_of options.now) }
 {
     if options.has(ZERO) {
-        Some("the --zero option is not supported when verifying checksums")
+        Some(Reason::CheckWithZero)
     } else if options.has(TAG) {
-        Some("the --tag option is meaningless when verifying checksums")
+        Some(Reason::CheckWithTag)
     } else if options.has(BINARY) || options.has(TEXT) {
-        Some("the --binary and --text options are meaningless when verifying checksums")
+        Some(Reason::CheckWithMode)
     } else {
         None
     }
 }
 
-// Returns why the options exclude each other. An option of a check is ignored without `--check`
-// beside an option that excludes `--check`.
-#[tactic(auto, unfolding(crate::specs::Call::is_consistent))]
-fn conflict<'a>(options: &Options<'_>) -> Option<Stop<'a>>
-    ensures { is_some result ≡ not (is_consistent (values_of options.now)) }
+// Returns why the options exclude each other.
+#[tactic(auto, unfolding(crate::specs::Outcome::conflict))]
+fn conflict<'a>(rows: &'a Table, options: &Options<'_>) -> Option<Stop<'a>>
+    ensures { option_map refusal_of result ≡ conflict rows.now (values_of options.now) }
 {
     if options.has(TAG) && options.has(TEXT) {
-        return Some(Stop::Mistake("--tag does not support --text mode", b"", ""));
+        return Some((Reason::TagWithText, b""));
     }
     if options.has(CHECK) {
-        let message = of_sums(options)?;
-        return Some(Stop::Mistake(message, b"", ""));
+        return Some((against_check(options)?, b""));
     }
-    if of_sums(options).is_some() {
-        return None;
-    }
-    let end = " option is meaningful only when verifying checksums";
-    Some(about("the --", of_check(options)?, end))
+    Some((
+        Reason::OnlyInCheck,
+        rows[of_check(options)?].name.as_bytes(),
+    ))
 }
 
-// Returns the call of the options and the files, unless some of them exclude each other.
-#[tactic(auto, unfolding(crate::specs::Options::is_given))]
+// Returns the call of the options and the files that stand alone.
 fn call_of<'a, A: Allocator>(
+    rows: &'a Table,
     options: Options<'a>,
     files: Vec<&'a [u8], A>,
 ) -> Result<Call<'a, A>, Stop<'a>>
-    ensures files { IfOk result (λ call. call.files.items ≡ files.entry.items) }
-    ensures values { IfOk result (λ call. values_of call.options ≡ values_of options.entry) }
-    ensures consistent { IfOk result (λ call. IsTrue (is_consistent (values_of call.options))) }
-    ensures made { IsTrue (is_consistent (values_of options.entry)) →
-        (IsTrue (is_given (values_of options.entry) FILES_FROM) → files.entry.items ≡ []) →
-        IsOk result }
+    ensures { shown result ≡ call_of rows.now (values_of options.entry)
+        (map (λ file. file.now) files.entry.items) }
 {
-    if let Some(stop) = conflict(&options) {
+    if let Some(stop) = conflict(rows, &options) {
         return Err(stop);
     }
-    match (options.value(FILES_FROM), files.first().copied()) {
-        (Some(_), Some(file)) => {
-            let end = "'\nfile operands cannot be combined with --files0-from";
-            Err(Stop::Mistake("extra operand '", file, end))
+    if options.has(FILES_FROM) {
+        if let [file, ..] = files.as_slice() {
+            return Err((Reason::ExtraFile, *file));
         }
-        _ => Ok(Call { options, files }),
+    }
+    Ok(Call { options, files })
+}
+
+// Adds arguments to the files.
+fn add<'a, A: Allocator, B: Allocator>(
+    files: &mut Vec<&'a [u8], A>,
+    words: &'a [Vec<u8, B>],
+) -> Result<(), AllocError>
+    ensures { IfOk result (λ _. map (λ file. file.now) files.new.items
+        ≡ map (λ file. file.now) files.old.items ++ map vec_items words.now) }
+{
+    for word in words {
+        files.push(word.as_slice())?;
+    }
+    Ok(())
+}
+
+// Reads the arguments, one option or file after another.
+fn read<'a, A: Allocator, B: Allocator>(
+    alloc: A,
+    rows: &'a Table,
+    words: &'a [Vec<u8, B>],
+) -> Result<Result<Call<'a, A>, Stop<'a>>, AllocError>
+    ensures { IfOk result (λ made. IsMeant rows.now (map vec_items words.now) (shown made)) }
+{
+    let mut files = Vec::new(alloc);
+    let mut options = Options { values: [None; 15] };
+    let mut letters: &[u8] = b"";
+    let mut left = words;
+    loop {
+        match next(rows, letters, left) {
+            Ok(Part::Option(place, value, behind, others)) => {
+                if let Some(stop) = refusal(rows, &options, place, value) {
+                    return Ok(Err(stop));
+                }
+                options = with(options, place, value);
+                letters = behind;
+                left = others;
+            }
+            Ok(Part::File(file, others)) => {
+                files.push(file)?;
+                letters = b"";
+                left = others;
+            }
+            Ok(Part::Files(others)) => {
+                add(&mut files, others)?;
+                return Ok(call_of(rows, options, files));
+            }
+            Err(stop) => return Ok(Err(stop)),
+        }
     }
 }
 
@@ -107,45 +199,14 @@ fn call_of<'a, A: Allocator>(
 /// # Errors
 ///
 /// If an allocation fails.
-#[tactic(auto, unfolding(crate::specs::Parse::files_from))]
 pub fn parse<'a, A: Allocator, B: Allocator>(
     alloc: A,
-    rows: &Table,
+    rows: &'a Table,
     words: &'a [Vec<u8, B>],
 ) -> Result<Result<Call<'a, A>, Stop<'a>>, AllocError>
-    ensures files { IfOk result (λ made. IfOk made (λ call. map (λ file. file.now) call.files.items
-        ≡ files_from rows.now any (map vec_items words.now))) }
-    ensures reads_back { (options : List Given) (files : List (List ℕ)) → HasNames rows.now →
-        IsCall rows.now options files → map vec_items words.now ≡ written rows.now options files →
-        IfOk result (λ made. IsOkAnd made (λ call.
-        (values_of call.options ≡ values_from none options)
-        × (map (λ file. file.now) call.files.items ≡ files))) }
-    ensures any_order { (before after : List Given) (option : Given) (files : List (List ℕ)) →
-        HasNames rows.now → IsCall rows.now (before ++ option ∷ after) files →
-        map vec_items words.now ≡ written rows.now (before ++ option ∷ after) files →
-        option.place ≢ BINARY → option.place ≢ TEXT → IfOk result (λ made. IsOkAnd made (λ call.
-        slice_index_or (values_of call.options) option.place None ≡ Some option.value)) }
-    ensures consistent { IfOk result (λ made. IfOk made (λ call.
-        IsTrue (is_consistent (values_of call.options)))) }
+    ensures meant { IfOk result (λ made. IsMeant rows.now (map vec_items words.now) (shown made)) }
+    ensures only { (other : Outcome) → IsMeant rows.now (map vec_items words.now) other →
+        IfOk result (λ made. shown made ≡ other) }
 {
-    let mut files = Vec::new(alloc);
-    let mut state = State {
-        options: Options { values: [None; 15] },
-        next: Next::Any,
-    };
-    for word in words {
-        let word = word.as_slice();
-        if state.is_file(word) {
-            files.push(word)?;
-        } else {
-            match state.after(rows, word) {
-                Ok(next) => state = next,
-                Err(stop) => return Ok(Err(stop)),
-            }
-        }
-    }
-    Ok(match state.next {
-        Next::Value(_, missing) => Err(missing),
-        Next::Any | Next::File => call_of(state.options, files),
-    })
+    read(alloc, rows, words)
 }

@@ -23,7 +23,10 @@ pub fn run_files(rt: &HostRuntime, call: &Call<'_, Global>) -> Result<bool, Prob
     let mut console = Console::new(rt, call.options);
     let passed = run_call(&mut console, &Disk::new(rt), call);
     console.flush()?;
-    passed
+    match console.untold.take() {
+        Some(problem) => passed.and(Err(problem)),
+        None => passed,
+    }
 }
 
 // Does the same, but may leave lines that are not written yet.
@@ -108,8 +111,8 @@ fn text_of(
     }
 }
 
-// Reads a list. Of a file whose first bytes have no well-formed line, and are no lines of a text,
-// it reads no others.
+// Reads a list. Of a file that ends in its first bytes, or whose first bytes have no well-formed
+// line and are no lines of a text, it reads no others.
 fn read_from(alloc: Global, disk: &Disk<'_>, name: &[u8]) -> Result<List, Problem> {
     let mut reader = disk.open(name).map_err(Problem::Read)?;
     let mut text = Vec::new(alloc);
@@ -117,7 +120,8 @@ fn read_from(alloc: Global, disk: &Disk<'_>, name: &[u8]) -> Result<List, Proble
     head.read_to_end(&mut text).map_err(Problem::Read)?;
     let list = read_list(alloc, text.as_slice())?;
     let has_lines = text.contains(&b'\n') && !text.contains(&0);
-    if list.entries.is_empty() && !has_lines {
+    let is_whole = (text.len() as u64) < HEAD;
+    if is_whole || list.entries.is_empty() && !has_lines {
         return Ok(list);
     }
     reader.read_to_end(&mut text).map_err(Problem::Read)?;

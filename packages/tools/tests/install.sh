@@ -230,13 +230,13 @@ wants_a_build_first() {
 products=(crates/rapidhash_cli/out/rapidhash_cli crates/rapidsum/out/rapidsum
   crates/rapidhash_c/out/librapidhash_c.a build/librapidhash_c.so.1)
 
-# Checks that make without the kit prints one line, builds the same files by cc and cargo, and installs them, also for a
-# user without cargo and from a header of the future, and that make check stops before it installs anything.
+# Checks that make without the kit prints one line, builds the same files by cc and cargo, and installs them, by several
+# jobs at once, for a user without cargo, and from a header of the future. Make check stops before it installs anything.
 serves_without_the_kit() {
   local place=$room/without sources=$room/sources
   copy_sources "$sources" && export PATH=$path &&
     ! make -s -C "$sources" check >"$room/check" 2>&1 && grep -q 'make check-source' "$room/check" &&
-    [ "$(make -s -j3 -C "$sources" 2>&1)" = \
+    [ "$(make -s -j3 -C "$sources" all install PREFIX="$place" 2>&1)" = \
       'make: rt is not on PATH: building with cc and cargo, which is not the proved build' ] &&
     [ -z "$(make -s -C "$sources" 2>&1)" ] && touch -d 'next year' "$sources/packages/c/include/rapidhash_c.h" &&
     make -s -C "$sources" install PREFIX="$place" cargo= &&
@@ -259,9 +259,12 @@ has_the_modes() {
       <(printf '%s\n' librapidhash_c.so.1; ! has "$builder" || printf '%s\n' rapidhash rapidsum)
 }
 
-# Checks that the installed files pass in a stage with a quote in its name, by the compiler that CC names.
+# Checks that the installed files pass in a stage with a quote and a comma in its name, by the compiler that CC names.
+# Variables may name a directory with other ones.
 checks_a_stage() {
-  ln -s "$room" "$room/a'b" && make -s -C "$top" installcheck DESTDIR="$room/a'b" PREFIX=/usr &&
+  mkdir "$room/others" && echo '#error' | tee "$room"/others/{rapidhash_c.h,librapidhash_c.so.1} && ln -s "$room" \
+    "$room/a',b" && LD_LIBRARY_PATH=$room/others make -s -C "$top" installcheck DESTDIR="$room/a',b" PREFIX=/usr \
+    CPPFLAGS="-I$room/others" &&
     ! make -s -C "$top" installcheck DESTDIR="$room" PREFIX=/usr CC=false &&
     ! grep -nE '(^|[^"(a-z])cc -' "$top"/Makefile "$top"/packages/*/make.mk
 }

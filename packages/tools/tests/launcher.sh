@@ -157,7 +157,8 @@ PRODUCTS
 }
 try files_of_packages each_file_counts
 new_repository ''
-mkdir few && ln -s "$(command -v make)" "$(command -v sh)" /usr/bin/{dirname,readlink,find,mkdir,touch,cat,chmod} few
+mkdir few && ln -s "$(command -v make)" "$(command -v sh)" \
+  /usr/bin/{dirname,readlink,find,mkdir,touch,cat,chmod,rm,mv} few
 PATH=$place/few repo/bin/rapidhash >out 2>"$room/log"
 [ $? -eq 2 ] && [ ! -s out ] && [ ! -e starts ] &&
   grep -qx 'make: neither rt, of the Rattle kit, nor cargo is on PATH' "$room/log"
@@ -182,8 +183,11 @@ echo two >repo/packages/rust/src/lib.rs
 calls edited_source_by_cargo 0 'cargo two' 2 "$of_cargo"
 echo >repo/packages/rust/tools/src/lib.rs
 calls edited_tool_by_cargo 0 'cargo two' 3 "$of_cargo"
+# Cargo has another directory for a target that its configuration or CARGO_BUILD_TARGET names.
+sed -i 's|_DIR/release|_DIR/some-target/release|g' few/cargo && echo three >repo/packages/rust/src/lib.rs
+calls named_target_by_cargo 0 'cargo three' 4 "$of_cargo"
 programs=$place/kit:$PATH
-calls the_kit_instead_of_cargo 7 $'first\ninput' 4 "$told"
+calls the_kit_instead_of_cargo 7 $'first\ninput' 5 "$told"
 
 # Checks what make quick and make test run, by programs that say their directory, name and arguments.
 runs_its_rules() {

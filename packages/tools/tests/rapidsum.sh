@@ -84,6 +84,7 @@ case_check_by_status_where_all_are_missing() {
 case_check_of_a_folder() { list && rm first && mkdir first && "$sum" -c list; }
 case_check_of_a_folder_without_missing_files() { list && rm first && mkdir first && "$sum" -c --ignore-missing list; }
 case_check_where_a_read_fails_later() { list && failing read:error=EIO:when=2 first "$sum" -c --ignore-missing list; }
+case_check_that_stops_at_the_end() { list && failing read:error=EIO:when=3 list "$sum" -c list; }
 case_check_of_no_list() { "$sum" -c nothing; }
 case_check_of_an_empty_list() { "$sum" -c /dev/null; }
 case_check_of_malformed_lines() { list && printf 'garbage\n0123\n' >>list && "$sum" -c list; }
@@ -91,9 +92,14 @@ case_check_that_names_malformed_lines() { list && printf 'garbage\n' >>list && "
 case_check_strictly() { list && printf 'garbage\n' >>list && "$sum" -c --strict list; }
 case_check_of_malformed_lines_alone() { printf 'garbage\n' >list && "$sum" -c list; }
 case_check_with_comments() { list && printf '# comment\n\n' >>list && "$sum" -c --strict list; }
+case_check_of_empty_lines_with_carriage_returns() {
+  list && printf '\n' >>list && sed 's/$/\r/' list >crlf && "$sum" -c --strict crlf
+}
 case_check_without_a_last_newline() { list && printf %s "$(cat list)" >short && "$sum" -c short; }
 case_check_of_a_name_of_300_bytes() { list && sed "1s/first/$(printf %0300d 1)/" list >long && "$sum" -c long; }
 case_check_to_a_full_disk() { list && "$sum" -c list >/dev/full; }
+case_check_with_messages_to_a_full_disk() { list && rm first && "$sum" -c list 2>/dev/full; }
+case_sums_without_messages() { "$sum" nothing first 2>/dev/full; }
 case_names_in_quotes() { "$sum" '' ' a' 'b ' $'\t' $'\e[31m' $'\1x\1\2' $'a\nb' $'\a\b\v\f\r\177'; }
 case_list_in_quotes() { "$sum" -c $'\e[31m' && "$sum" -c ''; }
 
@@ -109,7 +115,7 @@ done
 with_words() { "$sum" $words first; }
 for words in --bogus --bogus=5 --- -x -bx -b- --tag=5 --version=3 '--tag --text' '--tag -ct' '-z --tag -c' \
   '--zero -c' '--binary -c' '-t --check' '-tbc' --quiet --status --ignore-missing --strict --warn '--strict --quiet' \
-  '-c --help=1' $'--bog\xff' '--bogus --help'; do
+  '--status -b' '--tag --quiet' '-z --strict' '-c --help=1' $'--bog\xff' '--bogus --help'; do
   try "mistake ${words//[^ -~]/_}" beside with_words
 done
 

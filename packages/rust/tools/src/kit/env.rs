@@ -1,7 +1,7 @@
 //! The arguments, as bytes or as text.
 
-use super::alloc::{AllocError, Global, Vec};
 use super::HostRuntime;
+use super::alloc::{AllocError, Global, Vec};
 use std::ffi::OsString;
 use std::io;
 

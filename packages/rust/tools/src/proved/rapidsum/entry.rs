@@ -95,7 +95,7 @@ pub fn read_line<A: Allocator + Copy>(alloc: A, line: &[u8]) -> Result<Line<A>, 
     if let Some(entry) = entry_of(alloc, line)? {
         return Ok(Line::Entry(entry));
     }
-    if matches!(line, [] | [b'#', ..]) {
+    if matches!(line, [] | [b'\r'] | [b'#', ..]) {
         return Ok(Line::Comment);
     }
     Ok(match entry_of(alloc, without_indent(line))? {

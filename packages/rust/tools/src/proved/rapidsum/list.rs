@@ -22,9 +22,9 @@ impl List {
     }
 }
 
-// Returns the number of bytes before the first byte that ends a line, or of all bytes if there is
-// none.
-fn line_length(text: &[u8], end: u8) -> usize {
+/// Returns the number of bytes before the first byte that ends a line, or of all bytes if there is
+/// none.
+pub fn line_length(text: &[u8], end: u8) -> usize {
     text.iter()
         .position(|byte| *byte == end)
         .unwrap_or(text.len())

@@ -53,98 +53,30 @@ pub struct Row {
 /// All options, in the order of the help.
 pub type Table = [Row; 15];
 
-const ROWS: Table = [
-    Row {
-        letter: Some(b'a'),
-        name: "algorithm",
-        value: "VERSION",
-        help: "Hash with this version [default: v3]",
-    },
-    Row {
-        letter: None,
-        name: "seed",
-        value: "NUMBER",
-        help: "Hash with the seed made from this number",
-    },
-    Row {
-        letter: None,
-        name: "files0-from",
-        value: "F",
-        help: "Read the names of the FILEs from F, each ended by NUL",
-    },
-    Row {
-        letter: Some(b'c'),
-        name: "check",
-        value: "",
-        help: "Read checksums from the FILEs and check them",
-    },
-    Row {
-        letter: None,
-        name: "quiet",
-        value: "",
-        help: "Don't print OK for each file that matches",
-    },
-    Row {
-        letter: None,
-        name: "status",
-        value: "",
-        help: "Don't print anything but errors",
-    },
-    Row {
-        letter: None,
-        name: "ignore-missing",
-        value: "",
-        help: "Don't fail or report a status for missing files",
-    },
-    Row {
-        letter: None,
-        name: "strict",
-        value: "",
-        help: "Fail if a line is improperly formatted",
-    },
-    Row {
-        letter: Some(b'w'),
-        name: "warn",
-        value: "",
-        help: "Warn about each improperly formatted line",
-    },
-    Row {
-        letter: Some(b'b'),
-        name: "binary",
-        value: "",
-        help: "Print an asterisk before each name",
-    },
-    Row {
-        letter: Some(b't'),
-        name: "text",
-        value: "",
-        help: "Print a space before each name (default)",
-    },
-    Row {
-        letter: None,
-        name: "tag",
-        value: "",
-        help: "Print the version in each line, as in BSD checksums",
-    },
-    Row {
-        letter: Some(b'z'),
-        name: "zero",
-        value: "",
-        help: "End each line with NUL, and don't escape names",
-    },
-    Row {
-        letter: Some(b'h'),
-        name: "help",
-        value: "",
-        help: "Print help",
-    },
-    Row {
-        letter: Some(b'V'),
-        name: "version",
-        value: "",
-        help: "Print version",
-    },
-];
+// Makes a table of rows.
+macro_rules! table {
+    ($($letter:expr, $name:literal, $value:literal, $help:literal;)*) => {
+        [$(Row { letter: $letter, name: $name, value: $value, help: $help }),*]
+    };
+}
+
+const ROWS: Table = table! {
+    Some(b'a'), "algorithm", "VERSION", "Hash with this version [default: v3]";
+    None, "seed", "NUMBER", "Hash with the seed made from this number";
+    None, "files0-from", "F", "Read the names of the FILEs from F, each ended by NUL";
+    Some(b'c'), "check", "", "Read checksums from the FILEs and check them";
+    None, "quiet", "", "Don't print OK for each file that matches";
+    None, "status", "", "Don't print anything but errors";
+    None, "ignore-missing", "", "Don't fail or report a status for missing files";
+    None, "strict", "", "Fail if a line is improperly formatted";
+    Some(b'w'), "warn", "", "Warn about each improperly formatted line";
+    Some(b'b'), "binary", "", "Print an asterisk before each name";
+    Some(b't'), "text", "", "Print a space before each name (default)";
+    None, "tag", "", "Print the version in each line, as in BSD checksums";
+    Some(b'z'), "zero", "", "End each line with NUL, and don't escape names";
+    Some(b'h'), "help", "", "Print help";
+    Some(b'V'), "version", "", "Print version";
+};
 
 /// Returns the table. A contract cannot name the constant, so other functions receive the table.
 pub fn rows() -> &'static Table {

@@ -7,7 +7,7 @@ use rapidhash_tool::kit::Vec;
 use crate::console::with_name;
 use crate::options::{Row, rows};
 use crate::problem::Problem;
-use crate::state::Stop;
+use crate::reading::{Reason, Stop};
 use rapidhash_tool::form::Version;
 use rapidhash_tool::kit::alloc::Global;
 use std::io::Write;
@@ -21,6 +21,10 @@ Arguments:
 
 Options:
 ";
+
+const WHEN_CHECKING: &str = " when verifying checksums";
+
+const BESIDE_A_LIST: &str = "'\nfile operands cannot be combined with --files0-from";
 
 // Adds the names of the versions.
 fn push_versions(text: &mut Vec<u8>) -> Result<(), Problem> {
@@ -68,26 +72,58 @@ fn print(rt: &HostRuntime, text: &[u8]) -> Result<bool, Problem> {
     Ok(true)
 }
 
-// Returns the message for a mistake: a text at fault, and what is before and after it.
-fn message_of(alloc: Global, start: &str, text: &[u8], end: &str) -> Result<Vec<u8>, Problem> {
-    let start = rapidhash_tool::kit::format(alloc, format_args!("rapidsum: {start}"))?;
-    with_name(alloc, start.as_str(), text, end)
+// Returns the first character of a text, or all of it if it is not UTF-8.
+fn first_character(text: &[u8]) -> &[u8] {
+    let is_within = |byte: &&u8| matches!(**byte, 0x80..=0xbf);
+    let count = text.iter().skip(1).take_while(is_within).count();
+    text.get(..count.saturating_add(1)).unwrap_or(text)
+}
+
+// Returns what is before and after the text at fault.
+fn around(reason: Reason) -> (&'static str, &'static str) {
+    match reason {
+        Reason::Help | Reason::Version => ("", ""),
+        Reason::UnknownVersion => (
+            "invalid argument '",
+            "' for '--algorithm'\nValid arguments are: ",
+        ),
+        Reason::InvalidSeed => ("invalid seed: '", "'"),
+        Reason::GivenTwice => ("the --", " option may be given only once"),
+        Reason::UnknownName => ("unrecognized option '", "'"),
+        Reason::UnwantedValue => ("option '--", "' doesn't allow an argument"),
+        Reason::MissingValue => ("option '--", "' requires an argument"),
+        Reason::UnknownLetter => ("invalid option -- '", "'"),
+        Reason::MissingValueOfLetter => ("option requires an argument -- '", "'"),
+        Reason::TagWithText => ("--tag does not support --text mode", ""),
+        Reason::CheckWithZero => ("the --zero option is not supported", WHEN_CHECKING),
+        Reason::CheckWithTag => ("the --tag option is meaningless", WHEN_CHECKING),
+        Reason::CheckWithMode => (
+            "the --binary and --text options are meaningless",
+            WHEN_CHECKING,
+        ),
+        Reason::OnlyInCheck => (
+            "the --",
+            " option is meaningful only when verifying checksums",
+        ),
+        Reason::ExtraFile => ("extra operand '", BESIDE_A_LIST),
+    }
 }
 
 /// Prints the help, the version, or the message for a mistake. Returns whether it is no mistake.
-pub fn report(rt: &HostRuntime, stop: &Stop<'_>) -> Result<bool, Problem> {
+pub fn report(rt: &HostRuntime, (reason, fault): Stop<'_>) -> Result<bool, Problem> {
     let alloc = rt.alloc();
-    let mut message = match *stop {
-        Stop::Help => return print(rt, help(alloc)?.as_slice()),
-        Stop::Version => return print(rt, b"rapidsum 1.0\n"),
-        Stop::UnknownVersion(name) => {
-            let end = "' for '--algorithm'\nValid arguments are: ";
-            let mut message = message_of(alloc, "invalid argument '", name, end)?;
-            push_versions(&mut message)?;
-            message
-        }
-        Stop::Mistake(start, text, end) => message_of(alloc, start, text, end)?,
+    let text = match reason {
+        Reason::Help => return print(rt, help(alloc)?.as_slice()),
+        Reason::Version => return print(rt, b"rapidsum 1.0\n"),
+        Reason::UnknownLetter => first_character(fault),
+        _ => fault,
     };
+    let (before, after) = around(reason);
+    let before = rapidhash_tool::kit::format(alloc, format_args!("rapidsum: {before}"))?;
+    let mut message = with_name(alloc, before.as_str(), text, after)?;
+    if matches!(reason, Reason::UnknownVersion) {
+        push_versions(&mut message)?;
+    }
     message.extend_from_slice(b"\nTry 'rapidsum --help' for more information.\n")?;
     rt.stderr()
         .write_all(message.as_slice())
