@@ -4,18 +4,12 @@
 use std::env;
 use std::process::Command;
 
-const MISSING: [(&str, u32); 3] = [
-    ("rapidhash_old_const", 83),
-    ("rapidhash_no_diagnostic", 78),
-    ("rapidhash_no_once_lock", 70),
-];
+const MISSING: [(&str, u32); 3] =
+    [("rapidhash_old_const", 83), ("rapidhash_no_diagnostic", 78), ("rapidhash_no_once_lock", 70)];
 
 /// Returns the minor version of the compiler that cargo runs.
 fn minor() -> Option<u32> {
-    let output = Command::new(env::var_os("RUSTC")?)
-        .arg("--version")
-        .output()
-        .ok()?;
+    let output = Command::new(env::var_os("RUSTC")?).arg("--version").output().ok()?;
     let version = String::from_utf8(output.stdout).ok()?;
     version.split('.').nth(1)?.parse().ok()
 }

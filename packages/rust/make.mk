@@ -1,9 +1,12 @@
-# The programs by cargo, from their proved text without its contracts.
+# The programs by cargo, from their proved text without its contracts. If cargo's configuration names a target, they are
+# in another directory.
 build/cargo/release/rapid%: $(wildcard packages/rust/*.toml packages/rust/build.rs packages/rust/tools/Cargo.toml) \
     $(shell find packages/rust/src packages/rust/tools/src -name '*.rs' 2>/dev/null)
 	@command -v cargo >/dev/null || { echo 'make: neither rt, of the Rattle kit, nor cargo is on PATH' >&2; exit 2; }
 	@$(unproved)
+	@rm -f $@ build/cargo/*/release/rapid$*
 	@cd packages/rust/tools && CARGO_TARGET_DIR=../../../build/cargo CARGO_PROFILE_RELEASE_LTO=fat \
 	  CARGO_PROFILE_RELEASE_CODEGEN_UNITS=1 CARGO_PROFILE_RELEASE_PANIC=abort CARGO_PROFILE_RELEASE_STRIP=symbols \
 	  cargo build --release --offline --quiet --bin rapid$*
+	@[ -e $@ ] || { mkdir -p $(@D) && mv build/cargo/*/release/rapid$* $@; }
 	@touch $@

@@ -16,10 +16,7 @@ pub(crate) struct Owned<'a> {
 impl Owned<'_> {
     #[inline(always)]
     pub(crate) const fn new(secrets: &RapidSecrets) -> Self {
-        Owned {
-            secrets: *secrets,
-            lifetime: PhantomData,
-        }
+        Owned { secrets: *secrets, lifetime: PhantomData }
     }
 }
 
@@ -60,10 +57,7 @@ impl<'s> Secrets<'s> {
 impl From<[u64; 7]> for Secrets<'static> {
     #[inline(always)]
     fn from(words: [u64; 7]) -> Self {
-        Secrets {
-            words,
-            lifetime: PhantomData,
-        }
+        Secrets { words, lifetime: PhantomData }
     }
 }
 
@@ -87,10 +81,7 @@ pub(crate) type Kept<'s> = Seeded<'s>;
 impl<'s> Seeded<'s> {
     #[inline(always)]
     pub(crate) const fn new(seed: u64, words: &'s [u64; 7]) -> Self {
-        Seeded {
-            seed,
-            secrets: Secrets::new(words),
-        }
+        Seeded { seed, secrets: Secrets::new(words) }
     }
 
     /// Returns the seed and the secrets.

@@ -16,8 +16,7 @@
 pub use crate::proved::key::Field;
 #[doc(hidden)]
 pub use crate::proved::key::{
-    rapidhash_v3_key, rapidhash_v3_key_seeded, write_bytes, write_field, write_integer,
-    write_nothing,
+    rapidhash_v3_key, rapidhash_v3_key_seeded, write_bytes, write_field, write_integer, write_nothing,
 };
 use crate::v3::{RapidSecrets, RapidStreamHasherLanes, RapidStreamHasherV3};
 #[cfg(feature = "std")]

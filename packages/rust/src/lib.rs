@@ -72,23 +72,12 @@
 //! Without the default feature `std`, the crate needs only `core`, and has no readers and no maps.
 #![cfg_attr(not(feature = "std"), no_std)]
 #![cfg_attr(docsrs, feature(doc_cfg))]
-#![cfg_attr(
-    docsrs,
-    doc(auto_cfg(hide(rapidhash_old_const, rapidhash_no_diagnostic, rapidhash_no_once_lock)))
-)]
+#![cfg_attr(docsrs, doc(auto_cfg(hide(rapidhash_old_const, rapidhash_no_diagnostic, rapidhash_no_once_lock))))]
 #![forbid(unsafe_code)]
 #![deny(missing_docs)]
 // Proofs use array indices, and casts that they show to lose nothing. The generator's `next` is not an iterator's.
-#![allow(
-    clippy::needless_range_loop,
-    clippy::should_implement_trait,
-    clippy::cast_lossless
-)]
-#![allow(
-    clippy::cast_possible_truncation,
-    clippy::cast_sign_loss,
-    clippy::checked_conversions
-)]
+#![allow(clippy::needless_range_loop, clippy::should_implement_trait, clippy::cast_lossless)]
+#![allow(clippy::cast_possible_truncation, clippy::cast_sign_loss, clippy::checked_conversions)]
 // Lifetimes have names, and values of 8 bytes are borrowed, as contracts refer to them.
 #![allow(clippy::needless_lifetimes, clippy::trivially_copy_pass_by_ref)]
 // Measured: hashes are inlined into their callers, and a large buffer of a reader is on the stack.

@@ -16,14 +16,8 @@ use std::fmt::{Display, Formatter};
 pub(crate) use system::{Kept, global, next, of_process};
 
 #[cfg_attr(feature = "std", path = "random/with_std.rs")]
-#[cfg_attr(
-    all(not(feature = "std"), target_has_atomic = "32"),
-    path = "random/without_std.rs"
-)]
-#[cfg_attr(
-    all(not(feature = "std"), not(target_has_atomic = "32")),
-    path = "random/without_atomics.rs"
-)]
+#[cfg_attr(all(not(feature = "std"), target_has_atomic = "32"), path = "random/without_std.rs")]
+#[cfg_attr(all(not(feature = "std"), not(target_has_atomic = "32")), path = "random/without_atomics.rs")]
 mod system;
 
 /// Adds two random words to those of the system, and makes the secrets and seeds of this process from all of them. It
@@ -43,11 +37,7 @@ mod system;
 /// [`WordsInUse`] if the words were set before, or if a state was made: its secrets would change.
 #[cfg(any(feature = "std", target_has_atomic = "32"))]
 pub fn set_random_words(words: [u64; 2]) -> Result<(), WordsInUse> {
-    if system::set(words) {
-        Ok(())
-    } else {
-        Err(WordsInUse(()))
-    }
+    if system::set(words) { Ok(()) } else { Err(WordsInUse(())) }
 }
 
 /// The error of [`set_random_words`]: this process already has its secrets.
@@ -76,10 +66,7 @@ impl RapidSecrets {
     #[must_use]
     pub fn random() -> Self {
         let state = next().seeded();
-        RapidSecrets {
-            seed: state.seed,
-            secrets: *state.secrets,
-        }
+        RapidSecrets { seed: state.seed, secrets: *state.secrets }
     }
 }
 

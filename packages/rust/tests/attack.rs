@@ -45,34 +45,13 @@ fn states_of_a_program_resist() {
     for (name, distinct) in [
         ("fast::RandomState", distinct(&fast::RandomState::default())),
         ("fast::GlobalState", distinct(&fast::GlobalState::default())),
-        (
-            "fast::SeedableState",
-            distinct(&fast::SeedableState::random()),
-        ),
-        (
-            "fast, a seed of the caller",
-            distinct(&fast::SeedableState::new(1)),
-        ),
-        (
-            "quality::RandomState",
-            distinct(&quality::RandomState::default()),
-        ),
-        (
-            "quality::GlobalState",
-            distinct(&quality::GlobalState::default()),
-        ),
-        (
-            "quality::SeedableState",
-            distinct(&quality::SeedableState::random()),
-        ),
-        (
-            "RapidSecrets::random",
-            distinct(&fast::SeedableState::custom(made.seed, &made.secrets)),
-        ),
+        ("fast::SeedableState", distinct(&fast::SeedableState::random())),
+        ("fast, a seed of the caller", distinct(&fast::SeedableState::new(1))),
+        ("quality::RandomState", distinct(&quality::RandomState::default())),
+        ("quality::GlobalState", distinct(&quality::GlobalState::default())),
+        ("quality::SeedableState", distinct(&quality::SeedableState::random())),
+        ("RapidSecrets::random", distinct(&fast::SeedableState::custom(made.seed, &made.secrets))),
     ] {
-        assert_eq!(
-            distinct, COUNT,
-            "distinct hashes of {COUNT} keys with {name}"
-        );
+        assert_eq!(distinct, COUNT, "distinct hashes of {COUNT} keys with {name}");
     }
 }

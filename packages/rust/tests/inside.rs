@@ -27,21 +27,11 @@ fn errors_are_those_of_the_reader() {
         |reader| v2::rapidhash_v2_2_file(reader, 10),
         |reader| v3::rapidhash_v3_file(reader),
     ];
-    for kind in [
-        BrokenPipe,
-        Interrupted,
-        Other,
-        TimedOut,
-        UnexpectedEof,
-        WouldBlock,
-    ] {
+    for kind in [BrokenPipe, Interrupted, Other, TimedOut, UnexpectedEof, WouldBlock] {
         for call in calls {
             let mut reader = Broken { kind, reads: 0 };
             let error = call(&mut reader).unwrap_err();
-            assert_eq!(
-                (error.kind(), error.to_string()),
-                (kind, "the disk is gone".to_owned())
-            );
+            assert_eq!((error.kind(), error.to_string()), (kind, "the disk is gone".to_owned()));
             assert_eq!(reader.reads, 1);
         }
     }

@@ -64,19 +64,14 @@ fn streams_own_their_secrets_in_threads() {
         hash: RapidStreamHasherV3<'static>,
     }
     let number = 0x1234_5678;
-    let mut upload = Upload {
-        hash: RapidStreamHasherV3::new(&RapidSecrets::seed(number)),
-    };
+    let mut upload = Upload { hash: RapidStreamHasherV3::new(&RapidSecrets::seed(number)) };
     upload.hash.write(b"hel");
     let hash = thread::spawn(move || {
         upload.hash.write(b"lo");
         upload.hash.finish()
     });
     let secrets = RapidSecrets::seed(number);
-    assert_eq!(
-        hash.join().unwrap(),
-        rapidhash_v3_seeded(b"hello", &secrets)
-    );
+    assert_eq!(hash.join().unwrap(), rapidhash_v3_seeded(b"hello", &secrets));
     SHARED.lock().unwrap().write(b"hello");
     assert_eq!(SHARED.lock().unwrap().finish(), rapidhash_v3(b"hello"));
     let mut micro = RapidStreamHasherInlineMicro::<true, true>::default();
@@ -93,29 +88,14 @@ fn debug_shows_no_secret_and_no_message() {
     let global = inner::GlobalSecrets::new(1);
     for (shown, name) in [
         (format!("{stream:?}"), "RapidStreamHasherV3"),
-        (
-            format!(
-                "{:?}",
-                RapidStreamHasherInlineMicro::<true, false>::new(&secrets)
-            ),
-            "RapidStreamHasherInlineMicro",
-        ),
-        (
-            format!("{:?}", RapidStream::new(7, &secrets)),
-            "RapidStream",
-        ),
+        (format!("{:?}", RapidStreamHasherInlineMicro::<true, false>::new(&secrets)), "RapidStreamHasherInlineMicro"),
+        (format!("{:?}", RapidStream::new(7, &secrets)), "RapidStream"),
         (format!("{secrets:?}"), "RapidSecrets"),
         (format!("{:?}", v1::RapidSecrets::seed(1)), "RapidSecrets"),
         (format!("{global:?}"), "GlobalSecrets"),
-        (
-            format!("{:?}", inner::SeedSource::new(&global, 2)),
-            "SeedSource",
-        ),
+        (format!("{:?}", inner::SeedSource::new(&global, 2)), "SeedSource"),
         (format!("{:?}", fast::RapidHasher::new(3)), "RapidHasher"),
-        (
-            format!("{:?}", quality::SeedableState::new(4)),
-            "SeedableState",
-        ),
+        (format!("{:?}", quality::SeedableState::new(4)), "SeedableState"),
     ] {
         assert_eq!(shown, format!("{name} {{ .. }}"));
     }
@@ -126,14 +106,8 @@ fn debug_shows_no_secret_and_no_message() {
 fn readers_without_a_type() -> std::io::Result<()> {
     let mut bytes = b"hellohellohello".as_slice();
     let reader: &mut dyn Read = &mut bytes;
-    assert_eq!(
-        v1::rapidhash_v1_file(reader, 5)?,
-        v1::rapidhash_v1(b"hello")
-    );
-    assert_eq!(
-        v2::rapidhash_v2_2_file(reader, 5)?,
-        v2::rapidhash_v2_2(b"hello")
-    );
+    assert_eq!(v1::rapidhash_v1_file(reader, 5)?, v1::rapidhash_v1(b"hello"));
+    assert_eq!(v2::rapidhash_v2_2_file(reader, 5)?, v2::rapidhash_v2_2(b"hello"));
     assert_eq!(v3::rapidhash_v3_file(reader)?, rapidhash_v3(b"hello"));
     Ok(())
 }
@@ -144,11 +118,7 @@ fn a_map_in_a_static() {
     static SIZES: Mutex<Option<RapidHashMap<&str, u64>>> = Mutex::new(None);
     const STATE: fast::SeedableState<'static> = fast::SeedableState::fixed();
     const GENERATOR: RapidRng = RapidRng::new(42);
-    SIZES
-        .lock()
-        .unwrap()
-        .get_or_insert_with(RapidHashMap::new)
-        .insert("a", 1);
+    SIZES.lock().unwrap().get_or_insert_with(RapidHashMap::new).insert("a", 1);
     assert_eq!(SIZES.lock().unwrap().as_ref().unwrap()["a"], 1);
     assert!(STATE == fast::SeedableState::fixed());
     assert_eq!(GENERATOR, RapidRng::new(42));
@@ -157,9 +127,7 @@ fn a_map_in_a_static() {
 /// A single write is larger than every buffer inside, and its parts differ.
 #[test]
 fn a_large_write() {
-    let message: Vec<u8> = (0..2_000_003u32)
-        .map(|at| (at.wrapping_mul(at) >> 5) as u8)
-        .collect();
+    let message: Vec<u8> = (0..2_000_003u32).map(|at| (at.wrapping_mul(at) >> 5) as u8).collect();
     let mut stream = RapidStreamHasherV3::new(&DEFAULT_RAPID_SECRETS);
     assert_eq!(Write::write(&mut stream, &message).unwrap(), message.len());
     assert_eq!(stream.finish(), rapidhash_v3(&message));
@@ -178,9 +146,7 @@ fn maps_and_sets() {
     map.extend((0..100).map(|number| (number, number * number)));
     assert!((0..100).all(|number| map[&number] == number * number));
     let mut set: RapidHashSet<String> = HashSetExt::with_capacity(10);
-    assert!(
-        set.capacity() >= 10 && set.insert("value".to_owned()) && !set.insert("value".to_owned())
-    );
+    assert!(set.capacity() >= 10 && set.insert("value".to_owned()) && !set.insert("value".to_owned()));
     // Both have the room of std's, and no more.
     for capacity in [0, 1, 3, 4, 100, 1000, 100_000] {
         let room = std::collections::HashMap::<u64, u64>::with_capacity(capacity).capacity();

@@ -3,8 +3,8 @@
 
 use rapidhash::key::{self, Field, Key, KeyField};
 use rapidhash::v3::{
-    DEFAULT_RAPID_SECRETS, RapidStreamHasherInlineMicro, RapidStreamHasherInlineNano,
-    RapidStreamHasherV3, rapidhash_v3, rapidhash_v3_micro_inline, rapidhash_v3_nano_inline,
+    DEFAULT_RAPID_SECRETS, RapidStreamHasherInlineMicro, RapidStreamHasherInlineNano, RapidStreamHasherV3,
+    rapidhash_v3, rapidhash_v3_micro_inline, rapidhash_v3_nano_inline,
 };
 use std::borrow::Cow;
 use std::num::{NonZeroI64, NonZeroU8};
@@ -18,14 +18,8 @@ fn types_of_fields() {
     assert_eq!(key::hash(&("user", 4711, None::<&str>)), user);
     assert_eq!(key::hash(&(&text, 4711u16, None::<i8>)), user);
     assert_eq!(key::hash(&(b"user", Some(4711u64), Field::Nothing)), user);
-    assert_eq!(
-        key::hash(&(Some(text.as_bytes()), &4711i64, None::<Vec<u8>>)),
-        user
-    );
-    assert_eq!(
-        key::hash(&(text.into_bytes(), 4711usize, None::<String>)),
-        user
-    );
+    assert_eq!(key::hash(&(Some(text.as_bytes()), &4711i64, None::<Vec<u8>>)), user);
+    assert_eq!(key::hash(&(text.into_bytes(), 4711usize, None::<String>)), user);
     macro_rules! as_64_bits {
         ($($integer:ty)*) => { $(
             let (least, most) = (<$integer>::MIN, <$integer>::MAX);
@@ -68,9 +62,7 @@ fn pointers_and_lists() {
     assert_eq!(key::hash(&[] as &[Field<'_>]), rapidhash_v3(b""));
     assert_eq!(
         key::hash(&(1, 2, 3, 4, 5, 6, 7, 8, 9, 10, 11, 12)),
-        key::hash(&std::array::from_fn::<_, 12, _>(|at| Field::Integer(
-            at as u64 + 1
-        )))
+        key::hash(&std::array::from_fn::<_, 12, _>(|at| Field::Integer(at as u64 + 1)))
     );
 }
 
@@ -97,9 +89,7 @@ fn keys_of_other_hashes() {
         row.fields(&mut |field| match field {
             Field::Nothing => bytes.push(0),
             Field::Integer(number) => bytes.extend([&[1], &number.to_le_bytes()[..]].concat()),
-            Field::Bytes(text) => {
-                bytes.extend([&[2], &(text.len() as u64).to_le_bytes()[..], text].concat())
-            }
+            Field::Bytes(text) => bytes.extend([&[2], &(text.len() as u64).to_le_bytes()[..], text].concat()),
             _ => panic!("a new kind of field"),
         });
         key::write(row, &mut hashers.0);
@@ -107,14 +97,8 @@ fn keys_of_other_hashes() {
         key::write(row, &mut hashers.2);
     }
     assert_eq!(hashers.0.finish(), rapidhash_v3(&bytes));
-    assert_eq!(
-        hashers.1.finish(),
-        rapidhash_v3_micro_inline::<true, false>(&bytes, &DEFAULT_RAPID_SECRETS)
-    );
-    assert_eq!(
-        hashers.2.finish(),
-        rapidhash_v3_nano_inline::<false, true>(&bytes, &DEFAULT_RAPID_SECRETS)
-    );
+    assert_eq!(hashers.1.finish(), rapidhash_v3_micro_inline::<true, false>(&bytes, &DEFAULT_RAPID_SECRETS));
+    assert_eq!(hashers.2.finish(), rapidhash_v3_nano_inline::<false, true>(&bytes, &DEFAULT_RAPID_SECRETS));
 }
 
 #[test]
@@ -123,8 +107,6 @@ fn fields_in_a_stream() {
     key::write_integer(&mut hasher, 0x102);
     key::write_nothing(&mut hasher);
     key::write_bytes(&mut hasher, b"hi");
-    let bytes = [
-        1, 2, 1, 0, 0, 0, 0, 0, 0, 0, 2, 2, 0, 0, 0, 0, 0, 0, 0, b'h', b'i',
-    ];
+    let bytes = [1, 2, 1, 0, 0, 0, 0, 0, 0, 0, 2, 2, 0, 0, 0, 0, 0, 0, 0, b'h', b'i'];
     assert_eq!(hasher.finish(), rapidhash_v3(&bytes));
 }

@@ -83,10 +83,7 @@ fn processes_differ() {
     // Two of so many processes would share a word of eight random bits, with a probability of 0.9997.
     let lines: Vec<_> = (0..64).map(|_| line_of_a_process()).collect();
     for column in 1..=4 {
-        let seen: HashSet<_> = lines
-            .iter()
-            .map(|line| line.split(' ').nth(column))
-            .collect();
+        let seen: HashSet<_> = lines.iter().map(|line| line.split(' ').nth(column)).collect();
         assert_eq!(seen.len(), lines.len(), "column {column} of {lines:?}");
     }
 }
@@ -114,8 +111,7 @@ fn maps_and_threads_differ() {
 fn collections_differ() {
     let mut seen = HashSet::new();
     for capacity in [0, 0, 10, 10] {
-        let maps: [RapidHashMap<u8, u8>; 2] =
-            [HashMapExt::new(), HashMapExt::with_capacity(capacity)];
+        let maps: [RapidHashMap<u8, u8>; 2] = [HashMapExt::new(), HashMapExt::with_capacity(capacity)];
         let sets: [RapidHashSet<u8>; 2] = [HashSetExt::new(), HashSetExt::with_capacity(capacity)];
         assert!(maps.iter().all(|map| seen.insert(hash_of(map.hasher()))));
         assert!(sets.iter().all(|set| seen.insert(hash_of(set.hasher()))));

@@ -52,8 +52,7 @@ fn processes_keep_the_words_of_the_system() {
         set_random_words([1, 2]).expect("the first words");
         return println!("told {:?}", RapidSecrets::random().secrets);
     }
-    let [one, two] =
-        [(); 2].map(|()| told_by_a_process("processes_keep_the_words_of_the_system", "1"));
+    let [one, two] = [(); 2].map(|()| told_by_a_process("processes_keep_the_words_of_the_system", "1"));
     assert_eq!(one == two, cfg!(not(feature = "std")), "{one} {two}");
 }
 
@@ -105,11 +104,7 @@ fn seeds_of_threads_in_processes_differ() {
         let told = told_by_a_process("seeds_of_threads_in_processes_differ", "1");
         return assert_eq!(told, "told 400000");
     }
-    let seeds = || {
-        (0..100_000)
-            .map(|_| RapidSecrets::random().seed)
-            .collect::<Vec<_>>()
-    };
+    let seeds = || (0..100_000).map(|_| RapidSecrets::random().seed).collect::<Vec<_>>();
     let all = std::thread::scope(|threads| {
         let threads = [(); 4].map(|()| threads.spawn(seeds));
         threads.map(|thread| thread.join().unwrap()).concat()
@@ -132,10 +127,7 @@ fn words_are_set_once_and_before_any_state() {
     }
     assert!(RandomState::new() != RandomState::new());
     let error = set_random_words([3, 4]).expect_err("other words");
-    assert_eq!(
-        error.to_string(),
-        "the random words of rapidhash are in use: a state was made or they were set"
-    );
+    assert_eq!(error.to_string(), "the random words of rapidhash are in use: a state was made or they were set");
     assert_eq!(RapidSecrets::random().secrets, made);
 }
 

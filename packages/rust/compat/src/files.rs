@@ -44,10 +44,7 @@ pub fn rapidhash_v1_file_seeded(data: &mut File, secrets: &v1::RapidSecrets) -> 
 ///
 /// Those of [`rapidhash_v1_file`].
 #[deprecated(note = "V1 needs the length before the first byte: V3 does not")]
-pub fn rapidhash_v1_file_inline<const PROTECTED: bool>(
-    data: &mut File,
-    secrets: &v1::RapidSecrets,
-) -> Result<u64> {
+pub fn rapidhash_v1_file_inline<const PROTECTED: bool>(data: &mut File, secrets: &v1::RapidSecrets) -> Result<u64> {
     let len = data.metadata()?.len();
     proved::v1::rapidhash_v1_file_inline::<_, PROTECTED>(&mut Repeated(data), len, secrets)
 }
@@ -85,9 +82,5 @@ pub fn rapidhash_v2_file_inline<const MINOR: u8, const PROTECTED: bool>(
     secrets: &v2::RapidSecrets,
 ) -> Result<u64> {
     let len = data.metadata()?.len();
-    proved::v2::rapidhash_v2_file_inline::<_, MINOR, PROTECTED>(
-        &mut Repeated(data),
-        len,
-        &secrets.proved(),
-    )
+    proved::v2::rapidhash_v2_file_inline::<_, MINOR, PROTECTED>(&mut Repeated(data), len, &secrets.proved())
 }

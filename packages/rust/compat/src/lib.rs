@@ -42,27 +42,21 @@ pub mod quality {
 pub mod v1 {
     #[cfg(feature = "std")]
     pub use crate::files::{rapidhash_v1_file, rapidhash_v1_file_inline, rapidhash_v1_file_seeded};
-    pub use proved::v1::{
-        DEFAULT_RAPID_SECRETS, RapidSecrets, rapidhash_v1, rapidhash_v1_inline, rapidhash_v1_seeded,
-    };
+    pub use proved::v1::{DEFAULT_RAPID_SECRETS, RapidSecrets, rapidhash_v1, rapidhash_v1_inline, rapidhash_v1_seeded};
 }
 
 /// rapidhash V3, micro and nano.
 pub mod v3 {
     pub use proved::v3::{
-        DEFAULT_RAPID_SECRETS, RapidSecrets, RapidStreamHasherInlineV3, RapidStreamHasherV3,
-        rapidhash_v3, rapidhash_v3_inline, rapidhash_v3_micro_inline, rapidhash_v3_nano_inline,
-        rapidhash_v3_seeded,
+        DEFAULT_RAPID_SECRETS, RapidSecrets, RapidStreamHasherInlineV3, RapidStreamHasherV3, rapidhash_v3,
+        rapidhash_v3_inline, rapidhash_v3_micro_inline, rapidhash_v3_nano_inline, rapidhash_v3_seeded,
     };
     #[cfg(feature = "std")]
     pub use proved::v3::{rapidhash_v3_file, rapidhash_v3_file_inline, rapidhash_v3_file_seeded};
 }
 #[cfg(all(
     any(feature = "getrandom_03", feature = "getrandom_04"),
-    any(
-        not(feature = "std"),
-        all(target_family = "wasm", target_os = "unknown")
-    )
+    any(not(feature = "std"), all(target_family = "wasm", target_os = "unknown"))
 ))]
 compile_error!(
     "rapidhash: the features getrandom_03 and getrandom_04 need the feature `std` and a system with random words: \

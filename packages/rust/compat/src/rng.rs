@@ -5,11 +5,7 @@ const START: u64 = 0xbdd8_9aa9_8270_4029;
 
 #[cfg(all(
     feature = "std",
-    not(any(
-        miri,
-        target_os = "zkvm",
-        all(target_family = "wasm", target_os = "unknown")
-    ))
+    not(any(miri, target_os = "zkvm", all(target_family = "wasm", target_os = "unknown")))
 ))]
 pub use clock::rapidrng_time;
 
@@ -27,14 +23,7 @@ pub fn rapidrng_fast_not_portable(seed: &mut u64) -> u64 {
     proved::rng::rapidrng_fast_not_portable(seed)
 }
 
-#[cfg(all(
-    feature = "std",
-    not(any(
-        miri,
-        target_os = "zkvm",
-        all(target_family = "wasm", target_os = "unknown")
-    ))
-))]
+#[cfg(all(feature = "std", not(any(miri, target_os = "zkvm", all(target_family = "wasm", target_os = "unknown")))))]
 mod clock {
     /// Makes a new seed from the old one and the present time, and returns the new seed's word. Systems without a clock
     /// do not have this function.
@@ -57,11 +46,7 @@ mod clock {
 
 #[cfg(not(all(
     feature = "std",
-    not(any(
-        miri,
-        target_os = "zkvm",
-        all(target_family = "wasm", target_os = "unknown")
-    ))
+    not(any(miri, target_os = "zkvm", all(target_family = "wasm", target_os = "unknown")))
 )))]
 mod clock {
     /// Returns the state of a new generator.

@@ -28,17 +28,11 @@ impl Debug for RapidSecrets {
 impl RapidSecrets {
     /// Returns the secrets with the type of the proved crate.
     pub(crate) const fn proved(&self) -> Proved {
-        Proved {
-            seed: self.seed,
-            secrets: self.secrets,
-        }
+        Proved { seed: self.seed, secrets: self.secrets }
     }
 
     const fn of(proved: Proved) -> Self {
-        Self {
-            seed: proved.seed,
-            secrets: proved.secrets,
-        }
+        Self { seed: proved.seed, secrets: proved.secrets }
     }
 
     /// Returns a seed and secrets made from a number.

@@ -30,10 +30,7 @@ fn hashes_are_constants() {
     assert_eq!(HELLO, 3327445792987248966);
     assert_eq!(places.len() as u64, HELLO % 64);
     assert_eq!(SEEDED, v2::rapidhash_v2_2(b"hello"));
-    assert_eq!(
-        (named(b"cat"), named(b"dog"), named(b"cow")),
-        ("cat", "dog", "none")
-    );
+    assert_eq!((named(b"cat"), named(b"dog"), named(b"cow")), ("cat", "dog", "none"));
 }
 
 /// Two types of secrets can both implement a trait.
@@ -60,14 +57,8 @@ fn secrets_of_two_versions() {
         let (two, three) = (two.reseed(), three.reseed());
         assert_eq!((two.seed, two.secrets), (three.seed, three.secrets));
     }
-    assert_ne!(
-        v2::RapidSecrets::random().seed,
-        v2::RapidSecrets::random().seed
-    );
-    assert_eq!(
-        v2::RapidSecrets::random().secrets,
-        v3::RapidSecrets::random().secrets
-    );
+    assert_ne!(v2::RapidSecrets::random().seed, v2::RapidSecrets::random().seed);
+    assert_eq!(v2::RapidSecrets::random().secrets, v3::RapidSecrets::random().secrets);
 }
 
 /// V1 and V2 hash the rest of a file by its metadata, and report a file that is shorter than that. The minor versions
@@ -83,27 +74,18 @@ fn files_by_their_metadata() -> Result<()> {
         let mut file = File::open(&path)?;
         let calls: [(&dyn Fn(&mut File) -> Result<u64>, u64); 7] = [
             (&v1::rapidhash_v1_file, v1::rapidhash_v1(&text)),
-            (
-                &|file| v1::rapidhash_v1_file_seeded(file, &one),
-                v1::rapidhash_v1_seeded(&text, &one),
-            ),
+            (&|file| v1::rapidhash_v1_file_seeded(file, &one), v1::rapidhash_v1_seeded(&text, &one)),
             (
                 &|file| v1::rapidhash_v1_file_inline::<true>(file, &one),
                 v1::rapidhash_v1_inline::<true, false, true, false>(&text, &one),
             ),
             (&v2::rapidhash_v2_2_file, v2::rapidhash_v2_2(&text)),
-            (
-                &|file| v2::rapidhash_v2_2_file_seeded(file, &two),
-                v2::rapidhash_v2_2_seeded(&text, &two),
-            ),
+            (&|file| v2::rapidhash_v2_2_file_seeded(file, &two), v2::rapidhash_v2_2_seeded(&text, &two)),
             (
                 &|file| v2::rapidhash_v2_file_inline::<1, true>(file, &two),
                 v2::rapidhash_v2_inline::<1, true, false, true>(&text, &two),
             ),
-            (
-                &|file| v3::rapidhash_v3_file_seeded(file, &three),
-                v3::rapidhash_v3_seeded(&text, &three),
-            ),
+            (&|file| v3::rapidhash_v3_file_seeded(file, &three), v3::rapidhash_v3_seeded(&text, &three)),
         ];
         for (call, hash) in calls {
             file.rewind()?;
@@ -167,10 +149,7 @@ fn hashes_with_every_option() {
     assert_eq!(nano, 3778853990780631382);
     let own = v2::RapidSecrets::seed(3);
     let mixed = v2::rapidhash_v2_inline::<2, true, false, false>(&bytes, &own);
-    assert_ne!(
-        mixed,
-        v2::rapidhash_v2_inline::<2, false, false, false>(&bytes, &own)
-    );
+    assert_ne!(mixed, v2::rapidhash_v2_inline::<2, false, false, false>(&bytes, &own));
     assert_eq!(mixed, v2::rapidhash_v2_2_seeded(&bytes, &own));
 }
 

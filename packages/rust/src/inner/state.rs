@@ -126,9 +126,7 @@ impl<'s, const AVALANCHE: bool, const SPONGE: bool, const COMPACT: bool, const P
     /// [`RapidSecrets::seed_cpp`](crate::v3::RapidSecrets::seed_cpp).
     #[must_use]
     pub fn new(seed: u64) -> Self {
-        Self {
-            kept: of_process(RapidSecrets::seed_of_word(seed)),
-        }
+        Self { kept: of_process(RapidSecrets::seed_of_word(seed)) }
     }
 
     /// Returns a state with the next seed and the secrets of this process, as [`RandomState`] has them.
@@ -153,9 +151,7 @@ impl<'s, const AVALANCHE: bool, const SPONGE: bool, const COMPACT: bool, const P
     #[must_use]
     #[inline]
     pub const fn custom(seed: u64, secrets: &'s [u64; 7]) -> Self {
-        Self {
-            kept: Kept::new(seed, secrets),
-        }
+        Self { kept: Kept::new(seed, secrets) }
     }
 
     /// Returns the same as [`SeedableState::custom`].
@@ -167,8 +163,8 @@ impl<'s, const AVALANCHE: bool, const SPONGE: bool, const COMPACT: bool, const P
     }
 }
 
-impl<'s, const AVALANCHE: bool, const SPONGE: bool, const COMPACT: bool, const PROTECTED: bool>
-    Default for SeedableState<'s, AVALANCHE, SPONGE, COMPACT, PROTECTED>
+impl<'s, const AVALANCHE: bool, const SPONGE: bool, const COMPACT: bool, const PROTECTED: bool> Default
+    for SeedableState<'s, AVALANCHE, SPONGE, COMPACT, PROTECTED>
 {
     /// Returns [`SeedableState::random`].
     #[inline]
@@ -177,8 +173,8 @@ impl<'s, const AVALANCHE: bool, const SPONGE: bool, const COMPACT: bool, const P
     }
 }
 
-impl<'s, const AVALANCHE: bool, const SPONGE: bool, const COMPACT: bool, const PROTECTED: bool>
-    BuildHasher for SeedableState<'s, AVALANCHE, SPONGE, COMPACT, PROTECTED>
+impl<'s, const AVALANCHE: bool, const SPONGE: bool, const COMPACT: bool, const PROTECTED: bool> BuildHasher
+    for SeedableState<'s, AVALANCHE, SPONGE, COMPACT, PROTECTED>
 {
     type Hasher = RapidHasher<'s, AVALANCHE, SPONGE, COMPACT, PROTECTED>;
 
@@ -188,8 +184,8 @@ impl<'s, const AVALANCHE: bool, const SPONGE: bool, const COMPACT: bool, const P
     }
 }
 
-impl<'s, const AVALANCHE: bool, const SPONGE: bool, const COMPACT: bool, const PROTECTED: bool>
-    Debug for SeedableState<'s, AVALANCHE, SPONGE, COMPACT, PROTECTED>
+impl<'s, const AVALANCHE: bool, const SPONGE: bool, const COMPACT: bool, const PROTECTED: bool> Debug
+    for SeedableState<'s, AVALANCHE, SPONGE, COMPACT, PROTECTED>
 {
     fn fmt(&self, f: &mut Formatter<'_>) -> Result {
         f.debug_struct("SeedableState").finish_non_exhaustive()

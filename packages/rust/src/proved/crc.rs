@@ -7,11 +7,7 @@ const POLYNOMIAL: u64 = 0xc96c_5795_d787_0f42;
 
 /// Returns the register after a shift.
 fn shift(register: u64) -> u64 {
-    if register & 1 == 1 {
-        register >> 1 ^ POLYNOMIAL
-    } else {
-        register >> 1
-    }
+    if register & 1 == 1 { register >> 1 ^ POLYNOMIAL } else { register >> 1 }
 }
 
 /// Returns the register after a byte. Compilers that know the CRC in this form use a table.
@@ -25,7 +21,5 @@ fn add_byte(register: u64, byte: u8) -> u64 {
 
 /// Returns the CRC of the bytes.
 pub(crate) fn crc64(bytes: &[u8]) -> u64 {
-    !bytes
-        .iter()
-        .fold(u64::MAX, |register, &byte| add_byte(register, byte))
+    !bytes.iter().fold(u64::MAX, |register, &byte| add_byte(register, byte))
 }

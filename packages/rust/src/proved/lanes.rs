@@ -13,12 +13,7 @@ const_fn! {
 /// Returns a lane, or the seed of a tail, after the pair at byte `at`. With the lane in the first
 /// factor, which the definition has second, LLVM needs an instruction less.
 #[inline(always)]
-pub(crate) const fn fold_pair<const PROTECTED: bool>(
-    bytes: &[u8],
-    at: usize,
-    secret: u64,
-    lane: u64,
-) -> u64 {
+pub(crate) const fn fold_pair<const PROTECTED: bool>(bytes: &[u8], at: usize, secret: u64, lane: u64) -> u64 {
     rapid_mix::<PROTECTED>(read_u64(bytes, at + 8) ^ lane, read_u64(bytes, at) ^ secret)
 }
 }
@@ -61,11 +56,7 @@ const_fn! {
 /// Folds two rows lane by lane: lanes that are in memory are then loaded and stored once. For lanes
 /// in registers it needs one register more.
 #[inline(always)]
-pub(crate) const fn fold_two_rows_by_lane<
-    const LANES: usize,
-    const WIDTH: usize,
-    const PROTECTED: bool,
->(
+pub(crate) const fn fold_two_rows_by_lane<const LANES: usize, const WIDTH: usize, const PROTECTED: bool>(
     lanes: &mut [u64; LANES],
     rows: &[u8],
     secrets: &[u64],
@@ -128,13 +119,7 @@ pub(crate) const fn join<const LANES: usize, const WIDTH: usize>(lanes: &[u64; L
 const_fn! {
 /// Returns the seed after all rows of `LANES` pairs, and the remaining bytes.
 #[inline(always)]
-pub(crate) const fn wide_lanes<
-    'x,
-    const LANES: usize,
-    const LEAST: usize,
-    const COMPACT: bool,
-    const PROTECTED: bool,
->(
+pub(crate) const fn wide_lanes<'x, const LANES: usize, const LEAST: usize, const COMPACT: bool, const PROTECTED: bool>(
     bytes: &'x [u8],
     seed: u64,
     secrets: &[u64],
@@ -162,13 +147,7 @@ const_fn! {
 /// Returns the same as [`wide_lanes`], if the lanes have already folded a prefix and `bytes` follow
 /// it.
 #[inline(always)]
-pub(crate) const fn join_wide<
-    'x,
-    const LANES: usize,
-    const LEAST: usize,
-    const COMPACT: bool,
-    const PROTECTED: bool,
->(
+pub(crate) const fn join_wide<'x, const LANES: usize, const LEAST: usize, const COMPACT: bool, const PROTECTED: bool>(
     lanes: &mut [u64; LANES],
     bytes: &'x [u8],
     secrets: &[u64],

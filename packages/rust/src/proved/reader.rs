@@ -38,10 +38,7 @@ impl<R: Read> Source<R> {
     /// - `reader_of result ≡ reader`
     #[must_use]
     pub const fn new(reader: R) -> Self {
-        Source {
-            reader,
-            error_flag: false,
-        }
+        Source { reader, error_flag: false }
     }
 
     /// Reads once and returns the reader's own result.
@@ -141,9 +138,6 @@ impl Stop {
 
 /// Reads once from `reader`.
 #[inline(always)]
-pub(crate) fn read_once<R: Read + ?Sized>(
-    reader: &mut R,
-    buf: &mut [u8],
-) -> Result<usize, FailedRead> {
+pub(crate) fn read_once<R: Read + ?Sized>(reader: &mut R, buf: &mut [u8]) -> Result<usize, FailedRead> {
     reader.read(buf).map_err(|error| FailedRead { error })
 }

@@ -85,10 +85,7 @@ pub fn rapidrng_fast_not_portable(state: &mut u64) -> u64 {
 /// - `seed.new ≡ seed_at_moment seed.old secs nanos`
 /// - `result ≡ word_at_moment seed.old secs nanos`
 pub fn rapidrng_time(seed: &mut u64, secs: u64, nanos: u32) -> u64 {
-    prove!(
-        nanos < 1_000_000_000,
-        "the nanoseconds must be less than a second"
-    );
+    prove!(nanos < 1_000_000_000, "the nanoseconds must be less than a second");
     let entropy = secs % 0x1_0000_0000 * 0x1_0000_0000 + nanos as u64;
     let moment = rapid_mix::<false>(entropy ^ STEP, *seed ^ MASK);
     let made = rapid_mix::<false>(moment ^ STEP, MOMENT_MASK);
@@ -130,11 +127,7 @@ impl RapidRng {
     #[must_use]
     pub fn from_moment(time: Duration) -> RapidRng {
         let mut seed = MOMENT_SEED;
-        RapidRng::new(rapidrng_time(
-            &mut seed,
-            time.as_secs(),
-            time.subsec_nanos(),
-        ))
+        RapidRng::new(rapidrng_time(&mut seed, time.as_secs(), time.subsec_nanos()))
     }
 
     /// Returns the state as a number.

@@ -18,10 +18,7 @@ pub struct RapidSecrets {
 }
 
 /// The secrets of `rapidhash_v2_2` and `rapidhash_v3`: `RapidSecrets::seed_cpp(0)`, as numbers.
-pub const DEFAULT_RAPID_SECRETS: RapidSecrets = RapidSecrets {
-    seed: 0x4227_6556_7d8f_bfd6,
-    secrets: DEFAULT_SECRETS,
-};
+pub const DEFAULT_RAPID_SECRETS: RapidSecrets = RapidSecrets { seed: 0x4227_6556_7d8f_bfd6, secrets: DEFAULT_SECRETS };
 
 impl RapidSecrets {
     /// Returns the default seed and secrets, [`DEFAULT_RAPID_SECRETS`], by reference.
@@ -61,10 +58,7 @@ impl RapidSecrets {
     #[must_use]
     pub const fn seed(seed: u64) -> Self {
         let seed = seed_of(seed);
-        RapidSecrets {
-            seed,
-            secrets: chain::<7>(seed),
-        }
+        RapidSecrets { seed, secrets: chain::<7>(seed) }
     }
 
     /// Returns the same secrets with a new seed, which is made from the old one with the last
@@ -85,10 +79,7 @@ impl RapidSecrets {
     /// - `IsGood result.seed`
     #[must_use]
     pub const fn reseed(&self) -> Self {
-        RapidSecrets {
-            seed: reseed_of(self.seed, 6),
-            secrets: self.secrets,
-        }
+        RapidSecrets { seed: reseed_of(self.seed, 6), secrets: self.secrets }
     }
 
     /// Returns the seed of [`RapidSecrets::seed_cpp`], without the secrets.
@@ -114,10 +105,7 @@ impl RapidSecrets {
     /// - `result.secrets ≡ default_secrets`
     #[must_use]
     pub const fn seed_cpp(seed: u64) -> Self {
-        RapidSecrets {
-            seed: Self::seed_of_word(seed),
-            secrets: DEFAULT_SECRETS,
-        }
+        RapidSecrets { seed: Self::seed_of_word(seed), secrets: DEFAULT_SECRETS }
     }
 }
 

@@ -33,10 +33,7 @@ impl GlobalSecrets {
     /// - `All IsGood (secrets_of_global result)`
     #[must_use]
     pub fn new(random: u64) -> Self {
-        GlobalSecrets {
-            seed: global_seed_of(random),
-            secrets: made_secrets(random),
-        }
+        GlobalSecrets { seed: global_seed_of(random), secrets: made_secrets(random) }
     }
 
     /// Returns the seven secrets.

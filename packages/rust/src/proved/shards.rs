@@ -100,9 +100,7 @@ pub fn bucket(hash: u64, count: u32) -> u32 {
 
 // Returns the state after a state.
 fn next_state(state: u64) -> u64 {
-    state
-        .wrapping_mul(2_862_933_555_777_941_757)
-        .wrapping_add(1)
+    state.wrapping_mul(2_862_933_555_777_941_757).wrapping_add(1)
 }
 
 // Returns the bucket to which a state jumps from another bucket. Of the 2^31 words of a state, a

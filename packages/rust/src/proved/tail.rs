@@ -40,10 +40,6 @@ pub(crate) const fn close<const AVALANCHE: bool, const PROTECTED: bool>(
     masks: (u64, u64),
 ) -> u64 {
     let (a, b) = rapid_mum::<PROTECTED>(words.0 ^ secret, words.1 ^ seed);
-    if AVALANCHE {
-        rapid_mix::<PROTECTED>(a ^ masks.0, b ^ masks.1)
-    } else {
-        a ^ b
-    }
+    if AVALANCHE { rapid_mix::<PROTECTED>(a ^ masks.0, b ^ masks.1) } else { a ^ b }
 }
 }

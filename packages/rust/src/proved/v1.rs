@@ -9,9 +9,7 @@ use crate::kernel::v1::hash;
 use crate::kernel::{MIXED, NOT_COMPACT, PLAIN};
 pub use crate::secrets::v1::{DEFAULT_RAPID_SECRETS, RapidSecrets};
 #[cfg(feature = "std")]
-pub use readers::{
-    rapidhash_v1_file, rapidhash_v1_file_inline, rapidhash_v1_file_seeded, rapidhash_v1_source,
-};
+pub use readers::{rapidhash_v1_file, rapidhash_v1_file_inline, rapidhash_v1_file_seeded, rapidhash_v1_source};
 
 const_fn! {
 /// Returns the hash of `bytes` with the default seed and secrets. The value is the same on every
@@ -76,12 +74,7 @@ const_fn! {
 /// - `result ≡ seeded_hash_v1 V1_BUG (options AVALANCHE PROTECTED) secrets.now bytes.now`
 #[inline(always)]
 #[must_use]
-pub const fn rapidhash_v1_inline<
-    const AVALANCHE: bool,
-    const COMPACT: bool,
-    const PROTECTED: bool,
-    const V1_BUG: bool,
->(
+pub const fn rapidhash_v1_inline<const AVALANCHE: bool, const COMPACT: bool, const PROTECTED: bool, const V1_BUG: bool>(
     bytes: &[u8],
     secrets: &RapidSecrets,
 ) -> u64 {

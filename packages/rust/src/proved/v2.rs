@@ -9,9 +9,7 @@ use crate::kernel::v2::hash;
 use crate::kernel::{MIXED, NOT_COMPACT, PLAIN};
 pub use crate::secrets::{DEFAULT_RAPID_SECRETS, RapidSecrets};
 #[cfg(feature = "std")]
-pub use readers::{
-    rapidhash_v2_2_file, rapidhash_v2_2_file_seeded, rapidhash_v2_file_inline, rapidhash_v2_source,
-};
+pub use readers::{rapidhash_v2_2_file, rapidhash_v2_2_file_seeded, rapidhash_v2_file_inline, rapidhash_v2_source};
 
 const_fn! {
 /// Returns the V2.2 hash of `bytes` with the default seed and secrets.
@@ -76,12 +74,7 @@ const_fn! {
 /// - `result ≡ seeded_hash (V2 MINOR) (options AVALANCHE PROTECTED) secrets.now bytes.now`
 #[inline(always)]
 #[must_use]
-pub const fn rapidhash_v2_inline<
-    const MINOR: u8,
-    const AVALANCHE: bool,
-    const COMPACT: bool,
-    const PROTECTED: bool,
->(
+pub const fn rapidhash_v2_inline<const MINOR: u8, const AVALANCHE: bool, const COMPACT: bool, const PROTECTED: bool>(
     bytes: &[u8],
     secrets: &RapidSecrets,
 ) -> u64 {

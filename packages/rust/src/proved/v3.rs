@@ -12,12 +12,11 @@ pub use crate::secrets::{DEFAULT_RAPID_SECRETS, RapidSecrets};
 #[cfg(feature = "std")]
 pub use readers::{
     rapidhash_v3_file, rapidhash_v3_file_inline, rapidhash_v3_file_lanes, rapidhash_v3_file_seeded,
-    rapidhash_v3_file_sized, rapidhash_v3_source, rapidhash_v3_source_lanes,
-    rapidhash_v3_source_sized,
+    rapidhash_v3_file_sized, rapidhash_v3_source, rapidhash_v3_source_lanes, rapidhash_v3_source_sized,
 };
 pub use stream::{
-    RapidStream, RapidStreamHasherInlineMicro, RapidStreamHasherInlineNano,
-    RapidStreamHasherInlineV3, RapidStreamHasherLanes, RapidStreamHasherV3, SAVED_SIZE,
+    RapidStream, RapidStreamHasherInlineMicro, RapidStreamHasherInlineNano, RapidStreamHasherInlineV3,
+    RapidStreamHasherLanes, RapidStreamHasherV3, SAVED_SIZE,
 };
 
 const_fn! {

@@ -28,10 +28,7 @@ const_fn! {
 pub(crate) const fn short_words_v1(bytes: &[u8]) -> (u64, u64) {
     let n = bytes.len();
     if n >= 8 {
-        (
-            read_u32_combined(bytes, 0, n - 4),
-            read_u32_combined(bytes, 4, n - 8),
-        )
+        (read_u32_combined(bytes, 0, n - 4), read_u32_combined(bytes, 4, n - 8))
     } else if n >= 4 {
         let all = read_u32_combined(bytes, 0, n - 4);
         (all, all)
@@ -83,11 +80,7 @@ const_fn! {
 #[inline(always)]
 pub(crate) const fn short_words_in_memory(bytes: &[u8]) -> (u64, u64) {
     let n = bytes.len();
-    if n >= 8 {
-        (read_u64(bytes, 0), read_u64(bytes, n - 8))
-    } else {
-        short_words_below_8(bytes)
-    }
+    if n >= 8 { (read_u64(bytes, 0), read_u64(bytes, n - 8)) } else { short_words_below_8(bytes) }
 }
 }
 

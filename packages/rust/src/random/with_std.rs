@@ -18,10 +18,7 @@ struct Process {
 
 impl Process {
     fn of([first, word]: [u64; 2]) -> Self {
-        Process {
-            global: GlobalSecrets::new(first),
-            word,
-        }
+        Process { global: GlobalSecrets::new(first), word }
     }
 
     fn new() -> Self {
@@ -122,10 +119,7 @@ pub(crate) fn global() -> Kept<'static> {
 pub(crate) fn next() -> Kept<'static> {
     SEEDS.with(|seeds| {
         let secrets = seeds.secrets.get().unwrap_or_else(|| seeds.start());
-        let mut source = SeedSource {
-            counter: seeds.counter.get(),
-            random: seeds.random.get(),
-        };
+        let mut source = SeedSource { counter: seeds.counter.get(), random: seeds.random.get() };
         let seed = source.next();
         seeds.counter.set(source.counter);
         Kept::new(seed, secrets)

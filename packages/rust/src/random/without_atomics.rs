@@ -15,10 +15,7 @@ fn words() -> [u64; 2] {
 
 /// Returns a seed with the secrets of this process.
 pub(crate) fn of_process(seed: u64) -> Kept<'static> {
-    Kept {
-        seed,
-        secrets: Secrets::from(*GlobalSecrets::new(words()[0]).get()),
-    }
+    Kept { seed, secrets: Secrets::from(*GlobalSecrets::new(words()[0]).get()) }
 }
 
 /// Returns the single seed of this process, with its secrets.

@@ -86,9 +86,7 @@ pub(super) fn set(words: [u64; 2]) -> bool {
         return false;
     }
     OWN.iter().zip(words).for_each(|(own, word)| own.set(word));
-    STATE
-        .compare_exchange(NOTHING, SET, Ordering::AcqRel, Ordering::Acquire)
-        .is_ok()
+    STATE.compare_exchange(NOTHING, SET, Ordering::AcqRel, Ordering::Acquire).is_ok()
 }
 
 /// Decides about the words, and stores what is made of them. Threads that are here at the same time store the same.
@@ -132,10 +130,7 @@ pub(crate) struct Kept<'s> {
 impl<'s> Kept<'s> {
     #[inline(always)]
     pub(crate) const fn new(seed: u64, words: &'s [u64; 7]) -> Self {
-        Kept {
-            seed,
-            own: Some(words),
-        }
+        Kept { seed, own: Some(words) }
     }
 
     #[inline(always)]
@@ -150,10 +145,7 @@ impl<'s> Kept<'s> {
             Some(words) => Secrets::new(words),
             None => Secrets::from(std::array::from_fn(|place| SECRETS[place].get())),
         };
-        Seeded {
-            seed: self.seed,
-            secrets,
-        }
+        Seeded { seed: self.seed, secrets }
     }
 }
 
@@ -188,9 +180,6 @@ pub(crate) fn next() -> Kept<'static> {
     begin();
     let drawn = DRAWN.get().wrapping_add(step);
     DRAWN.set(drawn);
-    let mut source = SeedSource {
-        counter: COUNTER.get().wrapping_add(drawn),
-        random: RANDOM.get(),
-    };
+    let mut source = SeedSource { counter: COUNTER.get().wrapping_add(drawn), random: RANDOM.get() };
     Kept::of_process(source.next())
 }

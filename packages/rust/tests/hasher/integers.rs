@@ -41,12 +41,7 @@ fn of_64<const SPONGE: bool>(signed: i64, bits: u64) -> [u64; 4] {
     by_sign.write_i64(signed);
     index.write_usize(bits as usize);
     offset.write_isize(signed as isize);
-    [
-        plain.finish(),
-        by_sign.finish(),
-        index.finish(),
-        offset.finish(),
-    ]
+    [plain.finish(), by_sign.finish(), index.finish(), offset.finish()]
 }
 
 /// Returns the hashes of a 128-bit integer, written as a signed and as an unsigned integer.
@@ -60,13 +55,7 @@ fn of_128<const SPONGE: bool>(signed: i128, bits: u128) -> (u64, u64) {
 
 #[test]
 fn signed_integers_of_32_bits() {
-    let all = [
-        (i32::MIN, 0x8000_0000),
-        (-2, 0xFFFF_FFFE),
-        (0, 0),
-        (7, 7),
-        (i32::MAX, 0x7FFF_FFFF),
-    ];
+    let all = [(i32::MIN, 0x8000_0000), (-2, 0xFFFF_FFFE), (0, 0), (7, 7), (i32::MAX, 0x7FFF_FFFF)];
     for (signed, bits) in all {
         let (one, other) = of_32::<true>(signed, bits);
         assert_eq!(one, other, "{signed}");
@@ -77,12 +66,7 @@ fn signed_integers_of_32_bits() {
 
 #[test]
 fn signed_integers_of_128_bits() {
-    let all = [
-        (i128::MIN, 1 << 127),
-        (-2, u128::MAX - 1),
-        (0, 0),
-        (i128::MAX, (1 << 127) - 1),
-    ];
+    let all = [(i128::MIN, 1 << 127), (-2, u128::MAX - 1), (0, 0), (i128::MAX, (1 << 127) - 1)];
     for (signed, bits) in all {
         let (one, other) = of_128::<true>(signed, bits);
         assert_eq!(one, other, "{signed}");
@@ -162,12 +146,9 @@ fn asked<const SPONGE: bool, const COMPACT: bool>() -> [u64; 6] {
 
 #[test]
 fn finishing_twice() {
-    for [first, again, third, fourth, last, silent] in [
-        asked::<true, true>(),
-        asked::<true, false>(),
-        asked::<false, true>(),
-        asked::<false, false>(),
-    ] {
+    for [first, again, third, fourth, last, silent] in
+        [asked::<true, true>(), asked::<true, false>(), asked::<false, true>(), asked::<false, false>()]
+    {
         assert_eq!(first, again);
         assert_eq!(third, fourth);
         assert_eq!(last, silent);

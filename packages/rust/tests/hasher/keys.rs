@@ -10,11 +10,7 @@ const LITTLE_ENDIAN: bool = cfg!(target_endian = "little");
 enum Kind {
     Plain,
     Pair(u8, i16),
-    Named {
-        name: String,
-        tags: Vec<u32>,
-        wide: i128,
-    },
+    Named { name: String, tags: Vec<u32>, wide: i128 },
 }
 
 #[derive(Hash)]
@@ -55,11 +51,7 @@ fn derived_keys() {
     assert_eq!(hashes(&plain), (12897164979441356047, 16779014412953333066));
     let pair = key(1, Kind::Pair(1, -1), Some(-1));
     assert_eq!(hashes(&pair), (3121766663117925470, 972828044404782362));
-    let named = Kind::Named {
-        name: "nn".to_owned(),
-        tags: vec![0, 1],
-        wide: -2,
-    };
+    let named = Kind::Named { name: "nn".to_owned(), tags: vec![0, 1], wide: -2 };
     let named = key(2, named, Some(-2));
     let known = (7533125613894166309, 9222927566033123518);
     assert_eq!(hashes(&named) == known, LITTLE_ENDIAN);
@@ -68,14 +60,8 @@ fn derived_keys() {
 #[test]
 fn plain_keys() {
     assert_eq!(hashes("hello"), (4470728437428163729, 11433842339275487407));
-    assert_eq!(
-        hashes(&4711u32),
-        (9601639254778723943, 13637543073516011895)
-    );
-    assert_eq!(
-        hashes(b"hello world"),
-        (11339569883731722945, 3348275917668072623)
-    );
+    assert_eq!(hashes(&4711u32), (9601639254778723943, 13637543073516011895));
+    assert_eq!(hashes(b"hello world"), (11339569883731722945, 3348275917668072623));
     let tuple = (7u8, -1i16, "key", [1u64, 2, 3]);
     let known = (15687909503537828233, 15552875111850562695);
     assert_eq!(hashes(&tuple) == known, LITTLE_ENDIAN);
@@ -107,10 +93,7 @@ fn integers_before_and_after_bytes() {
         key(&mut hasher);
         hasher.finish()
     };
-    let texts = [
-        of(&|it| (255u8, "x").hash(it)),
-        of(&|it| ("x", 255u8).hash(it)),
-    ];
+    let texts = [of(&|it| (255u8, "x").hash(it)), of(&|it| ("x", 255u8).hash(it))];
     assert_eq!(texts[0], texts[1]);
     let texts = [of(&|it| (1u8, "x").hash(it)), of(&|it| ("x", 1u8).hash(it))];
     assert_ne!(texts[0], texts[1]);

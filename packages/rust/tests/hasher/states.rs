@@ -31,10 +31,7 @@ fn states_of_known_seeds() {
     let state = quality::SeedableState::custom(own.seed, &own.secrets);
     assert_eq!(hash_of(&state), 10622765197646220428);
     assert_eq!(hash_of(&fast::SeedableState::fixed()), 6021588442437052047);
-    assert_eq!(
-        hash_of(&quality::SeedableState::fixed()),
-        829435165229610713
-    );
+    assert_eq!(hash_of(&quality::SeedableState::fixed()), 829435165229610713);
     assert_eq!(hash_by(fast::RapidHasher::default()), 6021588442437052047);
     assert_eq!(hash_by(quality::RapidHasher::default()), 829435165229610713);
     let secrets = GlobalSecrets::new(1);
@@ -48,10 +45,7 @@ fn states_of_known_seeds() {
 /// Tests hashers without a state. The expected hashes are those of the crate.
 #[test]
 fn hashers_of_known_seeds() {
-    let (mut fast, mut quality) = (
-        fast::RapidHasher::default(),
-        quality::RapidHasher::default(),
-    );
+    let (mut fast, mut quality) = (fast::RapidHasher::default(), quality::RapidHasher::default());
     fast.write(b"user:4711");
     quality.write(b"user:4711");
     assert_eq!(fast.finish(), 8987465637866267961);
@@ -114,10 +108,7 @@ fn states_without_words() {
     assert_eq!(hash_of(&global), hash_of(&same));
     assert!(RapidSecrets::random() != RapidSecrets::random());
     let debug = format!("{:?} {:?} {:?}", one, global, fast::SeedableState::fixed());
-    assert_eq!(
-        debug,
-        "RandomState { .. } GlobalState { .. } SeedableState { .. }"
-    );
+    assert_eq!(debug, "RandomState { .. } GlobalState { .. } SeedableState { .. }");
 }
 
 /// Each bit of a seed is set in some states and generators alone.
@@ -143,16 +134,9 @@ fn threads_share_secrets_and_no_seeds() {
 
     let run = || thread::spawn(|| (hash_of(&fast::GlobalState::new()), RapidSecrets::random()));
     let threads: Vec<_> = (0..8).map(|_| run()).collect();
-    let found: Vec<_> = threads
-        .into_iter()
-        .map(|thread| thread.join().unwrap())
-        .collect();
+    let found: Vec<_> = threads.into_iter().map(|thread| thread.join().unwrap()).collect();
     let here = (hash_of(&fast::GlobalState::new()), RapidSecrets::random());
-    assert!(
-        found
-            .iter()
-            .all(|(hash, made)| (*hash, made.secrets) == (here.0, here.1.secrets))
-    );
+    assert!(found.iter().all(|(hash, made)| (*hash, made.secrets) == (here.0, here.1.secrets)));
     let seeds: HashSet<u64> = found.iter().map(|(_, made)| made.seed).collect();
     assert_eq!(seeds.len(), 8);
 }

@@ -1,16 +1,12 @@
 //! Tests that the hash of a reader equals that of its bytes.
 
-use crate::readers::asked::{
-    gave, sound, v1_of, v1_of_files, v1_of_slice, v2_of, v2_of_file, v2_of_slice,
-};
+use crate::readers::asked::{gave, sound, v1_of, v1_of_files, v1_of_slice, v2_of, v2_of_file, v2_of_slice};
 use rapidhash::rng::RapidRng;
 use rapidhash::{v1, v2};
 type Fail = Box<dyn std::error::Error>;
 
 /// Lengths on both sides of the buffers' sizes.
-const LONG: [usize; 12] = [
-    8191, 8192, 8193, 8416, 8417, 65519, 65535, 65536, 65537, 131040, 131056, 140000,
-];
+const LONG: [usize; 12] = [8191, 8192, 8193, 8416, 8417, 65519, 65535, 65536, 65537, 131040, 131056, 140000];
 
 fn random_bytes() -> Vec<u8> {
     let mut rng = RapidRng::new(0);
@@ -44,10 +40,7 @@ fn v2_agrees<const MINOR: u8>(bytes: &[u8], n: usize) -> bool {
 }
 
 fn all_agree(bytes: &[u8], n: usize) -> bool {
-    v1_agrees(bytes, n)
-        && v2_agrees::<0>(bytes, n)
-        && v2_agrees::<1>(bytes, n)
-        && v2_agrees::<2>(bytes, n)
+    v1_agrees(bytes, n) && v2_agrees::<0>(bytes, n) && v2_agrees::<1>(bytes, n) && v2_agrees::<2>(bytes, n)
 }
 
 #[test]
@@ -84,10 +77,7 @@ fn v2_file_forms() -> Result<(), Fail> {
     let secrets = v2::RapidSecrets::seed(1);
     for text in [&b"abc"[..], &[5; 100][..], &[6; 9000][..]] {
         let len = text.len() as u64;
-        assert_eq!(
-            v2::rapidhash_v2_2_file::<&[u8]>(&mut &text[..], len)?,
-            v2::rapidhash_v2_2(text)
-        );
+        assert_eq!(v2::rapidhash_v2_2_file::<&[u8]>(&mut &text[..], len)?, v2::rapidhash_v2_2(text));
         assert_eq!(
             v2::rapidhash_v2_2_file_seeded::<&[u8]>(&mut &text[..], len, &secrets)?,
             v2::rapidhash_v2_2_seeded(text, &secrets)

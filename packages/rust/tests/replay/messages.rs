@@ -55,14 +55,8 @@ impl Draws {
         let seed = self.word();
         let [a, b, c, d, e, f, g] = [(); 7].map(|()| self.word());
         Secrets {
-            three: v1::RapidSecrets {
-                seed,
-                secrets: [a, b, c],
-            },
-            seven: v3::RapidSecrets {
-                seed,
-                secrets: [a, b, c, d, e, f, g],
-            },
+            three: v1::RapidSecrets { seed, secrets: [a, b, c] },
+            seven: v3::RapidSecrets { seed, secrets: [a, b, c, d, e, f, g] },
         }
     }
 }
@@ -121,10 +115,7 @@ const STREAMS: [(Version, Answers); 3] = [
 fn one(draws: &mut Draws, message: &[u8]) -> Result<u64> {
     let secrets = draws.secrets()?;
     let [avalanche, compact, protected, sponge] = [(); 4].map(|()| draws.flag());
-    let options = Options {
-        avalanche,
-        protected,
-    };
+    let options = Options { avalanche, protected };
     let place = draws.below(Tested::ALL.len() + STREAMS.len() + 1);
     if let Some(version) = Tested::ALL.get(place) {
         return Ok(hash(*version, options, compact, &secrets, message));

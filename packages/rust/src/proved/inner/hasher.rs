@@ -62,10 +62,7 @@ impl<'s, const AVALANCHE: bool, const SPONGE: bool, const COMPACT: bool, const P
     #[inline(always)]
     #[must_use]
     pub const fn new(seed: u64) -> Self {
-        RapidHasher::from_parts(
-            RapidSecrets::seed_of_word(seed),
-            Secrets::new(&DEFAULT_RAPID_SECRETS.secrets),
-        )
+        RapidHasher::from_parts(RapidSecrets::seed_of_word(seed), Secrets::new(&DEFAULT_RAPID_SECRETS.secrets))
     }
 
     /// Returns a hasher of the default seed and the default secrets: [`RapidHasher::new`] of 0.
@@ -83,11 +80,7 @@ impl<'s, const AVALANCHE: bool, const SPONGE: bool, const COMPACT: bool, const P
     /// Returns a hasher with the given seed and secrets.
     #[inline(always)]
     pub(crate) const fn from_parts(seed: u64, secrets: Secrets<'s>) -> Self {
-        RapidHasher {
-            seed,
-            secrets,
-            sponge: Sponge::empty(),
-        }
+        RapidHasher { seed, secrets, sponge: Sponge::empty() }
     }
 
     /// Returns the seed after a step on 128 bits.
@@ -116,8 +109,8 @@ impl<'s, const AVALANCHE: bool, const SPONGE: bool, const COMPACT: bool, const P
 
 mod integers;
 
-impl<'s, const AVALANCHE: bool, const SPONGE: bool, const COMPACT: bool, const PROTECTED: bool>
-    Hasher for RapidHasher<'s, AVALANCHE, SPONGE, COMPACT, PROTECTED>
+impl<'s, const AVALANCHE: bool, const SPONGE: bool, const COMPACT: bool, const PROTECTED: bool> Hasher
+    for RapidHasher<'s, AVALANCHE, SPONGE, COMPACT, PROTECTED>
 {
     forward_integers!();
 
@@ -141,8 +134,8 @@ impl<'s, const AVALANCHE: bool, const SPONGE: bool, const COMPACT: bool, const P
     }
 }
 
-impl<'s, const AVALANCHE: bool, const SPONGE: bool, const COMPACT: bool, const PROTECTED: bool>
-    Default for RapidHasher<'s, AVALANCHE, SPONGE, COMPACT, PROTECTED>
+impl<'s, const AVALANCHE: bool, const SPONGE: bool, const COMPACT: bool, const PROTECTED: bool> Default
+    for RapidHasher<'s, AVALANCHE, SPONGE, COMPACT, PROTECTED>
 {
     /// Returns [`RapidHasher::default_const`].
     #[inline(always)]

@@ -19,18 +19,12 @@ impl Sponge {
     /// Returns a sponge with a single integer.
     #[inline(always)]
     pub(crate) fn of(value: u64, width: u8) -> Sponge {
-        Sponge {
-            bits: value as u128,
-            width,
-        }
+        Sponge { bits: value as u128, width }
     }
 
     /// Adds an integer after the pending ones.
     #[inline(always)]
     pub(crate) fn with(self, value: u64, width: u8) -> Sponge {
-        Sponge {
-            bits: self.bits | ((value as u128) << self.width),
-            width: self.width + width,
-        }
+        Sponge { bits: self.bits | ((value as u128) << self.width), width: self.width + width }
     }
 }

@@ -11,12 +11,7 @@ const_fn! {
 /// each product with its factors, `V1_BUG` folds a row at 48 bytes, and `COMPACT` changes the code
 /// but no value.
 #[inline(always)]
-pub const fn hash<
-    const AVALANCHE: bool,
-    const COMPACT: bool,
-    const PROTECTED: bool,
-    const V1_BUG: bool,
->(
+pub const fn hash<const AVALANCHE: bool, const COMPACT: bool, const PROTECTED: bool, const V1_BUG: bool>(
     bytes: &[u8],
     seed: u64,
     secrets: &[u64; 3],
@@ -66,12 +61,7 @@ const_fn! {
 /// Returns the hash of a message that has a row. With rows of three lanes it is short enough to be
 /// inlined.
 #[inline]
-const fn with_rows<
-    const AVALANCHE: bool,
-    const COMPACT: bool,
-    const PROTECTED: bool,
-    const V1_BUG: bool,
->(
+const fn with_rows<const AVALANCHE: bool, const COMPACT: bool, const PROTECTED: bool, const V1_BUG: bool>(
     bytes: &[u8],
     seed: u64,
     secrets: &[u64; 3],

@@ -112,12 +112,7 @@ const fn close_long<const AVALANCHE: bool, const PROTECTED: bool>(
     seed: u64,
     secrets: &[u64; 7],
 ) -> u64 {
-    close::<AVALANCHE, PROTECTED>(
-        last_16(ending),
-        seed,
-        secrets[1],
-        (ALTERNATING_BITS ^ len, secrets[1]),
-    )
+    close::<AVALANCHE, PROTECTED>(last_16(ending), seed, secrets[1], (ALTERNATING_BITS ^ len, secrets[1]))
 }
 }
 

@@ -16,12 +16,7 @@ const_fn! {
 /// more, `PROTECTED` XORs the factors into each product, and `COMPACT` changes the code but no
 /// value.
 #[inline(always)]
-pub const fn hash<
-    const LANES: usize,
-    const AVALANCHE: bool,
-    const COMPACT: bool,
-    const PROTECTED: bool,
->(
+pub const fn hash<const LANES: usize, const AVALANCHE: bool, const COMPACT: bool, const PROTECTED: bool>(
     bytes: &[u8],
     seed: u64,
     secrets: &[u64; 7],
@@ -87,12 +82,7 @@ const_fn! {
 /// Returns the hash above 16 bytes, out of line.
 #[cold]
 #[inline(never)]
-const fn above_inlined<
-    const LANES: usize,
-    const AVALANCHE: bool,
-    const COMPACT: bool,
-    const PROTECTED: bool,
->(
+const fn above_inlined<const LANES: usize, const AVALANCHE: bool, const COMPACT: bool, const PROTECTED: bool>(
     bytes: &[u8],
     seed: u64,
     secrets: &[u64; 7],

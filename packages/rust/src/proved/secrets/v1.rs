@@ -18,11 +18,7 @@ pub struct RapidSecrets {
 /// The secrets of [`rapidhash_v1`](crate::v1::rapidhash_v1): `RapidSecrets::seed_cpp(0xbdd89aa982704029)`, as numbers.
 pub const DEFAULT_RAPID_SECRETS: RapidSecrets = RapidSecrets {
     seed: 0x7633_05bb_e7be_a536,
-    secrets: [
-        0x2d35_8dcc_aa6c_78a5,
-        0x8bb8_4b93_962e_acc9,
-        0x4b33_a62e_d433_d4a3,
-    ],
+    secrets: [0x2d35_8dcc_aa6c_78a5, 0x8bb8_4b93_962e_acc9, 0x4b33_a62e_d433_d4a3],
 };
 
 impl RapidSecrets {
@@ -56,10 +52,7 @@ impl RapidSecrets {
     #[must_use]
     pub const fn seed(seed: u64) -> Self {
         let seed = seed_of(seed);
-        RapidSecrets {
-            seed,
-            secrets: chain::<3>(seed),
-        }
+        RapidSecrets { seed, secrets: chain::<3>(seed) }
     }
 
     /// Returns the same secrets with a new seed, made from the old one with V1's last default
@@ -80,10 +73,7 @@ impl RapidSecrets {
     /// - `IsGood result.seed`
     #[must_use]
     pub const fn reseed(&self) -> Self {
-        RapidSecrets {
-            seed: reseed_of(self.seed, 2),
-            secrets: self.secrets,
-        }
+        RapidSecrets { seed: reseed_of(self.seed, 2), secrets: self.secrets }
     }
 
     /// Returns the seed of [`RapidSecrets::seed_cpp`], without the secrets.

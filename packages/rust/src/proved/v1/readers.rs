@@ -90,11 +90,7 @@ pub fn rapidhash_v1_file<R: Read + ?Sized>(data: &mut R, len: u64) -> io::Result
 /// # Proved
 ///
 /// - `HashesNext (R.remaining «data».old) (R.remaining «data».new) len result (λ _. true) (seeded_hash_v1 false standard secrets.now)`
-pub fn rapidhash_v1_file_seeded<R: Read + ?Sized>(
-    data: &mut R,
-    len: u64,
-    secrets: &RapidSecrets,
-) -> io::Result<u64> {
+pub fn rapidhash_v1_file_seeded<R: Read + ?Sized>(data: &mut R, len: u64, secrets: &RapidSecrets) -> io::Result<u64> {
     rapidhash_v1_file_inline::<R, false>(data, len, secrets)
 }
 
@@ -138,9 +134,7 @@ fn next_of<R: Read + ?Sized, const PROTECTED: bool>(
     let mut buffer = [0u8; SHORT];
     let bytes = &mut buffer[..len as usize];
     fill(reader, bytes)?;
-    Ok(hash::<MIXED, NOT_COMPACT, PROTECTED, false>(
-        bytes, seed, secrets,
-    ))
+    Ok(hash::<MIXED, NOT_COMPACT, PROTECTED, false>(bytes, seed, secrets))
 }
 
 /// Returns the hash of more bytes than the short buffer holds. It is out of line because of its
@@ -157,7 +151,5 @@ fn long<R: Read + ?Sized, const PROTECTED: bool>(
     let (mut lanes, n) = fold_front::<R, 3, PROTECTED>(reader, &mut buffer, len, start, secrets)?;
     let last = &buffer[..n];
     let (joined, tail) = join_wide::<3, 0, NOT_COMPACT, PROTECTED>(&mut lanes, last, secrets);
-    Ok(close_tail::<MIXED, PROTECTED>(
-        tail, last, len, joined, secrets,
-    ))
+    Ok(close_tail::<MIXED, PROTECTED>(tail, last, len, joined, secrets))
 }

@@ -91,11 +91,7 @@ pub fn rapidhash_v2_2_file<R: Read + ?Sized>(data: &mut R, len: u64) -> io::Resu
 /// # Proved
 ///
 /// - `HashesNext (R.remaining «data».old) (R.remaining «data».new) len result (λ _. true) (seeded_hash (V2 2) standard secrets.now)`
-pub fn rapidhash_v2_2_file_seeded<R: Read + ?Sized>(
-    data: &mut R,
-    len: u64,
-    secrets: &RapidSecrets,
-) -> io::Result<u64> {
+pub fn rapidhash_v2_2_file_seeded<R: Read + ?Sized>(data: &mut R, len: u64, secrets: &RapidSecrets) -> io::Result<u64> {
     rapidhash_v2_file_inline::<R, 2, false>(data, len, secrets)
 }
 
@@ -141,9 +137,7 @@ fn next_of<R: Read + ?Sized, const MINOR: u8, const PROTECTED: bool>(
     let mut buffer = [0u8; SHORT];
     let bytes = &mut buffer[..len as usize];
     fill(reader, bytes)?;
-    Ok(hash::<MINOR, MIXED, NOT_COMPACT, PROTECTED>(
-        bytes, seed, secrets,
-    ))
+    Ok(hash::<MINOR, MIXED, NOT_COMPACT, PROTECTED>(bytes, seed, secrets))
 }
 
 /// Returns the hash of more bytes than the short buffer holds. It is out of line because of its
@@ -160,7 +154,5 @@ fn long<R: Read + ?Sized, const MINOR: u8, const PROTECTED: bool>(
     let (mut lanes, n) = fold_front::<R, 7, PROTECTED>(reader, &mut buffer, len, start, secrets)?;
     let last = &buffer[..n];
     let (joined, tail) = join_mixed::<NOT_COMPACT, PROTECTED>(&mut lanes, last, secrets);
-    Ok(close_tail::<MIXED, PROTECTED>(
-        tail, last, len, joined, secrets,
-    ))
+    Ok(close_tail::<MIXED, PROTECTED>(tail, last, len, joined, secrets))
 }

@@ -87,12 +87,7 @@ pub fn rapidhash_v3_source_sized<R: Read, const SIZE: usize, const PROTECTED: bo
 /// - `HashesAll (R.remaining (reader_of source.old)) (R.remaining (reader_of source.new)) result (λ _. error_flag source.new) (seeded_hash (V3 LANES) (options true PROTECTED) secrets.now)`
 /// - `FlagsFailures result (error_flag source.new) ErrorKind.Other`
 #[doc(hidden)]
-pub fn rapidhash_v3_source_lanes<
-    R: Read,
-    const LANES: usize,
-    const SIZE: usize,
-    const PROTECTED: bool,
->(
+pub fn rapidhash_v3_source_lanes<R: Read, const LANES: usize, const SIZE: usize, const PROTECTED: bool>(
     source: &mut Source<R>,
     secrets: &RapidSecrets,
 ) -> io::Result<u64> {
@@ -189,10 +184,7 @@ pub fn rapidhash_v3_file_seeded<R: Read>(data: R, secrets: &RapidSecrets) -> io:
 /// # Proved
 ///
 /// - `HashesKnown (R.remaining «data») result (seeded_hash v3 (options true PROTECTED) secrets.now)`
-pub fn rapidhash_v3_file_inline<R: Read, const PROTECTED: bool>(
-    data: R,
-    secrets: &RapidSecrets,
-) -> io::Result<u64> {
+pub fn rapidhash_v3_file_inline<R: Read, const PROTECTED: bool>(data: R, secrets: &RapidSecrets) -> io::Result<u64> {
     rapidhash_v3_file_lanes::<R, 7, BUFFER, PROTECTED>(data, secrets)
 }
 
@@ -225,12 +217,7 @@ pub fn rapidhash_v3_file_sized<R: Read, const SIZE: usize, const PROTECTED: bool
 ///
 /// - `HashesKnown (R.remaining «data») result (seeded_hash (V3 LANES) (options true PROTECTED) secrets.now)`
 #[doc(hidden)]
-pub fn rapidhash_v3_file_lanes<
-    R: Read,
-    const LANES: usize,
-    const SIZE: usize,
-    const PROTECTED: bool,
->(
+pub fn rapidhash_v3_file_lanes<R: Read, const LANES: usize, const SIZE: usize, const PROTECTED: bool>(
     data: R,
     secrets: &RapidSecrets,
 ) -> io::Result<u64> {

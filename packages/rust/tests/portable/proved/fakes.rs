@@ -32,14 +32,7 @@ impl<'a> CountingReader<'a> {
 
     /// Returns a reader without reads so far, which fails at one read.
     pub fn failing(left: &'a [u8], most: usize, fails_at: u64, kind: ErrorKind) -> Self {
-        CountingReader {
-            left,
-            most,
-            reads: 0,
-            longest: 0,
-            fails_at,
-            kind,
-        }
+        CountingReader { left, most, reads: 0, longest: 0, fails_at, kind }
     }
 }
 

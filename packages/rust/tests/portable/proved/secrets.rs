@@ -8,14 +8,7 @@ use rapidhash::{v1, v3};
 use std::hash::{BuildHasher, Hash, Hasher};
 
 /// The default secrets among the random words here make secrets that need a repair.
-const WORDS: [u64; 6] = [
-    0,
-    1,
-    4711,
-    u64::MAX,
-    0x2d35_8dcc_aa6c_78a5,
-    0x4b33_a62e_d433_d4a3,
-];
+const WORDS: [u64; 6] = [0, 1, 4711, u64::MAX, 0x2d35_8dcc_aa6c_78a5, 0x4b33_a62e_d433_d4a3];
 
 /// Two calls on one value return the same secrets.
 #[test]
@@ -52,10 +45,7 @@ fn test_create_secrets() {
         assert!(*GlobalSecrets::new(word).get() == secrets, "{word}");
         let next = GlobalSecrets::new(word.wrapping_add(1));
         assert!(*next.get() != secrets, "{word}");
-        assert!(
-            secrets.iter().all(|secret| has_bits_in_each_part(*secret)),
-            "{word}"
-        );
+        assert!(secrets.iter().all(|secret| has_bits_in_each_part(*secret)), "{word}");
     }
 }
 
@@ -93,19 +83,13 @@ fn secrets_are_equal_by_each_part() {
     let again = v1::RapidSecrets::seed(4711);
     assert!(again == three && hashed(&again) == hashed(&three));
     for other in without_a_part_of_three(three) {
-        assert!(
-            other != three && hashed(&other) != hashed(&three),
-            "{other:?}"
-        );
+        assert!(other != three && hashed(&other) != hashed(&three), "{other:?}");
     }
     let seven = v3::RapidSecrets::seed(4711);
     let again = v3::RapidSecrets::seed(4711);
     assert!(again == seven && hashed(&again) == hashed(&seven));
     for other in without_a_part_of_seven(seven) {
-        assert!(
-            other != seven && hashed(&other) != hashed(&seven),
-            "{other:?}"
-        );
+        assert!(other != seven && hashed(&other) != hashed(&seven), "{other:?}");
     }
 }
 

@@ -3,9 +3,9 @@
 //! The stream hashers: known values, messages cut in two, and sizes in memory.
 
 use rapidhash::v3::{
-    DEFAULT_RAPID_SECRETS, RapidSecrets, RapidStream, RapidStreamHasherInlineMicro,
-    RapidStreamHasherInlineNano, RapidStreamHasherInlineV3, RapidStreamHasherLanes,
-    RapidStreamHasherV3, rapidhash_v3_inline, rapidhash_v3_micro_inline, rapidhash_v3_nano_inline,
+    DEFAULT_RAPID_SECRETS, RapidSecrets, RapidStream, RapidStreamHasherInlineMicro, RapidStreamHasherInlineNano,
+    RapidStreamHasherInlineV3, RapidStreamHasherLanes, RapidStreamHasherV3, rapidhash_v3_inline,
+    rapidhash_v3_micro_inline, rapidhash_v3_nano_inline,
 };
 type Fail = Box<dyn std::error::Error>;
 
@@ -40,10 +40,7 @@ fn streams_of_any_lanes() {
     for i in 0..120u8 {
         bytes[i as usize] = i;
     }
-    let secrets = RapidSecrets {
-        seed: 1,
-        secrets: [2, 3, 5, 7, 11, 13, 17],
-    };
+    let secrets = RapidSecrets { seed: 1, secrets: [2, 3, 5, 7, 11, 13, 17] };
     let mut stream = RapidStream::new(7, &secrets);
     assert!(in_pieces(&mut stream, &bytes) == 13105958653737073913);
     let mut micro = RapidStream::new(5, &secrets);
@@ -52,16 +49,12 @@ fn streams_of_any_lanes() {
     assert!(in_pieces(&mut nano, &bytes) == 4961128163384780230);
 }
 
-const SECRETS: RapidSecrets = RapidSecrets {
-    seed: 5,
-    secrets: [1, 2, 3, 4, 5, 6, 7],
-};
+const SECRETS: RapidSecrets = RapidSecrets { seed: 5, secrets: [1, 2, 3, 4, 5, 6, 7] };
 
 /// The hashes of two pieces by the three stream hashers, each after a reset.
 fn of_two_pieces(first: &[u8], second: &[u8]) -> [u64; 3] {
     let mut v3: RapidStreamHasherInlineV3<true, false> = RapidStreamHasherLanes::new(&SECRETS);
-    let mut micro: RapidStreamHasherInlineMicro<false, true> =
-        RapidStreamHasherLanes::new(&SECRETS);
+    let mut micro: RapidStreamHasherInlineMicro<false, true> = RapidStreamHasherLanes::new(&SECRETS);
     let mut nano: RapidStreamHasherInlineNano<true, true> = RapidStreamHasherLanes::new(&SECRETS);
     v3.write(b"other bytes");
     micro.write(b"other bytes");
@@ -109,8 +102,7 @@ fn over_saved<const LANES: usize, const AVALANCHE: bool, const PROTECTED: bool>(
     hasher.reset();
     hasher.write(first);
     let saved = hasher.save();
-    let mut restored =
-        RapidStreamHasherLanes::<LANES, AVALANCHE, PROTECTED>::restore(&saved, other)?;
+    let mut restored = RapidStreamHasherLanes::<LANES, AVALANCHE, PROTECTED>::restore(&saved, other)?;
     restored.write(rest);
     Some(restored.finish())
 }
@@ -125,23 +117,11 @@ fn saved_streams() -> Result<(), Fail> {
     let nano = rapidhash_v3_nano_inline::<true, true>(message, &SECRETS);
     for at in 0..339usize {
         let (first, rest) = message.split_at(at.min(message.len()));
-        assert!(
-            over_saved::<7, true, false>(first, rest, &SECRETS) == Some(v3),
-            "{at}"
-        );
-        assert!(
-            over_saved::<5, false, true>(first, rest, &SECRETS) == Some(micro),
-            "{at}"
-        );
-        assert!(
-            over_saved::<3, true, true>(first, rest, &SECRETS) == Some(nano),
-            "{at}"
-        );
+        assert!(over_saved::<7, true, false>(first, rest, &SECRETS) == Some(v3), "{at}");
+        assert!(over_saved::<5, false, true>(first, rest, &SECRETS) == Some(micro), "{at}");
+        assert!(over_saved::<3, true, true>(first, rest, &SECRETS) == Some(nano), "{at}");
         let other = &DEFAULT_RAPID_SECRETS;
-        assert!(
-            over_saved::<7, true, false>(first, rest, other).is_none(),
-            "{at}"
-        );
+        assert!(over_saved::<7, true, false>(first, rest, other).is_none(), "{at}");
     }
     Ok(())
 }

@@ -12,8 +12,7 @@ use crate::replay::proved::definitions::bodies::{Tested, body, defined, defined_
 use crate::replay::proved::form::{Options, Version};
 
 /// The columns of a file of bulk hashes.
-pub const COLUMNS: &str =
-    "form\tavalanche\tprotected\tv1_bug\tminor\tmessage\tlength\tsecrets\texpected";
+pub const COLUMNS: &str = "form\tavalanche\tprotected\tv1_bug\tminor\tmessage\tlength\tsecrets\texpected";
 
 /// The columns of a file of the in-memory core.
 pub const MEMORY_COLUMNS: &str = "avalanche\tprotected\tmessage\tlength\tsecrets\texpected";
@@ -38,42 +37,18 @@ pub fn version_of(form: &str, bug: &str, minor: &str) -> Option<Tested> {
 
 /// Returns the options of a case.
 pub fn options_of(avalanche: &str, protected: &str) -> Options {
-    Options {
-        avalanche: avalanche == "1",
-        protected: protected == "1",
-    }
+    Options { avalanche: avalanche == "1", protected: protected == "1" }
 }
 
 /// Replays a bulk hash.
 pub fn replay(line: &str) -> Result<Agreement> {
     let fields: Vec<&str> = line.split("\t").collect();
-    let (form, avalanche, protected, bug, minor, rule, length, secrets_rule, expected) = if let [
-        form,
-        avalanche,
-        protected,
-        bug,
-        minor,
-        rule,
-        length,
-        secrets_rule,
-        expected,
-    ] =
-        fields.as_slice()
-    {
-        (
-            form,
-            avalanche,
-            protected,
-            bug,
-            minor,
-            rule,
-            length,
-            secrets_rule,
-            expected,
-        )
-    } else {
-        bail!("no nine fields");
-    };
+    let (form, avalanche, protected, bug, minor, rule, length, secrets_rule, expected) =
+        if let [form, avalanche, protected, bug, minor, rule, length, secrets_rule, expected] = fields.as_slice() {
+            (form, avalanche, protected, bug, minor, rule, length, secrets_rule, expected)
+        } else {
+            bail!("no nine fields");
+        };
     let version = if let Some(version) = version_of(form, bug, minor) {
         version
     } else {
@@ -84,11 +59,8 @@ pub fn replay(line: &str) -> Result<Agreement> {
     let secrets = secrets_of(secrets_rule)?;
     let expected = number(expected)?;
     let bytes = bytes.as_slice();
-    let compact = if version.has_compact() {
-        Some(body::<true>(version, options, &secrets, bytes) == expected)
-    } else {
-        None
-    };
+    let compact =
+        if version.has_compact() { Some(body::<true>(version, options, &secrets, bytes) == expected) } else { None };
     let by_words = defined_by_words(version, options, &secrets, bytes)?;
     Ok(Agreement {
         definition: Some(defined(version, options, &secrets, bytes) == expected),

@@ -8,9 +8,7 @@ use crate::replay::kit::*;
 use super::rules::{contents, number, secrets_of};
 use super::tally::Agreement;
 use super::{keys, saved, seeds, shards};
-use crate::replay::proved::definitions::bodies::{
-    Secrets, Tested, body, defined, defined_by_words,
-};
+use crate::replay::proved::definitions::bodies::{Secrets, Tested, body, defined, defined_by_words};
 use crate::replay::proved::form::{Options, Version};
 
 /// The columns of the file.
@@ -62,10 +60,7 @@ fn hash(name: &str, secrets: &Secrets, argument: &str, expected: u64) -> Result<
         bail!("no version {name}");
     };
     let version = Tested::Named(version);
-    let options = Options {
-        avalanche: true,
-        protected: name == "v3_protected",
-    };
+    let options = Options { avalanche: true, protected: name == "v3_protected" };
     let bytes = contents(argument)?;
     let bytes = bytes.as_slice();
     let mut agreement = Agreement::none();

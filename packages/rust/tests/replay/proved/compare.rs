@@ -14,22 +14,10 @@ use crate::replay::proved::form::Options;
 
 /// Every choice of options.
 pub const OPTIONS: [Options; 4] = [
-    Options {
-        avalanche: true,
-        protected: false,
-    },
-    Options {
-        avalanche: true,
-        protected: true,
-    },
-    Options {
-        avalanche: false,
-        protected: false,
-    },
-    Options {
-        avalanche: false,
-        protected: true,
-    },
+    Options { avalanche: true, protected: false },
+    Options { avalanche: true, protected: true },
+    Options { avalanche: false, protected: false },
+    Options { avalanche: false, protected: true },
 ];
 
 /// The result of comparing a body and its compact code with the definition's value.
@@ -49,11 +37,7 @@ fn version_agrees(version: Tested, secrets: &Secrets, bytes: &[u8]) -> Tally {
     for n in 0..bytes.len() {
         let x = &bytes[..n];
         for options in OPTIONS {
-            let compact = if version.has_compact() {
-                Some(body::<true>(version, options, secrets, x))
-            } else {
-                None
-            };
+            let compact = if version.has_compact() { Some(body::<true>(version, options, secrets, x)) } else { None };
             tally.differs(of_bodies(
                 defined(version, options, secrets, x),
                 body::<false>(version, options, secrets, x),

@@ -60,11 +60,7 @@ pub fn replay(line: &str) -> Result<Agreement> {
     let expected = numbers(expected)?;
     let defined = defined(seed, count)?;
     let drawn = drawn(seed, count)?;
-    Ok(agreement(
-        expected.as_slice(),
-        defined.as_slice(),
-        drawn.as_slice(),
-    ))
+    Ok(agreement(expected.as_slice(), defined.as_slice(), drawn.as_slice()))
 }
 
 /// Replays the word for a time, and the seed that it leaves.
@@ -84,11 +80,7 @@ pub fn replay_time(line: &str) -> Result<Agreement> {
     let made = seed_at_moment(seed, secs, nanos);
     let mut left = seed;
     let word = rapidrng_time(&mut left, secs, nanos);
-    Ok(agreement(
-        expected.as_slice(),
-        &[word_of(made), made],
-        &[word, left],
-    ))
+    Ok(agreement(expected.as_slice(), &[word_of(made), made], &[word, left]))
 }
 
 /// Replays the number of steps from one state to another.
@@ -101,8 +93,5 @@ pub fn replay_steps(line: &str) -> Result<Agreement> {
     };
     let (first, second, expected) = (number(first)?, number(second)?, number(expected)?);
     let steps = RapidRng::new(first).steps_to(&RapidRng::new(second));
-    Ok(Agreement::new(
-        state_after(first, expected) == second,
-        steps == expected,
-    ))
+    Ok(Agreement::new(state_after(first, expected) == second, steps == expected))
 }

@@ -40,11 +40,7 @@ fn put(bytes: &mut [u8], place: usize, others: &[u8]) -> Result<()> {
 }
 
 /// Replays a change, `AT:DIGITS:CHECK`. Returns whether it is accepted.
-fn forge<const LANES: usize>(
-    saved: &[u8; SAVED_SIZE],
-    secrets: &RapidSecrets,
-    text: &str,
-) -> Result<bool> {
+fn forge<const LANES: usize>(saved: &[u8; SAVED_SIZE], secrets: &RapidSecrets, text: &str) -> Result<bool> {
     let (place, rest) = if let Some((place, rest)) = text.split_once(":") {
         (place, rest)
     } else {
@@ -56,21 +52,13 @@ fn forge<const LANES: usize>(
         bail!("no check in {text}");
     };
     let mut bytes = *saved;
-    put(
-        &mut bytes,
-        place.parse::<usize>()?,
-        hex::decode(digits)?.as_slice(),
-    )?;
+    put(&mut bytes, place.parse::<usize>()?, hex::decode(digits)?.as_slice())?;
     put(&mut bytes, CHECKED, hex::decode(check)?.as_slice())?;
     Ok(is_restored::<LANES>(&bytes, secrets))
 }
 
 /// Replays an operation that leaves the hasher as it is. Returns whether it is as expected.
-pub fn change<const LANES: usize>(
-    saved: &[u8; SAVED_SIZE],
-    secrets: &RapidSecrets,
-    operation: &str,
-) -> Result<bool> {
+pub fn change<const LANES: usize>(saved: &[u8; SAVED_SIZE], secrets: &RapidSecrets, operation: &str) -> Result<bool> {
     if let Some(text) = operation.strip_prefix("^") {
         return Ok(!forge::<LANES>(saved, secrets, text)?);
     }

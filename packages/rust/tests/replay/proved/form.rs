@@ -97,9 +97,6 @@ impl Version {
     /// Returns the version with a name, if there is one.
     pub fn of_name(name: &str) -> Option<Self> {
         let versions = Version::all();
-        versions
-            .iter()
-            .find(|version| version.name() == name)
-            .copied()
+        versions.iter().find(|version| version.name() == name).copied()
     }
 }

@@ -22,8 +22,7 @@ fn answer<const AVALANCHE: bool, const SPONGE: bool, const COMPACT: bool, const 
     start: &RapidSecrets,
     items: &[Item],
 ) -> u64 {
-    let state =
-        SeedableState::<AVALANCHE, SPONGE, COMPACT, PROTECTED>::custom(start.seed, &start.secrets);
+    let state = SeedableState::<AVALANCHE, SPONGE, COMPACT, PROTECTED>::custom(start.seed, &start.secrets);
     let mut hasher = state.build_hasher();
     for item in items {
         item.write_to(&mut hasher);
@@ -32,12 +31,7 @@ fn answer<const AVALANCHE: bool, const SPONGE: bool, const COMPACT: bool, const 
 }
 
 /// The same, of options that are values.
-pub fn answered<const COMPACT: bool>(
-    options: Options,
-    sponge: bool,
-    start: &RapidSecrets,
-    items: &[Item],
-) -> u64 {
+pub fn answered<const COMPACT: bool>(options: Options, sponge: bool, start: &RapidSecrets, items: &[Item]) -> u64 {
     match (options.avalanche, sponge, options.protected) {
         (true, true, true) => answer::<true, true, COMPACT, true>(start, items),
         (true, true, false) => answer::<true, true, COMPACT, false>(start, items),
@@ -62,13 +56,7 @@ pub fn compare(
     for item in items {
         absorbed.push(item.absorbed());
     }
-    let defined = finished(
-        options,
-        sponge,
-        &start.secrets,
-        start.seed,
-        absorbed.as_slice(),
-    );
+    let defined = finished(options, sponge, &start.secrets, start.seed, absorbed.as_slice());
     Ok(Agreement {
         definition: Some(defined == expected),
         words: None,

@@ -48,12 +48,7 @@ impl Item {
     }
 
     /// Writes it, an integer by the hasher's own call for its type.
-    pub fn write_to<
-        const AVALANCHE: bool,
-        const SPONGE: bool,
-        const COMPACT: bool,
-        const PROTECTED: bool,
-    >(
+    pub fn write_to<const AVALANCHE: bool, const SPONGE: bool, const COMPACT: bool, const PROTECTED: bool>(
         &self,
         hasher: &mut RapidHasher<'_, AVALANCHE, SPONGE, COMPACT, PROTECTED>,
     ) {

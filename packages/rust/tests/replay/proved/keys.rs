@@ -69,15 +69,9 @@ pub fn replay(rule: &str, key: &str, expected: u64) -> Result<Agreement> {
         fields.push(part.field());
     }
     let secrets = secrets_of(rule)?;
-    let options = Options {
-        avalanche: true,
-        protected: false,
-    };
+    let options = Options { avalanche: true, protected: false };
     let v3 = Tested::Named(Version::V3);
     let default = rule != "default" || rapidhash_v3_key(fields.as_slice()) == expected;
     let seeded = rapidhash_v3_key_seeded(fields.as_slice(), &secrets.seven);
-    Ok(Agreement::new(
-        defined(v3, options, &secrets, message.as_slice()) == expected,
-        default && seeded == expected,
-    ))
+    Ok(Agreement::new(defined(v3, options, &secrets, message.as_slice()) == expected, default && seeded == expected))
 }

@@ -36,12 +36,7 @@ const ALL: [Known; 5] = [
         words: "from 49 on",
         runs: &[(49, 512)],
     },
-    Known {
-        first: Tested::Named(Version::V1),
-        second: Tested::V1Bug,
-        words: "at 48",
-        runs: &[(48, 48)],
-    },
+    Known { first: Tested::Named(Version::V1), second: Tested::V1Bug, words: "at 48", runs: &[(48, 48)] },
     Known {
         first: Tested::Named(Version::V2Minor0),
         second: Tested::Named(Version::V2Minor1),
@@ -59,9 +54,7 @@ const ALL: [Known; 5] = [
 impl Known {
     /// Whether the two are known to differ on `n` bytes.
     fn differ(&self, n: usize) -> bool {
-        self.runs
-            .iter()
-            .any(|&(first, last)| first <= n && n <= last)
+        self.runs.iter().any(|&(first, last)| first <= n && n <= last)
     }
 
     /// Whether they differ on these bytes as is known.
@@ -76,9 +69,7 @@ impl Known {
         let mut lengths = 0u64;
         for n in 0..bytes.len() {
             let x = &bytes[..n];
-            let holds = OPTIONS
-                .iter()
-                .all(|&options| self.holds(options, secrets, x));
+            let holds = OPTIONS.iter().all(|&options| self.holds(options, secrets, x));
             lengths = lengths.saturating_add(u64::from(holds));
         }
         lengths

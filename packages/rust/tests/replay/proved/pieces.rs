@@ -11,12 +11,7 @@ use rapidhash::v3::RapidStreamHasherLanes;
 
 /// The number of lengths below the bytes' own at which a stream hasher of `LANES` lanes hashes as
 /// the bulk call does, in pieces of one size, each length after a reset.
-fn pieces_agree<const LANES: usize>(
-    version: Tested,
-    secrets: &Secrets,
-    bytes: &[u8],
-    size: usize,
-) -> u64 {
+fn pieces_agree<const LANES: usize>(version: Tested, secrets: &Secrets, bytes: &[u8], size: usize) -> u64 {
     let [options, ..] = OPTIONS;
     let mut hasher = RapidStreamHasherLanes::<LANES, true, false>::new(&secrets.seven);
     let mut agreed = 0u64;
@@ -34,9 +29,7 @@ fn pieces_agree<const LANES: usize>(
 }
 
 /// The pieces' sizes: those round a word, a pair, a chunk of seven lanes and two of them.
-const SIZES: [usize; 14] = [
-    1, 2, 15, 16, 17, 111, 112, 113, 128, 223, 224, 225, 511, 1024,
-];
+const SIZES: [usize; 14] = [1, 2, 15, 16, 17, 111, 112, 113, 128, 223, 224, 225, 511, 1024];
 
 /// Compares in pieces of each size; returns the number of values that differ.
 fn print_sizes(secrets: &Secrets, bytes: &[u8]) -> Result<u64> {
@@ -62,8 +55,7 @@ fn pairs_agree(secrets: &Secrets, bytes: &[u8]) -> u64 {
     let mut hasher = RapidStreamHasherLanes::<7, true, false>::new(&secrets.seven);
     let mut agreed = 0u64;
     for (first, second) in PAIRS {
-        let (one, both) = if let (Some(one), Some(both)) = (bytes.get(..first), bytes.get(..second))
-        {
+        let (one, both) = if let (Some(one), Some(both)) = (bytes.get(..first), bytes.get(..second)) {
             (one, both)
         } else {
             continue;
@@ -75,11 +67,9 @@ fn pairs_agree(secrets: &Secrets, bytes: &[u8]) -> u64 {
         };
         hasher.reset();
         hasher.write(one);
-        let after_one =
-            hasher.finish() == body::<false>(Tested::Named(Version::V3), options, secrets, one);
+        let after_one = hasher.finish() == body::<false>(Tested::Named(Version::V3), options, secrets, one);
         hasher.write(rest);
-        let after_both =
-            hasher.finish() == body::<false>(Tested::Named(Version::V3), options, secrets, both);
+        let after_both = hasher.finish() == body::<false>(Tested::Named(Version::V3), options, secrets, both);
         agreed = agreed.saturating_add(u64::from(after_one && after_both));
     }
     agreed

@@ -18,11 +18,7 @@ use std::io;
 pub const COLUMNS: &str = "form\tminor\tprotected\tmessage\tlength\tsecrets\texpected";
 
 /// The hash of all bytes of a reader.
-fn of_reader<const PROTECTED: bool>(
-    version: Tested,
-    secrets: &Secrets,
-    bytes: &[u8],
-) -> io::Result<u64> {
+fn of_reader<const PROTECTED: bool>(version: Tested, secrets: &Secrets, bytes: &[u8]) -> io::Result<u64> {
     let mut reader = bytes;
     let len = bytes.len() as u64;
     let three = &secrets.three;
@@ -31,15 +27,9 @@ fn of_reader<const PROTECTED: bool>(
         Tested::Named(Version::V1) | Tested::V1Bug => {
             rapidhash_v1_file_inline::<&[u8], PROTECTED>(&mut reader, len, three)
         }
-        Tested::Named(Version::V2Minor0) => {
-            rapidhash_v2_file_inline::<&[u8], 0, PROTECTED>(&mut reader, len, seven)
-        }
-        Tested::Named(Version::V2Minor1) => {
-            rapidhash_v2_file_inline::<&[u8], 1, PROTECTED>(&mut reader, len, seven)
-        }
-        Tested::Named(Version::V2Minor2) => {
-            rapidhash_v2_file_inline::<&[u8], 2, PROTECTED>(&mut reader, len, seven)
-        }
+        Tested::Named(Version::V2Minor0) => rapidhash_v2_file_inline::<&[u8], 0, PROTECTED>(&mut reader, len, seven),
+        Tested::Named(Version::V2Minor1) => rapidhash_v2_file_inline::<&[u8], 1, PROTECTED>(&mut reader, len, seven),
+        Tested::Named(Version::V2Minor2) => rapidhash_v2_file_inline::<&[u8], 2, PROTECTED>(&mut reader, len, seven),
         _ => rapidhash_v3_file_inline::<&[u8], PROTECTED>(bytes, seven),
     }
 }
@@ -58,10 +48,7 @@ pub fn replay(line: &str) -> Result<Agreement> {
     } else {
         bail!("no version");
     };
-    let options = Options {
-        avalanche: true,
-        protected: *protected == "1",
-    };
+    let options = Options { avalanche: true, protected: *protected == "1" };
     let bytes = message(rule, number(length)?)?;
     let secrets = secrets_of(secrets)?;
     let expected = number(expected)?;
@@ -71,8 +58,5 @@ pub fn replay(line: &str) -> Result<Agreement> {
     } else {
         of_reader::<false>(version, &secrets, bytes)?
     };
-    Ok(Agreement::new(
-        defined(version, options, &secrets, bytes) == expected,
-        answer == expected,
-    ))
+    Ok(Agreement::new(defined(version, options, &secrets, bytes) == expected, answer == expected))
 }

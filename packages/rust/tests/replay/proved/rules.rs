@@ -138,10 +138,7 @@ fn placed(places: &str, length: u64) -> Result<Vec<u8>> {
 /// Returns the secrets of a rule.
 pub fn secrets_of(rule: &str) -> Result<Secrets> {
     if rule == "default" {
-        return Ok(Secrets {
-            three: v1::DEFAULT_RAPID_SECRETS,
-            seven: v3::DEFAULT_RAPID_SECRETS,
-        });
+        return Ok(Secrets { three: v1::DEFAULT_RAPID_SECRETS, seven: v3::DEFAULT_RAPID_SECRETS });
     }
     let (name, words) = if let Some((name, words)) = rule.split_once(":") {
         (name, words)
@@ -149,10 +146,9 @@ pub fn secrets_of(rule: &str) -> Result<Secrets> {
         bail!("no secrets by the rule {rule}");
     };
     Ok(match name {
-        "make" => Secrets {
-            three: v1::RapidSecrets::seed(number(words)?),
-            seven: v3::RapidSecrets::seed(number(words)?),
-        },
+        "make" => {
+            Secrets { three: v1::RapidSecrets::seed(number(words)?), seven: v3::RapidSecrets::seed(number(words)?) }
+        }
         "word" => Secrets {
             three: v1::RapidSecrets::seed_cpp(number(words)?),
             seven: v3::RapidSecrets::seed_cpp(number(words)?),
@@ -222,19 +218,12 @@ fn own(words: &str) -> Result<Secrets> {
 fn of_words(words: [u64; 8]) -> Secrets {
     let [seed, a, b, c, d, e, f, g] = words;
     Secrets {
-        three: v1::RapidSecrets {
-            seed,
-            secrets: [a, b, c],
-        },
-        seven: v3::RapidSecrets {
-            seed,
-            secrets: [a, b, c, d, e, f, g],
-        },
+        three: v1::RapidSecrets { seed, secrets: [a, b, c] },
+        seven: v3::RapidSecrets { seed, secrets: [a, b, c, d, e, f, g] },
     }
 }
 
 /// Parses a decimal number.
 pub fn number(text: &str) -> Result<u64> {
-    text.parse::<u64>()
-        .context(format_args!("reading the number {text}"))
+    text.parse::<u64>().context(format_args!("reading the number {text}"))
 }

@@ -24,39 +24,19 @@ struct Course {
 
 impl Course {
     fn new() -> Course {
-        Course {
-            message: Vec::new(),
-            saved: [0; SAVED_SIZE],
-            saved_message: Vec::new(),
-            is_defined: true,
-            holds: true,
-        }
+        Course { message: Vec::new(), saved: [0; SAVED_SIZE], saved_message: Vec::new(), is_defined: true, holds: true }
     }
 
     /// Compares a hash with an expected one, and with the definition's of the message.
-    fn compare(
-        &mut self,
-        version: Version,
-        secrets: &Secrets,
-        hash: u64,
-        value: Option<&str>,
-    ) -> Result<()> {
+    fn compare(&mut self, version: Version, secrets: &Secrets, hash: u64, value: Option<&str>) -> Result<()> {
         let value = if let Some(value) = value {
             value
         } else {
             bail!("too few values");
         };
         let expected = value.parse::<u64>()?;
-        let options = Options {
-            avalanche: true,
-            protected: false,
-        };
-        let whole = defined(
-            Tested::Named(version),
-            options,
-            secrets,
-            self.message.as_slice(),
-        );
+        let options = Options { avalanche: true, protected: false };
+        let whole = defined(Tested::Named(version), options, secrets, self.message.as_slice());
         self.is_defined = self.is_defined && whole == expected;
         self.holds = self.holds && hash == expected;
         Ok(())
@@ -86,12 +66,7 @@ impl Course {
 }
 
 /// Replays the operations of a hasher of `LANES` lanes.
-fn play<const LANES: usize>(
-    version: Version,
-    secrets: &Secrets,
-    operations: &str,
-    value: &str,
-) -> Result<Agreement> {
+fn play<const LANES: usize>(version: Version, secrets: &Secrets, operations: &str, value: &str) -> Result<Agreement> {
     let mut hasher = RapidStreamHasherLanes::<LANES, true, false>::new(&secrets.seven);
     let mut course = Course::new();
     let mut values = value.split_whitespace();

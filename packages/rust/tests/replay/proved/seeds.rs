@@ -7,8 +7,7 @@ use crate::replay::kit::*;
 use super::rules::number;
 use super::tally::Agreement;
 use crate::replay::proved::definitions::{
-    chained, cpp_seeded, global_seed, made_secrets, reseeded, seeded, source_answer, source_next,
-    source_start,
+    chained, cpp_seeded, global_seed, made_secrets, reseeded, seeded, source_answer, source_next, source_start,
 };
 use rapidhash::inner::{GlobalSecrets, SeedSource};
 use rapidhash::{v1, v2, v3};
@@ -68,11 +67,7 @@ fn defined(form: &str, call: &str, number: u64) -> Result<Vec<u64>, AllocError> 
     }
     let seed = seeded(number);
     let mut words = Vec::new();
-    words.push(if call == "make" {
-        seed
-    } else {
-        reseeded(seed, last)
-    });
+    words.push(if call == "make" { seed } else { reseeded(seed, last) });
     for place in 0..count {
         words.push(chained(seed, place + 1));
     }
@@ -118,11 +113,7 @@ fn compare(form: &str, call: &str, of: &str, expected: &str) -> Result<Agreement
     let expected = numbers(expected)?;
     let defined = defined(form, call, number(of)?)?;
     let made = made(form, call, number(of)?)?;
-    Ok(agreement(
-        expected.as_slice(),
-        defined.as_slice(),
-        made.as_slice(),
-    ))
+    Ok(agreement(expected.as_slice(), defined.as_slice(), made.as_slice()))
 }
 
 /// Replays the secrets made of a random word.

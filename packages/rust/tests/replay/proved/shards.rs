@@ -34,12 +34,10 @@ pub fn replay(kind: &str, argument: &str, value: &str) -> Result<Agreement> {
     } else {
         bail!("no two numbers");
     };
-    Ok(of_body(
-        match called(kind, number(first)?, number(count)?) {
-            Some(found) => found == number(value)?,
-            None => value == "refused",
-        },
-    ))
+    Ok(of_body(match called(kind, number(first)?, number(count)?) {
+        Some(found) => found == number(value)?,
+        None => value == "refused",
+    }))
 }
 
 /// Replays the fingerprint of hashes, also hash by hash.

@@ -17,8 +17,7 @@ use rapidhash::v3::RapidSecrets;
 pub const COLUMNS: &str = "avalanche\tprotected\tmessage\tlength\tsecrets\toperations\texpected";
 
 /// The columns of a file of stream hashers with 7, 5 or 3 lanes.
-pub const LANES_COLUMNS: &str =
-    "lanes\tavalanche\tprotected\tmessage\tlength\tsecrets\toperations\tsteps\texpected";
+pub const LANES_COLUMNS: &str = "lanes\tavalanche\tprotected\tmessage\tlength\tsecrets\toperations\tsteps\texpected";
 
 /// A message, cut from its beginning on: `f` is a hash, `r` a reset, and a number a size.
 fn cut<'d>(bytes: &'d [u8], operations: &str) -> Result<Vec<StreamOp<'d>>> {
@@ -29,13 +28,12 @@ fn cut<'d>(bytes: &'d [u8], operations: &str) -> Result<Vec<StreamOp<'d>>> {
             "f" => StreamOp::Finish,
             "r" => StreamOp::Reset,
             size => {
-                let (piece, others) = if let Some((piece, others)) =
-                    split_at_checked(rest, usize::try_from(number(size)?)?)
-                {
-                    (piece, others)
-                } else {
-                    bail!("no {size} bytes are left");
-                };
+                let (piece, others) =
+                    if let Some((piece, others)) = split_at_checked(rest, usize::try_from(number(size)?)?) {
+                        (piece, others)
+                    } else {
+                        bail!("no {size} bytes are left");
+                    };
                 rest = others;
                 StreamOp::Write(piece)
             }
@@ -85,10 +83,8 @@ fn compare<const LANES: usize>(
     let expected = numbers(expected)?;
     let defined = finishes(LANES, options, secrets, steps)?;
     let answered = answers::<LANES>(options, secrets, steps)?;
-    let mut agreement = Agreement::new(
-        defined.as_slice() == expected.as_slice(),
-        answered.as_slice() == expected.as_slice(),
-    );
+    let mut agreement =
+        Agreement::new(defined.as_slice() == expected.as_slice(), answered.as_slice() == expected.as_slice());
     if let Some(told) = told {
         let told = numbers(told)?;
         let counts = counts(LANES, steps)?;
@@ -100,23 +96,12 @@ fn compare<const LANES: usize>(
 /// Replays a run of V3's stream hasher.
 pub fn replay(line: &str) -> Result<Agreement> {
     let fields: Vec<&str> = line.split("\t").collect();
-    let (avalanche, protected, rule, length, secrets, operations, expected) = if let [
-        avalanche,
-        protected,
-        rule,
-        length,
-        secrets,
-        operations,
-        expected,
-    ] =
-        fields.as_slice()
-    {
-        (
-            avalanche, protected, rule, length, secrets, operations, expected,
-        )
-    } else {
-        bail!("no seven fields");
-    };
+    let (avalanche, protected, rule, length, secrets, operations, expected) =
+        if let [avalanche, protected, rule, length, secrets, operations, expected] = fields.as_slice() {
+            (avalanche, protected, rule, length, secrets, operations, expected)
+        } else {
+            bail!("no seven fields");
+        };
     let options = options_of(avalanche, protected);
     let bytes = message(rule, number(length)?)?;
     let steps = cut(bytes.as_slice(), operations)?;
@@ -127,25 +112,12 @@ pub fn replay(line: &str) -> Result<Agreement> {
 /// Replays a run of a stream hasher with 7, 5 or 3 lanes.
 pub fn replay_with_lanes(line: &str) -> Result<Agreement> {
     let fields: Vec<&str> = line.split("\t").collect();
-    let (lanes, avalanche, protected, rule, length, secrets, operations, told, expected) = if let [
-        lanes,
-        avalanche,
-        protected,
-        rule,
-        length,
-        secrets,
-        operations,
-        told,
-        expected,
-    ] =
-        fields.as_slice()
-    {
-        (
-            lanes, avalanche, protected, rule, length, secrets, operations, told, expected,
-        )
-    } else {
-        bail!("no nine fields");
-    };
+    let (lanes, avalanche, protected, rule, length, secrets, operations, told, expected) =
+        if let [lanes, avalanche, protected, rule, length, secrets, operations, told, expected] = fields.as_slice() {
+            (lanes, avalanche, protected, rule, length, secrets, operations, told, expected)
+        } else {
+            bail!("no nine fields");
+        };
     let options = options_of(avalanche, protected);
     let bytes = message(rule, number(length)?)?;
     let steps = cut(bytes.as_slice(), operations)?;

@@ -24,13 +24,7 @@ pub struct Agreement {
 impl Agreement {
     /// Returns the agreement of a case without values.
     pub fn none() -> Agreement {
-        Agreement {
-            definition: None,
-            words: None,
-            body: None,
-            compact: None,
-            steps: None,
-        }
+        Agreement { definition: None, words: None, body: None, compact: None, steps: None }
     }
 
     /// Returns the agreement of a definition and of the library, which has no compact code for it.
@@ -50,10 +44,7 @@ struct Count {
 }
 
 impl Count {
-    const NONE: Count = Count {
-        compared: 0,
-        agreed: 0,
-    };
+    const NONE: Count = Count { compared: 0, agreed: 0 };
 
     /// Counts a value and returns whether it differs.
     fn differs(&mut self, agrees: Option<bool>) -> bool {
@@ -109,13 +100,7 @@ impl Tally {
     /// Returns the number of values that differ.
     pub fn differing(&self) -> u64 {
         let mut differing = 0u64;
-        for count in [
-            self.definition,
-            self.words,
-            self.body,
-            self.compact,
-            self.steps,
-        ] {
+        for count in [self.definition, self.words, self.body, self.compact, self.steps] {
             differing = differing.saturating_add(count.differing());
         }
         differing

@@ -24,11 +24,7 @@ pub const fn rapid_mum<const PROTECTED: bool>(a: u64, b: u64) -> (u64, u64) {
     let product = a as u128 * b as u128;
     let low = (product % 0x1_0000_0000_0000_0000) as u64;
     let high = (product / 0x1_0000_0000_0000_0000) as u64;
-    if PROTECTED {
-        (a ^ low, b ^ high)
-    } else {
-        (low, high)
-    }
+    if PROTECTED { (a ^ low, b ^ high) } else { (low, high) }
 }
 
 /// Returns the two numbers of [`rapid_mum`], folded into one by XOR.

@@ -15,12 +15,7 @@ pub(crate) struct Seeded<'s> {
 impl<'s> Seeded<'s> {
     /// Returns a hasher with the seed and the secrets that has absorbed nothing.
     #[inline(always)]
-    pub(crate) fn hasher<
-        const AVALANCHE: bool,
-        const SPONGE: bool,
-        const COMPACT: bool,
-        const PROTECTED: bool,
-    >(
+    pub(crate) fn hasher<const AVALANCHE: bool, const SPONGE: bool, const COMPACT: bool, const PROTECTED: bool>(
         &self,
     ) -> RapidHasher<'s, AVALANCHE, SPONGE, COMPACT, PROTECTED> {
         RapidHasher::from_parts(self.seed, self.secrets)

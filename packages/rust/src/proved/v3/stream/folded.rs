@@ -34,21 +34,13 @@ impl Folded {
 
     /// Folds the chunk at the head of `bytes`, one pair into each of the first `LANES` lanes.
     #[inline(always)]
-    pub(crate) fn step<const LANES: usize, const PROTECTED: bool>(
-        &mut self,
-        bytes: &[u8],
-        secrets: &[u64; 7],
-    ) {
+    pub(crate) fn step<const LANES: usize, const PROTECTED: bool>(&mut self, bytes: &[u8], secrets: &[u64; 7]) {
         fold_row::<7, LANES, PROTECTED>(&mut self.lanes, bytes, secrets);
     }
 
     /// Folds the two chunks at the head of `bytes`.
     #[inline(always)]
-    fn step_twice<const LANES: usize, const PROTECTED: bool>(
-        &mut self,
-        bytes: &[u8],
-        secrets: &[u64; 7],
-    ) {
+    fn step_twice<const LANES: usize, const PROTECTED: bool>(&mut self, bytes: &[u8], secrets: &[u64; 7]) {
         fold_two_rows_by_lane::<7, LANES, PROTECTED>(&mut self.lanes, bytes, secrets);
     }
 

@@ -75,18 +75,11 @@ impl<'a> Parts<'a> {
         let start = 16 + self.len;
         self.kept[start..16 + 16 * LANES].copy_from_slice(&piece[..room]);
         let kept: &[u8] = &self.kept;
-        self.folded
-            .step::<LANES, PROTECTED>(&kept[16..16 + 16 * LANES], &self.secrets.secrets);
+        self.folded.step::<LANES, PROTECTED>(&kept[16..16 + 16 * LANES], &self.secrets.secrets);
         self.any = true;
-        let rest = self
-            .folded
-            .fold_chunks::<LANES, PROTECTED>(&piece[room..], &self.secrets.secrets);
+        let rest = self.folded.fold_chunks::<LANES, PROTECTED>(&piece[room..], &self.secrets.secrets);
         let end = piece.len() - rest.len();
-        let carried = if end >= 16 {
-            sixteen(piece, end - 16)
-        } else {
-            sixteen(&self.kept, 16 * LANES)
-        };
+        let carried = if end >= 16 { sixteen(piece, end - 16) } else { sixteen(&self.kept, 16 * LANES) };
         self.kept[..16].copy_from_slice(&carried);
         self.kept[16..16 + rest.len()].copy_from_slice(rest);
         self.len = rest.len();
@@ -95,9 +88,7 @@ impl<'a> Parts<'a> {
     /// Returns the hash of the message. A message without a folded chunk is in the buffer as a
     /// whole.
     #[inline(always)]
-    pub(crate) fn finish<const LANES: usize, const AVALANCHE: bool, const PROTECTED: bool>(
-        &self,
-    ) -> u64 {
+    pub(crate) fn finish<const LANES: usize, const AVALANCHE: bool, const PROTECTED: bool>(&self) -> u64 {
         let kept: &[u8] = &self.kept;
         let new = &kept[16..16 + self.len];
         if !self.any {

@@ -72,14 +72,8 @@ impl<'a> Parts<'a> {
     /// Returns the bytes before the check.
     fn save_body<const LANES: usize>(&self, options: u8) -> [u8; 200] {
         let (lanes, any, len) = (LANES as u8, self.any as u8, self.len as u8);
-        let head = [
-            114, 97, 112, 105, 100, 86, 51, 2, lanes, options, any, len, 0, 0, 0, 0,
-        ];
-        let carried = if self.any {
-            sixteen(&self.kept, 0)
-        } else {
-            [0; 16]
-        };
+        let head = [114, 97, 112, 105, 100, 86, 51, 2, lanes, options, any, len, 0, 0, 0, 0];
+        let carried = if self.any { sixteen(&self.kept, 0) } else { [0; 16] };
         let mut out = [0; 200];
         put(&mut out, 0, &head);
         put_lanes(&mut out, 16, self.folded.lanes(), self.secrets.seed);

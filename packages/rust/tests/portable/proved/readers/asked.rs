@@ -19,29 +19,17 @@ pub(crate) struct Asked {
 
 /// A hash.
 pub(crate) fn gave(hash: u64, left: usize) -> Asked {
-    Asked {
-        answer: Ok(hash),
-        flag: false,
-        left,
-    }
+    Asked { answer: Ok(hash), flag: false, left }
 }
 
 /// A reader that ended early, and was read to its end.
 pub(crate) fn fell_short() -> Asked {
-    Asked {
-        answer: Err(ErrorKind::UnexpectedEof),
-        flag: false,
-        left: 0,
-    }
+    Asked { answer: Err(ErrorKind::UnexpectedEof), flag: false, left: 0 }
 }
 
 /// An error of the reader.
 pub(crate) fn failed(kind: ErrorKind, left: usize) -> Asked {
-    Asked {
-        answer: Err(kind),
-        flag: true,
-        left,
-    }
+    Asked { answer: Err(kind), flag: true, left }
 }
 
 /// A reader of one byte per read, which fails at one of them.
@@ -55,21 +43,13 @@ pub(crate) fn sound(bytes: &[u8]) -> CountingReader<'_> {
 }
 
 fn told(answer: io::Result<u64>, flag: bool, left: usize) -> Asked {
-    Asked {
-        answer: answer.map_err(|error| error.kind()),
-        flag,
-        left,
-    }
+    Asked { answer: answer.map_err(|error| error.kind()), flag, left }
 }
 
 /// V1 of `len` bytes of a reader.
 pub(crate) fn v1_of(reader: CountingReader<'_>, len: u64) -> Asked {
     let mut source = Source::new(reader);
-    let answer = v1::rapidhash_v1_source::<CountingReader, false>(
-        &mut source,
-        len,
-        &v1::DEFAULT_RAPID_SECRETS,
-    );
+    let answer = v1::rapidhash_v1_source::<CountingReader, false>(&mut source, len, &v1::DEFAULT_RAPID_SECRETS);
     let flag = source.failed();
     told(answer, flag, source.into_inner().left.len())
 }
@@ -77,8 +57,7 @@ pub(crate) fn v1_of(reader: CountingReader<'_>, len: u64) -> Asked {
 /// V1 of `len` bytes of a slice as a reader, which returns all requested bytes.
 pub(crate) fn v1_of_slice(bytes: &[u8], len: u64) -> Asked {
     let mut source = Source::new(bytes);
-    let answer =
-        v1::rapidhash_v1_source::<&[u8], false>(&mut source, len, &v1::DEFAULT_RAPID_SECRETS);
+    let answer = v1::rapidhash_v1_source::<&[u8], false>(&mut source, len, &v1::DEFAULT_RAPID_SECRETS);
     let flag = source.failed();
     told(answer, flag, source.into_inner().len())
 }
@@ -93,21 +72,13 @@ pub(crate) fn v1_of_files(bytes: &[u8], len: u64, fails_at: u64) -> [Outcome; 3]
     let seeded = v1::rapidhash_v1_file_seeded::<CountingReader>(&mut second, len, secrets);
     let mut third = drip(bytes, fails_at, ErrorKind::BrokenPipe);
     let inline = v1::rapidhash_v1_file_inline::<CountingReader, false>(&mut third, len, secrets);
-    [
-        Outcome::new(named, &first),
-        Outcome::new(seeded, &second),
-        Outcome::new(inline, &third),
-    ]
+    [Outcome::new(named, &first), Outcome::new(seeded, &second), Outcome::new(inline, &third)]
 }
 
 /// V2 of `len` bytes of a reader.
 pub(crate) fn v2_of<const MINOR: u8>(reader: CountingReader<'_>, len: u64) -> Asked {
     let mut source = Source::new(reader);
-    let answer = v2::rapidhash_v2_source::<CountingReader, MINOR, false>(
-        &mut source,
-        len,
-        &v2::DEFAULT_RAPID_SECRETS,
-    );
+    let answer = v2::rapidhash_v2_source::<CountingReader, MINOR, false>(&mut source, len, &v2::DEFAULT_RAPID_SECRETS);
     let flag = source.failed();
     told(answer, flag, source.into_inner().left.len())
 }
@@ -115,11 +86,7 @@ pub(crate) fn v2_of<const MINOR: u8>(reader: CountingReader<'_>, len: u64) -> As
 /// V2 of `len` bytes of a slice as a reader, which returns all requested bytes.
 pub(crate) fn v2_of_slice<const MINOR: u8>(bytes: &[u8], len: u64) -> Asked {
     let mut source = Source::new(bytes);
-    let answer = v2::rapidhash_v2_source::<&[u8], MINOR, false>(
-        &mut source,
-        len,
-        &v2::DEFAULT_RAPID_SECRETS,
-    );
+    let answer = v2::rapidhash_v2_source::<&[u8], MINOR, false>(&mut source, len, &v2::DEFAULT_RAPID_SECRETS);
     let flag = source.failed();
     told(answer, flag, source.into_inner().len())
 }
@@ -128,7 +95,6 @@ pub(crate) fn v2_of_slice<const MINOR: u8>(bytes: &[u8], len: u64) -> Asked {
 pub(crate) fn v2_of_file<const MINOR: u8>(bytes: &[u8], len: u64) -> Outcome {
     let secrets = &v2::DEFAULT_RAPID_SECRETS;
     let mut reader = sound(bytes);
-    let answer =
-        v2::rapidhash_v2_file_inline::<CountingReader, MINOR, false>(&mut reader, len, secrets);
+    let answer = v2::rapidhash_v2_file_inline::<CountingReader, MINOR, false>(&mut reader, len, secrets);
     Outcome::new(answer, &reader)
 }

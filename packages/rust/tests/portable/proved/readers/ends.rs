@@ -2,9 +2,7 @@
 
 //! Bytes after the length, and readers that end before it.
 
-use crate::readers::asked::{
-    fell_short, gave, sound, v1_of, v1_of_files, v1_of_slice, v2_of, v2_of_slice,
-};
+use crate::readers::asked::{fell_short, gave, sound, v1_of, v1_of_files, v1_of_slice, v2_of, v2_of_slice};
 use crate::readers::outcome::Outcome;
 use rapidhash::v1::rapidhash_v1;
 use rapidhash::v2::{DEFAULT_RAPID_SECRETS, rapidhash_v2_inline};
@@ -14,11 +12,7 @@ use std::io::ErrorKind;
 #[test]
 fn v1_takes_its_length_and_no_more() {
     for (bytes, len, want) in [
-        (
-            &b"something\nmore"[..],
-            10u64,
-            gave(15965596575264898037, 4),
-        ),
+        (&b"something\nmore"[..], 10u64, gave(15965596575264898037, 4)),
         (&b"something\n"[..], 11, fell_short()),
         (&b"abc"[..], 0, gave(6516417773221693515, 3)),
         (&b"abc"[..], u64::MAX, fell_short()),
@@ -34,34 +28,13 @@ fn v1_takes_its_length_and_no_more() {
 fn v1_files_of_a_known_text() {
     let text = &b"something\n"[..];
     for (bytes, len, fails_at, returned, reads, longest, left) in [
-        (
-            &b"something\nmore"[..],
-            10u64,
-            0u64,
-            Ok(15965596575264898037),
-            10u64,
-            10usize,
-            4usize,
-        ),
+        (&b"something\nmore"[..], 10u64, 0u64, Ok(15965596575264898037), 10u64, 10usize, 4usize),
         (text, 11, 0, Err(ErrorKind::UnexpectedEof), 11, 11, 0),
         (text, 10, 3, Err(ErrorKind::BrokenPipe), 3, 10, 8),
         (&b"abc"[..], 0, 0, Ok(6516417773221693515), 0, 0, 3),
-        (
-            &b"abc"[..],
-            u64::MAX,
-            0,
-            Err(ErrorKind::UnexpectedEof),
-            4,
-            65520,
-            0,
-        ),
+        (&b"abc"[..], u64::MAX, 0, Err(ErrorKind::UnexpectedEof), 4, 65520, 0),
     ] {
-        let want = Outcome {
-            returned,
-            reads,
-            longest,
-            left,
-        };
+        let want = Outcome { returned, reads, longest, left };
         assert!(v1_of_files(bytes, len, fails_at) == [want; 3]);
     }
 }

@@ -71,15 +71,8 @@ fn each_failed_read_sets_the_flag() {
     for fails_at in 1..13u64 {
         let reader = drip(SOMETHING, fails_at, ErrorKind::BrokenPipe);
         let mut source = Source::new(reader);
-        let answer = v3::rapidhash_v3_source::<CountingReader, false>(
-            &mut source,
-            &v3::DEFAULT_RAPID_SECRETS,
-        );
-        let want = if fails_at < 12 {
-            Err(ErrorKind::BrokenPipe)
-        } else {
-            Ok(11612086640089003834)
-        };
+        let answer = v3::rapidhash_v3_source::<CountingReader, false>(&mut source, &v3::DEFAULT_RAPID_SECRETS);
+        let want = if fails_at < 12 { Err(ErrorKind::BrokenPipe) } else { Ok(11612086640089003834) };
         assert!(answer.map_err(|error| error.kind()) == want, "{fails_at}");
         assert!(source.failed() == (fails_at < 12), "{fails_at}");
     }

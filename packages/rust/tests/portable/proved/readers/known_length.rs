@@ -39,10 +39,7 @@ fn a_failed_read_is_returned_at_once() {
 fn each_of_three_reads_fails(form: Form, bytes: &[u8]) {
     for fails_at in 1..4u64 {
         let kind = ErrorKind::Interrupted;
-        let outcome = form.outcome(
-            CountingReader::failing(bytes, usize::MAX, fails_at, kind),
-            140000,
-        );
+        let outcome = form.outcome(CountingReader::failing(bytes, usize::MAX, fails_at, kind), 140000);
         assert!(outcome.returned == Err(kind), "{form:?}");
         assert!(outcome.reads == fails_at, "{form:?}");
     }
@@ -69,12 +66,7 @@ fn reads_of_lengths(form: Form, bytes: &[u8]) {
         (140000, 3, 65520),
     ] {
         let (message, behind) = bytes.split_at(n.min(bytes.len()));
-        let want = Outcome {
-            returned: Ok(form.of_bytes(message)),
-            reads,
-            longest,
-            left: behind.len(),
-        };
+        let want = Outcome { returned: Ok(form.of_bytes(message)), reads, longest, left: behind.len() };
         let reader = CountingReader::new(bytes, usize::MAX);
         assert!(form.outcome(reader, n as u64) == want, "{form:?} {n}");
     }
@@ -94,20 +86,10 @@ fn few_reads() {
 fn reads_of_single_bytes(form: Form, bytes: &[u8]) {
     for n in [0usize, 1, 16, 17, 300, 9000] {
         let (message, behind) = bytes.split_at(n.min(bytes.len()));
-        let want = Outcome {
-            returned: Ok(form.of_bytes(message)),
-            reads: n as u64,
-            longest: n,
-            left: behind.len(),
-        };
+        let want = Outcome { returned: Ok(form.of_bytes(message)), reads: n as u64, longest: n, left: behind.len() };
         let reader = CountingReader::new(bytes, 1);
         assert!(form.outcome(reader, n as u64) == want, "{form:?} {n}");
-        let want = Outcome {
-            returned: Err(ErrorKind::UnexpectedEof),
-            reads: n as u64 + 1,
-            longest: n + 1,
-            left: 0,
-        };
+        let want = Outcome { returned: Err(ErrorKind::UnexpectedEof), reads: n as u64 + 1, longest: n + 1, left: 0 };
         let reader = CountingReader::new(message, 1);
         assert!(form.outcome(reader, n as u64 + 1) == want, "{form:?} {n}");
     }
@@ -127,10 +109,7 @@ fn lengths_agree(form: Form, bytes: &[u8]) {
     for n in 0..1025usize {
         let (message, _) = bytes.split_at(n.min(bytes.len()));
         let outcome = form.outcome(CountingReader::new(bytes, n % 7 + 1), n as u64);
-        assert!(
-            outcome.returned == Ok(form.of_bytes(message)),
-            "{form:?} {n}"
-        );
+        assert!(outcome.returned == Ok(form.of_bytes(message)), "{form:?} {n}");
     }
 }
 

@@ -5,9 +5,7 @@
 use crate::fakes::CountingReader;
 use rapidhash::reader::Source;
 use rapidhash::rng::RapidRng;
-use rapidhash::v3::{
-    RapidSecrets, rapidhash_v3_file_sized, rapidhash_v3_inline, rapidhash_v3_source_sized,
-};
+use rapidhash::v3::{RapidSecrets, rapidhash_v3_file_sized, rapidhash_v3_inline, rapidhash_v3_source_sized};
 use std::io;
 use std::io::ErrorKind;
 type Fail = Box<dyn std::error::Error>;
@@ -20,11 +18,9 @@ fn lengths_agreed<const SIZE: usize>(bytes: &[u8], secrets: &RapidSecrets) -> io
         let x = &bytes[..n];
         let known = rapidhash_v3_inline::<true, false, false>(x, secrets);
         let mut source = Source::new(CountingReader::new(x, usize::MAX));
-        let of_source =
-            rapidhash_v3_source_sized::<CountingReader, SIZE, false>(&mut source, secrets)?;
+        let of_source = rapidhash_v3_source_sized::<CountingReader, SIZE, false>(&mut source, secrets)?;
         let mut reader = CountingReader::new(x, usize::MAX);
-        let of_file =
-            rapidhash_v3_file_sized::<&mut CountingReader, SIZE, false>(&mut reader, secrets)?;
+        let of_file = rapidhash_v3_file_sized::<&mut CountingReader, SIZE, false>(&mut reader, secrets)?;
         let failed = source.failed();
         let longest = source.into_inner().longest;
         let sizes = [longest, reader.longest];
@@ -57,12 +53,7 @@ fn the_size_changes_no_hash() -> Result<(), Fail> {
 fn an_interrupted_read_keeps_its_kind() {
     let secrets = RapidSecrets::seed(3);
     for fault in 1..4u64 {
-        let mut source = Source::new(CountingReader::failing(
-            b"abc",
-            usize::MAX,
-            fault,
-            ErrorKind::Interrupted,
-        ));
+        let mut source = Source::new(CountingReader::failing(b"abc", usize::MAX, fault, ErrorKind::Interrupted));
         let answer = rapidhash_v3_source_sized::<CountingReader, 1, false>(&mut source, &secrets);
         assert!(answer.err().map(|e| e.kind()) == Some(ErrorKind::Interrupted));
         assert!(source.failed());

@@ -68,12 +68,7 @@ fn each_read_asks_for_the_size() {
 fn reads_of_single_bytes(form: Form, bytes: &[u8]) {
     for n in [0usize, 1, 16, 17, 113, 9000] {
         let message = &bytes[..n.min(bytes.len())];
-        let want = Outcome {
-            returned: Ok(form.of_bytes(message)),
-            reads: n as u64 + 1,
-            longest: form.size(),
-            left: 0,
-        };
+        let want = Outcome { returned: Ok(form.of_bytes(message)), reads: n as u64 + 1, longest: form.size(), left: 0 };
         let reader = CountingReader::new(message, 1);
         assert!(form.outcome(reader) == want, "{form:?} {n}");
     }
@@ -114,15 +109,10 @@ fn compare_rapidhash_file() -> Result<(), Fail> {
 /// the length times 0xaaaa_aaaa_aaaa_aaaa, by `^`.
 #[test]
 fn lengths_make_the_difference() -> Result<(), Fail> {
-    let secrets = v3::RapidSecrets {
-        seed: 0,
-        secrets: [0; 7],
-    };
-    for (bytes, want) in [
-        (&[0u8; 0][..], 0),
-        (&[0; 1][..], 12297829382473034410),
-        (&[0; 2][..], 6148914691236517205u64),
-    ] {
+    let secrets = v3::RapidSecrets { seed: 0, secrets: [0; 7] };
+    for (bytes, want) in
+        [(&[0u8; 0][..], 0), (&[0; 1][..], 12297829382473034410), (&[0; 2][..], 6148914691236517205u64)]
+    {
         let mut source = Source::new(bytes);
         assert!(v3::rapidhash_v3_source::<&[u8], false>(&mut source, &secrets)? == want);
         assert!(v3::rapidhash_v3_file_seeded::<&[u8]>(bytes, &secrets)? == want);

@@ -29,11 +29,7 @@ pub(crate) fn value_of(number: Num) -> u64 {
 
 /// The block and the bit where an integer starts, after integers that end at `end`.
 fn place_of(end: (usize, usize), number: Num) -> (usize, usize) {
-    if end.1 + width_of(number) <= 128 {
-        end
-    } else {
-        (end.0 + 1, 0)
-    }
+    if end.1 + width_of(number) <= 128 { end } else { (end.0 + 1, 0) }
 }
 
 /// The block and the bit where the integers end after one more item.

@@ -11,9 +11,7 @@ use crate::replay::proved::form::{Form, Options, Version};
 
 use rapidhash::v1::{self, rapidhash_v1_inline};
 use rapidhash::v2::rapidhash_v2_inline;
-use rapidhash::v3::{
-    self, rapidhash_v3_inline, rapidhash_v3_micro_inline, rapidhash_v3_nano_inline,
-};
+use rapidhash::v3::{self, rapidhash_v3_inline, rapidhash_v3_micro_inline, rapidhash_v3_nano_inline};
 
 /// A portable hash that the library has.
 #[derive(Clone, Copy)]
@@ -94,12 +92,7 @@ fn hash<const AVALANCHE: bool, const COMPACT: bool, const PROTECTED: bool>(
 }
 
 /// Returns the library's hash of a version and options.
-pub fn body<const COMPACT: bool>(
-    tested: Tested,
-    options: Options,
-    secrets: &Secrets,
-    bytes: &[u8],
-) -> u64 {
+pub fn body<const COMPACT: bool>(tested: Tested, options: Options, secrets: &Secrets, bytes: &[u8]) -> u64 {
     match (options.avalanche, options.protected) {
         (true, true) => hash::<true, COMPACT, true>(tested, secrets, bytes),
         (true, false) => hash::<true, COMPACT, false>(tested, secrets, bytes),
@@ -121,12 +114,7 @@ pub fn defined(tested: Tested, options: Options, secrets: &Secrets, bytes: &[u8]
 
 /// Returns the same value, from the length of the bytes and the words that the version reads of
 /// them.
-pub fn defined_by_words(
-    tested: Tested,
-    options: Options,
-    secrets: &Secrets,
-    bytes: &[u8],
-) -> Result<u64, AllocError> {
+pub fn defined_by_words(tested: Tested, options: Options, secrets: &Secrets, bytes: &[u8]) -> Result<u64, AllocError> {
     let form = tested.form();
     let n = bytes.len();
     let words = absorbed_words(form, bytes)?;

@@ -19,14 +19,7 @@ impl Pairs for Words<'_> {
 
 /// Returns the value of a length and the words that a form reads of a message. V2's minor must be
 /// at most 2, and V3's lanes 1 to 7.
-pub fn value_of_words(
-    form: Form,
-    options: Options,
-    seed: u64,
-    secrets: &[u64],
-    n: usize,
-    words: &[(u64, u64)],
-) -> u64 {
+pub fn value_of_words(form: Form, options: Options, seed: u64, secrets: &[u64], n: usize, words: &[(u64, u64)]) -> u64 {
     let pairs = Words(words);
     let last = pairs.pair(words.len().saturating_sub(1));
     value(form, options, seed, secrets, n, &pairs, last)

@@ -14,35 +14,19 @@ pub(crate) fn shape_of(form: Form, n: usize) -> Shape {
     match form {
         Form::V1(bug) => {
             let rows = if n == 48 && !bug { 0 } else { n / 48 };
-            Shape {
-                lanes: 3,
-                rows,
-                threes: 0,
-            }
+            Shape { lanes: 3, rows, threes: 0 }
         }
         Form::V2(minor) => {
             let limit = if minor == 0 { 56 } else { 64 };
             if n > limit {
-                Shape {
-                    lanes: 7,
-                    rows: n / 112,
-                    threes: n % 112 / 48,
-                }
+                Shape { lanes: 7, rows: n / 112, threes: n % 112 / 48 }
             } else {
-                Shape {
-                    lanes: 7,
-                    rows: 0,
-                    threes: 0,
-                }
+                Shape { lanes: 7, rows: 0, threes: 0 }
             }
         }
         Form::V3(lanes) => {
             let rows = if n == 0 { 0 } else { (n - 1) / (16 * lanes) };
-            Shape {
-                lanes,
-                rows,
-                threes: 0,
-            }
+            Shape { lanes, rows, threes: 0 }
         }
     }
 }
@@ -98,11 +82,7 @@ pub(crate) fn tail_places(form: Form, n: usize) -> &'static [usize] {
 /// The two words at the end of a message.
 pub(crate) fn last_words(form: Form, bytes: &[u8]) -> (u64, u64) {
     let n = bytes.len();
-    if n > 16 {
-        (read_u64(bytes, n - 16), read_u64(bytes, n - 8))
-    } else {
-        short_words(form, bytes)
-    }
+    if n > 16 { (read_u64(bytes, n - 16), read_u64(bytes, n - 8)) } else { short_words(form, bytes) }
 }
 
 /// The two words of at most 16 bytes.
@@ -123,10 +103,7 @@ fn short_words(form: Form, bytes: &[u8]) -> (u64, u64) {
         };
     }
     match form {
-        Form::V1(_) => (
-            read_u32_combined(bytes, 0, n - 4),
-            read_u32_combined(bytes, 4, n - 8),
-        ),
+        Form::V1(_) => (read_u32_combined(bytes, 0, n - 4), read_u32_combined(bytes, 4, n - 8)),
         Form::V2(_) => (read_u64(bytes, 0), read_u64(bytes, n - 8)),
         Form::V3(_) => (read_u64(bytes, 0), read_u64(bytes, n - 8)),
     }
@@ -186,9 +163,5 @@ pub(crate) fn core_shape(n: usize) -> Shape {
     } else {
         (3, 0, 0)
     };
-    Shape {
-        lanes,
-        rows,
-        threes,
-    }
+    Shape { lanes, rows, threes }
 }

@@ -86,27 +86,13 @@ fn after_each(options: Options, secrets: &[u64], start: u64, items: &[Absorbed<'
 
 /// The hash: the last block is a step if there is one, and the avalanche mixes once more.
 fn close(options: Options, secrets: &[u64], seed: u64, pending: u128, width: usize) -> u64 {
-    let last = if width > 0 {
-        after_wide(options, secrets, seed, pending)
-    } else {
-        seed
-    };
-    if options.avalanche {
-        mix(options.protected, last, 0x8bb8_4b93_962e_acc9)
-    } else {
-        last
-    }
+    let last = if width > 0 { after_wide(options, secrets, seed, pending) } else { seed };
+    if options.avalanche { mix(options.protected, last, 0x8bb8_4b93_962e_acc9) } else { last }
 }
 
 /// Returns the hash of a hasher that starts from a seed and absorbs the items in order. With a
 /// sponge it packs integers into blocks of 128 bits.
-pub fn finished(
-    options: Options,
-    sponge: bool,
-    secrets: &[u64],
-    start: u64,
-    items: &[Absorbed<'_>],
-) -> u64 {
+pub fn finished(options: Options, sponge: bool, secrets: &[u64], start: u64, items: &[Absorbed<'_>]) -> u64 {
     if sponge {
         let end = end_of(items);
         let seed = after_packed(options, secrets, start, items);

@@ -22,23 +22,9 @@ impl Pairs for Message<'_> {
 }
 
 /// Returns the portable hash of `bytes`. V2's minor must be at most 2, and V3's lanes 1 to 7.
-pub fn portable_hash(
-    form: Form,
-    options: Options,
-    seed: u64,
-    secrets: &[u64],
-    bytes: &[u8],
-) -> u64 {
+pub fn portable_hash(form: Form, options: Options, seed: u64, secrets: &[u64], bytes: &[u8]) -> u64 {
     let words = last_words(form, bytes);
-    value(
-        form,
-        options,
-        seed,
-        secrets,
-        bytes.len(),
-        &Message(bytes),
-        words,
-    )
+    value(form, options, seed, secrets, bytes.len(), &Message(bytes), words)
 }
 
 /// Returns the value of the in-memory core.
@@ -51,11 +37,5 @@ pub fn core_hash(options: Options, bytes: &[u8], seed: u64, secrets: &[u64]) -> 
     let after_all = after_tail(protected, &pairs, rows, t, &[0, 0], secrets, after_rows);
     let sum = after_all.wrapping_add(n as u64);
     let masks = (0xaaaa_aaaa_aaaa_aaaa ^ sum, secret(secrets, 1));
-    close(
-        options,
-        last_words(Form::V3(7), bytes),
-        sum,
-        secret(secrets, 0),
-        masks,
-    )
+    close(options, last_words(Form::V3(7), bytes), sum, secret(secrets, 0), masks)
 }

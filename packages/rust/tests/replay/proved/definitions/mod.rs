@@ -27,8 +27,7 @@ pub use generator::{other_word_of, seed_at_moment, state_after, word_of};
 pub use hasher::{Absorbed, finished};
 pub use hashes::{core_hash, portable_hash};
 pub use secrets::{
-    chained, cpp_seeded, global_seed, made_secrets, reseeded, seeded, source_answer, source_next,
-    source_start,
+    chained, cpp_seeded, global_seed, made_secrets, reseeded, seeded, source_answer, source_next, source_start,
 };
 pub use streams::{chunk_count, finishes};
 pub use walk::mix;

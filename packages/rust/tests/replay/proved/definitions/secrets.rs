@@ -96,11 +96,7 @@ pub fn made_secrets(random: u64) -> [u64; 7] {
 /// Returns the start of the counter of a seed source, from a global seed and a second random word.
 pub fn source_start(global: u64, random: u64) -> u64 {
     let next = random.wrapping_add(1);
-    mix(
-        false,
-        next ^ 0x4d5a_2da5_1de1_aa47,
-        global ^ 0xa076_1d64_78bd_642f,
-    )
+    mix(false, next ^ 0x4d5a_2da5_1de1_aa47, global ^ 0xa076_1d64_78bd_642f)
 }
 
 /// Returns the counter of a seed source after one more seed.

@@ -23,11 +23,7 @@ pub(crate) trait Pairs {
 /// The low and the high half of a product, protected or not.
 fn multiply(protected: bool, a: u64, b: u64) -> (u64, u64) {
     let (low, high) = (a.wrapping_mul(b), high_half(a, b));
-    if protected {
-        (a ^ low, b ^ high)
-    } else {
-        (low, high)
-    }
+    if protected { (a ^ low, b ^ high) } else { (low, high) }
 }
 
 /// Returns the two folded into one word.
@@ -61,14 +57,7 @@ fn fold_pairs_of<P: Pairs>(
 }
 
 /// A lane after its own column.
-fn lane<P: Pairs>(
-    protected: bool,
-    pairs: &P,
-    shape: Shape,
-    i: usize,
-    secret: u64,
-    seed: u64,
-) -> u64 {
+fn lane<P: Pairs>(protected: bool, pairs: &P, shape: Shape, i: usize, secret: u64, seed: u64) -> u64 {
     let (lanes, rows) = (shape.lanes, shape.rows);
     let wide = fold_pairs_of(protected, pairs, 0, lanes, rows, i, secret, seed);
     if i < 3 {
@@ -80,13 +69,7 @@ fn lane<P: Pairs>(
 }
 
 /// The seed after all rows: the lanes joined.
-pub(crate) fn after_lanes<P: Pairs>(
-    protected: bool,
-    pairs: &P,
-    shape: Shape,
-    secrets: &[u64],
-    seed: u64,
-) -> u64 {
+pub(crate) fn after_lanes<P: Pairs>(protected: bool, pairs: &P, shape: Shape, secrets: &[u64], seed: u64) -> u64 {
     let mut joined = 0;
     for i in 0..shape.lanes {
         joined ^= lane(protected, pairs, shape, i, secret(secrets, i), seed);
@@ -114,19 +97,9 @@ pub(crate) fn after_tail<P: Pairs>(
 }
 
 /// The value of the last two words and the seed.
-pub(crate) fn close(
-    options: Options,
-    words: (u64, u64),
-    seed: u64,
-    secret: u64,
-    masks: (u64, u64),
-) -> u64 {
+pub(crate) fn close(options: Options, words: (u64, u64), seed: u64, secret: u64, masks: (u64, u64)) -> u64 {
     let (a, b) = multiply(options.protected, words.0 ^ secret, words.1 ^ seed);
-    if options.avalanche {
-        mix(options.protected, a ^ masks.0, b ^ masks.1)
-    } else {
-        a ^ b
-    }
+    if options.avalanche { mix(options.protected, a ^ masks.0, b ^ masks.1) } else { a ^ b }
 }
 
 /// The value of `n` bytes, of their pairs, and of the two words at their end.
@@ -147,11 +120,5 @@ pub(crate) fn value<P: Pairs>(
     let between = tail_seed(form, secrets, t, after_rows);
     let places = tail_places(form, n);
     let after_all = after_tail(protected, pairs, rows, t, places, secrets, between);
-    close(
-        options,
-        mixed_words(form, n, t, words),
-        after_all,
-        secret(secrets, 1),
-        masks(form, secrets, n, t),
-    )
+    close(options, mixed_words(form, n, t, words), after_all, secret(secrets, 1), masks(form, secrets, n, t))
 }

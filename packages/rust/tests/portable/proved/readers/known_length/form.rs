@@ -46,9 +46,7 @@ impl Form {
     /// The call itself.
     fn hash(self, reader: &mut CountingReader<'_>, len: u64) -> io::Result<u64> {
         match self {
-            Form::V1File | Form::V1FileSeeded | Form::V1FileInline | Form::V1Source => {
-                self.hash_v1(reader, len)
-            }
+            Form::V1File | Form::V1FileSeeded | Form::V1FileInline | Form::V1Source => self.hash_v1(reader, len),
             Form::V20Source | Form::V21Source | Form::V22Source => self.hash_v2_source(reader, len),
             _ => self.hash_v2_file(reader, len),
         }
@@ -58,12 +56,8 @@ impl Form {
     fn hash_v1(self, reader: &mut CountingReader<'_>, len: u64) -> io::Result<u64> {
         let secrets = &v1::RapidSecrets::seed(3);
         match self {
-            Form::V1FileSeeded => {
-                v1::rapidhash_v1_file_seeded::<CountingReader>(reader, len, secrets)
-            }
-            Form::V1FileInline => {
-                v1::rapidhash_v1_file_inline::<CountingReader, true>(reader, len, secrets)
-            }
+            Form::V1FileSeeded => v1::rapidhash_v1_file_seeded::<CountingReader>(reader, len, secrets),
+            Form::V1FileInline => v1::rapidhash_v1_file_inline::<CountingReader, true>(reader, len, secrets),
             Form::V1Source => {
                 let mut source = Source::new(reader);
                 v1::rapidhash_v1_source::<&mut CountingReader, true>(&mut source, len, secrets)
@@ -76,18 +70,10 @@ impl Form {
     fn hash_v2_file(self, reader: &mut CountingReader<'_>, len: u64) -> io::Result<u64> {
         let secrets = &v2::RapidSecrets::seed(3);
         match self {
-            Form::V2FileSeeded => {
-                v2::rapidhash_v2_2_file_seeded::<CountingReader>(reader, len, secrets)
-            }
-            Form::V20FileInline => {
-                v2::rapidhash_v2_file_inline::<CountingReader, 0, true>(reader, len, secrets)
-            }
-            Form::V21FileInline => {
-                v2::rapidhash_v2_file_inline::<CountingReader, 1, false>(reader, len, secrets)
-            }
-            Form::V22FileInline => {
-                v2::rapidhash_v2_file_inline::<CountingReader, 2, true>(reader, len, secrets)
-            }
+            Form::V2FileSeeded => v2::rapidhash_v2_2_file_seeded::<CountingReader>(reader, len, secrets),
+            Form::V20FileInline => v2::rapidhash_v2_file_inline::<CountingReader, 0, true>(reader, len, secrets),
+            Form::V21FileInline => v2::rapidhash_v2_file_inline::<CountingReader, 1, false>(reader, len, secrets),
+            Form::V22FileInline => v2::rapidhash_v2_file_inline::<CountingReader, 2, true>(reader, len, secrets),
             _ => v2::rapidhash_v2_2_file::<CountingReader>(reader, len),
         }
     }
@@ -98,12 +84,8 @@ impl Form {
         let mut source = Source::new(reader);
         let source = &mut source;
         match self {
-            Form::V20Source => {
-                v2::rapidhash_v2_source::<&mut CountingReader, 0, false>(source, len, secrets)
-            }
-            Form::V21Source => {
-                v2::rapidhash_v2_source::<&mut CountingReader, 1, true>(source, len, secrets)
-            }
+            Form::V20Source => v2::rapidhash_v2_source::<&mut CountingReader, 0, false>(source, len, secrets),
+            Form::V21Source => v2::rapidhash_v2_source::<&mut CountingReader, 1, true>(source, len, secrets),
             _ => v2::rapidhash_v2_source::<&mut CountingReader, 2, false>(source, len, secrets),
         }
     }
@@ -115,9 +97,7 @@ impl Form {
         match self {
             Form::V1File => v1::rapidhash_v1(bytes),
             Form::V1FileSeeded => v1::rapidhash_v1_seeded(bytes, one),
-            Form::V1FileInline | Form::V1Source => {
-                v1::rapidhash_v1_inline::<true, false, true, false>(bytes, one)
-            }
+            Form::V1FileInline | Form::V1Source => v1::rapidhash_v1_inline::<true, false, true, false>(bytes, one),
             Form::V2File => v2::rapidhash_v2_2(bytes),
             Form::V2FileSeeded => v2::rapidhash_v2_2_seeded(bytes, two),
             Form::V20FileInline => v2::rapidhash_v2_inline::<0, true, false, true>(bytes, two),

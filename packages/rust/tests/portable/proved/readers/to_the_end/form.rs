@@ -46,9 +46,7 @@ impl Form {
     fn hash(self, reader: &mut CountingReader<'_>) -> io::Result<u64> {
         match self {
             Form::File => v3::rapidhash_v3_file::<&mut CountingReader>(reader),
-            Form::Source | Form::SourceSized | Form::SourceMicro | Form::SourceNano => {
-                self.hash_of_source(reader)
-            }
+            Form::Source | Form::SourceSized | Form::SourceMicro | Form::SourceNano => self.hash_of_source(reader),
             _ => self.hash_of_file(reader),
         }
     }
@@ -57,21 +55,11 @@ impl Form {
     fn hash_of_file(self, reader: &mut CountingReader<'_>) -> io::Result<u64> {
         let secrets = &RapidSecrets::seed(3);
         match self {
-            Form::FileInline => {
-                v3::rapidhash_v3_file_inline::<&mut CountingReader, true>(reader, secrets)
-            }
-            Form::FileSizedOne => {
-                v3::rapidhash_v3_file_sized::<&mut CountingReader, 1, false>(reader, secrets)
-            }
-            Form::FileSizedLarge => {
-                v3::rapidhash_v3_file_sized::<&mut CountingReader, 10000, true>(reader, secrets)
-            }
-            Form::FileMicro => {
-                v3::rapidhash_v3_file_lanes::<&mut CountingReader, 5, 100, true>(reader, secrets)
-            }
-            Form::FileNano => {
-                v3::rapidhash_v3_file_lanes::<&mut CountingReader, 3, 9000, false>(reader, secrets)
-            }
+            Form::FileInline => v3::rapidhash_v3_file_inline::<&mut CountingReader, true>(reader, secrets),
+            Form::FileSizedOne => v3::rapidhash_v3_file_sized::<&mut CountingReader, 1, false>(reader, secrets),
+            Form::FileSizedLarge => v3::rapidhash_v3_file_sized::<&mut CountingReader, 10000, true>(reader, secrets),
+            Form::FileMicro => v3::rapidhash_v3_file_lanes::<&mut CountingReader, 5, 100, true>(reader, secrets),
+            Form::FileNano => v3::rapidhash_v3_file_lanes::<&mut CountingReader, 3, 9000, false>(reader, secrets),
             _ => v3::rapidhash_v3_file_seeded::<&mut CountingReader>(reader, secrets),
         }
     }
@@ -82,15 +70,9 @@ impl Form {
         let mut source = Source::new(reader);
         let source = &mut source;
         match self {
-            Form::SourceSized => {
-                v3::rapidhash_v3_source_sized::<&mut CountingReader, 113, true>(source, secrets)
-            }
-            Form::SourceMicro => {
-                v3::rapidhash_v3_source_lanes::<&mut CountingReader, 5, 7, false>(source, secrets)
-            }
-            Form::SourceNano => {
-                v3::rapidhash_v3_source_lanes::<&mut CountingReader, 3, 9000, true>(source, secrets)
-            }
+            Form::SourceSized => v3::rapidhash_v3_source_sized::<&mut CountingReader, 113, true>(source, secrets),
+            Form::SourceMicro => v3::rapidhash_v3_source_lanes::<&mut CountingReader, 5, 7, false>(source, secrets),
+            Form::SourceNano => v3::rapidhash_v3_source_lanes::<&mut CountingReader, 3, 9000, true>(source, secrets),
             _ => v3::rapidhash_v3_source::<&mut CountingReader, false>(source, secrets),
         }
     }
@@ -100,9 +82,7 @@ impl Form {
         let secrets = &RapidSecrets::seed(3);
         match self {
             Form::File => v3::rapidhash_v3(bytes),
-            Form::FileSeeded | Form::FileSizedOne | Form::Source => {
-                v3::rapidhash_v3_seeded(bytes, secrets)
-            }
+            Form::FileSeeded | Form::FileSizedOne | Form::Source => v3::rapidhash_v3_seeded(bytes, secrets),
             Form::FileInline | Form::FileSizedLarge | Form::SourceSized => {
                 v3::rapidhash_v3_inline::<true, false, true>(bytes, secrets)
             }
