@@ -4,10 +4,10 @@ goal that the edit names. The arguments are crates, or CRATE/EDIT; without any, 
 tries all. `rt ci` tries each edit too, but only
 looks whether it is refused. With the variable VERBOSE, also prints the checker's messages.
 
-The first line of an edit is `# refused: FUNCTION, GOAL`, a comment for `rt`. An edit may have a twin in
-tests/release/twins, with the first line `# proved: FUNCTION`: another text of the same place, which means the same.
-The checker must prove it. So the edit is refused for its meaning, and not because a stored answer fits a single
-text."""
+The first line of an edit is `# refused: FUNCTION, GOAL`, a comment for `rt`. The next may be `# twin: TEXT`, another
+text in place of the first old one, which means the same. The checker must prove it: so the edit is refused for its
+meaning, and not because a stored answer fits a single text. `# twin of: TEXT` is another old text, and
+`# proved: FUNCTION` another function that the twin must keep proved."""
 
 import os
 import re
@@ -18,7 +18,7 @@ from pathlib import Path
 
 sys.path.append(str(Path(__file__).parents[1]))
 from cases import ROOM, TOP, finish, shell, tell  # noqa: E402
-from edits import apply, crate_of  # noqa: E402
+from edits import apply, crate_of, has_twin  # noqa: E402
 
 
 def link(source, target):
@@ -29,8 +29,9 @@ def link(source, target):
         shutil.copy2(source, target)
 
 
-def applied(edit):
-    """Copies the crates, applies an edit, and returns the directory of its crate, its function, and its goal."""
+def applied(edit, is_twin):
+    """Copies the crates, applies an edit or its twin, and returns the directory of its crate, its function, and its
+    goal."""
     crate = crate_of(edit)
     copy = ROOM / crate / edit.name
     shutil.copytree(TOP / "crates", copy / "crates", ignore=shutil.ignore_patterns("out", "data"))
@@ -38,7 +39,7 @@ def applied(edit):
         shutil.copytree(out, copy / out.relative_to(TOP), copy_function=link)
     for name in ("crates.txt", "HANDLES"):
         shutil.copy(TOP / name, copy)
-    function, *goal, _ = apply(edit, copy / "crates")
+    function, *goal, _ = apply(edit, copy / "crates", is_twin)
     return copy / "crates" / crate, function, *goal
 
 
@@ -57,9 +58,10 @@ def said_of(function, output):
     return ""
 
 
-def verdict_of(edit):
-    """Applies an edit, and returns its function, its goal if it has one, and what the checker says of the function."""
-    folder, function, *goal = applied(edit)
+def verdict_of(edit, is_twin=False):
+    """Applies an edit or its twin. Returns its function, its goal if it has one, and what the checker says of the
+    function."""
+    folder, function, *goal = applied(edit, is_twin)
     said = said_of(function, shell(f"rt check --jobs 1 --only '{function}'", folder)[1])
     shutil.rmtree(folder.parent.parent)
     if "VERBOSE" in os.environ:
@@ -69,9 +71,8 @@ def verdict_of(edit):
 
 def finding(edit):
     """Returns how the function's verdict differs from the expected refusal, or an empty string."""
-    twin = TOP / "tests" / "release" / "twins" / crate_of(edit) / f"{edit.stem}.twin"
-    if twin.exists():
-        function, _, said = verdict_of(twin)
+    if has_twin(edit):
+        function, _, said = verdict_of(edit, is_twin=True)
         if not said.startswith("proved"):
             return f"the twin is not proved at {function}: {said or 'the check says nothing of it'}"
     function, goal, said = verdict_of(edit)
