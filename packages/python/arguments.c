@@ -61,14 +61,13 @@ int is_masked(PyObject *object)
 }
 
 /* Returns a new reference to the object that lends the memory of a view, or to any other object itself, or NULL with an
- * error set. */
+ * error set. The object of an open buffer is behind a PickleBuffer, too. */
 static PyObject *owner_of(PyObject *object)
 { return PyMemoryView_Check(object) ? attribute_of(object, "obj") : (Py_INCREF(object), object); }
 
-/* Returns whether an object is a masked array, or a view of one. A view that was released is opened in vain. */
-static int lends_masked(PyObject *object)
+int lends_masked(const Py_buffer *buffer)
 {
-    PyObject *const owner = owner_of(object);
+    PyObject *const owner = owner_of(buffer->obj);
     const int lends = owner != NULL && is_masked(owner);
     if (owner == NULL)
         PyErr_Clear();
@@ -103,16 +102,16 @@ static int has_addresses(const char *format)
     return 0;
 }
 
-/* Returns whether an object of ctypes, or a view of one, has addresses that its format hides, or -1 with an error set.
+/* Returns whether a buffer of ctypes has addresses that its format hides, or -1 with an error set.
  * Unions and packed structures have the format of a byte, but are larger. A structure's format begins with T, and lacks
  * the fields of its base class. The classes of ctypes have metaclasses of their own. */
-static int hides_addresses(PyObject *data, const Py_buffer *buffer)
+static int hides_addresses(const Py_buffer *buffer)
 {
     PyObject *owner, *package, *answer;
     int hides;
     if (buffer->itemsize == 1 || strpbrk(format_of(buffer), "BT") == NULL)
         return 0;
-    owner = owner_of(data);
+    owner = owner_of(buffer->obj);
     if (owner != NULL && Py_TYPE((PyObject *)Py_TYPE(owner)) == &PyType_Type) {
         Py_DECREF(owner);
         return 0;
@@ -129,7 +128,7 @@ static int hides_addresses(PyObject *data, const Py_buffer *buffer)
 /* Refuses an array whose bytes are addresses. */
 static int refuse_addresses(PyObject *data, const char *name, const Py_buffer *buffer)
 {
-    const int are = has_addresses(format_of(buffer)) ? 1 : hides_addresses(data, buffer);
+    const int are = has_addresses(format_of(buffer)) ? 1 : hides_addresses(buffer);
     if (are > 0)
         PyErr_Format(PyExc_TypeError, "%s must not be an array of objects or pointers, whose bytes are addresses: %R",
                      name, Py_TYPE(data));
@@ -148,15 +147,18 @@ static int open_view(PyObject *object, int flags, Py_buffer *buffer)
 
 int open_argument(PyObject *object, const char *name, int flags, Py_buffer *buffer)
 {
-    if (!PyObject_CheckBuffer(object))
+    if (!PyObject_CheckBuffer(object)) {
         PyErr_Format(PyExc_TypeError, "%s must be a buffer, not %R", name, Py_TYPE(object));
-    else if (lends_masked(object))
+    } else if (open_view(object, flags, buffer) < 0) {
+        if (*name != 0)
+            name_error(name);
+    } else if (lends_masked(buffer)) {
+        PyBuffer_Release(buffer);
         PyErr_Format(PyExc_TypeError, "%s must not be a masked array, whose bytes are also those of masked values: %R",
                      name, Py_TYPE(object));
-    else if (open_view(object, flags, buffer) == 0)
+    } else {
         return 0;
-    else if (*name != 0)
-        name_error(name);
+    }
     return -1;
 }
 

@@ -91,6 +91,9 @@ static void read_format(struct arrow *arrow, char *why, size_t size)
                       is_coded ? " with a dictionary" : "");
         return;
     }
+    /* More rows have no room for their hashes. */
+    if (arrow->array.length < 0 || arrow->array.length > PY_SSIZE_T_MAX / 8)
+        PyOS_snprintf(why, size, "not one of %lld rows", (long long)arrow->array.length);
     arrow->letter = letters[at - formats];
     arrow->width = widths[at - formats] - '0';
     if (arrow->array.length > 0 && arrow->width > 0)

@@ -17,7 +17,7 @@ static void read_secrets(const struct form *form, const struct start *start, str
 char letter_of(const Py_buffer *buffer)
 {
     const char *format = format_of(buffer), *letters;
-    if (*format == '@' || *format == '=' || (PY_LITTLE_ENDIAN && *format == '<'))
+    if (*format == '@' || *format == '=' || *format == (PY_LITTLE_ENDIAN ? '<' : '>'))
         format++;
     if (*format == 0 || format[1] != 0 || strchr("bhilqBHILQ", *format) == NULL || buffer->itemsize > 8 ||
         (strchr("bB", *format) == NULL) == (buffer->itemsize == 1))
@@ -34,7 +34,7 @@ int open_out(PyObject *out, size_t count, Py_buffer *buffer)
     letter = letter_of(buffer);
     if (letter != 'Q')
         PyErr_SetString(PyExc_TypeError, "out must be a buffer of unsigned 64-bit integers, such as array('Q')");
-    else if ((size_t)buffer->len != 8 * count)
+    else if ((size_t)buffer->len / 8 != count)
         PyErr_Format(PyExc_ValueError, "out must have room for exactly %zu hashes, and it has %zd", count,
                      buffer->len / 8);
     else

@@ -1,9 +1,9 @@
 /* The extension module: one call per version, the calls that make secrets, and the functions over several messages. */
 #include "extension.h"
 
-/* Sorts the arguments of a call into data, seed, and secrets, each NULL if it is missing. Returns 0, or -1 with an
- * error set. */
-static int sort(
+/* Binds positional and keyword arguments to data, seed and secrets, each NULL if it is missing. Returns 0, or -1 with
+ * an error set. */
+static int bind_arguments(
     const struct form *form, PyObject *const *args, Py_ssize_t count, PyObject *names, PyObject *sorted[3])
 {
     static const char *const known[3] = {"data", "seed", "secrets"};
@@ -46,8 +46,8 @@ static int hash(const struct form *form, PyObject *module, PyObject *const *args
     PyObject *sorted[3] = {NULL, NULL, NULL};
     struct start start;
     struct message message;
-    if (sort(form, args, count, names, sorted) < 0 || read_start(module, form, sorted[1], sorted[2], &start) < 0 ||
-        read_message(sorted[0], "data", &message) < 0)
+    if (bind_arguments(form, args, count, names, sorted) < 0 ||
+        read_start(module, form, sorted[1], sorted[2], &start) < 0 || read_message(sorted[0], "data", &message) < 0)
         return -1;
     if (message.len > LONG) {
         Py_BEGIN_ALLOW_THREADS
@@ -116,9 +116,9 @@ const struct form *form_of(PyObject *version)
         function(word, &words); \
         return PyBytes_FromStringAndSize((const char *)&words, sizeof words); \
     }
-MAKER(made, "number", rapidhash_make_secrets, rapidhash_secrets)
-MAKER(made_v1, "number", rapidhash_v1_make_secrets, rapidhash_v1_secrets)
-MAKER(seeded, "seed", rapidhash_seed_secrets, rapidhash_secrets)
+MAKER(make_secrets, "number", rapidhash_make_secrets, rapidhash_secrets)
+MAKER(make_secrets_v1, "number", rapidhash_v1_make_secrets, rapidhash_v1_secrets)
+MAKER(seed_secrets, "seed", rapidhash_seed_secrets, rapidhash_secrets)
 
 #define FAST(function) (PyCFunction)(void (*)(void))function
 #define CALLS(name, own) \
@@ -137,7 +137,8 @@ static PyObject *masked(PyObject *module, PyObject *object)
 
 static PyMethodDef calls[] = {
     RAPIDHASH_C_VERSIONS(CALLS)
-    {"made", made, METH_O, NULL}, {"made_v1", made_v1, METH_O, NULL}, {"seeded", seeded, METH_O, NULL},
+    {"make_secrets", make_secrets, METH_O, NULL}, {"make_secrets_v1", make_secrets_v1, METH_O, NULL},
+    {"seed_secrets", seed_secrets, METH_O, NULL},
     {"each", FAST(each), METH_FASTCALL, NULL}, {"each_row", FAST(each_row), METH_FASTCALL, NULL},
     {"each_slice", FAST(each_slice), METH_FASTCALL, NULL}, {"key", FAST(key_of), METH_FASTCALL, NULL},
     {"each_key", FAST(each_key), METH_FASTCALL, NULL}, {"arrow", FAST(arrow), METH_FASTCALL, NULL},
@@ -146,7 +147,7 @@ static PyMethodDef calls[] = {
     {"fingerprint", fingerprint, METH_O, NULL}, {"is_masked", masked, METH_O, NULL}, {NULL, NULL, 0, NULL}};
 
 /* The module's state: the classes of secrets, that of V1 second. Each interpreter has its own. */
-static int fill(PyObject *module)
+static int exec_module(PyObject *module)
 {
     PyObject **classes = PyModule_GetState(module), *stream, *secrets = PyImport_ImportModule("rapidhash._secrets");
     int status;
@@ -188,7 +189,7 @@ static int clear_classes(PyObject *module)
 
 /* The slots that only later versions know: slot 3 allows each interpreter a lock of its own from 3.12 on, and slot 4
  * tells a free-threaded build from 3.13 on that the module needs no global lock. */
-static PyModuleDef_Slot slots[] = {{Py_mod_exec, (void *)fill}, {0, NULL}, {0, NULL}, {0, NULL}};
+static PyModuleDef_Slot slots[] = {{Py_mod_exec, (void *)exec_module}, {0, NULL}, {0, NULL}, {0, NULL}};
 
 static struct PyModuleDef definition = {
     PyModuleDef_HEAD_INIT, "_extension", PyDoc_STR("The hashes, compiled."), 2 * sizeof(PyObject *), calls, slots,

@@ -59,6 +59,9 @@ int class_has(PyObject *object, const char *name);
 /* Returns whether an object is an array of NumPy with masked items. */
 int is_masked(PyObject *object);
 
+/* Returns whether such an array lends a buffer, also by a view. */
+int lends_masked(const Py_buffer *buffer);
+
 /* Returns the letter of the kind that an array or a scalar of NumPy has, such as b for a bool, and 0 for any other. */
 char kind_of(PyObject *object);
 

@@ -41,8 +41,8 @@ static int add_integer(PyObject *field, Py_ssize_t at, Py_ssize_t row, struct ke
     return 0;
 }
 
-/* Appends the bytes of a str, or of a buffer of single bytes. A buffer of numbers is none, and neither is a scalar of
- * NumPy or ctypes, such as a date, which has a buffer too. */
+/* Appends the bytes of a str, or of a buffer of single bytes, which are B, or c as char of ctypes. A buffer of numbers
+ * is none, and neither is a scalar of NumPy or ctypes, such as a date, which has a buffer too. */
 static int add_bytes(PyObject *field, Py_ssize_t at, Py_ssize_t row, struct key *key)
 {
     struct message message;
@@ -58,7 +58,8 @@ static int add_bytes(PyObject *field, Py_ssize_t at, Py_ssize_t row, struct key 
             return refuse_field(at, row);
         message.bytes = buffer->buf;
         message.len = (size_t)buffer->len;
-        are_bytes = buffer->ndim > 0 && letter_of(buffer) == 'B';
+        are_bytes = letter_of(buffer) == 'B' || (buffer->itemsize == 1 && strchr(format_of(buffer), 'c') != NULL);
+        are_bytes = are_bytes && buffer->ndim > 0 && !lends_masked(buffer);
     }
     if (are_bytes && key->out != NULL && is_overwritten(key->out, row, &message, "a field")) {
         are_bytes = 0;

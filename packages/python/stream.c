@@ -55,11 +55,11 @@ static PyObject *new_hasher(PyTypeObject *type, PyObject *args, PyObject *named)
 static void end_hasher(PyObject *object)
 {
     PyTypeObject *type = Py_TYPE(object);
-    freefunc give_back = (freefunc)PyType_GetSlot(type, Py_tp_free);
+    freefunc release = (freefunc)PyType_GetSlot(type, Py_tp_free);
     struct hasher *self = (struct hasher *)object;
     if (self->lock != NULL)
         PyThread_free_lock(self->lock);
-    give_back(object);
+    release(object);
     Py_DECREF(type);
 }
 

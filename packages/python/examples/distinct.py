@@ -10,6 +10,7 @@ rows."""
 import sys
 
 import dask.dataframe
+import numpy
 import rapidhash
 from dask import compute, delayed
 from distributed import Client, LocalCluster
@@ -21,7 +22,8 @@ def add_shard(part, shards):
     """Returns a part with the shard of each row. Its numbers were read as texts, since pandas rounds long ones."""
     names = [name or None for name in part["name"]]
     numbers = [int(number) if number else None for number in part["number"]]
-    return part.assign(shard=rapidhash.shard(rapidhash.each_key(names, numbers), shards))
+    keys = rapidhash.each_key(names, numbers)
+    return part.assign(shard=numpy.asarray(rapidhash.shard(keys, shards)))  # An array would have another type.
 
 
 def count(part):

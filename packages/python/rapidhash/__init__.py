@@ -45,7 +45,7 @@ def make_secrets(number, version=3):
     version = _integer("version", version)
     if version not in (1, 2, 3):
         raise ValueError(f"version must be 1, 2 or 3, not {version}")
-    return SecretsV1(_extension.made_v1(number)) if version == 1 else Secrets(_extension.made(number))
+    return SecretsV1(_extension.make_secrets_v1(number)) if version == 1 else Secrets(_extension.make_secrets(number))
 
 
 def _integer(name, number):
@@ -108,6 +108,8 @@ def _listed(column):
     if getattr(dtype, "kind", "O") in "mM" and not _has(column, "isna"):
         raise TypeError("docs/BINDINGS.md lists conversions of dates")  # NumPy lists some as numbers.
     items = column.tolist()
+    if not isinstance(items, list):  # of a masked array without a dimension
+        raise TypeError("it has no rows")
     if _has(column, "isna"):
         missing = column.isna()
         for at in itertools.compress(itertools.count(), missing.tolist() if _has(missing, "tolist") else missing):
@@ -240,7 +242,7 @@ class _Hasher(_extension.Stream):
         word = None
         if secrets is None:
             word = 0 if seed is None else _integer("seed", seed)
-            secrets = _extension.seeded(word)
+            secrets = _extension.seed_secrets(word)
         elif seed is not None:
             raise TypeError("pass either seed or secrets, not both")
         elif not isinstance(secrets, Secrets):

@@ -66,7 +66,8 @@ class Column:
             self.buffers += [array.array(kind, [9 if row is None else row for row in rows]).tobytes()]
         self.buffers = changed.pop("buffers", self.buffers)
         self.released, self.is_owner, self.form, self.changed, self.kept = [], is_owner, form.encode(), changed, []
-        self.shape = len(values), sum(value is None for value in values) if nulls is None else nulls, offset
+        nulls = sum(value is None for value in values) if nulls is None else nulls
+        self.shape = changed.get("rows", len(values)), nulls, offset
 
     def __arrow_c_array__(self, requested_schema=None):
         pointers = (c_void_p * len(self.buffers))(*(ctypes.cast(c_char_p(buffer), c_void_p) for buffer in self.buffers))
@@ -167,6 +168,10 @@ class Arrow(unittest.TestCase):
                 (lambda: each(self.column("g", [1])), TypeError, f"^items {kinds}not of the format 'g'$"),
                 (lambda: each(self.column("vu", [1])), TypeError, f"^items {kinds}not of the format 'vu'$"),
                 (lambda: each(self.column("", [1])), TypeError, f"^items {kinds}not of the format ''$"),
+                (lambda: each(self.column("n", [], buffers=[], rows=2**61), missing=0, out=room[:0]), TypeError,
+                 f"^items {kinds}not one of 2305843009213693952 rows$"),
+                (lambda: key(self.column("n", [], buffers=[], rows=-1), out=room[:0]), TypeError,
+                 rf"^columns\[0\] {kinds}not one of -1 rows$"),
                 (lambda: key([1], self.column("tdD", [1])), TypeError,
                  rf"^columns\[1\] {kinds}not of the format 'tdD'$"),
                 (lambda: key(self.column("i", [1], dictionary=ctypes.addressof(other))), TypeError,

@@ -5,6 +5,7 @@ import collections
 import contextlib
 import ctypes
 import mmap
+import pickle
 import signal
 import sys
 import unittest
@@ -114,7 +115,7 @@ class Columns(unittest.TestCase):
                  type("Derived", (text,), {"_fields_": [("other", ctypes.c_uint64)]}), text * 2, (text * 2) * 2,
                  derived, derived * 2, union(derived, ctypes.Structure), union(derived), colon, union(unknown)]
         for kind in kinds:
-            for data in (kind(), memoryview(kind())):
+            for data in (kind(), memoryview(kind()), pickle.PickleBuffer(kind())):
                 for call in (rapidhash.v3, rapidhash.V3, lambda data: rapidhash.each_row(data, 8)):
                     with self.assertRaisesRegex(TypeError, "^data must not be an array of objects or pointers, "):
                         call(data)
@@ -241,6 +242,8 @@ class Out(unittest.TestCase):
             (lambda: rapidhash.each([b"", b""], out=one), ValueError, "out must have room for exactly 2 hashes"),
             (lambda: rapidhash.each([], out=one), ValueError, "out must have room for exactly 0 hashes, and it has 1"),
             (lambda: rapidhash.each_row(b"", 1, out=one), ValueError, "out must have room for exactly 0 hashes"),
+            (lambda: rapidhash.each_row(mmap.mmap(-1, 2**29), 1, out=array.array("Q")), ValueError,
+             "out must have room for exactly 536870912 hashes, and it has 0"),
             (lambda: rapidhash.each([b""], out=bytearray(8)), TypeError, "out must be a buffer of unsigned 64-bit"),
             (lambda: rapidhash.each([b""], out=array.array("q", [0])), TypeError, "out must be a buffer of unsigned"),
             (lambda: rapidhash.each([b""], out=array.array("d", [0])), TypeError, "out must be a buffer of unsigned"),

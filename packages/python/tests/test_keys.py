@@ -22,7 +22,7 @@ class Keys(unittest.TestCase):
     def test_kinds_of_fields(self):
         user = 14742763072502883419
         for text in ("user", b"user", bytearray(b"user"), memoryview(b"user"), array.array("B", b"user"),
-                     (ctypes.c_ubyte * 4)(*b"user")):
+                     (ctypes.c_ubyte * 4)(*b"user"), (ctypes.c_char * 4)(*b"user"), memoryview(b"user").cast("c")):
             self.assertEqual(rapidhash.v3_key(text, 4711, None), user, type(text))
 
         class Index:

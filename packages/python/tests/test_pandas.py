@@ -1,5 +1,6 @@
 """Tests columns of NumPy and pandas with an installed copy of the package."""
 
+import pickle
 import time
 import unittest
 import warnings
@@ -102,6 +103,12 @@ class Pandas(unittest.TestCase):
         typed = type("Typed", (numpy.ndarray,), {"_type_": "P"})  # As ctypes has it for a pointer.
         self.assertEqual(rapidhash.v3(numpy.zeros(4, "u1,u1").view(typed)), rapidhash.v3(bytes(8)))
 
+    def test_joined_parts_keep_the_keys(self):
+        """pandas guesses the type of an array in each part by its values."""
+        parts = [pandas.DataFrame({"name": list(names)}) for names in ("a", "", "bcdefgh")]
+        joined = pandas.concat(part.assign(key=numpy.asarray(rapidhash.each_key(part.name))) for part in parts)
+        self.assertEqual((joined.key.dtype, list(joined.key)), ("uint64", keys("abcdefgh")))
+
     def test_packed_bits(self):
         valid = numpy.array([True, False, True])
         found = rapidhash.each_slice("abc", numpy.arange(4), validity=numpy.packbits(valid, bitorder="little"),
@@ -140,7 +147,11 @@ class Pandas(unittest.TestCase):
         self.refused(f"^offsets{error}", TypeError, rapidhash.each_slice, b"a", view)
         self.refused(f"^out{error}", TypeError, rapidhash.each, ["a", "b"], out=view)
         self.refused(r"^items\[0\] must be bytes", TypeError, rapidhash.each, [view])
-        self.refused(r"^fields\[0\] must be None", TypeError, rapidhash.v3_key, view)
+        octets = numpy.ma.array([1, 2], mask=[0, 1], dtype="u1")
+        for data in (memoryview(octets), pickle.PickleBuffer(octets), pickle.PickleBuffer(memoryview(octets))):
+            self.refused(f"^data{error}", TypeError, rapidhash.v3, data)
+            self.refused(r"^fields\[0\] must be None", TypeError, rapidhash.v3_key, data)
+            self.refused(r"^columns\[0\]\[0\] must be None", TypeError, rapidhash.each_key, [data])
 
     def test_masked_numbers_are_no_integers(self):
         number = numpy.ma.array(5, "u8", mask=True)
@@ -153,6 +164,11 @@ class Pandas(unittest.TestCase):
         self.refused("^missing must be an integer", TypeError, rapidhash.each, [None], missing=number)
         self.refused("^a hash must be an integer", TypeError, rapidhash.fingerprint, [number])
         self.refused("^width must be an integer", TypeError, rapidhash.each_row, b"", number)
+        for value in (numpy.ma.array("abc"), numpy.ma.array(b"abc"), numpy.ma.array((1, 2), "i8,i8")):
+            self.refused(r"^columns\[0\] must be a column of fields, not <class '.*MaskedArray'>: it has no rows$",
+                         TypeError, rapidhash.each_key, value)
+            self.refused("^items must be an iterable of messages, not <class '.*MaskedArray'>: it has no rows$",
+                         TypeError, rapidhash.each, value)
 
     def test_bools_are_no_integers(self):
         for value in (numpy.bool_(True), numpy.bool_(False), *pandas.array([True], dtype="boolean")):
