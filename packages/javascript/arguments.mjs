@@ -86,7 +86,7 @@ export function word(name, number) {
 function isPlain(value) {
   if (typeof value !== "object" || value === null) return false;
   const prototype = getPrototypeOf(value);
-  return prototype === null || getPrototypeOf(prototype) === null;
+  return prototype === null || getPrototypeOf(prototype) === null && "isPrototypeOf" in prototype;
 }
 
 /** Returns the seed or the `count` words of secrets of a call, if any. Reads own properties alone, and refuses unknown
@@ -142,6 +142,15 @@ function isUsedUp(source) {
   return source.readableEnded !== true || source.readableDidRead !== false;
 }
 
+/** The streams and iterators that a call has begun to read: none has its pieces for a second one. */
+const begun = new WeakSet();
+
+/** Returns whether a call has begun to read a stream or an iterator, and from now on one has. */
+function wasBegun(source) {
+  const isOnce = ["pipe", "next", "getReader"].some((name) => typeof source?.[name] === "function");
+  return isOnce && !source.errored && (begun.has(source) || !begun.add(source));
+}
+
 /** Returns the pieces of a Response, or of a Request. */
 function piecesOfBody(source) {
   if (source.bodyUsed === true) throw readBefore();
@@ -154,7 +163,7 @@ function piecesOfBody(source) {
 /** Returns the pieces of a web stream or a Node stream, or of a Blob, a File or a Response, which have one. Some
  * engines have no iterator for web streams. */
 export function piecesOf(source) {
-  if (isUsedUp(source)) throw readBefore();
+  if (isUsedUp(source) || wasBegun(source)) throw readBefore();
   if (typeof source?.[Symbol.asyncIterator] === "function") return source;
   if (typeof source?.getReader === "function") return readAll(source.getReader());
   if (typeof source?.stream === "function") return piecesOf(source.stream());

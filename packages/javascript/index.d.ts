@@ -29,7 +29,8 @@ export interface Hasher {
   update(data: Message): this;
   /**
    * Appends all pieces of a stream. Resolves to the hasher. Rejects with a TypeError if the stream was read before and
-   * has no more pieces, or if a Response hides its body. After an error the hasher has the pieces before it.
+   * has no more pieces, or if a Response hides its body. So it does while another call reads the stream or fills the
+   * hasher. After an error the hasher has the pieces before it.
    */
   updateFrom(source: Pieces): Promise<this>;
   /** Returns the hash of the message so far. More pieces may follow. */

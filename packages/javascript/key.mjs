@@ -49,9 +49,10 @@ function putLetters(text, array, start) {
 
 /** Writes a string as UTF-8. Returns the end. */
 function putText(text, place, array, start) {
+  const { length } = text;
   let end = -1;
-  if (text.length <= few) end = putLetters(text, array, start);
-  else if (!/\p{Surrogate}/u.test(text)) end = start + encodeInto(text, array.subarray(start));
+  if (length <= few) end = putLetters(text, array, start);
+  else if (!/\p{Surrogate}/u.test(text)) end = start + encodeInto(text, array.subarray(start, start + 3 * length));
   if (end < 0) throw new TypeError(`fields[${place}] has half of a surrogate pair`);
   return end;
 }

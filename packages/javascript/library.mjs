@@ -61,6 +61,8 @@ export class Library {
       secretsOfState: new DataView(buffer, this.atState, 64),
       state: new Uint8Array(buffer, this.atState, stateSize),
       bytes: new Uint8Array(buffer, this.atBytes),
+      // Room for a text: the encoder of Node 20 and earlier writes nothing into 2 GiB or more.
+      letters: new Uint8Array(buffer, this.atBytes, Math.min(piece, buffer.byteLength - this.atBytes)),
       view: new DataView(buffer, this.atBytes),
     };
     return this.#views;
@@ -83,9 +85,9 @@ export class Library {
 
   /** Writes a string as UTF-8 to the memory, which has room for it. Returns the number of bytes. */
   putText(text) {
-    const { bytes, view } = this.views;
+    const { letters, view } = this.views;
     const { length } = text;
-    if (length > fewLetters) return encodeInto(text, bytes);
+    if (length > fewLetters) return encodeInto(text, letters);
     let [at, all] = [0, 0];
     for (; at + 4 <= length; at += 4) {
       const [a, b] = [text.charCodeAt(at), text.charCodeAt(at + 1)];
@@ -93,8 +95,8 @@ export class Library {
       view.setInt32(at, a | b << 8 | c << 16 | d << 24, true);
       all |= a | b | c | d;
     }
-    for (; at < length; at++) all |= bytes[at] = text.charCodeAt(at);
-    return all > 127 ? encodeInto(text, bytes) : length;
+    for (; at < length; at++) all |= letters[at] = text.charCodeAt(at);
+    return all > 127 ? encodeInto(text, letters) : length;
   }
 
   /** Copies `length` bytes, all of a Uint8Array, into the memory. Returns the length. */

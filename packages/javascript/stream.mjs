@@ -29,6 +29,8 @@ export class Stream {
   #room;
   /** Half of a surrogate pair at the end of the last string, which the next string may complete, or "". */
   #half = "";
+  /** Whether a call of updateFrom has not ended. Another would mix its pieces with those. */
+  #isReading = false;
 
   constructor(library, lanes, options) {
     const { exports, atState, atDefault } = library;
@@ -109,13 +111,18 @@ export class Stream {
 
   /** Appends all pieces of a web stream or a Node stream. Resolves to the hasher. */
   async updateFrom(source) {
+    if (this.#isReading) throw new TypeError("updateFrom: the hasher still reads another source");
     const isRest = wasRead(source);
-    let isEmpty = true;
-    for await (const data of piecesOf(source)) {
-      this.update(data);
-      isEmpty = false;
+    let isEmpty = this.#isReading = true;
+    try {
+      for await (const data of piecesOf(source)) {
+        this.update(data);
+        isEmpty = false;
+      }
+    } finally {
+      this.#isReading = false;
     }
-    if (isRest && isEmpty) throw readBefore();
+    if (isEmpty && (isRest || source.readableDidRead === true)) throw readBefore();
     return this;
   }
 

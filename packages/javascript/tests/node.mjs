@@ -76,6 +76,11 @@ test("streams of Node", async () => {
   for (const source of [closing, used, destroyed, drained, web])
     await assert.rejects(new V3().updateFrom(source), { name: "TypeError",
       message: "updateFrom: the source was read before" });
+  const [shared, taken] = [Readable.from(["hel", "lo"]), Readable.from(["text"])];
+  const [, both] = await Promise.allSettled([V3, V3Nano].map((Stream) => new Stream().updateFrom(shared)));
+  assert.equal(both.reason?.message, "updateFrom: the source was read before");
+  const [, nothing] = await Promise.allSettled([taken.toArray(), new V3().updateFrom(taken)]);
+  assert.equal(nothing.reason?.message, "updateFrom: the source was read before");
   const rest = Readable.from(["header", "hel", "lo"]);
   for await (const header of rest.iterator({ destroyOnReturn: false })) if (header === "header") break;
   assert.equal((await new V3().updateFrom(rest)).digest(), 3327445792987248966n);
@@ -202,4 +207,18 @@ test("a message too large for the memory", () => {
   for (let at = 0; at < whole.length; at += 2 ** 24) hasher.update(whole.subarray(at, at + 2 ** 24));
   assert.equal(v3(whole), hasher.digest());
   assert.equal(v3("hello"), 3327445792987248966n);
+});
+
+// The encoder of Node 20 and earlier writes nothing into 2 GiB or more.
+test("texts in a memory of 2 GiB", () => {
+  const fresh = loadSync();
+  const { prototype } = WebAssembly.Memory;
+  const { grow } = prototype;
+  prototype.grow = function () {
+    return grow.call(this, 32768);
+  };
+  fresh.v1(new Uint8Array(200000));
+  prototype.grow = grow;
+  for (const text of ["é", "é".repeat(30), "a".repeat(100)])
+    for (const call of ["v1", "v3", "v3Hex", "v3Key"]) assert.equal(fresh[call](text), library[call](text));
 });

@@ -21,6 +21,7 @@ test("refused options", () => {
   const refused = [
     [7n, `${options} bigint`], ["7", `${options} string`], [null, `${options} null`],
     [own, `${options} BigUint64Array`], [new Map([["seed", 7n]]), `${options} Map`],
+    [Object.create({ __proto__: null, seed: 7n }), `${options} Object`],
     [{ sed: 7n }, "unknown option 'sed': expected seed or secrets"],
     [{ seed: 1n, secret: own }, "unknown option 'secret': expected seed or secrets"],
     [{ seed: null }, `${kind} null`], [{ seed: "7" }, `${kind} string`], [{ seed: true }, `${kind} boolean`],
@@ -238,6 +239,15 @@ test("sources that were read before", async () => {
     await isRefused(stream);
   }
   await isRefused(response);
+  const inside = ["hello"];
+  const foreign = { // as a stream of an iframe, which is no instance of ReadableStream here
+    getReader() {},
+    async *[Symbol.asyncIterator]() {
+      yield* inside.splice(0);
+    },
+  };
+  assert.equal((await new V3().updateFrom(foreign)).digest(), 3327445792987248966n);
+  await isRefused(foreign);
   const [cancelled, piped, locked] = [streamOf("hello"), streamOf("hello"), streamOf("hello")];
   await cancelled.cancel();
   await piped.pipeTo(new WritableStream());
@@ -249,6 +259,20 @@ test("sources that were read before", async () => {
   if (request.body === undefined) return; // as in Firefox
   assert.equal((await new V3().updateFrom(request)).digest(), 3327445792987248966n);
   await isRefused(request);
+});
+
+test("an iterator for two calls, and a hasher in two calls", async () => {
+  const pieces = async function* () {
+    yield* ["hel", "lo"];
+  };
+  const [source, hasher] = [pieces(), new V3()];
+  const first = hasher.updateFrom(source);
+  await isRefused(source);
+  await assert.rejects(hasher.updateFrom(pieces()), { name: "TypeError",
+    message: "updateFrom: the hasher still reads another source" });
+  assert.equal((await first).digest(), 3327445792987248966n);
+  await isRefused(source);
+  assert.equal((await hasher.updateFrom(pieces())).digest(), v3("hellohello"));
 });
 
 test("the rest of a stream, and streams without a piece", async () => {
