@@ -7,6 +7,9 @@
 #include <rapidhash_c.h>
 #include <utils/builtins.h>
 #include <utils/lsyscache.h>
+#if PG_VERSION_NUM >= 160000
+#include <varatt.h>
+#endif
 
 /* Appends a text as UTF-8, the same bytes in a database of any encoding. */
 static void add_text(const char *text, size_t len, struct rapidhash_stream *stream)

@@ -6,6 +6,9 @@
 #include <rapidhash_c.h>
 #include <utils/builtins.h>
 #include <utils/lsyscache.h>
+#if PG_VERSION_NUM >= 160000
+#include <varatt.h>
+#endif
 
 PG_MODULE_MAGIC;
 

@@ -106,7 +106,7 @@ static int read_message(sqlite3_context *context, const char *name, sqlite3_valu
     return 0;
 }
 
-/* Implements each SQL function. */
+/* The scalar functions. */
 static void call(sqlite3_context *context, int count, sqlite3_value **values)
 {
     const struct function *function = sqlite3_user_data(context);
@@ -157,7 +157,7 @@ static int add_field(sqlite3_context *context, const char *name, int at, sqlite3
     }
 }
 
-/* Returns the hash of a key of several fields. */
+/* Returns the hash of a key of several fields. SQLite passes no argument for an asterisk, as in `count(*)`. */
 static void call_key(sqlite3_context *context, int count, sqlite3_value **values)
 {
     const struct key *const key = sqlite3_user_data(context);
@@ -165,8 +165,8 @@ static void call_key(sqlite3_context *context, int count, sqlite3_value **values
     struct rapidhash_stream stream;
     uint64_t word = 0;
     int at = key->word != NULL;
-    if (count < at) {
-        refuse(context, key->name, "the first argument is missing");
+    if (count <= at) {
+        refuse(context, key->name, "a key has fields: list the columns, because * passes none");
         return;
     }
     if (at == 1 && !read_word(context, key->name, key->word, values[0], &word))
@@ -288,7 +288,7 @@ static void step(sqlite3_context *context, int count, sqlite3_value **values)
 }
 
 /* Returns the hash of the rows so far. It changes nothing, so it also returns the final result. */
-static void answer(sqlite3_context *context)
+static void report_value(sqlite3_context *context)
 {
     const struct running *running = sqlite3_aggregate_context(context, 0);
     if (running != NULL)
@@ -296,7 +296,7 @@ static void answer(sqlite3_context *context)
 }
 
 /* Refuses a window whose first row moves, because no bytes can be removed from a hash. */
-static void lose(sqlite3_context *context, int count, sqlite3_value **values)
+static void refuse_inverse(sqlite3_context *context, int count, sqlite3_value **values)
 {
     const struct aggregate *aggregate = sqlite3_user_data(context);
     (void)count;
@@ -359,6 +359,6 @@ int sqlite3_rapidhash_init(sqlite3 *database, char **error, const sqlite3_api_ro
             fingerprint_so_far, fingerprint_so_far, remove_hash, NULL);
     for (at = 0; at < 2 * COUNT(aggregates) && status == SQLITE_OK; at++)
         status = sqlite3_create_window_function(database, aggregates[at / 2].name, 1 + (int)(at % 2), FLAGS,
-            (void *)&aggregates[at / 2], step, answer, answer, lose, NULL);
+            (void *)&aggregates[at / 2], step, report_value, report_value, refuse_inverse, NULL);
     return status;
 }

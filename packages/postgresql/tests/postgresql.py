@@ -5,6 +5,7 @@ copy as a user without rights and tests each function. The machine's own server 
 the Rust crate."""
 
 import re
+import shutil
 import sys
 from itertools import zip_longest
 from pathlib import Path
@@ -26,6 +27,23 @@ STORED = """CREATE TABLE stored (word text); ALTER TABLE stored ALTER word SET S
     pg_column_size(word) < octet_length(word) FROM stored; DROP TABLE stored"""
 # The server stores a value compressed, in pieces, or with a shorter header.
 STORAGES = (("EXTENDED", 220000, "t"), ("EXTERNAL", 220000, "f"), ("PLAIN", 1, "f"))
+
+
+def newer_server():
+    """Builds for the server that PG_CONFIG names, whose postgres.h has a part of its own as from PostgreSQL 16 on."""
+    above, server = (Path(shell(f"pg_config --{name}")[1].strip()) for name in ("pkgincludedir", "includedir-server"))
+    newer = shutil.copytree(server, ROOM / "newer" / server.relative_to(above))
+    text = (newer / "postgres.h").read_text()
+    for part in re.findall(r"/\* -+\n \*\s+Section 1:.*?(?=/\* -+\n \*\s+Section 2:)", text, re.S):
+        (newer / "postgres.h").write_text(text.replace(part, ""))
+        (newer / "varatt.h").write_text(part)
+    shell(rf"sed -i 's/\(define PG_VERSION_NUM\) .*/\1 160000/' {newer}/pg_config.h")
+    (newer / "pg_config").write_text(f"""#!/bin/sh
+        case $1 in --pkgincludedir) echo {ROOM}/newer ;; --includedir-server) echo {newer} ;;
+            *) pg_config "$1" ;; esac""")
+    (newer / "pg_config").chmod(0o755)
+    compare("newer_server", shell(f"make -s postgresql PG_CONFIG={newer}/pg_config"), (0, ""))
+    compare("no_pg_config", shell(f"make -s postgresql PG_CONFIG={newer}/none")[0], 2)
 
 
 def install():
@@ -206,8 +224,8 @@ def rest():
 needs("cc", *SERVER)
 stop = start_server()
 try:
-    for step in (install, installcheck, unpacked_archive, cases, keys, shards, encodings, types, storages, aggregates,
-                 parallel_workers, hash_partitions, rest):
+    for step in (newer_server, install, installcheck, unpacked_archive, cases, keys, shards, encodings, types, storages,
+                 aggregates, parallel_workers, hash_partitions, rest):
         step()
 finally:
     shell(stop, "/")

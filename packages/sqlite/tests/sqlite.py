@@ -31,8 +31,12 @@ ERRORS = {
     "rapidhash_v3_key('a', 2.0)":
         "rapidhash_v3_key: argument 2 is a REAL, and no field of a key: cast it to TEXT, BLOB or INTEGER; "
         "docs/BINDINGS.md lists conversions",
-    "rapidhash_v3_key_with_seed()": "rapidhash_v3_key_with_seed: the first argument is missing",
-    "rapidhash_v3_key_with_secrets('1')": "rapidhash_v3_key_with_secrets: the number must be an INTEGER",
+    # An asterisk passes no arguments, so all rows would have the same key.
+    "rapidhash_v3_key(*) FROM (VALUES (1))":
+        "rapidhash_v3_key: a key has fields: list the columns, because * passes none",
+    "rapidhash_v3_key_with_seed(7)":
+        "rapidhash_v3_key_with_seed: a key has fields: list the columns, because * passes none",
+    "rapidhash_v3_key_with_secrets('1', 2)": "rapidhash_v3_key_with_secrets: the number must be an INTEGER",
     "rapidhash_shard(7, 0)": "rapidhash_shard: the count must be from 1 to 9223372036854775807, not 0",
     "rapidhash_shard(7, -1)": "rapidhash_shard: the count must be from 1 to 9223372036854775807, not -1",
     "rapidhash_shard('7', 1)": "rapidhash_shard: the hash must be an INTEGER",
@@ -86,9 +90,9 @@ def cases(database):
 
 
 def keys(database):
-    found = ask(database, """SELECT rapidhash_v3_key(), rapidhash_v3_key('user', 4711, NULL),
+    found = ask(database, """SELECT rapidhash_v3_key('user', 4711, NULL),
         rapidhash_v3_key_with_seed(7, x'75736572', 4711, NULL), rapidhash_v3_key_with_seed(NULL, 1)""")
-    compare("keys_of_each_type", found, [(NOTHING, signed(14742763072502883419), 4558979304646042975, None)])
+    compare("keys_of_each_type", found, [(signed(14742763072502883419), 4558979304646042975, None)])
 
 
 def shards(database):
@@ -155,8 +159,9 @@ def schema(database):
     database.execute("CREATE INDEX by_hash ON many (rapidhash_v3(word, 1), rapidhash_v3_key(word, part), "
                      "rapidhash_hex(part))")
     database.execute("""CREATE VIEW hashes AS SELECT rapidhash_v3_agg(column1), rapidhash_v3_agg(column1, 0),
-        rapidhash_v3('hello', 0), rapidhash_v3_key(), rapidhash_hex(0) FROM (VALUES ('hello'))""")
-    compare("schema", ask(database, "SELECT * FROM hashes"), [(HELLO, HELLO, HELLO, NOTHING, "0" * 16)])
+        rapidhash_v3('hello', 0), rapidhash_v3_key('user', 4711, NULL), rapidhash_hex(0) FROM (VALUES ('hello'))""")
+    compare("schema", ask(database, "SELECT * FROM hashes"),
+            [(HELLO, HELLO, HELLO, signed(14742763072502883419), "0" * 16)])
 
 
 def page(database):
