@@ -75,6 +75,20 @@ static uint64_t in_pieces(const uint8_t *text, size_t length, size_t size)
     return rapidhash_stream_finish(&stream);
 }
 
+/* V3 of a message in halves, between which the stream is saved and restored. */
+static uint64_t in_saved_halves(const uint8_t *text, size_t length)
+{
+    struct rapidhash_stream stream;
+    unsigned char saved[RAPIDHASH_STREAM_SAVED];
+    rapidhash_v3_start(&stream, &seven);
+    rapidhash_stream_write(&stream, text, length / 2);
+    rapidhash_stream_save(&stream, saved);
+    rapidhash_v3_start(&stream, &seven);
+    rapidhash_stream_restore(&stream, saved, sizeof saved);
+    rapidhash_stream_write(&stream, text + length / 2, length - length / 2);
+    return rapidhash_stream_finish(&stream);
+}
+
 #define FORMS(X) \
     X(v1, "v1", rapidhash_v1(text, length)) \
     X(v1_with_secrets, "v1 seeded", rapidhash_v1_with_secrets(text, length, &three)) \
@@ -84,6 +98,7 @@ static uint64_t in_pieces(const uint8_t *text, size_t length, size_t size)
     X(v3_word, "v3 seed word", rapidhash_v3_with_seed(text, length, word)) \
     X(micro, "micro", rapidhash_v3_micro(text, length)) \
     X(nano, "nano", rapidhash_v3_nano(text, length)) \
+    X(saved, "stream saved", in_saved_halves(text, length)) \
     STREAMS(X)
 #endif
 

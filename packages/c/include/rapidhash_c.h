@@ -80,6 +80,9 @@
  * external symbols: packages/c/rapidhash_c.c builds the library in this way. They are visible whatever -fvisibility is.
  * A library that contains them can define RAPIDHASH_API as __attribute__((visibility("hidden"))). For a DLL of Windows,
  * define RAPIDHASH_DLL too. */
+#ifdef RAPIDHASH_IMPLEMENTATION
+#undef RAPIDHASH_LINK /* The flags of a program that links the library may be those of all its files. */
+#endif
 #ifdef RAPIDHASH_API
 #elif !defined(RAPIDHASH_LINK) && !defined(RAPIDHASH_IMPLEMENTATION)
 #define RAPIDHASH_API RAPIDHASH_INLINE_

@@ -156,6 +156,8 @@ std::int64_t to_microseconds(const std::chrono::duration<Number, Period> &value)
     using unit = std::ratio_divide<Period, std::micro>;
     static_assert(std::is_integral<Number>::value && std::is_signed<Number>::value && sizeof(Number) <= 8,
                   "a time or duration of a key has a signed integer of at most 64 bits: convert it by duration_cast");
+    static_assert(unit::num <= INT64_MAX / unit::den,
+                  "the period of a time of a key is too fine for 64 bits: convert it to nanoseconds");
     const std::int64_t count = value.count(), rest = count % unit::den, below = rest < 0 ? unit::den : 0;
     const std::int64_t whole = count / unit::den - (rest < 0 ? 1 : 0);
     return static_cast<std::int64_t>(static_cast<std::uint64_t>(whole) * static_cast<std::uint64_t>(unit::num)

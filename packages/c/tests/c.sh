@@ -217,6 +217,8 @@ std::chrono::nanoseconds(1)|a duration of a key has whole microseconds: round it
 std::chrono::duration<double>(1)|a time or duration of a key has a signed integer of at most 64 bits: convert it by
 std::chrono::duration<std::uint64_t>(1)|a time or duration of a key has a signed integer of at most 64 bits:
 std::chrono::duration<__int128>(1)|a time or duration of a key has a signed integer of at most 64 bits:
+std::chrono::time_point<std::chrono::system_clock, std::chrono::duration<long, std::ratio<1, 1L << 62>>>()|the \
+period of a time of a key is too fine for 64 bits: convert it to nanoseconds
 std::chrono::steady_clock::now()|a time of a key is of the system clock, which counts from 1970-01-01 in UTC: convert it
 rapidhash::hash(std::array<bool, 2>())|error: no matching function for call to .hash
 rapidhash::fingerprint(std::array<int, 2>())|a hash of a fingerprint is an unsigned integer of 64 bits
@@ -393,10 +395,11 @@ SAID
     [ ! -e "$room/usr/bin" ]
 }
 
-# Checks that a packager's flags reach the compiler and the linker, and that no older header is in the way of ours.
+# Checks that a packager's flags reach the compiler and the linker, that no older header is in the way of ours, and that
+# the flags of a program that links the library leave no function out.
 takes_the_flags() {
   mkdir "$room/old" && sed 's/VERSION_MINOR 0/VERSION_MINOR 77/' "$header" >"$room/old/rapidhash_c.h" &&
-    make_by_cc_alone clean && make_by_cc_alone library CFLAGS='-m32 -O2' CPPFLAGS="-I$room/old" &&
+    make_by_cc_alone clean && make_by_cc_alone library CFLAGS='-m32 -O2' CPPFLAGS="-I$room/old -DRAPIDHASH_LINK" &&
     readelf -h "$room/bare/build/header/librapidhash_c.so.1" | grep ELF32 &&
     objdump -d --disassemble=rapidhash_c_version "$room/bare/build/header/rapidhash_c.o" | grep 'mov *\$0x64,%eax'
 }
