@@ -174,7 +174,10 @@ words_of_sums = tool sums
 folders = PREFIX BINDIR LIBDIR INCLUDEDIR DATADIR DESTDIR
 $(foreach name,$(folders),$(eval install uninstall installcheck: export $(name) := $$($(name))))
 
-# With a source from the future, everything is always out of date.
+# What several jobs make at once is built before it is installed. With a source from the future, everything is always
+# out of date.
+install: | $(filter all built library,$(MAKECMDGOALS))
+installcheck: | $(filter install,$(MAKECMDGOALS))
 install:
 	@$(MAKE) -q --no-print-directory built 2>/dev/null || \
 	  { ls $(archive) $(shared) $(tools) && find crates packages -newermt now -print -quit | grep .; } >/dev/null 2>&1 || \
@@ -187,10 +190,9 @@ uninstall:
 
 # Replays the cases with the installed library, and asks the installed programs for a known hash.
 installcheck:
-	@mkdir -p build && $(CC) $(CPPFLAGS) $(or $(CFLAGS),-O2) -DRAPIDHASH_LINK -I"$$DESTDIR$$INCLUDEDIR" \
-	  packages/c/tests/cases.c -L"$$DESTDIR$$LIBDIR" $(LDFLAGS) -Wl,-rpath,"$$DESTDIR$$LIBDIR" -lrapidhash_c \
-	  -o build/installcheck
-	@build/installcheck <crates/test_replay/data/cases.tsv
+	@mkdir -p build && $(CC) -I"$$DESTDIR$$INCLUDEDIR" $(CPPFLAGS) $(or $(CFLAGS),-O2) -DRAPIDHASH_LINK \
+	  packages/c/tests/cases.c -L"$$DESTDIR$$LIBDIR" $(LDFLAGS) -lrapidhash_c -o build/installcheck
+	@LD_LIBRARY_PATH="$$DESTDIR$$LIBDIR" build/installcheck <crates/test_replay/data/cases.tsv
 	@if [ -e "$$DESTDIR$$BINDIR/rapidsum" ]; then \
 	  [ "$$(echo something | "$$DESTDIR$$BINDIR/rapidhash" --v1)" = 15965596575264898037 ] && \
 	  [ "$$(echo something | "$$DESTDIR$$BINDIR/rapidsum")" = 'a1266b469390773a  -' ] && \

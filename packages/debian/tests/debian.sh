@@ -12,7 +12,7 @@ names='librapidhash-c-dev librapidhash-c1 postgresql-15-rapidhash rapidhash-tool
 # files: in a path with a space, and where others may not read new files, whatever directory a variable names. A build
 # compares the vectors.
 packs_the_same_bytes() (
-  BINDIR=/none make -s -C "$top" deb && cd "$packages" && grep -qxE '[1-9][0-9]* cases, 0 differ' log &&
+  BINDIR=/none make -s -C "$top" deb DATADIR=/none && cd "$packages" && grep -qxE '[1-9][0-9]* cases, 0 differ' log &&
     sha256sum ./*.deb >"$room/sums" && mkdir "$room/else where" &&
     cp ./*.dsc ./*.tar.xz "$room/else where" && cd "$room/else where" && umask 077 && dpkg-source -x ./*.dsc bare &&
     (cd bare && env -i PATH=/usr/bin:/bin dpkg-buildpackage -b -us -uc) && sha256sum --check "$room/sums" &&
