@@ -17,7 +17,7 @@ narrow() {
 # statements with their stored output, Go's example with the lines of its page, and rows of tables in comments.
 even() {
   local wide
-  LC_ALL=C.UTF-8 git grep -nIP '^(?!//! \|).{121,}$' -- . ':!crates' ':!docs' ':!*.md' ':!*.tsv' ':!*.twin' \
+  LC_ALL=C.UTF-8 git grep -nIP '^(?!//! \|).{121,}$' -- . ':!crates' ':!docs' ':!*.md' ':!*.tsv' \
     ':!*/proved/*' ':!packages/postgresql/sql' ':!packages/postgresql/expected' ':!packages/go/example_test.go' \
     >"$room/wide"
   wide=$?
@@ -29,7 +29,7 @@ even() {
 # Checks the layout of the Rust programs that belong to no crate. In a crate, cargo fmt checks it.
 formatted_rust() {
   for file in $(git ls-files 'bench/*.rs' 'tests/*.rs'); do
-    rustfmt --edition 2024 --config max_width=120,use_small_heuristics=Max <"$file" | diff "$file" - || return 1
+    rustfmt --edition 2024 <"$file" | diff "$file" - || return 1
   done
 }
 
@@ -102,6 +102,7 @@ try_with shell_scripts shellcheck lints_shell
 try_with python_scripts pyflakes3 lints_python
 try verbs begins_with_verbs
 try commits has_short_subjects
+try weight scripts/weight --check
 # The library crates of the product.
 mapfile -t crates < <(git ls-files 'crates/rapidhash*/src/lib.rt' | cut -d / -f 2)
 if reason=$(lacks rt); then
