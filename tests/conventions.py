@@ -25,7 +25,8 @@ VALUES = (
         "f0000000-0000-0000-0000-000000000080")),
     *(("decimal n", digits, text.encode()) for digits, text in (("1.50", "1.5"), ("-0.10", "-0.1"), ("100", "100"),
         ("100.00", "100"), ("0.00", "0"), ("10.050", "10.05"), ("-7", "-7"),
-        ("12345678901234567890123456789.010", "12345678901234567890123456789.01"), ("1E+3", "1000"), ("-0.0", "0"))),
+        ("12345678901234567890123456789.010", "12345678901234567890123456789.01"), ("1E+3", "1000"), ("-0.0", "0"),
+        ("1" * 2000 + ".10", "1" * 2000 + ".1"))),
     *(("list l", items, [len(items), *items]) for items in ((7, -1), ("a", "bc"), (), (3, 2, 1), ("",))),
     ("list l", ((1, 2), (), (3,)), [3, 2, 1, 2, 0, 1, 3]),
 )
@@ -61,7 +62,7 @@ def known(fields):
 # expression at FIELDS, and the declarations, with the value at IT.
 PROGRAMS = {
     "Python": ("a.py", "/usr/bin/python3 a.py", """from datetime import date, datetime, timedelta, timezone
-from decimal import Context, Decimal
+from decimal import MAX_PREC, Context, Decimal
 from uuid import UUID
 from rapidhash import v3_key
 VALUES""", "f = []\nPARTSprint(v3_key(*f))\n", "f += [IT]\n", "DECLARE; f += [FIELDS]\n", {

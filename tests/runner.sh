@@ -30,8 +30,7 @@ edit_ends() {
     touch crates.txt HANDLES && cp "$top/tests/cases.py" tests &&
     cp "$top"/tests/release/{must_fail,edits}.py tests/release && echo '{ 1 }' >crates/one/src/lib.rt &&
     printf '%s\n' 'refused: f, goal' 'file: src/lib.rt' 'old: { 1 }' 'new: { 2 }' >crates/one/must-fail/a.edit &&
-    { [ -z "${3-}" ] || { mkdir -p tests/release/twins/one && sed 's/refused: f, goal/proved: f/; s/{ 2 }/{ 3 }/' \
-      crates/one/must-fail/a.edit >tests/release/twins/one/a.twin; }; } &&
+    { [ -z "${3-}" ] || sed -i '1a # twin: { 3 }' crates/one/must-fail/a.edit; } &&
     printf '%s\n' '#!/bin/sh' 'grep -q "{ 2 }" src/lib.rt && echo "fn one::f: $SAID"' \
       'grep -q "{ 3 }" src/lib.rt && echo "fn one::f: $TWIN"' >bin/rt && chmod +x bin/rt &&
     SAID=$2 TWIN=${3-} PATH=$PWD/bin:$PATH python3 tests/release/must_fail.py >../said
@@ -72,20 +71,12 @@ gate_ends() {
 # Does the same, and the gate must also print this line: LINE RESULT SCRIPT [FILE]
 gate_says() { gate_ends "${@:2}"; ends=$? && cat "$room/said" && [ "$ends" -eq 0 ] && grep -qxF -e "$1" "$room/said"; }
 
-# Changes files in a copy of the repository. A script must then exit with status 1, and refuse the case of each change,
-# whose line has this case, the file, and the command for sed. With `names`, the reasons must name the file, and with
-# `subject`, the changes are a commit: SCRIPT ARGUMENT..
+# Changes a file in a copy of the repository by a command for sed. A script must then refuse the case: FILE EDIT CASE
+# SCRIPT ARGUMENT..
 refuses() {
-  local case file edit
-  grep . >"$room/changes" && cd "$room" && rm -rf copy && git clone -q -s "$top" copy && cd copy &&
-    while read -r case file edit; do sed -i "$edit" "$file" || return 1; done <../changes
-  [ -z "${subject-}" ] || git -c user.name=a -c user.email=a commit -qam "$subject"
-  "$@" >"$room/answers" 2>&1
-  echo "its status is $?" >>"$room/answers"
-  while read -r case file _; do
-    try "${*##*/} refuses $case${names:+ of $file}" grep -Pzq \
-      "(?s)(^|\n)not ok - $case\n${names:+(?:# [^\n]*\n)*# [^\n]*\Q$file\E}.*\nits status is 1\n\$" "$room/answers"
-  done <"$room/changes"
+  cd "$room" && rm -rf copy && git clone -q -s "$top" copy && cd copy && sed -i "$2" "$1" || return 1
+  "${@:4}" >"$room/answers" 2>&1
+  [ $? -eq 1 ] && grep -q "^not ok - $3\$" "$room/answers"
 }
 
 start='. "$(dirname "$0")/cases.sh"; cd "$room"; echo >a'
@@ -205,68 +196,12 @@ try setup setup_ends 'setup: installing one two' 0 "$installs"
 try setup_with_a_held_lock setup_ends 'setup: installing one two' 0 "$held; $installs"
 try setup_that_fails setup_ends 'setup: could not install one two' 1 'echo E: no network; exit 100'
 try setup_that_installs_a_part setup_ends 'setup: could not install two' 1 "${installs/ \$3/}"
-refuses tests/pages.py <<'EDITS'
-links README.md s|(docs/PROVED.md|(docs/PROVEN.md|
-paths CONTRIBUTING.md s|`tests/style.sh`|`tests/stile.sh`|
-variables docs/PERFORMANCE.md s/RAPIDHASH_CRATE/&S/
-limits docs/TABLES.md 3s|.*|& & &|
-sentences docs/PERFORMANCE.md s/^Speed is measured, not proved/& & & & & & &/
-names docs/PROVED.md s|`test_\(replay\)`|`best_\1`|g
-layers docs/ARCHITECTURE.md s|`in_memory`|`memory`|
-edits crates/rapidhash_portable/must-fail/micro_has_seven_lanes.edit s|rapidhash_v3_micro_inline|rapidhash_v3_m_inline|
-vectors crates/test_replay/data/README.md s|`v3.tsv`|`v5.tsv`|
-statements docs/PROVED.md s|= value form|= value from|
-odds_of_equal_hashes docs/CHOOSING.md s/370,000/380,000/
-pictures docs/images/lanes.svg s|prefers-color-scheme: dark|prefers-color-scheme: light|
-version packages/c/rapidhash_c.3 s|Yervound 1.0|Yervound 0.9|
-figures README.md s|<!-- extremes -->|<!-- extremes -->9 |
-bands docs/PERFORMANCE.md s/^. mixed, 1 to 300 . [0-9.]*/| mixed, 1 to 300 | 9.01/
-means docs/PERFORMANCE.md /^. C, clang/s/| [01][.]/| 9./
-measurements docs/PERFORMANCE.md /^<!-- sizes -->/,/^<!-- end -->/s/| 784 |/| 785 |/
-commits bench/size.tsv s/6f55f325/6f55f326/
+while read -r file edit; do
+  ! has rustc || try "formulas refuses $file" refuses "$file" "$edit" c_gcc tests/formulas/formulas.py c_gcc
+done <<'EDITS'
+packages/c/include/rapidhash_c.h /_micro_form_ /s/1, 2, 1}, 45/2, 2, 1}, 45/
+tests/formulas/main.rs s/4096/4095/
 EDITS
-refuses tests/pages.py <<'EDITS'
-names docs/C.md s|`rapidhash_stream_save`|`print_heading`|
-statements docs/PROVED.md s|`FlagsFailures result|`FlagsFailures answer|
-edits tests/release/failing_tests.tsv s|^rapidsum/a_list_loses|rapidsum/a_list_keeps|
-EDITS
-# What rt ci says if it refuses each edit at its goal, but one at another, or cannot read one.
-awk 'FNR == 1 { n = split(FILENAME, path, "/")
-  printf "rt: must-fail %s/%s: refused, as it must be: `%s`\n", path[n - 2], path[n], $NF }' \
-  "$top"/crates/*/must-fail/*.edit >"$room/proofs"
-for change in 'crates/rapidhash/must-fail/steps_to_counts_backwards.edit 1s/, .*/, loop/' \
-  '../proofs 1s/refused.*/BAD EDIT/'; do
-  PROOFS=$room/proofs refuses tests/pages.py <<<"edits $change"
-done
-lints=$(command -v shellcheck && command -v pyflakes3) names=yes
-long=$(printf ' %.0s' {1..118})
-PATH=/usr/bin:/bin refuses tests/style.sh <<EDITS
-columns crates/rapidhash_portable/src/form.rt \$a //${long:20}a
-even_lines packages/c/tests/fuzz.c 1s/^/\t/
-even_lines packages/c/include/rapidhash.hpp \$a //${long}a
-even_lines packages/java/src/main/java/module-info.java \$s/\$/ /
-even_lines packages/javascript/index.d.ts \$s/\$/ /
-even_lines packages/javascript/key.mjs \$s/\$/ /
-even_lines packages/javascript/page/index.html \$s/\$/ /
-even_lines scripts/version \$a # ${long}a
-executable_scripts .ci/skips 1i #!/bin/sh
-executable_scripts bench/hand.h 1i #!/bin/sh
-executable_scripts packages/rust/Cargo.toml 1i #!/bin/sh
-verbs crates/rapidhash_portable/src/util.rt 0,/^\/\/\/ Returns/s//\/\/\/ Lanes/
-${lints:+shell_scripts scripts/install \$a cd \$nowhere/}
-${lints:+python_scripts scripts/eraser.py \$a import os}
-${lints:+python_scripts scripts/rust_crate \$a import os}
-EDITS
-names=
-subject="tests: a subject with $(printf 'more and %.0s' {1..6})more characters" \
-  PATH=/usr/bin:/bin refuses tests/style.sh <<EDITS
-commits README.md 1s/\$/ /
-${lints:+shell_scripts scripts/vendor \$a echo \$into}
-EDITS
-for change in 'packages/c/include/rapidhash_c.h /_micro_form_ /s/1, 2, 1}, 45/2, 2, 1}, 45/' \
-  'tests/formulas/main.rs s/4096/4095/'; do
-  ! has rustc || refuses tests/formulas/formulas.py c_gcc <<<"c_gcc $change"
-done
 
 echo "1..$cases"
 exit "$failed"

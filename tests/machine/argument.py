@@ -1,4 +1,4 @@
-"""Has the argument that a function returns the definition's hash for every length, in four steps.
+"""Proves that a function returns the hash of the definition for every length, in four steps.
 
 1. `check_short_lengths`: the lengths that do not reach the loop, one by one.
 2. `reach_the_head`: the lengths first + turn * turns, where `turns` is unknown: to the loop's head, and one turn more.
@@ -52,10 +52,10 @@ class Hash:
 
     def check(self, length, lanes, place, rest):
         """Compares what was returned with the definition, from lanes that have folded all before a place."""
-        demand(self.machine.result(), self.definition.finish(length, lanes, place, rest), "the hash")
+        require_equal(self.machine.result(), self.definition.finish(length, lanes, place, rest), "the hash")
 
 
-def demand(found, wanted, what):
+def require_equal(found, wanted, what):
     """Refuses another term than the wanted one, and tells of a small part in which they differ."""
     is_same = found == wanted
     while not is_same and is_kind(found, "xor", "low", "high") and is_kind(wanted, found.kind):

@@ -1,4 +1,4 @@
-"""Has words of 64 bits as numbers or as terms. A term has a kind and parts, and is made once, so that equal terms are
+"""Words of 64 bits as numbers or as terms. A term has a kind and parts, and is made once, so that equal terms are
 the same object and `==` compares words. A linear word is c + k1*name1 + k2*name2 .. modulo 2^64: an address, or an
 unknown length. Only linear words have bounds, so that they alone decide branches."""
 

@@ -1,7 +1,7 @@
 """Shows that a stream is the hash of its message, by induction over the pieces. A stream represents a message if its
 lanes have folded all rows before the tail, and its buffer has the tail and, after rows, the 16 bytes before it."""
 
-from argument import Refusal, demand, prove
+from argument import Refusal, require_equal, prove
 from definition import Definition
 from linear import POOL, Assumed, add, assume, make, most_turns, name
 from terms import join, message, split
@@ -32,7 +32,7 @@ def compare(machine, *stream):
     """Refuses a stream that does not represent what it should."""
     for offset, word, size in layout(*stream):
         found = join(machine.memory.get(("stream", offset + index)) for index in range(size))
-        demand(found, word, f"the stream at {offset}")
+        require_equal(found, word, f"the stream at {offset}")
 
 
 class Write:
@@ -75,7 +75,7 @@ def check_finish(machine, version, held, has_rows):
     before = {key: one for key, one in machine.memory.items() if key[0] == "stream"}
     machine.run()
     folded = definition.finish(length, lanes[:definition.lanes], place, held) if has_rows else None
-    demand(machine.result(), folded if has_rows else definition.hash(held, seed), "the hash")
+    require_equal(machine.result(), folded if has_rows else definition.hash(held, seed), "the hash")
     if not before.items() <= machine.memory.items():
         raise Refusal("changes the stream")
 

@@ -1,4 +1,4 @@
-"""Has the operations on words. Each returns the word that the processor would compute, for all values of the unknown
+"""Operations on 64-bit words. Each returns the word that the processor would compute, for all values of the unknown
 words. Contents, seeds and secrets are terms of which nothing is known. A product is two terms, its low and its high
 half."""
 
