@@ -51,13 +51,13 @@ test_ends() {
   [ "$?:$(grep -c '^not ok' "$room/said")" = "$(($1 > 0)):$1" ] && grep -qx '1\.\.2' "$room/said"
 }
 
-# Runs the gate, with the word in `mode`, in a repository in which this is one of two scripts, with `two` cases in
-# .ci/cases, and another file perhaps fails. Its line of results must be this: RESULT SCRIPT [FILE]
+# Runs the gate, with the word in `mode`, in a repository in which this is one of two scripts, and another file perhaps
+# fails. Its line of results must be this: RESULT SCRIPT [FILE]
 gate_ends() {
   local copy=$room/gate file
   rm -rf "$copy" && mkdir -p "$copy"/{.ci,bin,kit,tests,packages/one/tests} && cd "$copy" && git init -q &&
     cp "$top"/.ci/{run,skips} .ci && cp "$top/tests/tools.sh" tests &&
-    printf 'tests/two.sh %s\npackages/one/tests/one.py 1\n' "${two-2}" >.ci/cases &&
+    echo tests/two.sh >.ci/slowest &&
     printf '%s\n' '# a' '*kit rt' 'sh sh' 'golang-go /no/go' >.ci/packages &&
     for file in .ci/setup kit/rt bin/make packages/one/tests/one.py; do
       printf '#!/bin/sh\n%s\necho 3 passed, 0 failed\necho ok - a\necho 1..1\n' \
@@ -139,20 +139,17 @@ try the_page_of_a_gate grep -qxF '| result | 6 passed, 0 failed |' "$room/gate/b
 try the_page_of_a_gate_with_changes grep -qx '| commit | .*, with changes |' "$room/gate/build/gate.md"
 try a_gate_with_a_failure gate_ends '5 passed, 1 failed' 'printf "ok - a\nnot ok - b\n1..2\n"'
 try the_page_of_a_failure grep -qxF '| result | 5 passed, 1 failed |' "$room/gate/build/gate.md"
-two=1 try a_gate_with_a_bad_status gate_ends '5 passed, 1 failed' 'printf "ok - a\n1..1\n"; exit 1'
-two=1 try a_gate_with_a_script_that_dies gate_ends '5 passed, 1 failed' 'echo ok - a; kill $$'
-two=1 try a_gate_with_a_plan_of_more_cases gate_ends '5 passed, 1 failed' 'printf "ok - a\n1..2\n"'
-two=3 try a_gate_with_a_lost_case gate_says 'cases: < tests/two.sh 3' '6 passed, 1 failed' "$two_cases"
-two=$'2\ntests/three.sh 1' try a_gate_with_a_lost_script gate_says 'cases: < tests/three.sh 1' '6 passed, 1 failed' \
-  "$two_cases"
-two=1 try a_gate_with_a_named_skip gate_ends '4 passed, 0 failed' \
+try a_gate_with_a_bad_status gate_ends '5 passed, 1 failed' 'printf "ok - a\n1..1\n"; exit 1'
+try a_gate_with_a_script_that_dies gate_ends '5 passed, 1 failed' 'echo ok - a; kill $$'
+try a_gate_with_a_plan_of_more_cases gate_ends '5 passed, 1 failed' 'printf "ok - a\n1..2\n"'
+try a_gate_with_a_named_skip gate_ends '4 passed, 0 failed' \
   'printf "ok - a # SKIP strace cannot trace here\n1..1\n"'
 try the_page_of_a_skip grep -qxF '| scripts, and their cases that passed | 2, 1 |' "$room/gate/build/gate.md"
 skips_go='printf "ok - a # SKIP no /no/go (golang-go)\n1..1\n"'
-two=1 try a_gate_with_a_missing_tool gate_says 'skipped: ok - a # SKIP no /no/go (golang-go)' '4 passed, 1 failed' \
+try a_gate_with_a_missing_tool gate_says 'skipped: ok - a # SKIP no /no/go (golang-go)' '4 passed, 1 failed' \
   "$skips_go"
-two=1 try a_gate_that_names_the_packages gate_says 'apt-get install golang-go' '4 passed, 1 failed' "$skips_go"
-two=0 try a_gate_with_a_skipped_script gate_ends '4 passed, 1 failed' 'echo "1..0 # SKIP no /no/go (golang-go)"'
+try a_gate_that_names_the_packages gate_says 'apt-get install golang-go' '4 passed, 1 failed' "$skips_go"
+try a_gate_with_a_skipped_script gate_ends '4 passed, 1 failed' 'echo "1..0 # SKIP no /no/go (golang-go)"'
 try a_gate_with_a_changed_file gate_says 'left behind: tests/two.sh' '6 passed, 1 failed' "$two_cases; git add tests"
 try a_gate_with_a_file_left_behind gate_says 'left behind: a' '6 passed, 1 failed' "$two_cases; touch a"
 for file in bin/make kit/rt packages/one/tests/one.py; do
