@@ -1,15 +1,14 @@
 #!/usr/bin/env python3
 # reads: docs tests/model.py crates/test_replay/data packages/c/include
-"""Compares the hashes of model.py with the values of the upstream crate in the vector files and on docs/ALGORITHM.md,
+"""Compares the hashes of model.py with the values of the upstream crate in the files of cases and on docs/ALGORITHM.md,
 and with the C header's hashes of messages above 100,000 bytes."""
 
 import ctypes
 import re
 
 from cases import ROOM, TOP, compare, finish, lacks, shell, skip, tell
-from model import (LANES, PAGE, S, bucket, drawn, drawn_by_time, field_bytes, fingerprint, first_hash, hash_of,
-                   hashed_items, hashed_pieces, hashed_slice, made_secrets, message, saved, secrets_of, seed_source,
-                   shard)
+from model import (PAGE, S, bucket, drawn, drawn_by_time, field_bytes, fingerprint, first_hash, hash_of, hashed_items,
+                   made_secrets, message, saved, secrets_of, seed_source, shard)
 
 
 # Upstream's hashes of 2^32 + 205 bytes of 0, and of the key that has them. Without the upper bits of the length the
@@ -22,18 +21,6 @@ LONG = {("hash", "v1"): 11246987188218965133, ("hash", "v2_0"): 5529583638319163
 HEADER = (TOP / "packages" / "c" / "include" / "rapidhash_c.h").read_text()
 
 
-def form_of(name):
-    """Returns the form of a version, by the name of its call in C."""
-    name = name.removesuffix("_protected").removeprefix("v3_")
-    return name if name in LANES else name.upper().replace("_", ".")
-
-
-def bytes_of(argument):
-    """Returns the message of an argument of a case."""
-    rule, _, size = argument.partition(":")
-    return message(rule, int(size)) if size else bytes.fromhex(argument.strip("-"))
-
-
 def decided(kind, number, count):
     """Computes a shard, the first hash of one, or a bucket."""
     if count == 0 or kind == "bucket" and count >= 2**32 or kind == "first_hash" and number >= count:
@@ -41,19 +28,23 @@ def decided(kind, number, count):
     return {"shard": shard, "first_hash": first_hash, "bucket": bucket}[kind](number, count)
 
 
-def played(case, seed, secrets):
+def played(version, operations, seed, secrets):
     """Computes the hashes and the saved bytes of a stream's operations. Yields also what is refused but saved."""
-    form, content, last = form_of(case["version"]), b"", (b"", b"")
-    for operation in case["argument"].split():
+    content, source, last = b"", b"", (b"", b"")
+    for operation in operations.split():
         kind, digits = operation[0], operation[1:]
         if kind == "w":
             content += bytes.fromhex(digits)
+        elif ":" in operation and kind in "sr":
+            source = message(operation)
+        elif operation.isdigit():
+            content, source = content + source[: int(operation)], source[int(operation) :]
         elif kind == "r":
             content = b""
         elif kind == "f":
-            yield hash_of(form, content, seed, secrets)
+            yield hash_of(version, content, seed, secrets)
         elif kind == "s":
-            last = content, saved(LANES[form], content, seed, secrets)
+            last = content, saved(version, content, seed, secrets)
             yield last[1].hex()
         elif kind == "=":
             content = last[0] if bytes.fromhex(digits) == last[1] else None
@@ -61,56 +52,39 @@ def played(case, seed, secrets):
             yield operation
 
 
-def computed_of_kind(case):
-    """Computes the value of a line of the file of cases, or the line's own of a message above 4 GiB."""
-    kind, argument = case["kind"], case["argument"]
-    rule, _, number = case["secrets"].partition(":")
+DRAWN = {"made": made_secrets, "source": seed_source, "time": drawn_by_time,
+         "draws": lambda seed, count: drawn(seed, count) + drawn(seed, count, False)[:-1],
+         "steps": lambda first, second: [(second - first) * pow(S[0], -1, 2**64) % 2**64]}
+
+
+def computed(kind, version, rule, argument):
+    """Computes the values of a line, or upstream's of a message above 4 GiB."""
     if argument.startswith("zeros:"):
-        return [LONG.get((kind, case["version"]))]
+        return [LONG.get((kind, version))]
     if kind == "fingerprint":
         return [fingerprint(map(int, argument.strip("-").split()))]
-    if case["version"] == "-":
-        return [decided(kind, *map(int, argument.split()))]
-    seed, *secrets = secrets_of(rule, number, case["version"] == "v1")
+    if version == "-":
+        numbers = [*map(int, argument.split())]
+        return DRAWN[kind](*numbers) if kind in DRAWN else [decided(kind, *numbers)]
+    call, _, number = rule.partition(":")
+    seed, *secrets = secrets_of(call, number, version[:2] == "v1")
     if kind == "secrets":
         return [seed, *secrets]
     if kind == "stream":
-        return played(case, seed, secrets)
-    content = b"".join(map(field_bytes, argument.strip("()").split())) if kind == "key" else bytes_of(argument)
-    return [hash_of(form_of(case["version"]), content, seed, secrets, protected="protected" in case["version"])]
-
-
-def computed(case):
-    """Computes the values that a line of a file expects. The columns show what it is a case of."""
-    version = {"v1": "V1", "v2": f"V2.{case.get('minor')}", "v3": "V3"}.get(case.get("form"), case.get("form"))
-    if "operations" in case:
-        return hashed_pieces({"5": "micro", "3": "nano"}.get(case.get("lanes"), "V3"), case)
-    if "kind" in case:
-        return computed_of_kind(case)
-    if "items" in case:
-        return [hashed_items(case, case["items"].split() if case["items"] != "(none)" else [])]
-    if "length" in case:
-        content = message(case["message"], int(case["length"]))
-        return [hashed_slice(version, case, content) if version else hashed_items(case, ["bytes:" + content.hex()])]
-    if "form" in case:
-        return secrets_of("reseed", case["number"], version == "V1")
-    numbers = {name: int(value) for name, value in case.items() if name != "expected"}
-    return {
-        "random_word": made_secrets,
-        "random_word second_word": seed_source,
-        "seed count": lambda seed, count: drawn(seed, count) + drawn(seed, count, False)[:-1],
-        "seed secs nanos": drawn_by_time,
-        "first second": lambda first, second: [(second - first) * pow(S[0], -1, 2**64) % 2**64],
-    }[" ".join(numbers)](*numbers.values())
+        return played(version, argument, seed, secrets)
+    if kind == "items":
+        return [hashed_items(version, argument.strip("-").split(), seed, secrets)]
+    is_key = kind == "key"
+    content = b"".join(map(field_bytes, argument.strip("()").split())) if is_key else message(argument)
+    return [hash_of(version, content, seed, secrets)]
 
 
 def differences(path):
     """Yields the cases of a file whose values differ."""
-    head, *rows = [line.split("\t") for line in path.read_text().splitlines() if not line.startswith("#")]
-    cases = [dict(zip(head, row)) for row in rows]
-    for case in cases:
-        if (found := " ".join(map(str, computed(case)))) != case["value" if "kind" in case else "expected"]:
-            yield f"{case}: {found}"
+    _, *rows = [line.split("\t") for line in path.read_text().splitlines() if not line.startswith("#")]
+    for *case, value in rows:
+        if (found := " ".join(map(str, computed(*case)))) != value:
+            yield f"{case}: {found}, and not {value}"
         compared.append(case)
 
 
@@ -132,16 +106,15 @@ uint64_t in_pieces(const uint8_t *bytes, size_t len, const struct rapidhash_secr
 
 def differences_in_c(length):
     """Yields the hashes of the C header that differ for a message of a length, whole and in growing pieces."""
-    content = message("rng:1", length)
+    content = message(f"random:{length}")
     lanes = dict(re.findall(r" X\((\w+), (\d)\)", HEADER))
     names = re.findall(r" X\((\w+), rapidhash", HEADER)
     if (len(names), len(lanes)) != (8, 3):
         yield f"the header has the versions {names} and the streams {lanes}"
     for name in names:
-        form = form_of(name)
-        numbers = secrets_of("make", length, form == "V1")
+        numbers = secrets_of("make", length, name == "v1")
         arguments = content, ctypes.c_size_t(length), (ctypes.c_uint64 * 8)(*numbers)
-        wanted = hash_of(form, content, numbers[0], numbers[1:], protected=name.endswith("_protected"))
+        wanted = hash_of(name, content, numbers[0], numbers[1:])
         calls = [(f"rapidhash_{name}_with_secrets", *arguments)]
         calls += [("in_pieces", *arguments, ctypes.c_size_t(int(lanes[name])))] if name in lanes else []
         for call_name, *arguments in calls:
@@ -157,11 +130,12 @@ for path in sorted(DATA.glob("*.tsv")):
     tell(path.stem, *differences(path))
 listed = [len(re.findall("^[^#]", path.read_text(), re.M)) - 1 for path in DATA.glob("*.tsv")]
 compare("cases_of_all_files", len(compared), sum(listed))
+NAMED = {"micro": "v3_micro", "nano": "v3_nano", "V1": "v1", "V3": "v3"} | {f"V2.{k}": f"v2_{k}" for k in range(3)}
 rows = re.findall(r"^\| (\S+) \| ([^|\d]*)(?:(\d+) bytes)? \| (\d{15,}) \|$", PAGE, re.M)
 for version, rule, size, value in rows:
-    text = b"something\n" if "something" in rule else message("square", int(size or 0))
+    text = b"something\n" if "something" in rule else message(f"square:{size or 0}")
     seed, *secrets = secrets_of("default", "", version == "V1")
-    compare(f"{version} of {rule}{size}", hash_of(version, text, seed, secrets), int(value))
+    compare(f"{version} of {rule}{size}", hash_of(NAMED[version], text, seed, secrets), int(value))
 compare("values_on_the_page", len(rows), 5)
 saved_rows = re.findall(r"^\| (\d+) \| (\d+) \| ", (TOP / "docs" / "BINDINGS.md").read_text(), re.M)
 ends = [int(offset) + int(size) for offset, size in saved_rows]

@@ -2,87 +2,139 @@
 docs/BINDINGS.md."""
 
 import re
+from functools import reduce
+from operator import xor
 
 from cases import TOP
 
 PAGE = (TOP / "docs" / "ALGORITHM.md").read_text()
-LANES = {"V3": 7, "micro": 5, "nano": 3}
 AA = 0xAAAAAAAAAAAAAAAA
 S = [int(number, 16) for _, number in sorted(re.findall(r"\b(S\d) \| (0x\w{16})", PAGE))]
 
 
-def product(a, b, protected=False):
-    low, high = a * b % 2**64, a * b >> 64
-    return (low ^ a, high ^ b) if protected else (low, high)
+class Numbers:
+    """The operations of a definition over a message's bytes: those over terms are in tests/machine/terms.py."""
+
+    def __init__(self, content):
+        self.content = content
+
+    def message(self, place, size):
+        return int.from_bytes(self.content[place : place + size], "little")
+
+    @staticmethod
+    def known(*_):
+        return True
+
+    @staticmethod
+    def add(first, second):
+        return (first + second) % 2**64
+
+    @staticmethod
+    def bit_or(first, second):
+        return first | second
+
+    @staticmethod
+    def multiply(first, second):
+        return first * second % 2**64, first * second >> 64
+
+    @staticmethod
+    def shift_left(word, count):
+        return word << count
+
+    @staticmethod
+    def xor(*words):
+        return reduce(xor, words)
+
+
+# The lanes of each version, and the longest message without a row. `core` is the hash of a write in memory.
+VERSIONS = {"v1": 3, "v2_0": 7, "v2_1": 7, "v2_2": 7, "v3": 7, "v3_micro": 5, "v3_nano": 3, "v3_protected": 7}
+LIMITS = {"v1": 48, "v1_bug": 47, "v2_0": 56, "v2_1": 64, "v2_2": 64, "core": 48}
+
+
+class Definition:
+    """The hash of a version and options, as in cases.tsv, over operations. A place and a length may be linear terms."""
+
+    def __init__(self, name, secrets, on):
+        self.version = name.removesuffix("_protected").removesuffix("_raw")
+        self.avalanche, self.protected = "_raw" not in name, name.endswith("_protected")
+        self.family, self.secrets, self.on = self.version[:2], secrets, on
+        self.lanes = {"core": 3, "v1_bug": 3, **VERSIONS}[self.version]
+        self.row, self.limit = 16 * self.lanes, LIMITS.get(self.version, 16 * self.lanes)
+
+    def product(self, first, second):
+        low, high = self.on.multiply(first, second)
+        return (self.on.xor(low, first), self.on.xor(high, second)) if self.protected else (low, high)
+
+    def fold(self, lane, secret, place):
+        """Returns a lane after the pair of words at a place."""
+        first, second = self.on.message(place, 8), self.on.message(self.on.add(place, 8), 8)
+        return self.on.xor(*self.product(self.on.xor(first, self.secrets[secret]), self.on.xor(second, lane)))
+
+    def fold_rows(self, lanes, place, rest):
+        """Folds all rows of the last `rest` bytes. Returns the lanes, the place after the rows, and the new rest."""
+        is_v3 = self.family == "v3"
+        for count in (len(lanes),) if is_v3 else (len(lanes), 3):
+            while rest >= 16 * count + is_v3:
+                folded = [self.fold(lanes[index], index, self.on.add(place, 16 * index)) for index in range(count)]
+                lanes, place, rest = folded + lanes[count:], self.on.add(place, 16 * count), rest - 16 * count
+        return lanes, place, rest
+
+    def start(self, length, seed):
+        """Returns the word that every lane starts from."""
+        is_mixed = self.family in ("v1", "v2") or self.family == "v3" and self.on.known(length) and 4 <= length <= 16
+        return self.on.xor(seed, length) if is_mixed else seed
+
+    def hash(self, length, seed):
+        lanes = 7 if self.version == "core" and length > 400 else self.lanes
+        return self.finish(length, [self.start(length, seed)] * lanes, 0, length)
+
+    def finish(self, length, lanes, place, rest):
+        """Returns the hash of a message, before whose last `rest` bytes, from a place on, all rows are folded."""
+        has_rows, s = not self.on.known(length) or length > self.limit, self.secrets
+        if has_rows:
+            lanes, place, rest = self.fold_rows(lanes, place, rest)
+        seed = self.on.xor(*lanes, s[1] if self.family == "v1" and rest > 16 else 0)
+        tail = (0, 1, int(self.version == "v2_2")) if self.family == "v2" and not has_rows else (2, 2, 1, 1, 2, 1)
+        for pair in range(max(0, rest - 1) // 16):
+            secret = 0 if self.version == "core" else tail[pair]
+            seed = self.fold(seed, secret, self.on.add(place, 16 * pair))
+        first, second = self.last_words(length)
+        secret, masks = s[1], {"v1": (s[0], length, s[1], 0), "v2": (AA, length, s[1], 0)}.get(self.family)
+        if self.family == "v3":
+            masks = AA, 0, s[1], rest
+            first = self.on.xor(first, rest if not self.on.known(length) or length > 16 else 0)
+        elif self.version == "core":
+            seed = self.on.add(seed, length)
+            secret, masks = s[0], (AA, seed, s[1], 0)
+        low, high = self.product(self.on.xor(first, secret), self.on.xor(second, seed))
+        if not self.avalanche:
+            return self.on.xor(low, high)
+        return self.on.xor(*self.product(self.on.xor(low, *masks[:2]), self.on.xor(high, *masks[2:])))
+
+    def last_words(self, length):
+        read, join = self.on.message, lambda one, bits, other: self.on.bit_or(self.on.shift_left(one, bits), other)
+        if not self.on.known(length) or length > 16:
+            return read(self.on.add(length, -16), 8), read(self.on.add(length, -8), 8)
+        if length > 3 and self.family == "v1":
+            word = join(read(0, 4), 32, read(length - 4, 4))
+            return word, join(read(4, 4), 32, read(length - 8, 4)) if length > 7 else word
+        if length > 3:
+            size = 8 if length > 7 else 4
+            return read(0, size), read(length - size, size)
+        if length == 0:
+            return 0, 0
+        first, middle, last = (read(place, 1) for place in (0, length // 2, length - 1))
+        if self.version in ("v1", "v1_bug", "v2_0", "v2_1"):
+            return self.on.bit_or(join(first, 56, self.on.shift_left(middle, 32)), last), 0
+        return join(first, 56 if self.version == "v2_2" else 45, last), middle
 
 
 def mix(a, b, protected=False):
-    low, high = product(a, b, protected)
-    return low ^ high
+    return Numbers.xor(*Numbers.multiply(a, b), *(a, b) * protected)
 
 
-def shape(version, n, bug):
-    """Returns the numbers of lanes, rows, and rows of three, and the secrets for the tail's pairs."""
-    if version in LANES:
-        return LANES[version], max(0, n - 1) // (16 * LANES[version]), 0, (2, 2, 1, 1, 2, 1)
-    if version == "V1":
-        return 3, bug if n == 48 else n // 48, 0, (2, 2)
-    if version == "core":
-        return (3, n // 48 if n > 48 else 0, 0, (0, 0)) if n <= 400 else (7, n // 112, n % 112 // 48, (0, 0))
-    if n <= (56 if version == "V2.0" else 64):
-        return 7, 0, 0, (0, 1, version == "V2.2")
-    return 7, n // 112, n % 112 // 48, (2, 2)
-
-
-def last_words(version, m, n):
-    def w(k, size=8):
-        return int.from_bytes(m[k : k + size], "little")
-
-    if n > 16 or n > 7 and version != "V1":
-        return w(n - 16 if n > 16 else 0), w(n - 8)
-    if n > 3:
-        word = w(0, 4) << 32 | w(n - 4, 4)
-        other = w(4, 4) << 32 | w(n - 8, 4) if n > 7 else word
-        return (word, other) if version == "V1" else (w(0, 4), w(n - 4, 4))
-    if n == 0:
-        return 0, 0
-    if version in ("V1", "V2.0", "V2.1"):
-        return m[0] << 56 | m[n // 2] << 32 | m[-1], 0
-    return m[0] << (56 if version == "V2.2" else 45) | m[-1], m[n // 2]
-
-
-def lanes_after(order, words, seed, s, protected=False):
-    """Returns the lanes after they have folded the pairs of a message in this order."""
-    lanes = [seed] * 7
-    for pair, lane in enumerate(order):
-        lanes[lane] = mix(words[2 * pair] ^ s[lane], words[2 * pair + 1] ^ lanes[lane], protected)
-    return lanes
-
-
-def hash_of(version, m, seed, s, avalanche=True, protected=False, bug=False):
-    n = len(m)
-    words = [int.from_bytes(m[k : k + 8], "little") for k in range(0, n, 8)]
-    seed ^= n if version[:2] in ("V1", "V2") or version in LANES and 4 <= n <= 16 else 0
-    count, rows, rows_of_three, tail = shape(version, n, bug)
-    order = [*range(count)] * rows + [0, 1, 2] * rows_of_three
-    lanes, at = lanes_after(order, words, seed, s, protected), 2 * len(order)
-    seed, t = 0, n - 8 * at
-    for lane in lanes[:count]:
-        seed ^= lane
-    seed ^= s[1] if version == "V1" and t > 16 else 0
-    for pair in range(max(0, t - 1) // 16):
-        seed = mix(words[at + 2 * pair] ^ s[tail[pair]], words[at + 2 * pair + 1] ^ seed, protected)
-    first, second = last_words(version, m, n)
-    secret, mixed_in = s[1], (AA ^ n, s[1])
-    if version == "V1":
-        mixed_in = s[0] ^ n, s[1]
-    elif version in LANES:
-        first, mixed_in = first ^ (t if n > 16 else 0), (AA, s[1] ^ t)
-    elif version == "core":
-        seed = (n + seed) % 2**64
-        secret, mixed_in = s[0], (AA ^ seed, s[1])
-    low, high = product(first ^ secret, second ^ seed, protected)
-    return mix(low ^ mixed_in[0], high ^ mixed_in[1], protected) if avalanche else low ^ high
+def hash_of(name, content, seed, secrets):
+    return Definition(name, secrets, Numbers(content)).hash(len(content), seed)
 
 
 def crc64(data):
@@ -95,16 +147,15 @@ def crc64(data):
     return crc ^ 2**64 - 1
 
 
-def saved(count, m, seed, s):
-    """Returns the 208 bytes of a stream with so many lanes after a message."""
-    rows = max(0, len(m) - 1) // (16 * count)
-    end = 16 * count * rows
-    words = [int.from_bytes(m[k : k + 8], "little") for k in range(0, end, 8)]
-    lanes = [lane ^ seed for lane in lanes_after([*range(count)] * rows, words, seed, s)]
-    kept = m[end - 16 : end] if rows else bytes(16)
-    state = b"rapidV3" + bytes([2, count, 1, rows > 0, len(m) - end, 0, 0, 0, 0])
-    state += b"".join(lane.to_bytes(8, "little") for lane in lanes) + (kept + m[end:]).ljust(128, b"\0")
-    check = crc64(state) ^ hash_of("V3", bytes(range(240)), seed, s, protected=True)
+def saved(version, content, seed, secrets):
+    """Returns the 208 bytes of a stream after a message."""
+    definition = Definition(version, secrets, Numbers(content))
+    lanes, end, rest = definition.fold_rows([seed] * definition.lanes, 0, len(content))
+    kept = content[end - 16 : end] if end else bytes(16)
+    state = b"rapidV3" + bytes([2, len(lanes), 1, end > 0, rest, 0, 0, 0, 0])
+    state += b"".join((lane ^ seed).to_bytes(8, "little") for lane in lanes + [seed] * (7 - len(lanes)))
+    state += (kept + content[end:]).ljust(128, b"\0")
+    check = crc64(state) ^ hash_of("v3_protected", bytes(range(240)), seed, secrets)
     return state + check.to_bytes(8, "little")
 
 
@@ -124,14 +175,8 @@ def secrets_of(rule, number, is_v1):
     if rule in ("word", "default"):
         x = int(number or 0xBDD89AA982704029 * is_v1)
         return [x ^ (mix(x ^ S[0], S[1]) if is_v1 else mix(x ^ S[2], S[1])), *S[:count]]
-    if rule == "bare":
-        seed, *places = number.split(",")
-        at = dict(map(int, place.split("=")) for place in places)
-        return [int(seed), *(at.get(k, 0) for k in range(count))]
     if rule == "own":
         return [int(word) for word in number.split(",")]
-    if rule == "words":
-        return drawn(int(number), count + 1)[:-1]
     made = [premix(int(number), 0)]
     for i in range(count):
         made.append(premix(made[-1], i))
@@ -170,39 +215,31 @@ def drawn_by_time(x, seconds, nanos):
     return mix(y, y ^ S[1]), y
 
 
-def message(rule, n):
-    name, _, rest = rule.partition(":")
-    if name == "square":
-        return bytes((i * i + 7 * i + n) % 251 for i in range(n))
-    if name == "ramp":
-        return bytes(i % 251 for i in range(n))
-    if name == "text":
-        return rest.replace("\\n", "\n").encode()
-    if name == "bytes":
-        return bytes.fromhex(rest)
-    if name == "at":
-        at = dict(map(int, place.split("=")) for place in rest.split(",") if place)
-        return bytes(at.get(i, 0) for i in range(n))
-    return b"".join(word.to_bytes(8, "little") for word in drawn(int(rest), n // 8 + 1))[:n]
+def message(argument):
+    """Returns the message of an argument of a case."""
+    rule, _, size = argument.partition(":")
+    if not size:
+        return bytes.fromhex(argument.strip("-"))
+    n = int(size)
+    if rule == "random":
+        return b"".join(word.to_bytes(8, "little") for word in drawn(0, n // 8 + 1))[:n]
+    return bytes(((i * i + 7 * i + n) if rule == "square" else i) % 251 for i in range(n))
 
 
-def hashed_items(case, items):
+def hashed_items(name, items, seed, s):
     """Computes the in-memory hasher's value of a list of items, as in docs/ALGORITHM.md."""
-    avalanche, protected = (case[option] == "1" for option in ("avalanche", "protected"))
-    with_sponge = case.get("sponge") == "1"
-    rule, _, number = case["secrets"].partition(":")
-    seed, *s = secrets_of(rule, number, False)
+    protected, options = name.endswith("_protected"), name.removeprefix("hasher").removeprefix("_sponge")
     block, end = 0, 0
     for item in items:
         kind, _, value = item.partition(":")
-        if kind == "bytes":
-            seed = hash_of("core", bytes.fromhex(value.replace("-", "")), seed, s, avalanche, protected)
+        if kind in ("bytes", "square", "random"):
+            seed = hash_of("core" + options, message(value if kind == "bytes" else item), seed, s)
             continue
         width = 64 if kind.endswith("size") else int(kind[1:])
         number = int(value) % 2**width
         if width == 128:
             seed = mix(number % 2**64 ^ seed, number >> 64 ^ s[0], protected)
-        elif not with_sponge:
+        elif "_sponge" not in name:
             seed = mix(number ^ s[0], number ^ seed, protected)
         else:
             if end + width > 128:
@@ -210,14 +247,7 @@ def hashed_items(case, items):
             block, end = block | number << end, end + width
     if end:
         seed = mix(block % 2**64 ^ seed, block >> 64 ^ s[0], protected)
-    return mix(seed, S[1], protected) if avalanche else seed
-
-
-def hashed_slice(version, case, content):
-    rule, _, number = case["secrets"].partition(":")
-    seed, *secrets = secrets_of(rule, number, version == "V1")
-    avalanche, protected = case.get("avalanche", "1") == "1", case["protected"] == "1"
-    return hash_of(version, content, seed, secrets, avalanche, protected, case.get("v1_bug") == "1")
+    return seed if "_raw" in name else mix(seed, S[1], protected)
 
 
 def shard(hash, count):
@@ -248,16 +278,3 @@ def field_bytes(text):
     data = bytes.fromhex(text[1:]) if text[0] == "x" else b""
     number = len(data) if text[0] == "x" else int(text)
     return (b"\2" if text[0] == "x" else b"\1") + (number % 2**64).to_bytes(8, "little") + data
-
-
-def hashed_pieces(version, case):
-    """Computes the hash at each f of a stream's operations, of the bytes since the start or the last r."""
-    content, written, hashes = message(case["message"], int(case["length"])), b"", []
-    for operation in case["operations"].split():
-        if operation == "f":
-            hashes.append(hashed_slice(version, case, written))
-        elif operation == "r":
-            written = b""
-        else:
-            written, content = written + content[: int(operation)], content[int(operation) :]
-    return hashes

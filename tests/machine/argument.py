@@ -9,9 +9,10 @@
 
 The loop and the state are guessed from runs. A wrong guess leads to a refusal, and to nothing else."""
 
-from definition import Definition
+import terms
 from linear import (POOL, Assumed, Refusal, add, assume, is_kind, known, linear, make, most_turns, name, parts, signed,
                     substitute, subtract)
+from model import Definition
 from terms import byte, multiply, xor
 
 DEFAULT = (0x2D358DCCAA6C78A5, 0x8BB84B93962EACC9, 0x4B33A62ED433D4A3, 0x4D5A2DA51DE1AA47, 0xA0761D6478BD642F,
@@ -39,7 +40,7 @@ class Hash:
             word = make("seed", 64)
             self.seed = xor(word, *multiply(xor(word, DEFAULT[0 if is_v1 else 2]), DEFAULT[1]))
             self.arguments = [word]
-        self.definition = Definition(version, secrets)
+        self.definition = Definition(version, secrets, terms)
 
     def begin(self, length, pointer):
         self.machine.begin(self.function, [pointer, length, *self.arguments], length, self.sizes)

@@ -19,7 +19,7 @@ import go  # noqa: E402
 import tool  # noqa: E402
 import webassembly  # noqa: E402
 from argument import FORMS  # noqa: E402
-from definition import VERSIONS  # noqa: E402
+from model import VERSIONS  # noqa: E402
 from operands import Elf  # noqa: E402
 from streams import LANES, show_streams  # noqa: E402
 from x86 import Machine  # noqa: E402
@@ -113,7 +113,6 @@ def check_gate():
     counts, only_tool = {}, MODE == "tool"
     case("rules for terms", *tool.rules_hold(), *tool.orders_hold())
     case("instructions on this processor", *tool.processor_agrees(filter(None, [gcc, kit, program])))
-    case("definition", *tool.definition_agrees())
     case("code that must be refused", *faults.in_snippets())
     check("gcc", gcc, ["v3"], FORMS[:1] if only_tool else FORMS)
     check_some_streams("gcc", gcc)

@@ -1,9 +1,10 @@
 """Shows that a stream is the hash of its message, by induction over the pieces. A stream represents a message if its
 lanes have folded all rows before the tail, and its buffer has the tail and, after rows, the 16 bytes before it."""
 
+import terms
 from argument import Refusal, require_equal, prove
-from definition import Definition
 from linear import POOL, Assumed, add, assume, make, most_turns, name
+from model import Definition
 from terms import join, message, split
 from x86 import Machine
 
@@ -41,7 +42,7 @@ class Write:
     function = "rapidhash_stream_write"
 
     def __init__(self, machine, version, held):
-        self.machine, self.held, self.definition = machine, held, Definition(version, symbols("secret")[1:])
+        self.machine, self.held, self.definition = machine, held, Definition(version, symbols("secret")[1:], terms)
         self.lanes, self.flag = symbols("lane")[:7], make("flag", 8)
 
     def begin(self, length, pointer):
@@ -66,7 +67,7 @@ class Write:
 def check_finish(machine, version, held, has_rows):
     """Checks the hash of a stream. Its tail, before which there are `turns` rows or none, begins at a place."""
     seed, *secrets = symbols("secret")
-    definition = Definition(version, secrets)
+    definition = Definition(version, secrets, terms)
     place = name("turns", definition.row) if has_rows else 0
     length, lanes = add(place, held), symbols("lane")[:7] if has_rows else [seed] * 7
     assume(length, 1, most_turns(held, definition.row))

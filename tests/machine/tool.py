@@ -1,4 +1,4 @@
-"""Tests the tool: its rules for terms with numbers, its table of instructions on this processor, and its definition."""
+"""Tests the tool: its rules for terms with numbers, and its table of instructions on this processor."""
 
 import contextlib
 import ctypes
@@ -7,10 +7,8 @@ import operator
 import random
 
 from cases import ROOM, shell
-from definition import VERSIONS, Definition
 from linear import (MASK, POOL, Assumed, Refusal, add, apart, assume, bounds, equal, is_kind, known, less, linear, make,
                     most_turns, name, substitute, subtract, value_at)
-from model import hash_of
 from operands import NAMES, Place
 from terms import bit_and, bit_or, byte, join, low_bits, message, multiply, shift_left, shift_right, sign, split, xor
 from webassembly import schoolbook, summed
@@ -225,16 +223,3 @@ def processor_agrees(files, times=3, seed=1):
         yield from filter(None, {compare(library, index, code, draw) for _ in range(times)})
     if len(snippets) < 300:
         yield f"only {len(snippets)} instructions"
-
-
-def definition_agrees(lengths=(*range(450), 1000)):
-    """Compares the definition on numbers with tests/model.py. Yields what differs."""
-    draw = random.Random(1)
-    for version in VERSIONS:
-        protected, other = version == "v3_protected", version[3:] if version[3:] in ("micro", "nano") else \
-            version.upper().replace("_PROTECTED", "").replace("_", ".")
-        for length in lengths:
-            content, (seed, *secrets) = draw.randbytes(length), [draw.getrandbits(64) for _ in range(8)]
-            definition = Definition(version, secrets, lambda at, size: int.from_bytes(content[at:at + size], "little"))
-            if definition.hash(length, seed) != hash_of(other, content, seed, secrets, protected=protected):
-                yield f"{version} of {length} bytes"

@@ -40,7 +40,7 @@ def low(first, second):
 
 
 def schoolbook(first, second):
-    """Returns the high half of a product from 32-bit halves, as `high_half` in crates/test_definitions is proved to."""
+    """Returns the high half of a product from 32-bit halves, as `high_half` in crates/test_portable is proved to."""
     a, b, c, d = shift_right(first, 32), low_bits(first, 32), shift_right(second, 32), low_bits(second, 32)
     cross = low(a, d)
     middle = add(add(shift_right(low(b, d), 32), low_bits(cross, 32)), low(b, c))
