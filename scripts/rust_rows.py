@@ -102,22 +102,14 @@ REPLACED = [
     ("inner/hasher", "> Hasher for RapidHasher<'s, AVALANCHE, SPONGE, COMPACT, PROTECTED> {\n",
      "> Hasher for RapidHasher<'s, AVALANCHE, SPONGE, COMPACT, PROTECTED> {\n    forward_integers!();\n\n",
      "Rattle's law on Hasher maps the integer writes to `write`; Rust has none"),
-    ("tests/replay/proved/mod", "pub mod bulk;", "pub mod bulk;\npub mod definitions;\npub mod form;\npub mod laws;\n"
-     "pub mod util;", "crates of their own in Rattle"),
-    ("tests/replay/proved/compare", ", memory_body}", "}", "the core is private in the crate"),
-    ("tests/replay/proved/compare", "fn print_versions(", "pub fn print_versions(", "a test makes the call"),
-    ("tests/replay/proved/seeds", """            if v1::RapidSecrets::seed_of_word(number) != made.seed {
+    ("tests/replay/proved/mod", "pub mod forged;", "pub mod forged;\npub mod form;", "another crate's in Rattle"),
+    *[("tests/replay/proved/seeds", f"""            let made = {version}::RapidSecrets::seed_cpp(number);
+            if {version}::RapidSecrets::seed_of_word(number) != made.seed {{
                 bail!("two seeds");
-            }
-""", "", "it is private in the crate"),
-    ("tests/replay/proved/seeds", """            if v3::RapidSecrets::seed_of_word(number) != made.seed {
-                bail!("two seeds");
-            }
+            }}
             made
-""", "            made\n", "as above"),
-    ("tests/replay/proved/mod", "fn replay_line(", "pub fn replay_line(", "a test makes the call"),
-    ("tests/replay/proved/hashers", "fn answered<", "pub fn answered<", "as above, for random messages"),
-    ("tests/replay/proved/streams", "fn answers<", "pub fn answers<", "as above"),
+""", f"            {version}::RapidSecrets::seed_cpp(number)\n", "it is private") for version in ("v1", "v3")],
+    ("tests/replay/proved/hashers", "fn answered<", "pub fn answered<", "a test makes the call"),
     ("tests/replay/proved/items", "Item::Usize(value.parse::<usize>()?)",
      "value.parse().map_or(Item::U64(value.parse()?), Item::Usize)", "32 bits hold some of the values"),
     ("tests/replay/proved/items", "Item::Isize(value.parse::<isize>()?)",
@@ -170,13 +162,7 @@ LEFT_OUT = {
     "src/proved/secrets": ["use crate::seeding", "pub fn random"],
     "tests/portable/proved/secrets": ["#[test]\nfn random_secrets"],
     # A test makes the calls.
-    "tests/replay/proved/mod": ["fn main", "fn replay", "const USAGE", "use std", "pub mod words"],
-    # The core is private in the crate.
-    "tests/replay/proved/compare": ["fn core_agrees", "pub fn compare", "use super::words",
-                                    "use crate::replay::proved::definitions::core_hash"],
-    "tests/replay/proved/definitions/bodies": ["pub fn memory_body", "use rapidhash::in_memory"],
-    "tests/replay/proved/laws/mod": [f"pub {word} {name}" for word in ("mod", "use") for name in
-                                     ("damage", "forms", "keys", "lane", "words", "writes")],
+    "tests/replay/proved/mod": ["fn main", "fn replay", "const USAGE", "use std"],
     # Contracts state the counts.
     "tests/portable/proved/values": ["use crate::counts", "#[test]\nfn counted_hashers_hash"],
 }

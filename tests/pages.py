@@ -130,8 +130,8 @@ def edits():
             yield f"{place}: rt ci did not refuse it at {head[3]}, but said{refused.get(name, ': nothing')}"
 
 
-def vectors():
-    """Checks that the page beside the vector files has each of them."""
+def cases():
+    """Checks that the page beside the files of cases has each of them."""
     data = TOP / "crates" / "test_replay" / "data"
     named = set(re.findall(r"`(\w+\.tsv)`", (data / "README.md").read_text()))
     differing = named ^ {file.name for file in data.glob("*.tsv")}
@@ -168,7 +168,7 @@ def made_by(script):
 
 
 
-for check in (links, paths, variables, limits, names, layers, edits, vectors, statements):
+for check in (links, paths, variables, limits, names, layers, edits, cases, statements):
     tell(check.__name__, *check())
 for made, maker in (("public", "scripts/public"), ("version", "scripts/version"), ("figures", "bench/figures")):
     tell(made, *made_by(maker))

@@ -1,18 +1,16 @@
 #!/usr/bin/env python3
 # reads: tests/formulas packages/c packages/go packages/java packages/rust crates
-"""Compares each implementation of the hashes with the definition as formulas: see tests/formulas/main.rs. The
-definition is the program of crates/test_definitions, which is proved equal to it, without its contracts and over random
-loads and a random product. Fails if their number is not that of the lengths in docs/PROVED.md. The arguments select
-subjects, of which all are compared without any."""
+"""Compares each implementation of the hashes with the Rust crate as formulas: see tests/formulas/main.rs. The crate is
+the proved source without its contracts, here over random loads and a random product. Fails if the number of formulas is
+not that of the lengths in docs/PROVED.md. The arguments select subjects, of which all are compared without any."""
 
 import re
 import shutil
 import sys
 from pathlib import Path
 
-sys.path[0:0] = [str(Path(__file__).parents[2] / folder) for folder in ("tests", "scripts")]
+sys.path.insert(0, str(Path(__file__).parents[1]))
 from cases import ROOM, TOP, finish, lacks, needs, shell, skip, tell  # noqa: E402
-from eraser import erase  # noqa: E402
 
 FOLDER = TOP / "tests" / "formulas"
 C = ("-std=c99 -Wall -Wextra -Werror -Wno-unused-function '-DRAPIDHASH_PRIMITIVES=\"primitives.h\"' -include assert.h"
@@ -42,7 +40,6 @@ SUBJECTS = [
     ("c_clang", "native", f"clang {SANITIZERS}", f"clang -O1 -fsanitize=address,undefined {C} -o c_clang", "./c_clang"),
     ("c_tcc", "native", "tcc", f"tcc {C} -o c_tcc", "./c_tcc"),
     ("cpp_constexpr", "v3", "g++", f"g++ -O2 {CPP} -o cpp_constexpr", "./cpp_constexpr"),
-    ("rust", "kernels", "rustc", rust("rustc", "rust"), "./rust"),
     ("rust_debian", "kernels", "/usr/bin/rustc", rust("/usr/bin/rustc", "rust_debian"), "./rust_debian"),
     ("go", "native", "go", GO, "./go"),
     ("java", "native", "javac java", JAVA, "java -cp classes example.yervound.rapidhash.Formulas"),
@@ -55,25 +52,6 @@ NATIVE, CUT, CUTS, CRATE, CRATE_V3 = (int(it.replace(",", "")) for it in re.find
 STREAMS = (CUT + 1) * (CUT + 2) // 2 + CUTS + 1
 COUNTS = {"native": 8 * (17 * 64 + NATIVE - 16) + 3 * STREAMS, "v3": 17 * 64 + NATIVE - 16,
           "kernels": 46 * (17 * 64 + CRATE - 16) + 10 * (17 * 64 + CRATE_V3 - 16) + 12 * STREAMS}
-# What the definition has here in place of its own text: random loads and a random product.
-RANDOM = {"rapidhash_portable::": "crate::", "crate::product::high_half": "crate::util::rapid_mum",
-          "(a.wrapping_mul(b), high_half(a, b))": "rapid_mum::<false>(a, b)"}
-
-
-def build_definition():
-    """Builds the program that compares, with the definition in it."""
-    folder = ROOM / "definition"
-    folder.mkdir()
-    sources = {"rapidhash_portable": "form", "test_definitions": "forms walk hashes secrets"}
-    for crate, names in sources.items():
-        for name in names.split():
-            text = erase((TOP / "crates" / crate / "src" / f"{name}.rt").read_text())
-            for own, random in RANDOM.items():
-                text = text.replace(own, random)
-            (folder / f"{name}.rs").write_text(text)
-    for name in ("util", "main"):
-        shutil.copy(FOLDER / f"{name}.rs", folder)
-    return shell("rustc -O --edition 2021 -A dead_code definition/main.rs -o compare", ROOM)
 
 
 def copy_crate():
@@ -87,18 +65,18 @@ def copy_crate():
 
 
 needs("rustc")
-status, output = build_definition()
-if status:
-    tell("build_definition", output[-2000:])
-    finish()
 copy_crate()
+status, output = shell(f"rustc -O --edition 2021 {FOLDER}/main.rs -o compare && {rust('rustc', 'rust')}", ROOM)
+if status:
+    tell("build", output[-2000:])
+    finish()
 for name, kind, program, build, run in SUBJECTS:
     if sys.argv[1:] and name not in sys.argv[1:]:
         continue
     if reason := lacks(*program.split()):
         skip(name, reason)
         continue
-    status, output = shell(f"{build} && ./compare {kind} {run}", ROOM)
+    status, output = shell(f"{build} && ./compare {kind} ./rust {run}", ROOM)
     is_whole = output.endswith(f"{COUNTS[kind]} formulas compared, 0 differ\n")
     tell(name, *[output[-2000:] or "no output"] * (status != 0 or not is_whole))
 finish()

@@ -1,29 +1,20 @@
-//! Compares a subject with the definition as formulas: `main KIND COMMAND..`, where the kind is `native` for a package
-//! that has the C library's calls, `v3` for one that has V3 of whole messages alone, or `kernels` for one that has
-//! every option.
+//! Compares a subject with the Rust crate as formulas: `main KIND CRATE COMMAND..`, where the kind is `native` for a
+//! package that has the C library's calls, `v3` for one that has V3 of whole messages alone, or `kernels` for one that
+//! has every option.
 //!
 //! All control flow of a hash depends on the length alone, so the hash of n bytes is a formula over loads, products,
-//! XOR, OR, and shifts. The definition and the subject are built with the same random functions as loads and product.
+//! XOR, OR, and shifts. The crate and the subject are built with the same random functions as loads and product.
 //! If two formulas differ, their values differ for random bytes, seeds, secrets, and functions, except with probability
 //! 2^-64. Up to 16 bytes, formulas also shift and join bits, and each is compared 64 times.
 //!
-//! The subject reads the buffer that holds all messages, then records of 20 little-endian words until the input ends:
+//! Both read the buffer that holds all messages, then records of 20 little-endian words until the input ends:
 //! form (0: V1, 1 to 3: V2 by its minor number, 4 to 6: V3 with 7, 5 and 3 lanes), options (1 avalanche, 2 protected,
 //! 4 the V1 bug, 8 compact), key of the random functions, seed, seven secrets, offset and length of the message in the
-//! buffer, 1 for a stream, the four places where it is cut into five pieces, and two zeros. It writes a little-endian
+//! buffer, 1 for a stream, the four places where it is cut into five pieces, and two zeros. They write a little-endian
 //! word per record.
 
-mod form;
-mod forms;
-mod hashes;
-mod secrets;
-mod util;
-mod walk;
-
-use form::{Form, Options};
 use std::io::{BufReader, BufWriter, Read, Write};
-use std::process::{Command, Stdio, exit};
-use std::sync::atomic::Ordering::Relaxed;
+use std::process::{Child, ChildStdin, ChildStdout, Command, Stdio, exit};
 
 const ROOM: usize = 32768;
 const AVALANCHE: u64 = 1;
@@ -106,18 +97,22 @@ fn plan(kind: &str) -> Vec<Record> {
     plan.records
 }
 
-/// Returns the definition's value.
-fn defined(record: &Record, room: &[u8]) -> u64 {
-    let form = match record[0] {
-        0 => Form::V1(record[1] & V1_BUG != 0),
-        1..=3 => Form::V2(record[0] as u8 - 1),
-        _ => Form::V3(15 - 2 * record[0] as usize),
-    };
-    let options = Options { avalanche: record[1] & AVALANCHE != 0, protected: record[1] & PROTECTED != 0 };
-    let (offset, length) = (record[11] as usize, record[12] as usize);
-    let secrets = if record[0] == 0 { &record[4..7] } else { &record[4..11] };
-    util::KEY.store(record[2], Relaxed);
-    hashes::portable_hash(form, options, record[3], secrets, &room[offset..offset + length])
+/// Starts a program with pipes.
+fn start(words: &[String]) -> (Child, ChildStdin, BufReader<ChildStdout>) {
+    let started = Command::new(&words[0]).args(&words[1..]).stdin(Stdio::piped()).stdout(Stdio::piped()).spawn();
+    let mut child = started.expect("the program does not start");
+    let (input, output) = (child.stdin.take().unwrap(), child.stdout.take().unwrap());
+    (child, input, BufReader::new(output))
+}
+
+/// Reads the next word of a program.
+fn word(from: &mut impl Read) -> [u8; 8] {
+    let mut word = [0; 8];
+    if from.read_exact(&mut word).is_err() {
+        println!("a program ended before its last answer");
+        exit(1);
+    }
+    word
 }
 
 /// Writes the buffer and the records. A subject that ends early is found by its missing answers.
@@ -135,19 +130,14 @@ fn main() {
     let records = plan(&words[0]);
     let mut random = Plan { state: 1, records: vec![] };
     let room: Vec<u8> = (0..ROOM).map(|_| random.next() as u8).collect();
-    let pipes = Command::new(&words[1]).args(&words[2..]).stdin(Stdio::piped()).stdout(Stdio::piped()).spawn();
-    let mut subject = pipes.expect("the subject does not start");
-    let (input, mut found) = (subject.stdin.take().unwrap(), BufReader::new(subject.stdout.take().unwrap()));
+    let (mut reference, reference_input, mut wanted) = start(&words[1..2]);
+    let (mut subject, input, mut found) = start(&words[2..]);
     let mut differ = 0;
     std::thread::scope(|scope| {
+        scope.spawn(|| ask(&records, &room, reference_input));
         scope.spawn(|| ask(&records, &room, input));
         for record in &records {
-            let mut word = [0; 8];
-            if found.read_exact(&mut word).is_err() {
-                println!("the subject ended before its last answer");
-                exit(1);
-            }
-            if u64::from_le_bytes(word) != defined(record, &room) {
+            if word(&mut found) != word(&mut wanted) {
                 differ += 1;
                 if differ <= 5 {
                     let (form, options, length) = (record[0], record[1], record[12]);
@@ -156,7 +146,7 @@ fn main() {
             }
         }
     });
-    let ended = subject.wait().expect("the subject does not end");
+    let is_over = reference.wait().is_ok_and(|it| it.success()) && subject.wait().is_ok_and(|it| it.success());
     println!("{} formulas compared, {differ} differ", records.len());
-    exit((differ > 0 || !ended.success()) as i32);
+    exit((differ > 0 || !is_over) as i32);
 }

@@ -1,23 +1,126 @@
-//! Messages of every length, against the definition as a plain program.
+//! Messages of every length, against the in-memory core as a plain program, lane after lane.
 
 use rapidhash::inner::RapidHasher;
 use rapidhash::rng::RapidRng;
 use rapidhash_portable::form::Options;
+use rapidhash_portable::util::{read_u32, read_u64};
 use rapidhash_portable::v3::DEFAULT_RAPID_SECRETS;
 use std::alloc::{AllocError, Global};
 use std::hash::Hasher;
 use std::test::Fail;
-use test_definitions::{core_hash, cpp_seeded, mix};
 
-/// The definition's hash, for a hasher with the default seed after one write.
-fn defined(options: Options, bytes: &[u8]) -> u64 {
-    let secrets = &DEFAULT_RAPID_SECRETS.secrets;
-    let seed = core_hash(options, bytes, cpp_seeded(0, 2), secrets);
-    if options.avalanche {
-        mix(options.protected, seed, secrets[1])
+/// The halves of a product, each XOR a factor if it is protected.
+fn product(protected: bool, a: u64, b: u64) -> (u64, u64) {
+    let whole = u128::from(a).wrapping_mul(u128::from(b));
+    let low = (whole % 0x1_0000_0000_0000_0000) as u64;
+    let high = (whole / 0x1_0000_0000_0000_0000) as u64;
+    if protected {
+        (low ^ a, high ^ b)
     } else {
-        seed
+        (low, high)
     }
+}
+
+fn mix(protected: bool, a: u64, b: u64) -> u64 {
+    let (low, high) = product(protected, a, b);
+    low ^ high
+}
+
+/// A lane after a pair of the message.
+fn step(protected: bool, bytes: &[u8], pair: usize, secret: u64, lane: u64) -> u64 {
+    let place = pair.wrapping_mul(16);
+    let (first, second) = (
+        read_u64(bytes, place),
+        read_u64(bytes, place.wrapping_add(8)),
+    );
+    mix(protected, first ^ secret, second ^ lane)
+}
+
+/// A lane after its column: a pair of each row of `lanes` pairs, and then of each row of three.
+fn column(protected: bool, bytes: &[u8], lane: usize, shape: [usize; 3], seed: u64) -> u64 {
+    let [lanes, rows, threes] = shape;
+    let secret = DEFAULT_RAPID_SECRETS
+        .secrets
+        .get(lane)
+        .copied()
+        .unwrap_or(0);
+    let mut value = seed;
+    for row in 0..rows {
+        value = step(
+            protected,
+            bytes,
+            row.wrapping_mul(lanes).wrapping_add(lane),
+            secret,
+            value,
+        );
+    }
+    for row in 0..(if lane < 3 { threes } else { 0 }) {
+        let pair = rows
+            .wrapping_mul(lanes)
+            .wrapping_add(row.wrapping_mul(3))
+            .wrapping_add(lane);
+        value = step(protected, bytes, pair, secret, value);
+    }
+    value
+}
+
+/// The lanes, the rows and the rows of three of `n` bytes.
+fn shape_of(n: usize) -> [usize; 3] {
+    match n {
+        0..=48 => [3, 0, 0],
+        49..=400 => [3, n / 48, 0],
+        _ => [7, n / 112, n % 112 / 48],
+    }
+}
+
+/// The last two words.
+fn last_words(bytes: &[u8]) -> (u64, u64) {
+    match (bytes, bytes.len()) {
+        ([], _) => (0, 0),
+        ([first, .., last], n) if n < 4 => {
+            (
+                u64::from(*first).wrapping_shl(45) | u64::from(*last),
+                u64::from(bytes[n / 2]),
+            )
+        }
+        ([one], _) => (
+            u64::from(*one).wrapping_shl(45) | u64::from(*one),
+            u64::from(*one),
+        ),
+        (_, n @ 4..=7) => (
+            u64::from(read_u32(bytes, 0)),
+            u64::from(read_u32(bytes, n.wrapping_sub(4))),
+        ),
+        (_, n) => {
+            let first = if n > 16 { n.wrapping_sub(16) } else { 0 };
+            (read_u64(bytes, first), read_u64(bytes, n.wrapping_sub(8)))
+        }
+    }
+}
+
+/// The hash of a hasher with the default seed after one write.
+fn defined(options: Options, bytes: &[u8]) -> u64 {
+    let (protected, n) = (options.protected, bytes.len());
+    let [s0, s1, ..] = DEFAULT_RAPID_SECRETS.secrets;
+    let shape = shape_of(n);
+    let mut seed = 0;
+    for lane in 0..shape[0] {
+        seed ^= column(protected, bytes, lane, shape, DEFAULT_RAPID_SECRETS.seed);
+    }
+    let pairs = shape[0]
+        .wrapping_mul(shape[1])
+        .wrapping_add(shape[2].wrapping_mul(3));
+    for pair in pairs..n.saturating_sub(1) / 16 {
+        seed = step(protected, bytes, pair, s0, seed);
+    }
+    let sum = seed.wrapping_add(n as u64);
+    let (first, second) = last_words(bytes);
+    let (low, high) = product(protected, first ^ s0, second ^ sum);
+    if !options.avalanche {
+        return low ^ high;
+    }
+    let core = mix(protected, low ^ 0xaaaa_aaaa_aaaa_aaaa ^ sum, high ^ s1);
+    mix(protected, core, s1)
 }
 
 /// The hasher's hash.

@@ -1,38 +1,23 @@
-//! Cases of the generator.
+//! Cases of numbers that are drawn from others: random words, secrets and seeds.
 
-use crate::rules::number;
-use crate::seeds::{agreement, numbers};
-use crate::tally::Agreement;
 use anyhow::{Result, bail};
 use rapidhash::rng::{RapidRng, rapidrng_fast, rapidrng_fast_not_portable, rapidrng_time};
+use rapidhash_portable::seeding::{GlobalSecrets, SeedSource};
 use std::alloc::{AllocError, Global};
-use test_definitions::{other_word_of, seed_at_moment, state_after, word_of};
 
-/// The columns of a file of words and states.
-pub const COLUMNS: &str = "seed\tcount\texpected";
-
-/// The columns of a file of times.
-pub const TIME_COLUMNS: &str = "seed\tsecs\tnanos\texpected";
-
-/// The columns of a file of distances on the cycle.
-pub const STEPS_COLUMNS: &str = "first\tsecond\texpected";
-
-/// The definition's words, the state that is left, and the words that are not portable.
-fn defined(alloc: Global, seed: u64, count: u64) -> Result<Vec<u64>, AllocError> {
-    let mut all = Vec::new(alloc);
-    for i in 0..count {
-        let state = state_after(seed, i.wrapping_add(1));
-        all.push(word_of(state))?;
+/// A global seed, and four seeds of its source.
+fn seeds(alloc: Global, random: u64, second: u64) -> Result<Vec<u64>, AllocError> {
+    let global = GlobalSecrets::new(random);
+    let mut source = SeedSource::new(&global, second);
+    let mut answers = [global.get_global_seed(); 5];
+    for answer in &mut answers[1..] {
+        *answer = source.next();
     }
-    all.push(state_after(seed, count))?;
-    for i in 0..count {
-        all.push(other_word_of(state_after(seed, i.wrapping_add(1))))?;
-    }
-    Ok(all)
+    Ok(answers.to_vec(alloc)?)
 }
 
-/// The results of the calls.
-fn drawn(alloc: Global, seed: u64, count: u64) -> Result<Vec<u64>, AllocError> {
+/// Words, the state that is left, and the words that are not portable.
+fn words(alloc: Global, seed: u64, count: u64) -> Result<Vec<u64>, AllocError> {
     let mut all = Vec::new(alloc);
     let mut state = seed;
     for _ in 0..count {
@@ -46,44 +31,33 @@ fn drawn(alloc: Global, seed: u64, count: u64) -> Result<Vec<u64>, AllocError> {
     Ok(all)
 }
 
-/// Replays words and states.
-pub fn replay(alloc: Global, line: &str) -> Result<Agreement> {
-    let fields: Vec<&str> = line.split("\t").collect(alloc)?;
-    let [seed, count, expected] = fields.as_slice() else {
-        bail!("no three fields");
-    };
-    let (seed, count) = (number(seed)?, number(count)?);
-    let expected = numbers(alloc, expected)?;
-    let defined = defined(alloc, seed, count)?;
-    let drawn = drawn(alloc, seed, count)?;
-    Ok(agreement(expected.as_slice(), defined.as_slice(), drawn.as_slice()))
-}
-
-/// Replays the word for a time, and the seed that it leaves.
-pub fn replay_time(alloc: Global, line: &str) -> Result<Agreement> {
-    let fields: Vec<&str> = line.split("\t").collect(alloc)?;
-    let [seed, secs, nanos, expected] = fields.as_slice() else {
-        bail!("no four fields");
-    };
-    let expected = numbers(alloc, expected)?;
-    let nanos = u32::try_from(number(nanos)?)?;
+/// The word for a time, and the seed that it leaves.
+fn at_time(seed: u64, secs: u64, nanos: u64) -> Result<[u64; 2]> {
+    let nanos = u32::try_from(nanos)?;
     if nanos >= 1_000_000_000 {
         bail!("{nanos} nanoseconds are more than a second");
     }
-    let (seed, secs) = (number(seed)?, number(secs)?);
-    let made = seed_at_moment(seed, secs, nanos);
     let mut left = seed;
     let word = rapidrng_time(&mut left, secs, nanos);
-    Ok(agreement(expected.as_slice(), &[word_of(made), made], &[word, left]))
+    Ok([word, left])
 }
 
-/// Replays the number of steps from one state to another.
-pub fn replay_steps(alloc: Global, line: &str) -> Result<Agreement> {
-    let fields: Vec<&str> = line.split("\t").collect(alloc)?;
-    let [first, second, expected] = fields.as_slice() else {
-        bail!("no three fields");
-    };
-    let (first, second, expected) = (number(first)?, number(second)?, number(expected)?);
-    let steps = RapidRng::new(first).steps_to(&RapidRng::new(second));
-    Ok(Agreement::new(state_after(first, expected) == second, steps == expected))
+/// Returns what the calls of a kind return for up to three numbers.
+pub fn computed(alloc: Global, kind: &str, numbers: &[u64]) -> Result<Vec<u64>> {
+    let mut all = [0; 3];
+    for (place, number) in all.iter_mut().zip(numbers) {
+        *place = *number;
+    }
+    let [first, second, third] = all;
+    Ok(match kind {
+        "made" => GlobalSecrets::new(first).get().to_vec(alloc)?,
+        "source" => seeds(alloc, first, second)?,
+        "draws" => words(alloc, first, second)?,
+        "time" => at_time(first, second, third)?.to_vec(alloc)?,
+        "steps" => {
+            let end = RapidRng::new(second);
+            [RapidRng::new(first).steps_to(&end)].to_vec(alloc)?
+        }
+        _ => bail!("no kind {kind}"),
+    })
 }

@@ -9,14 +9,20 @@ use std::alloc::Global;
 /// The bytes of a saved hasher before its check.
 const CHECKED: usize = 200;
 
-fn is_restored<const LANES: usize>(bytes: &[u8], secrets: &RapidSecrets) -> bool
+fn is_restored<const LANES: usize, const AVALANCHE: bool, const PROTECTED: bool>(
+    bytes: &[u8],
+    secrets: &RapidSecrets,
+) -> bool
     requires { IsLaneCount LANES }
 {
-    RapidStreamHasherLanes::<LANES, true, false>::restore(bytes, secrets).is_some()
+    RapidStreamHasherLanes::<LANES, AVALANCHE, PROTECTED>::restore(bytes, secrets).is_some()
 }
 
 /// Returns whether each changed bit is refused.
-fn refuses_each_bit<const LANES: usize>(saved: &[u8; SAVED_SIZE], secrets: &RapidSecrets) -> bool
+fn refuses_each_bit<const LANES: usize, const AVALANCHE: bool, const PROTECTED: bool>(
+    saved: &[u8; SAVED_SIZE],
+    secrets: &RapidSecrets,
+) -> bool
     requires { IsLaneCount LANES }
 {
     let mut bytes = *saved;
@@ -25,7 +31,7 @@ fn refuses_each_bit<const LANES: usize>(saved: &[u8; SAVED_SIZE], secrets: &Rapi
         let old = bytes[at];
         for bit in 0..8u32 {
             bytes[at] = old ^ 1u8.wrapping_shl(bit);
-            refused = refused && !is_restored::<LANES>(&bytes, secrets);
+            refused = refused && !is_restored::<LANES, AVALANCHE, PROTECTED>(&bytes, secrets);
         }
         bytes[at] = old;
     }
@@ -44,7 +50,7 @@ fn put(bytes: &mut [u8], place: usize, others: &[u8]) -> Result<()> {
 }
 
 /// Replays a change, `AT:DIGITS:CHECK`. Returns whether it is accepted.
-fn forge<const LANES: usize>(
+fn forge<const LANES: usize, const AVALANCHE: bool, const PROTECTED: bool>(
     alloc: Global,
     saved: &[u8; SAVED_SIZE],
     secrets: &RapidSecrets,
@@ -65,11 +71,11 @@ fn forge<const LANES: usize>(
         hex::decode(alloc, digits)?.as_slice(),
     )?;
     put(&mut bytes, CHECKED, hex::decode(alloc, check)?.as_slice())?;
-    Ok(is_restored::<LANES>(&bytes, secrets))
+    Ok(is_restored::<LANES, AVALANCHE, PROTECTED>(&bytes, secrets))
 }
 
 /// Replays an operation that leaves the hasher as it is. Returns whether it is as expected.
-pub fn change<const LANES: usize>(
+pub fn change<const LANES: usize, const AVALANCHE: bool, const PROTECTED: bool>(
     alloc: Global,
     saved: &[u8; SAVED_SIZE],
     secrets: &RapidSecrets,
@@ -78,17 +84,17 @@ pub fn change<const LANES: usize>(
     requires { IsLaneCount LANES }
 {
     if let Some(text) = operation.strip_prefix("^") {
-        return Ok(!forge::<LANES>(alloc, saved, secrets, text)?);
+        return Ok(!forge::<LANES, AVALANCHE, PROTECTED>(alloc, saved, secrets, text)?);
     }
     if let Some(text) = operation.strip_prefix("+") {
-        return forge::<LANES>(alloc, saved, secrets, text);
+        return forge::<LANES, AVALANCHE, PROTECTED>(alloc, saved, secrets, text);
     }
     if let Some(digits) = operation.strip_prefix("!") {
         let bytes = hex::decode(alloc, digits)?;
-        return Ok(!is_restored::<LANES>(bytes.as_slice(), secrets));
+        return Ok(!is_restored::<LANES, AVALANCHE, PROTECTED>(bytes.as_slice(), secrets));
     }
     if operation == "~" {
-        return Ok(refuses_each_bit::<LANES>(saved, secrets));
+        return Ok(refuses_each_bit::<LANES, AVALANCHE, PROTECTED>(saved, secrets));
     }
     bail!("no operation {operation}");
 }

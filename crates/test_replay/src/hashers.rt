@@ -1,19 +1,14 @@
 //! Cases of the hasher of maps: lists of items, and the hash after them.
 
-use crate::bulk::options_of;
+use crate::bodies::options_of;
 use crate::items::{Item, listed};
-use crate::rules::{number, secrets_of};
-use crate::tally::Agreement;
+use crate::rules::secrets_of;
 use anyhow::{Result, bail};
 use rapidhash::inner::SeedableState;
 use rapidhash_portable::form::Options;
 use rapidhash_portable::v3::RapidSecrets;
 use std::alloc::Global;
 use std::hash::{BuildHasher, Hasher};
-use test_definitions::finished;
-
-/// The columns of a file of items.
-pub const COLUMNS: &str = "avalanche\tsponge\tprotected\tsecrets\titems\texpected";
 
 /// The results of the hasher of a seedable state.
 fn answer<const AVALANCHE: bool, const SPONGE: bool, const COMPACT: bool, const PROTECTED: bool>(
@@ -50,51 +45,19 @@ fn answered<const COMPACT: bool>(
     }
 }
 
-/// Compares the hashes of the definition and of the hasher with the expected one.
-pub fn compare(
-    alloc: Global,
-    options: Options,
-    sponge: bool,
-    start: &RapidSecrets,
-    items: &[Item],
-    expected: u64,
-) -> Result<Agreement> {
-    let mut absorbed = Vec::new(alloc);
-    for item in items {
-        absorbed.push(item.absorbed())?;
-    }
-    let defined = finished(
-        options,
-        sponge,
-        &start.secrets,
-        start.seed,
-        absorbed.as_slice(),
-    );
-    Ok(Agreement {
-        definition: Some(defined == expected),
-        words: None,
-        body: Some(answered::<false>(options, sponge, start, items) == expected),
-        compact: Some(answered::<true>(options, sponge, start, items) == expected),
-        steps: None,
-    })
-}
-
-/// Replays a list of items.
-pub fn replay(alloc: Global, line: &str) -> Result<Agreement> {
-    let fields: Vec<&str> = line.split("\t").collect(alloc)?;
-    let [avalanche, sponge, protected, secrets, list, expected] = fields.as_slice() else {
-        bail!("no six fields");
+/// Replays a list of items, by unrolled and by compact code.
+pub fn replay(alloc: Global, name: &str, secrets: &str, list: &str, expected: u64) -> Result<bool> {
+    let (name, options) = options_of(name);
+    let sponge = match name {
+        "hasher" => false,
+        "hasher_sponge" => true,
+        _ => bail!("no hasher {name}"),
     };
-    let options = options_of(avalanche, protected);
-    let sponge = *sponge == "1";
     let start = secrets_of(secrets)?.seven;
     let items = listed(alloc, list)?;
-    compare(
-        alloc,
-        options,
-        sponge,
-        &start,
-        items.as_slice(),
-        number(expected)?,
+    let items = items.as_slice();
+    Ok(
+        answered::<false>(options, sponge, &start, items) == expected
+            && answered::<true>(options, sponge, &start, items) == expected,
     )
 }

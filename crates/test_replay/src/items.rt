@@ -1,11 +1,10 @@
-//! The items of a hasher of maps, and their names in a vector file.
+//! The items of a hasher of maps, and their names in a file of cases.
 
+use crate::rules::message;
 use anyhow::{Result, bail};
 use rapidhash::inner::RapidHasher;
-use rapidhash::laws::Num;
 use std::alloc::Global;
 use std::hash::Hasher;
-use test_definitions::Absorbed;
 
 /// Bytes, or an integer by the call for it.
 #[derive(Drop)]
@@ -26,25 +25,6 @@ pub enum Item {
 }
 
 impl Item {
-    /// Returns the item of the definition.
-    pub fn absorbed(&self) -> Absorbed<'_> {
-        match self {
-            Item::Bytes(bytes) => Absorbed::Bytes(bytes.as_slice()),
-            Item::U8(value) => Absorbed::Number(Num::N8(*value)),
-            Item::U16(value) => Absorbed::Number(Num::N16(*value)),
-            Item::U32(value) => Absorbed::Number(Num::N32(*value)),
-            Item::U64(value) => Absorbed::Number(Num::N64(*value)),
-            Item::Usize(value) => Absorbed::Number(Num::N64(*value as u64)),
-            Item::U128(value) => Absorbed::Wide(*value),
-            Item::I8(value) => Absorbed::Number(Num::N8(value.cast_unsigned())),
-            Item::I16(value) => Absorbed::Number(Num::N16(value.cast_unsigned())),
-            Item::I32(value) => Absorbed::Number(Num::N32(value.cast_unsigned())),
-            Item::I64(value) => Absorbed::Number(Num::N64(value.cast_unsigned())),
-            Item::Isize(value) => Absorbed::Number(Num::N64(value.cast_unsigned() as u64)),
-            Item::I128(value) => Absorbed::Wide(value.cast_unsigned()),
-        }
-    }
-
     /// Writes it, an integer by the hasher's own call for its type.
     pub fn write_to<
         const AVALANCHE: bool,
@@ -70,13 +50,15 @@ impl Item {
     }
 }
 
-/// An item by its name: `bytes:` and hex digits, or the type of an integer and its value.
+/// An item by its name: `bytes:` and hex digits, a message by its rule and length, or the type of
+/// an integer and its value.
 fn named(alloc: Global, word: &str) -> Result<Item> {
     let Some((name, value)) = word.split_once(":") else {
         bail!("no name and value in {word}");
     };
     Ok(match name {
-        "bytes" => Item::Bytes(hex::decode(alloc, if value == "-" { "" } else { value })?),
+        "bytes" => Item::Bytes(hex::decode(alloc, value)?),
+        "square" | "random" => Item::Bytes(message(alloc, word)?),
         "u8" => Item::U8(value.parse::<u8>()?),
         "u16" => Item::U16(value.parse::<u16>()?),
         "u32" => Item::U32(value.parse::<u32>()?),
@@ -93,13 +75,10 @@ fn named(alloc: Global, word: &str) -> Result<Item> {
     })
 }
 
-/// Returns the items of a field, `(none)` for none.
-pub fn listed(alloc: Global, field: &str) -> Result<Vec<Item>> {
+/// Returns the items between spaces, `-` for none.
+pub fn listed(alloc: Global, list: &str) -> Result<Vec<Item>> {
     let mut all = Vec::new(alloc);
-    if field == "(none)" {
-        return Ok(all);
-    }
-    for word in field.split_whitespace() {
+    for word in list.split_whitespace().filter(|word| *word != "-") {
         all.push(named(alloc, word)?)?;
     }
     Ok(all)

@@ -1,12 +1,9 @@
 //! Cases of keys of several fields.
 
 use crate::rules::secrets_of;
-use crate::tally::Agreement;
 use anyhow::Result;
 use rapidhash::key::{Field, rapidhash_v3_key, rapidhash_v3_key_seeded};
-use rapidhash_portable::form::{Options, Version};
-use std::alloc::{AllocError, Global};
-use test_definitions::bodies::{Tested, defined};
+use std::alloc::Global;
 
 /// A field whose bytes are its own.
 #[derive(Drop)]
@@ -34,48 +31,19 @@ impl Part {
             Part::Bytes(bytes) => Field::Bytes(bytes.as_slice()),
         }
     }
-
-    /// Appends the encoding, as it is defined.
-    fn encode(&self, message: &mut Vec<u8>) -> Result<(), AllocError> {
-        match self {
-            Part::Nothing => message.push(0)?,
-            Part::Integer(value) => {
-                message.push(1)?;
-                message.extend_from_slice(&value.to_le_bytes())?;
-            }
-            Part::Bytes(bytes) => {
-                message.push(2)?;
-                message.extend_from_slice(&(bytes.len() as u64).to_le_bytes())?;
-                message.extend_from_slice(bytes.as_slice())?;
-            }
-        }
-        Ok(())
-    }
 }
 
 /// Replays the hash of a key, whose fields are between spaces, or `()` for none.
-pub fn replay(alloc: Global, rule: &str, key: &str, expected: u64) -> Result<Agreement> {
+pub fn replay(alloc: Global, rule: &str, key: &str, expected: u64) -> Result<bool> {
     let mut parts = Vec::new(alloc);
-    let mut message = Vec::new(alloc);
     for text in key.split_whitespace().filter(|text| *text != "()") {
-        let part = Part::new(alloc, text)?;
-        part.encode(&mut message)?;
-        parts.push(part)?;
+        parts.push(Part::new(alloc, text)?)?;
     }
     let mut fields = Vec::new(alloc);
     for part in &parts {
         fields.push(part.field())?;
     }
-    let secrets = secrets_of(rule)?;
-    let options = Options {
-        avalanche: true,
-        protected: false,
-    };
-    let v3 = Tested::Named(Version::V3);
+    let secrets = secrets_of(rule)?.seven;
     let default = rule != "default" || rapidhash_v3_key(fields.as_slice()) == expected;
-    let seeded = rapidhash_v3_key_seeded(fields.as_slice(), &secrets.seven);
-    Ok(Agreement::new(
-        defined(v3, options, &secrets, message.as_slice()) == expected,
-        default && seeded == expected,
-    ))
+    Ok(default && rapidhash_v3_key_seeded(fields.as_slice(), &secrets) == expected)
 }

@@ -1,97 +1,64 @@
-//! Replays vector files: reads cases whose values come from elsewhere (see data/README.md), and
-//! compares the definitions and the fast bodies with each. It prints a line of counts for each file
-//! named in its arguments, the cases that differ on standard error, and ends with status 1 if one
-//! does. The argument `--compare` compares bodies and definitions on bytes of the generator.
-//! Without arguments it prints how it is called, and ends with status 2.
+//! Replays files of cases, whose values come from elsewhere (see data/README.md), with the library.
+//! It prints a line of counts for each file named in its arguments, the cases that differ on
+//! standard error, and ends with status 1 if one does. Without arguments it prints how it is
+//! called, and ends with status 2.
 #![tactic(auto)]
 
-mod bulk;
+mod bodies;
 mod cases;
-mod compare;
 mod draws;
 mod forged;
 mod hashers;
 mod items;
 mod keys;
-mod lengths;
-mod pieces;
 mod readers;
 mod rules;
-mod saved;
 mod seeds;
 mod shards;
 mod streams;
-mod tally;
-mod words;
 
 use anyhow::{Context, Result, bail};
-use std::alloc::Global;
 use std::process::ExitCode;
 use std::rt::{Env, Files};
 use std::{env, fs};
-use tally::{Agreement, Tally};
 
 /// The usage.
-const USAGE: &str = "usage: test_replay [--compare] [FILE]..
+const USAGE: &str = "usage: test_replay FILE..
 
-Compares the values of vector files with the definitions and the library, and
-with --compare the library with the definitions on bytes of a generator.";
+Compares the library with the values of files of cases.";
 
 fn main(rt: HostRuntime) -> Result<ExitCode> {
-    let words: Vec<String> = env::args(&rt)?.skip(1).collect(rt.alloc())?;
-    if words.is_empty() {
+    let names: Vec<String> = env::args(&rt)?.skip(1).collect(rt.alloc())?;
+    if names.is_empty() {
         eprintln!(rt; "{USAGE}")?;
         return Ok(ExitCode::from(2));
     }
     let mut differing = 0u64;
-    for word in &words {
-        if word.as_str() == "--compare" {
-            differing = differing.saturating_add(compare::compare(&rt)?);
-            continue;
-        }
-        let tally = replay(&rt, word.as_str())?;
-        println!(rt; "{}: {tally}", word.as_str())?;
-        differing = differing.saturating_add(tally.differing());
+    for name in &names {
+        differing = differing.saturating_add(replay(&rt, name.as_str())?);
     }
     if differing > 0 {
-        bail!("{differing} values differ");
+        bail!("{differing} cases differ");
     }
     Ok(ExitCode::SUCCESS)
 }
 
-/// Replays one file, whose column names select the kind of its cases.
-fn replay(rt: &(impl Files + Print + Eprint + AllocGlobal), name: &str) -> Result<Tally> {
+/// Replays one file. Returns the number of cases that differ.
+fn replay(rt: &(impl Files + Print + Eprint + AllocGlobal), name: &str) -> Result<u64> {
     let text = fs::read_to_string(rt, name).context(format_args!("reading {name}"))?;
     let mut lines = text.lines().filter(|line| !line.starts_with("#"));
-    let Some(columns) = lines.next() else {
-        bail!("{name} has no column names");
-    };
-    let mut tally = Tally::new();
+    if lines.next() != Some(cases::COLUMNS) {
+        bail!("{name} has other columns");
+    }
+    let (mut all, mut agreed) = (0u64, 0u64);
     for line in lines {
-        let case = replay_line(rt.alloc(), columns, line).context(format_args!("{name}: {line}"))?;
-        if tally.differs(case) {
+        let agrees = cases::replay(rt.alloc(), line).context(format_args!("{name}: {line}"))?;
+        if !agrees {
             rt.eprintln(format_args!("{name}: {line}"))?;
         }
+        all = all.saturating_add(1);
+        agreed = agreed.saturating_add(u64::from(agrees));
     }
-    Ok(tally)
-}
-
-/// Replays one line of a file, by the file's column names.
-fn replay_line(alloc: Global, columns: &str, line: &str) -> Result<Agreement> {
-    match columns {
-        bulk::COLUMNS => bulk::replay(alloc, line),
-        cases::COLUMNS => cases::replay(alloc, line),
-        bulk::MEMORY_COLUMNS => bulk::replay_memory(alloc, line),
-        hashers::COLUMNS => hashers::replay(alloc, line),
-        readers::COLUMNS => readers::replay(alloc, line),
-        streams::COLUMNS => streams::replay(alloc, line),
-        streams::LANES_COLUMNS => streams::replay_with_lanes(alloc, line),
-        seeds::RESEED_COLUMNS => seeds::replay_reseed(alloc, line),
-        seeds::MADE_COLUMNS => seeds::replay_made(alloc, line),
-        seeds::SOURCE_COLUMNS => seeds::replay_source(alloc, line),
-        draws::COLUMNS => draws::replay(alloc, line),
-        draws::TIME_COLUMNS => draws::replay_time(alloc, line),
-        draws::STEPS_COLUMNS => draws::replay_steps(alloc, line),
-        _ => bail!("no cases with the columns {columns}"),
-    }
+    println!(rt; "{name}: {agreed} of {all} cases")?;
+    Ok(all.saturating_sub(agreed))
 }

@@ -1,19 +1,14 @@
 //! Cases of the hashes of a reader.
 
-use crate::bulk::version_of;
-use crate::rules::{message, number, secrets_of};
-use crate::tally::Agreement;
-use anyhow::{Result, bail};
-use rapidhash_portable::form::{Options, Version};
+use crate::bodies::{Secrets, Tested, version_of};
+use crate::rules::{message, secrets_of};
+use anyhow::Result;
+use rapidhash_portable::form::Version;
 use rapidhash_portable::v1::rapidhash_v1_file_inline;
 use rapidhash_portable::v2::rapidhash_v2_file_inline;
 use rapidhash_portable::v3::rapidhash_v3_file_inline;
 use std::alloc::Global;
 use std::io;
-use test_definitions::bodies::{Secrets, Tested, defined};
-
-/// The columns of a file of readers' hashes.
-pub const COLUMNS: &str = "form\tminor\tprotected\tmessage\tlength\tsecrets\texpected";
 
 /// The hash of all bytes of a reader.
 fn of_reader<const PROTECTED: bool>(
@@ -51,29 +46,20 @@ fn of_reader<const PROTECTED: bool>(
 }
 
 /// Replays a hash of a reader, with the avalanche on.
-pub fn replay(alloc: Global, line: &str) -> Result<Agreement> {
-    let fields: Vec<&str> = line.split("\t").collect(alloc)?;
-    let [form, minor, protected, rule, length, secrets, expected] = fields.as_slice() else {
-        bail!("no seven fields");
-    };
-    let Some(version) = version_of(form, "0", minor) else {
-        bail!("no version");
-    };
-    let options = Options {
-        avalanche: true,
-        protected: *protected == "1",
-    };
-    let bytes = message(alloc, rule, number(length)?)?;
+pub fn replay(
+    alloc: Global,
+    name: &str,
+    secrets: &str,
+    argument: &str,
+    expected: u64,
+) -> Result<bool> {
+    let (version, options) = version_of(name)?;
     let secrets = secrets_of(secrets)?;
-    let expected = number(expected)?;
-    let bytes = bytes.as_slice();
+    let bytes = message(alloc, argument)?;
     let answer = if options.protected {
-        of_reader::<true>(version, &secrets, bytes)?
+        of_reader::<true>(version, &secrets, bytes.as_slice())?
     } else {
-        of_reader::<false>(version, &secrets, bytes)?
+        of_reader::<false>(version, &secrets, bytes.as_slice())?
     };
-    Ok(Agreement::new(
-        defined(version, options, &secrets, bytes) == expected,
-        answer == expected,
-    ))
+    Ok(answer == expected)
 }

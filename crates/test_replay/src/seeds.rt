@@ -1,24 +1,9 @@
-//! Cases of secrets derived from a seed or from random words.
+//! Cases of secrets that are derived from a seed.
 
-use crate::rules::number;
-use crate::tally::Agreement;
+use crate::rules::{number, numbers};
 use anyhow::{Result, bail};
-use rapidhash_portable::seeding::{GlobalSecrets, SeedSource};
 use rapidhash_portable::{v1, v2, v3};
 use std::alloc::{AllocError, Global};
-use test_definitions::{
-    chained, cpp_seeded, global_seed, made_secrets, reseeded, seeded, source_answer, source_next,
-    source_start,
-};
-
-/// The columns of a file of secrets that `reseed` makes of those of `seed`.
-pub const RESEED_COLUMNS: &str = "form\tnumber\texpected";
-
-/// The columns of a file of made secrets.
-pub const MADE_COLUMNS: &str = "random_word\texpected";
-
-/// The columns of a file of seed sources.
-pub const SOURCE_COLUMNS: &str = "random_word\tsecond_word\texpected";
 
 /// A seed, and then secrets.
 fn listed(alloc: Global, seed: u64, secrets: &[u64]) -> Result<Vec<u64>, AllocError> {
@@ -28,28 +13,30 @@ fn listed(alloc: Global, seed: u64, secrets: &[u64]) -> Result<Vec<u64>, AllocEr
     Ok(words)
 }
 
-/// The results of the library's calls.
-fn made(alloc: Global, form: &str, call: &str, number: u64) -> Result<Vec<u64>> {
-    let seven = match (form, call) {
-        ("v1", "make") => {
-            let made = v1::RapidSecrets::seed(number);
-            return Ok(listed(alloc, made.seed, &made.secrets)?);
-        }
-        ("v1", "word") => {
+/// The secrets that V1's call makes of a number.
+fn of_v1(call: &str, number: u64) -> Result<v1::RapidSecrets> {
+    Ok(match call {
+        "make" => v1::RapidSecrets::seed(number),
+        "reseed" => v1::RapidSecrets::seed(number).reseed(),
+        "word" => {
             let made = v1::RapidSecrets::seed_cpp(number);
             if v1::RapidSecrets::seed_of_word(number) != made.seed {
                 bail!("two seeds");
             }
-            return Ok(listed(alloc, made.seed, &made.secrets)?);
+            made
         }
-        ("v1", "reseed") => {
-            let made = v1::RapidSecrets::seed(number).reseed();
-            return Ok(listed(alloc, made.seed, &made.secrets)?);
-        }
+        _ => bail!("no call {call} of V1"),
+    })
+}
+
+/// The secrets that a call of V2 or V3 makes of a number.
+fn of_others(version: &str, call: &str, number: u64) -> Result<v3::RapidSecrets> {
+    Ok(match (version, call) {
         ("v2", "make") => v2::RapidSecrets::seed(number),
         ("v2", "word") => v2::RapidSecrets::seed_cpp(number),
         ("v2", "reseed") => v2::RapidSecrets::seed(number).reseed(),
         ("v3", "make") => v3::RapidSecrets::seed(number),
+        ("v3", "reseed") => v3::RapidSecrets::seed(number).reseed(),
         ("v3", "word") => {
             let made = v3::RapidSecrets::seed_cpp(number);
             if v3::RapidSecrets::seed_of_word(number) != made.seed {
@@ -57,109 +44,21 @@ fn made(alloc: Global, form: &str, call: &str, number: u64) -> Result<Vec<u64>> 
             }
             made
         }
-        ("v3", "reseed") => v3::RapidSecrets::seed(number).reseed(),
-        _ => bail!("no call {call} of {form}"),
-    };
-    Ok(listed(alloc, seven.seed, &seven.secrets)?)
+        _ => bail!("no call {call} of {version}"),
+    })
 }
 
-/// The values of the definitions.
-fn defined(alloc: Global, form: &str, call: &str, number: u64) -> Result<Vec<u64>, AllocError> {
-    let default = v3::DEFAULT_RAPID_SECRETS.secrets;
-    let (count, first, last) = if form == "v1" { (3, 0, 2) } else { (7, 2, 6) };
-    if call == "word" {
-        return listed(alloc, cpp_seeded(number, first), &default[..count]);
-    }
-    let seed = seeded(number);
-    let mut words = Vec::new(alloc);
-    words.push(if call == "make" {
-        seed
-    } else {
-        reseeded(seed, last)
-    })?;
-    for place in 0..count {
-        words.push(chained(seed, place + 1))?;
-    }
-    Ok(words)
-}
-
-/// Parses the numbers in one field.
-pub fn numbers(alloc: Global, field: &str) -> Result<Vec<u64>> {
-    let mut all = Vec::new(alloc);
-    for text in field.split_whitespace() {
-        all.push(number(text)?)?;
-    }
-    Ok(all)
-}
-
-/// Returns whether two lists are equal, for the library's calls and for the definitions.
-pub fn agreement(expected: &[u64], defined: &[u64], made: &[u64]) -> Agreement {
-    Agreement::new(defined == expected, made == expected)
-}
-
-/// Replays the rule of secrets: `make:K` or `word:K`.
-pub fn replay(alloc: Global, form: &str, rule: &str, expected: &str) -> Result<Agreement> {
+/// Replays a rule of secrets: a call and its number.
+pub fn replay(alloc: Global, version: &str, rule: &str, expected: &str) -> Result<bool> {
     let Some((call, of)) = rule.split_once(":") else {
         bail!("no secrets by the rule {rule}");
     };
-    compare(alloc, form, call, of, expected)
-}
-
-/// Replays `reseed`.
-pub fn replay_reseed(alloc: Global, line: &str) -> Result<Agreement> {
-    let fields: Vec<&str> = line.split("\t").collect(alloc)?;
-    let [form, of, expected] = fields.as_slice() else {
-        bail!("no three fields");
+    let words = if version == "v1" {
+        let made = of_v1(call, number(of)?)?;
+        listed(alloc, made.seed, &made.secrets)?
+    } else {
+        let made = of_others(version, call, number(of)?)?;
+        listed(alloc, made.seed, &made.secrets)?
     };
-    compare(alloc, form, "reseed", of, expected)
-}
-
-fn compare(alloc: Global, form: &str, call: &str, of: &str, expected: &str) -> Result<Agreement> {
-    let expected = numbers(alloc, expected)?;
-    let defined = defined(alloc, form, call, number(of)?)?;
-    let made = made(alloc, form, call, number(of)?)?;
-    Ok(agreement(expected.as_slice(), defined.as_slice(), made.as_slice()))
-}
-
-/// Replays the secrets made of a random word.
-pub fn replay_made(alloc: Global, line: &str) -> Result<Agreement> {
-    let fields: Vec<&str> = line.split("\t").collect(alloc)?;
-    let [random, expected] = fields.as_slice() else {
-        bail!("no two fields");
-    };
-    let random = number(random)?;
-    let expected = numbers(alloc, expected)?;
-    let defined = made_secrets(random);
-    let made = GlobalSecrets::new(random);
-    Ok(agreement(expected.as_slice(), &defined, made.get()))
-}
-
-/// The definitions' values for two random words: a global seed, and four seeds of a source.
-fn defined_answers(random: u64, second: u64) -> [u64; 5] {
-    let global = global_seed(random);
-    let mut answers = [global; 5];
-    let mut counter = source_start(global, second);
-    for answer in &mut answers[1..] {
-        counter = source_next(counter);
-        *answer = source_answer(second, counter);
-    }
-    answers
-}
-
-/// Replays a global seed, and the seeds of a seed source.
-pub fn replay_source(alloc: Global, line: &str) -> Result<Agreement> {
-    let fields: Vec<&str> = line.split("\t").collect(alloc)?;
-    let [random, second, expected] = fields.as_slice() else {
-        bail!("no three fields");
-    };
-    let (random, second) = (number(random)?, number(second)?);
-    let expected = numbers(alloc, expected)?;
-    let defined = defined_answers(random, second);
-    let global = GlobalSecrets::new(random);
-    let mut source = SeedSource::new(&global, second);
-    let mut answers = [global.get_global_seed(); 5];
-    for answer in &mut answers[1..] {
-        *answer = source.next();
-    }
-    Ok(agreement(expected.as_slice(), &defined, &answers))
+    Ok(words.as_slice() == numbers(alloc, expected)?.as_slice())
 }

@@ -1,18 +1,10 @@
 //! Cases of what a hash decides: shards, buckets and fingerprints.
 
 use crate::rules::number;
-use crate::tally::Agreement;
 use anyhow::{Result, bail};
 use rapidhash::fingerprints::{add, fingerprint, remove};
 use rapidhash::shards::{bucket, first_hash, shard};
 use std::alloc::Global;
-
-/// Returns the agreement of the library alone: the definitions are these calls.
-fn of_body(agrees: bool) -> Agreement {
-    let mut agreement = Agreement::none();
-    agreement.body = Some(agrees);
-    agreement
-}
 
 /// Returns what a call returns for two numbers, unless they are outside its preconditions.
 fn called(kind: &str, first: u64, count: u64) -> Option<u64> {
@@ -25,19 +17,19 @@ fn called(kind: &str, first: u64, count: u64) -> Option<u64> {
 }
 
 /// Replays a shard, the first hash of a shard, or a bucket.
-pub fn replay(alloc: Global, kind: &str, argument: &str, value: &str) -> Result<Agreement> {
+pub fn replay(alloc: Global, kind: &str, argument: &str, value: &str) -> Result<bool> {
     let words: Vec<&str> = argument.split(" ").collect(alloc)?;
     let [first, count] = words.as_slice() else {
         bail!("no two numbers");
     };
-    Ok(of_body(match called(kind, number(first)?, number(count)?) {
+    Ok(match called(kind, number(first)?, number(count)?) {
         Some(found) => found == number(value)?,
         None => value == "refused",
-    }))
+    })
 }
 
 /// Replays the fingerprint of hashes, also hash by hash.
-pub fn replay_fingerprint(alloc: Global, argument: &str, expected: u64) -> Result<Agreement> {
+pub fn replay_fingerprint(alloc: Global, argument: &str, expected: u64) -> Result<bool> {
     let mut hashes = Vec::new(alloc);
     let mut sum = 0u64;
     for text in argument.split_whitespace().filter(|text| *text != "-") {
@@ -49,5 +41,5 @@ pub fn replay_fingerprint(alloc: Global, argument: &str, expected: u64) -> Resul
     for hash in &hashes {
         sum = remove(sum, *hash);
     }
-    Ok(of_body(expected == whole && sum == 0))
+    Ok(expected == whole && sum == 0)
 }

@@ -34,7 +34,7 @@ echo something >something
 seq 1 20000000 | head -c 100000000 >large
 head -c 10000000 large >ten_million
 
-# Tests every version, plain and protected, with messages of the vector files: no byte as standard input, 58 bytes from
+# Tests every version, plain and protected, with messages of the cases: no byte as standard input, 58 bytes from
 # a pipe, and 65,537 bytes as a file. The contracts of run_stdin and run_file hold for every version.
 awk -F '\t' '$2 == 1 && $4 != 1 && $6 == "square" && $7 ~ /^(0|58|65537)$/ && $8 == "default" {
   print $7, $9, ($3 ? "--protected " : "") "--" ($1 ~ /^v/ ? "" : "v3-") $1 ($5 == "-" ? "" : "." $5)

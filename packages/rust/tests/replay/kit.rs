@@ -28,38 +28,6 @@ impl<T, E: Display> Context<T> for std::result::Result<T, E> {
     }
 }
 
-/// Converts a signed integer to the unsigned integer with the same bits.
-pub trait ToUnsigned {
-    /// The type of the unsigned integer.
-    type Unsigned;
-
-    /// Returns the unsigned integer with the same bits.
-    fn to_unsigned(self) -> Self::Unsigned;
-}
-
-macro_rules! to_unsigned {
-    ($($signed:ty as $unsigned:ty),*) => {
-        $(
-            impl ToUnsigned for $signed {
-                type Unsigned = $unsigned;
-
-                fn to_unsigned(self) -> $unsigned {
-                    self as $unsigned
-                }
-            }
-        )*
-    };
-}
-to_unsigned! { i8 as u8, i16 as u16, i32 as u32, i64 as u64, i128 as u128, isize as usize }
-
-/// Returns the first bytes of a text and the others, unless there are too few.
-pub fn split_at_checked(bytes: &[u8], count: usize) -> Option<(&[u8], &[u8])> {
-    if count > bytes.len() {
-        return None;
-    }
-    Some(bytes.split_at(count))
-}
-
 /// Hexadecimal digits.
 pub mod hex {
     /// Returns the bytes of a text of digits.

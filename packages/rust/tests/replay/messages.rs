@@ -1,12 +1,12 @@
 //! Hashes of random messages in all forms, with all options, and a checksum of them.
 
-use super::kit::{AllocError, Result};
-use super::proved::definitions::bodies::{Secrets, Tested, body};
+use super::kit::Result;
+use super::proved::bodies::{Secrets, Tested, body};
 use super::proved::form::{Options, Version};
+use super::proved::hashers;
 use super::proved::items::Item;
-use super::proved::laws::StreamOp;
 use super::proved::rules::secrets_of;
-use super::proved::{hashers, streams};
+use rapidhash::v3::RapidStreamHasherLanes;
 use rapidhash::{v1, v3};
 
 /// Messages are cut from a buffer of this many bytes at any offset, so at any alignment.
@@ -61,17 +61,16 @@ impl Draws {
     }
 }
 
-/// Returns the steps that write a message in random pieces and request its hash.
-fn in_pieces<'d>(draws: &mut Draws, message: &'d [u8]) -> Vec<StreamOp<'d>> {
+/// Returns a message in random pieces.
+fn in_pieces<'d>(draws: &mut Draws, message: &'d [u8]) -> Vec<&'d [u8]> {
     let mut rest = message;
-    let mut steps = Vec::new();
+    let mut pieces = Vec::new();
     while !rest.is_empty() {
         let (piece, others) = rest.split_at(draws.below(rest.len()) + 1);
-        steps.push(StreamOp::Write(piece));
+        pieces.push(piece);
         rest = others;
     }
-    steps.push(StreamOp::Finish);
-    steps
+    pieces
 }
 
 /// Returns a message with integers in the middle, as items of the hasher of maps.
@@ -101,15 +100,32 @@ fn hash(version: Tested, options: Options, compact: bool, secrets: &Secrets, byt
     }
 }
 
-/// The hashes of the stream hasher with 7, 5 or 3 lanes.
-type Answers = fn(Options, &v3::RapidSecrets, &[StreamOp<'_>]) -> Result<Vec<u64>, AllocError>;
+/// Returns the hash of the stream hasher with some lanes and options.
+fn streamed<const LANES: usize, const AVALANCHE: bool, const PROTECTED: bool>(
+    secrets: &v3::RapidSecrets,
+    pieces: &[&[u8]],
+) -> u64 {
+    let mut hasher = RapidStreamHasherLanes::<LANES, AVALANCHE, PROTECTED>::new(secrets);
+    pieces.iter().for_each(|piece| hasher.write(piece));
+    hasher.finish()
+}
+
+/// Returns the same, with the options as values.
+fn of_pieces<const LANES: usize>(options: Options, secrets: &v3::RapidSecrets, pieces: &[&[u8]]) -> u64 {
+    match (options.avalanche, options.protected) {
+        (true, true) => streamed::<LANES, true, true>(secrets, pieces),
+        (true, false) => streamed::<LANES, true, false>(secrets, pieces),
+        (false, true) => streamed::<LANES, false, true>(secrets, pieces),
+        (false, false) => streamed::<LANES, false, false>(secrets, pieces),
+    }
+}
+
+/// The hash of a message in pieces.
+type OfPieces = fn(Options, &v3::RapidSecrets, &[&[u8]]) -> u64;
 
 /// The versions with streams.
-const STREAMS: [(Version, Answers); 3] = [
-    (Version::V3, streams::answers::<7>),
-    (Version::V3Micro, streams::answers::<5>),
-    (Version::V3Nano, streams::answers::<3>),
-];
+const STREAMS: [(Version, OfPieces); 3] =
+    [(Version::V3, of_pieces::<7>), (Version::V3Micro, of_pieces::<5>), (Version::V3Nano, of_pieces::<3>)];
 
 /// Returns a hash. A message in pieces must have the hash of the whole.
 fn one(draws: &mut Draws, message: &[u8]) -> Result<u64> {
@@ -121,7 +137,7 @@ fn one(draws: &mut Draws, message: &[u8]) -> Result<u64> {
         return Ok(hash(*version, options, compact, &secrets, message));
     }
     let Secrets { seven, .. } = secrets;
-    let (version, answers) = match STREAMS.get(place - Tested::ALL.len()) {
+    let (version, of_pieces) = match STREAMS.get(place - Tested::ALL.len()) {
         Some(stream) => stream,
         None => {
             let items = in_memory(draws, message);
@@ -132,9 +148,9 @@ fn one(draws: &mut Draws, message: &[u8]) -> Result<u64> {
             });
         }
     };
-    let steps = in_pieces(draws, message);
+    let pieces = in_pieces(draws, message);
     let whole = hash(Tested::Named(*version), options, compact, &secrets, message);
-    if answers(options, &seven, &steps)? == [whole] {
+    if of_pieces(options, &seven, &pieces) == whole {
         Ok(whole)
     } else {
         let length = message.len();

@@ -1,6 +1,6 @@
-//! Replays the vector files: compares the crate, and the definitions as plain programs, with values
-//! from other sources. The README.md beside the files states these sources, and the rules by which a
-//! file names messages and secrets. The replay is generated from that of the proved crates.
+//! Replays the files of cases: compares the crate with values from other sources. The README.md beside the files states
+//! these sources, and the rules by which a line names messages and secrets. The replay is generated from that of the
+//! proved crates.
 
 pub mod kit;
 pub mod messages;
@@ -8,26 +8,28 @@ pub mod messages;
 pub mod proved;
 
 use kit::{Context, Result, bail};
-use proved::tally::Tally;
 use std::fs;
 use std::path::Path;
 
-/// Replays a file. Returns its tally. The error names a line that cannot be read or that differs.
-fn file(path: &Path) -> Result<Tally> {
+/// Replays a file. Returns the number of its cases. The error names a line that cannot be read or that differs.
+fn file(path: &Path) -> Result<usize> {
     let text = fs::read_to_string(path)?;
     let mut lines = text.lines().filter(|line| !line.starts_with('#'));
-    let columns = lines.next().unwrap_or_default();
-    let mut tally = Tally::new();
+    if lines.next() != Some(proved::cases::COLUMNS) {
+        bail!("it has other columns");
+    }
+    let mut cases = 0;
     for line in lines {
-        if tally.differs(proved::replay_line(columns, line).context(line)?) {
+        if !proved::cases::replay(line).context(line)? {
             bail!("it differs: {line}");
         }
+        cases += 1;
     }
-    Ok(tally)
+    Ok(cases)
 }
 
-/// Replays all files in a directory. Returns the number of files. The tally of each must be that of
-/// the stored run of `test_replay`, so that a truncated file is noticed.
+/// Replays all files in a directory. Returns the number of files. The number of cases in each must be that of the
+/// stored run of `test_replay`, so that a truncated file is noticed.
 pub fn folder(folder: &Path) -> Result<usize> {
     let stored = fs::read_to_string(folder.join("../stdout"))?;
     let mut files = 0;
@@ -37,7 +39,8 @@ pub fn folder(folder: &Path) -> Result<usize> {
         if !name.ends_with(".tsv") {
             continue;
         }
-        let line = format!("{name}: {}", file(&path).context(&name)?);
+        let cases = file(&path).context(&name)?;
+        let line = format!("{name}: {cases} of {cases} cases");
         if !stored.lines().any(|stored| stored == line) {
             bail!("the stored run has no line {line}");
         }

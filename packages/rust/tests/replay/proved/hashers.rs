@@ -4,18 +4,13 @@
 
 use crate::replay::kit::*;
 
-use super::bulk::options_of;
+use super::bodies::options_of;
 use super::items::{Item, listed};
-use super::rules::{number, secrets_of};
-use super::tally::Agreement;
-use crate::replay::proved::definitions::finished;
+use super::rules::secrets_of;
 use crate::replay::proved::form::Options;
 use rapidhash::inner::SeedableState;
 use rapidhash::v3::RapidSecrets;
 use std::hash::{BuildHasher, Hasher};
-
-/// The columns of a file of items.
-pub const COLUMNS: &str = "avalanche\tsponge\tprotected\tsecrets\titems\texpected";
 
 /// The results of the hasher of a seedable state.
 fn answer<const AVALANCHE: bool, const SPONGE: bool, const COMPACT: bool, const PROTECTED: bool>(
@@ -44,40 +39,17 @@ pub fn answered<const COMPACT: bool>(options: Options, sponge: bool, start: &Rap
     }
 }
 
-/// Compares the hashes of the definition and of the hasher with the expected one.
-pub fn compare(
-    options: Options,
-    sponge: bool,
-    start: &RapidSecrets,
-    items: &[Item],
-    expected: u64,
-) -> Result<Agreement> {
-    let mut absorbed = Vec::new();
-    for item in items {
-        absorbed.push(item.absorbed());
-    }
-    let defined = finished(options, sponge, &start.secrets, start.seed, absorbed.as_slice());
-    Ok(Agreement {
-        definition: Some(defined == expected),
-        words: None,
-        body: Some(answered::<false>(options, sponge, start, items) == expected),
-        compact: Some(answered::<true>(options, sponge, start, items) == expected),
-        steps: None,
-    })
-}
-
-/// Replays a list of items.
-pub fn replay(line: &str) -> Result<Agreement> {
-    let fields: Vec<&str> = line.split("\t").collect();
-    let (avalanche, sponge, protected, secrets, list, expected) =
-        if let [avalanche, sponge, protected, secrets, list, expected] = fields.as_slice() {
-            (avalanche, sponge, protected, secrets, list, expected)
-        } else {
-            bail!("no six fields");
-        };
-    let options = options_of(avalanche, protected);
-    let sponge = *sponge == "1";
+/// Replays a list of items, by unrolled and by compact code.
+pub fn replay(name: &str, secrets: &str, list: &str, expected: u64) -> Result<bool> {
+    let (name, options) = options_of(name);
+    let sponge = match name {
+        "hasher" => false,
+        "hasher_sponge" => true,
+        _ => bail!("no hasher {name}"),
+    };
     let start = secrets_of(secrets)?.seven;
     let items = listed(list)?;
-    compare(options, sponge, &start, items.as_slice(), number(expected)?)
+    let items = items.as_slice();
+    Ok(answered::<false>(options, sponge, &start, items) == expected
+        && answered::<true>(options, sponge, &start, items) == expected)
 }

@@ -1,11 +1,10 @@
 // Made by scripts/rust_crate from crates/test_replay/src/items.rt: change that file.
 
-//! The items of a hasher of maps, and their names in a vector file.
+//! The items of a hasher of maps, and their names in a file of cases.
 
 use crate::replay::kit::*;
 
-use crate::replay::proved::definitions::Absorbed;
-use crate::replay::proved::laws::Num;
+use super::rules::message;
 use rapidhash::inner::RapidHasher;
 use std::hash::Hasher;
 
@@ -28,25 +27,6 @@ pub enum Item {
 }
 
 impl Item {
-    /// Returns the item of the definition.
-    pub fn absorbed(&self) -> Absorbed<'_> {
-        match self {
-            Item::Bytes(bytes) => Absorbed::Bytes(bytes.as_slice()),
-            Item::U8(value) => Absorbed::Number(Num::N8(*value)),
-            Item::U16(value) => Absorbed::Number(Num::N16(*value)),
-            Item::U32(value) => Absorbed::Number(Num::N32(*value)),
-            Item::U64(value) => Absorbed::Number(Num::N64(*value)),
-            Item::Usize(value) => Absorbed::Number(Num::N64(*value as u64)),
-            Item::U128(value) => Absorbed::Wide(*value),
-            Item::I8(value) => Absorbed::Number(Num::N8(value.to_unsigned())),
-            Item::I16(value) => Absorbed::Number(Num::N16(value.to_unsigned())),
-            Item::I32(value) => Absorbed::Number(Num::N32(value.to_unsigned())),
-            Item::I64(value) => Absorbed::Number(Num::N64(value.to_unsigned())),
-            Item::Isize(value) => Absorbed::Number(Num::N64(value.to_unsigned() as u64)),
-            Item::I128(value) => Absorbed::Wide(value.to_unsigned()),
-        }
-    }
-
     /// Writes it, an integer by the hasher's own call for its type.
     pub fn write_to<const AVALANCHE: bool, const SPONGE: bool, const COMPACT: bool, const PROTECTED: bool>(
         &self,
@@ -70,7 +50,8 @@ impl Item {
     }
 }
 
-/// An item by its name: `bytes:` and hex digits, or the type of an integer and its value.
+/// An item by its name: `bytes:` and hex digits, a message by its rule and length, or the type of
+/// an integer and its value.
 fn named(word: &str) -> Result<Item> {
     let (name, value) = if let Some((name, value)) = word.split_once(":") {
         (name, value)
@@ -78,7 +59,8 @@ fn named(word: &str) -> Result<Item> {
         bail!("no name and value in {word}");
     };
     Ok(match name {
-        "bytes" => Item::Bytes(hex::decode(if value == "-" { "" } else { value })?),
+        "bytes" => Item::Bytes(hex::decode(value)?),
+        "square" | "random" => Item::Bytes(message(word)?),
         "u8" => Item::U8(value.parse::<u8>()?),
         "u16" => Item::U16(value.parse::<u16>()?),
         "u32" => Item::U32(value.parse::<u32>()?),
@@ -99,13 +81,10 @@ fn named(word: &str) -> Result<Item> {
     })
 }
 
-/// Returns the items of a field, `(none)` for none.
-pub fn listed(field: &str) -> Result<Vec<Item>> {
+/// Returns the items between spaces, `-` for none.
+pub fn listed(list: &str) -> Result<Vec<Item>> {
     let mut all = Vec::new();
-    if field == "(none)" {
-        return Ok(all);
-    }
-    for word in field.split_whitespace() {
+    for word in list.split_whitespace().filter(|word| *word != "-") {
         all.push(named(word)?);
     }
     Ok(all)

@@ -4,18 +4,13 @@
 
 use crate::replay::kit::*;
 
-use super::bulk::version_of;
-use super::rules::{message, number, secrets_of};
-use super::tally::Agreement;
-use crate::replay::proved::definitions::bodies::{Secrets, Tested, defined};
-use crate::replay::proved::form::{Options, Version};
+use super::bodies::{Secrets, Tested, version_of};
+use super::rules::{message, secrets_of};
+use crate::replay::proved::form::Version;
 use rapidhash::v1::rapidhash_v1_file_inline;
 use rapidhash::v2::rapidhash_v2_file_inline;
 use rapidhash::v3::rapidhash_v3_file_inline;
 use std::io;
-
-/// The columns of a file of readers' hashes.
-pub const COLUMNS: &str = "form\tminor\tprotected\tmessage\tlength\tsecrets\texpected";
 
 /// The hash of all bytes of a reader.
 fn of_reader<const PROTECTED: bool>(version: Tested, secrets: &Secrets, bytes: &[u8]) -> io::Result<u64> {
@@ -35,28 +30,14 @@ fn of_reader<const PROTECTED: bool>(version: Tested, secrets: &Secrets, bytes: &
 }
 
 /// Replays a hash of a reader, with the avalanche on.
-pub fn replay(line: &str) -> Result<Agreement> {
-    let fields: Vec<&str> = line.split("\t").collect();
-    let (form, minor, protected, rule, length, secrets, expected) =
-        if let [form, minor, protected, rule, length, secrets, expected] = fields.as_slice() {
-            (form, minor, protected, rule, length, secrets, expected)
-        } else {
-            bail!("no seven fields");
-        };
-    let version = if let Some(version) = version_of(form, "0", minor) {
-        version
-    } else {
-        bail!("no version");
-    };
-    let options = Options { avalanche: true, protected: *protected == "1" };
-    let bytes = message(rule, number(length)?)?;
+pub fn replay(name: &str, secrets: &str, argument: &str, expected: u64) -> Result<bool> {
+    let (version, options) = version_of(name)?;
     let secrets = secrets_of(secrets)?;
-    let expected = number(expected)?;
-    let bytes = bytes.as_slice();
+    let bytes = message(argument)?;
     let answer = if options.protected {
-        of_reader::<true>(version, &secrets, bytes)?
+        of_reader::<true>(version, &secrets, bytes.as_slice())?
     } else {
-        of_reader::<false>(version, &secrets, bytes)?
+        of_reader::<false>(version, &secrets, bytes.as_slice())?
     };
-    Ok(Agreement::new(defined(version, options, &secrets, bytes) == expected, answer == expected))
+    Ok(answer == expected)
 }

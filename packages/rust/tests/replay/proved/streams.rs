@@ -1,133 +1,120 @@
 // Made by scripts/rust_crate from crates/test_replay/src/streams.rt: change that file.
 
-//! Cases of the stream hasher: messages in pieces, with hashes between them.
+//! Cases of stream hashers: messages in pieces, with hashes between them, saved and restored.
 
 use crate::replay::kit::*;
 
-use super::bulk::options_of;
-use super::rules::{message, number, secrets_of};
-use super::seeds::numbers;
-use super::tally::Agreement;
-use crate::replay::proved::definitions::{chunk_count, finishes};
-use crate::replay::proved::form::Options;
-use crate::replay::proved::laws::{StreamOp, replay_lanes};
-use rapidhash::v3::RapidSecrets;
+use super::bodies::{Tested, version_of};
+use super::forged::change;
+use super::rules::{message, number};
+use crate::replay::proved::form::{Options, Version};
+use rapidhash::v3::{RapidSecrets, RapidStreamHasherLanes, SAVED_SIZE};
 
-/// The columns of a file of V3's stream hasher.
-pub const COLUMNS: &str = "avalanche\tprotected\tmessage\tlength\tsecrets\toperations\texpected";
-
-/// The columns of a file of stream hashers with 7, 5 or 3 lanes.
-pub const LANES_COLUMNS: &str = "lanes\tavalanche\tprotected\tmessage\tlength\tsecrets\toperations\tsteps\texpected";
-
-/// A message, cut from its beginning on: `f` is a hash, `r` a reset, and a number a size.
-fn cut<'d>(bytes: &'d [u8], operations: &str) -> Result<Vec<StreamOp<'d>>> {
-    let mut steps = Vec::new();
-    let mut rest = bytes;
-    for word in operations.split_whitespace() {
-        let step = match word {
-            "f" => StreamOp::Finish,
-            "r" => StreamOp::Reset,
-            size => {
-                let (piece, others) =
-                    if let Some((piece, others)) = split_at_checked(rest, usize::try_from(number(size)?)?) {
-                        (piece, others)
-                    } else {
-                        bail!("no {size} bytes are left");
-                    };
-                rest = others;
-                StreamOp::Write(piece)
-            }
-        };
-        steps.push(step);
-    }
-    Ok(steps)
+/// A message whose pieces a stream hasher is given one after the other.
+#[derive(Clone, Debug)]
+struct Source {
+    bytes: Vec<u8>,
+    written: usize,
 }
 
-/// The results of the stream hasher of `LANES` lanes.
-pub fn answers<const LANES: usize>(
-    options: Options,
-    secrets: &RapidSecrets,
-    steps: &[StreamOp<'_>],
-) -> Result<Vec<u64>, AllocError> {
-    match (options.avalanche, options.protected) {
-        (true, true) => replay_lanes::<LANES, true, true>(secrets, steps),
-        (true, false) => replay_lanes::<LANES, true, false>(secrets, steps),
-        (false, true) => replay_lanes::<LANES, false, true>(secrets, steps),
-        (false, false) => replay_lanes::<LANES, false, false>(secrets, steps),
-    }
-}
-
-/// The number of folded chunks at each hash, by the definition.
-fn counts(lanes: usize, steps: &[StreamOp<'_>]) -> Result<Vec<u64>, AllocError> {
-    let mut all = Vec::new();
-    let mut written = 0usize;
-    for step in steps {
-        match *step {
-            StreamOp::Write(piece) => written = written.saturating_add(piece.len()),
-            StreamOp::Finish => all.push(chunk_count(lanes, written) as u64),
-            StreamOp::Reset => written = 0,
+impl Source {
+    /// Returns the next bytes.
+    fn next(&mut self, count: u64) -> Result<&[u8]> {
+        let first = self.written;
+        self.written = first.saturating_add(usize::try_from(count)?);
+        match self.bytes.as_slice().get(first..self.written) {
+            Some(bytes) => Ok(bytes),
+            None => bail!("no {count} bytes are left"),
         }
     }
-    Ok(all)
 }
 
-/// Compares the hashes of the definition and of the hasher of `LANES` lanes with the expected ones,
-/// and the counts of folded chunks if the file has them.
-fn compare<const LANES: usize>(
+/// Returns a hasher that was saved.
+fn restored<'s, const LANES: usize, const AVALANCHE: bool, const PROTECTED: bool>(
+    bytes: &[u8],
+    secrets: &'s RapidSecrets,
+) -> Result<RapidStreamHasherLanes<'s, LANES, AVALANCHE, PROTECTED>> {
+    let hasher = if let Some(hasher) = RapidStreamHasherLanes::restore(bytes, secrets) {
+        hasher
+    } else {
+        bail!("a saved hasher is refused");
+    };
+    Ok(hasher)
+}
+
+/// Returns whether bytes are the ones that digits tell.
+fn are(bytes: &[u8], digits: Option<&str>) -> Result<bool> {
+    let digits = if let Some(digits) = digits {
+        digits
+    } else {
+        bail!("too few values");
+    };
+    Ok(hex::decode(digits)?.as_slice() == bytes)
+}
+
+/// Replays the operations of a hasher of `LANES` lanes.
+fn play<const LANES: usize, const AVALANCHE: bool, const PROTECTED: bool>(
+    secrets: &RapidSecrets,
+    operations: &str,
+    value: &str,
+) -> Result<bool> {
+    let mut hasher = RapidStreamHasherLanes::<LANES, AVALANCHE, PROTECTED>::new(secrets);
+    let mut saved = [0; SAVED_SIZE];
+    let mut source = Source { bytes: Vec::new(), written: 0 };
+    let mut values = value.split_whitespace();
+    let mut holds = true;
+    for operation in operations.split_whitespace() {
+        if let Some(digits) = operation.strip_prefix("w") {
+            hasher.write(hex::decode(digits)?.as_slice());
+        } else if operation == "r" {
+            hasher.reset();
+        } else if operation == "f" {
+            let value = if let Some(value) = values.next() {
+                value
+            } else {
+                bail!("too few values");
+            };
+            holds = holds && hasher.finish() == number(value)?;
+        } else if operation == "s" {
+            saved = hasher.save();
+            holds = are(&saved, values.next())? && holds;
+            hasher = restored(&saved, secrets)?;
+        } else if let Some(digits) = operation.strip_prefix("=") {
+            holds = are(&saved, Some(digits))? && holds;
+            hasher = restored(&saved, secrets)?;
+        } else if let Ok(count) = operation.parse::<u64>() {
+            hasher.write(source.next(count)?);
+        } else if operation.starts_with("square:") || operation.starts_with("random:") {
+            source.bytes = message(operation)?;
+        } else {
+            holds = change::<LANES, AVALANCHE, PROTECTED>(&saved, secrets, operation)? && holds;
+        }
+    }
+    Ok(holds && values.next().is_none())
+}
+
+/// Replays the operations of a hasher with options that are values.
+fn play_with<const LANES: usize>(
     options: Options,
     secrets: &RapidSecrets,
-    steps: &[StreamOp<'_>],
-    told: Option<&str>,
-    expected: &str,
-) -> Result<Agreement> {
-    let expected = numbers(expected)?;
-    let defined = finishes(LANES, options, secrets, steps)?;
-    let answered = answers::<LANES>(options, secrets, steps)?;
-    let mut agreement =
-        Agreement::new(defined.as_slice() == expected.as_slice(), answered.as_slice() == expected.as_slice());
-    if let Some(told) = told {
-        let told = numbers(told)?;
-        let counts = counts(LANES, steps)?;
-        agreement.steps = Some(counts.as_slice() == told.as_slice());
+    operations: &str,
+    value: &str,
+) -> Result<bool> {
+    match (options.avalanche, options.protected) {
+        (true, true) => play::<LANES, true, true>(secrets, operations, value),
+        (true, false) => play::<LANES, true, false>(secrets, operations, value),
+        (false, true) => play::<LANES, false, true>(secrets, operations, value),
+        (false, false) => play::<LANES, false, false>(secrets, operations, value),
     }
-    Ok(agreement)
 }
 
-/// Replays a run of V3's stream hasher.
-pub fn replay(line: &str) -> Result<Agreement> {
-    let fields: Vec<&str> = line.split("\t").collect();
-    let (avalanche, protected, rule, length, secrets, operations, expected) =
-        if let [avalanche, protected, rule, length, secrets, operations, expected] = fields.as_slice() {
-            (avalanche, protected, rule, length, secrets, operations, expected)
-        } else {
-            bail!("no seven fields");
-        };
-    let options = options_of(avalanche, protected);
-    let bytes = message(rule, number(length)?)?;
-    let steps = cut(bytes.as_slice(), operations)?;
-    let secrets = secrets_of(secrets)?.seven;
-    compare::<7>(options, &secrets, steps.as_slice(), None, expected)
-}
-
-/// Replays a run of a stream hasher with 7, 5 or 3 lanes.
-pub fn replay_with_lanes(line: &str) -> Result<Agreement> {
-    let fields: Vec<&str> = line.split("\t").collect();
-    let (lanes, avalanche, protected, rule, length, secrets, operations, told, expected) =
-        if let [lanes, avalanche, protected, rule, length, secrets, operations, told, expected] = fields.as_slice() {
-            (lanes, avalanche, protected, rule, length, secrets, operations, told, expected)
-        } else {
-            bail!("no nine fields");
-        };
-    let options = options_of(avalanche, protected);
-    let bytes = message(rule, number(length)?)?;
-    let steps = cut(bytes.as_slice(), operations)?;
-    let steps = steps.as_slice();
-    let secrets = secrets_of(secrets)?.seven;
-    let told = Some(*told);
-    match *lanes {
-        "3" => compare::<3>(options, &secrets, steps, told, expected),
-        "5" => compare::<5>(options, &secrets, steps, told, expected),
-        "7" => compare::<7>(options, &secrets, steps, told, expected),
-        _ => bail!("no hasher of {lanes} lanes"),
+/// Replays the operations of a stream hasher.
+pub fn replay(name: &str, secrets: &RapidSecrets, operations: &str, value: &str) -> Result<bool> {
+    let (version, options) = version_of(name)?;
+    match version {
+        Tested::Named(Version::V3Nano) => play_with::<3>(options, secrets, operations, value),
+        Tested::Named(Version::V3Micro) => play_with::<5>(options, secrets, operations, value),
+        Tested::Named(Version::V3) => play_with::<7>(options, secrets, operations, value),
+        _ => bail!("no stream hasher of {name}"),
     }
 }
