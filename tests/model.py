@@ -152,7 +152,8 @@ def saved(version, content, seed, secrets):
     definition = Definition(version, secrets, Numbers(content))
     lanes, end, rest = definition.fold_rows([seed] * definition.lanes, 0, len(content))
     kept = content[end - 16 : end] if end else bytes(16)
-    state = b"rapidV3" + bytes([2, len(lanes), 1, end > 0, rest, 0, 0, 0, 0])
+    options = definition.avalanche + 2 * definition.protected
+    state = b"rapidV3" + bytes([2, len(lanes), options, end > 0, rest, 0, 0, 0, 0])
     state += b"".join((lane ^ seed).to_bytes(8, "little") for lane in lanes + [seed] * (7 - len(lanes)))
     state += (kept + content[end:]).ljust(128, b"\0")
     check = crc64(state) ^ hash_of("v3_protected", bytes(range(240)), seed, secrets)

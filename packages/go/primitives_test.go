@@ -38,10 +38,3 @@ func TestRandomProducts(t *testing.T) {
 		}
 	}
 }
-
-func TestLoads(t *testing.T) {
-	stored := "\xff\x01\x82\x03\x84\x05\x86\x07\x88\xff"
-	compare(t, "8 bytes", read64(stored[1:]), 0x8807860584038201)
-	compare(t, "4 bytes", read32(stored[1:]), 0x84038201)
-	compare(t, "4 bytes, of which the last is below 128", read32(stored[2:]), 0x05840382)
-}

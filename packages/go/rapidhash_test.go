@@ -25,19 +25,6 @@ func compare(t *testing.T, name string, value, known uint64) {
 	}
 }
 
-// TestEqualStreams checks that streams of the same message are equal, so none keeps a pointer to its own secrets.
-func TestEqualStreams(t *testing.T) {
-	first, second := V3.NewWithSecrets(&own), V3.NewWithSecrets(&own)
-	for _, step := range []func(*Stream){func(*Stream) {}, func(stream *Stream) { stream.Write(data()) },
-		func(stream *Stream) { stream.Sum64() }, (*Stream).Reset} {
-		step(first)
-		step(second)
-		if *first != *second {
-			t.Errorf("%v is not %v", *first, *second)
-		}
-	}
-}
-
 func TestZeroStreams(t *testing.T) {
 	var written, read, reset, sized Stream
 	written.Write(data())
@@ -52,13 +39,6 @@ func TestZeroStreams(t *testing.T) {
 	if known, _ := New().MarshalBinary(); !bytes.Equal(saved, known) {
 		t.Errorf("%x is not %x", saved, known)
 	}
-}
-
-func TestSeedOf0(t *testing.T) {
-	secrets := Secrets{0, own.Secrets}
-	stream := V3.NewWithSecrets(&secrets)
-	stream.Write(data())
-	compare(t, "stream", stream.Sum64(), V3.Sum64WithSecrets(data(), &secrets))
 }
 
 // TestConcurrentCalls runs all calls with the same messages and secrets, as the race detector also checks.

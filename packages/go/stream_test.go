@@ -16,21 +16,6 @@ func long() []byte {
 	return message
 }
 
-func TestLongPieces(t *testing.T) {
-	message := long()
-	for name, version := range streams {
-		stream := version.New()
-		for _, size := range []int{1 << 20, 1<<20 + 1, len(message)} {
-			stream.Reset()
-			written, err := stream.Write(message[:size])
-			if written != size || err != nil {
-				t.Error(written, err)
-			}
-			compare(t, fmt.Sprint(name, " of ", size, " bytes"), stream.Sum64(), version.Sum64(message[:size]))
-		}
-	}
-}
-
 func TestTakesWhatWritersTake(t *testing.T) {
 	message := long()
 	stream := New()
@@ -57,40 +42,6 @@ func TestTakesWhatWritersTake(t *testing.T) {
 	sum := stream.Sum([]byte{7})
 	if len(sum) != 1+stream.Size() || sum[0] != 7 || sum[1] != byte(stream.Sum64()>>56) {
 		t.Errorf("%x is not 7 and then the hash", sum)
-	}
-}
-
-// TestStreamsGoOn writes a message of each length up to three rows of V3 to streams that have another of each such
-// length, and that were reset, copied, or saved and restored.
-func TestStreamsGoOn(t *testing.T) {
-	const most = 3*112 + 1
-	message, sizes := long()[:2*most], map[string]int{"v3": 112, "v3_micro": 80, "v3_nano": 48}
-	for name, version := range streams {
-		for size := 0; size <= most; size++ {
-			first, restored := version.NewWithSecrets(&own), version.NewWithSecrets(&own)
-			first.Write(message[:size])
-			restored.Write(message)
-			if saved, err := first.MarshalBinary(); err != nil || restored.UnmarshalBinary(saved) != nil {
-				t.Fatal(name, size, err)
-			}
-			if block := sizes[name]; first.BlockSize() != block || restored.BlockSize() != block {
-				t.Fatal(name, first.BlockSize(), restored.BlockSize())
-			}
-			for more := 0; more <= most; more++ {
-				again, copied, last := *first, *first, *restored
-				again.Reset()
-				rest, known := message[size:size+more], version.Sum64WithSecrets(message[:size+more], &own)
-				for _, stream := range []*Stream{&again, &copied, &last} {
-					stream.Write(rest)
-				}
-				if found := again.Sum64(); found != version.Sum64WithSecrets(rest, &own) {
-					t.Fatal(name, size, more, "reset", found)
-				}
-				if copied.Sum64() != known || last.Sum64() != known {
-					t.Fatal(name, size, more, "copied", copied.Sum64(), "restored", last.Sum64(), "known", known)
-				}
-			}
-		}
 	}
 }
 
@@ -133,25 +84,6 @@ func TestAllocatesNothing(t *testing.T) {
 			}
 		}
 	}
-}
-
-// FuzzPieces compares a stream of pieces with the hash of the slice, for each version that has streams.
-func FuzzPieces(f *testing.F) {
-	f.Add([]byte("hello"), uint64(1), uint16(2), uint16(3))
-	f.Add(data(), uint64(1)<<63, uint16(48), uint16(112))
-	f.Fuzz(func(t *testing.T, message []byte, seed uint64, first, second uint16) {
-		secrets := MakeSecrets(seed)
-		for name, version := range streams {
-			stream, rest := version.NewWithSecrets(secrets), message
-			for _, size := range []uint16{first, second} {
-				cut := int(size) % (len(rest) + 1)
-				stream.Write(rest[:cut])
-				rest = rest[cut:]
-			}
-			stream.Write(rest)
-			compare(t, name, stream.Sum64(), version.Sum64WithSecrets(message, secrets))
-		}
-	})
 }
 
 // TestGettersOfZeroStreams checks that a call which changes no message leaves the zero Stream as it is, so that it

@@ -1,6 +1,6 @@
 //! The tests of the in-memory hasher, its states, maps and sets, of the generator and of the laws:
 //! properties without a contract. The numbers are worked out by hand, or are those of the Rust
-//! crate; messages of every length are compared with the definition.
+//! crate; messages of every length are compared with a plain program.
 #![tactic(auto)]
 
 #[cfg(test)]
@@ -11,8 +11,6 @@ mod blocks;
 mod collections;
 #[cfg(test)]
 mod generator;
-#[cfg(test)]
-mod items;
 #[cfg(test)]
 mod keys;
 #[cfg(test)]

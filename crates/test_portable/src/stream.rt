@@ -1,14 +1,10 @@
-//! The stream hashers: known values, messages cut in two, and sizes in memory.
-
-ghost use Rattle.std.specs.Prelude.{◌<◌};
-ghost use Rattle.rapidhash_portable.specs.Lanes.{IsLaneCount};
+//! The stream hashers: known values, refused bytes, and sizes in memory.
 
 use rapidhash_portable::v3::{
     DEFAULT_RAPID_SECRETS, RapidSecrets, RapidStream, RapidStreamHasherInlineMicro,
     RapidStreamHasherInlineNano, RapidStreamHasherInlineV3, RapidStreamHasherLanes,
-    RapidStreamHasherV3, rapidhash_v3_inline, rapidhash_v3_micro_inline, rapidhash_v3_nano_inline,
+    RapidStreamHasherV3,
 };
-use std::test::Fail;
 
 /// Eight bytes in one piece, and after a reset in four. The number is the Rust crate's.
 #[test]
@@ -57,99 +53,6 @@ const SECRETS: RapidSecrets = RapidSecrets {
     seed: 5,
     secrets: [1, 2, 3, 4, 5, 6, 7],
 };
-
-/// The hashes of two pieces by the three stream hashers, each after a reset.
-fn of_two_pieces(first: &[u8], second: &[u8]) -> [u64; 3] {
-    let mut v3: RapidStreamHasherInlineV3<true, false> = RapidStreamHasherLanes::new(&SECRETS);
-    let mut micro: RapidStreamHasherInlineMicro<false, true> = RapidStreamHasherLanes::new(
-        &SECRETS,
-    );
-    let mut nano: RapidStreamHasherInlineNano<true, true> = RapidStreamHasherLanes::new(&SECRETS);
-    v3.write(b"other bytes");
-    micro.write(b"other bytes");
-    nano.write(b"other bytes");
-    v3.reset();
-    micro.reset();
-    nano.reset();
-    for piece in [first, second] {
-        v3.write(piece);
-        micro.write(piece);
-        nano.write(piece);
-    }
-    [v3.finish(), micro.finish(), nano.finish()]
-}
-
-/// For each cut in two, each of the three stream hashers returns its hash of the whole message.
-#[test]
-fn cuts_change_nothing(rt: HostRuntime) -> Result<(), Fail> {
-    let bytes: Vec<u8> = (0..338u32).map(|i| (i % 251) as u8).collect(rt.alloc())?;
-    for n in [0, 1, 3, 16, 17, 48, 49, 80, 81, 112, 113, 225, 338usize] {
-        let message = &bytes[..n.min(bytes.len())];
-        let want = [
-            rapidhash_v3_inline::<true, false, false>(message, &SECRETS),
-            rapidhash_v3_micro_inline::<false, true>(message, &SECRETS),
-            rapidhash_v3_nano_inline::<true, true>(message, &SECRETS),
-        ];
-        for at in [0, 1, 16, 48, 80, 111, 112, 113, 224, 225usize] {
-            let (first, second) = message.split_at(at.min(message.len()));
-            assert!(rt; of_two_pieces(first, second) == want, "{n} {at}");
-        }
-    }
-    Ok(())
-}
-
-/// Saves the message, restores it under `other` secrets and adds the rest. Returns the hash, or
-/// `None` if the bytes are refused.
-fn over_saved<const LANES: usize, const AVALANCHE: bool, const PROTECTED: bool>(
-    first: &[u8],
-    rest: &[u8],
-    other: &RapidSecrets,
-) -> Option<u64>
-    requires { IsLaneCount LANES }
-{
-    let mut hasher = RapidStreamHasherLanes::<LANES, AVALANCHE, PROTECTED>::new(&SECRETS);
-    hasher.write(b"a message that fills more than one buffer, and is forgotten".as_slice());
-    hasher.write(b"a message that fills more than one buffer, and is forgotten".as_slice());
-    hasher.reset();
-    hasher.write(first);
-    let saved = hasher.save();
-    let mut restored = RapidStreamHasherLanes::<LANES, AVALANCHE, PROTECTED>::restore(
-        &saved, other,
-    )?;
-    restored.write(rest);
-    Some(restored.finish())
-}
-
-/// A restored stream goes on after each length, and other secrets are refused.
-#[test]
-fn saved_streams(rt: HostRuntime) -> Result<(), Fail> {
-    let bytes: Vec<u8> = (0..338u32).map(|i| (i % 251) as u8).collect(rt.alloc())?;
-    let message = bytes.as_slice();
-    let v3 = rapidhash_v3_inline::<true, false, false>(message, &SECRETS);
-    let micro = rapidhash_v3_micro_inline::<false, true>(message, &SECRETS);
-    let nano = rapidhash_v3_nano_inline::<true, true>(message, &SECRETS);
-    for at in 0..339usize {
-        let (first, rest) = message.split_at(at.min(message.len()));
-        assert!(rt;
-            over_saved::<7, true, false>(first, rest, &SECRETS) == Some(v3),
-            "{at}"
-        );
-        assert!(rt;
-            over_saved::<5, false, true>(first, rest, &SECRETS) == Some(micro),
-            "{at}"
-        );
-        assert!(rt;
-            over_saved::<3, true, true>(first, rest, &SECRETS) == Some(nano),
-            "{at}"
-        );
-        let other = &DEFAULT_RAPID_SECRETS;
-        assert!(rt;
-            over_saved::<7, true, false>(first, rest, other).is_none(),
-            "{at}"
-        );
-    }
-    Ok(())
-}
 
 /// Bytes of another length or of another type are refused.
 #[test]

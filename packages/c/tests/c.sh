@@ -303,19 +303,8 @@ manual_example_runs() {
 # Builds the hashes of the Rust crate for a C program.
 build_rust() {
   cargo build --release --offline --quiet --manifest-path "$top/packages/rust/Cargo.toml" --target-dir "$room/cargo" &&
-    rustc -O --edition 2021 --crate-type staticlib "$tests/fuzz.rs" \
+    rustc -O --edition 2021 --crate-type staticlib "$tests/counted.rs" \
       --extern "rapidhash=$room/cargo/release/librapidhash.rlib" -o "$room/librust.a"
-}
-
-# Builds packages/c/tests/fuzz.c with the Rust crate: COMPILER ARGUMENT..
-beside_rust() {
-  "$@" -Wall -Wextra -Werror "-I$include" -x c "$tests/fuzz.c" -x none ${archive:+"$archive"} "$room/librust.a" \
-    -lpthread -ldl -lm -o "$room/beside_rust"
-}
-
-# Compares the hashes of ten million random messages by the archive.
-random_messages() {
-  build_rust && beside_rust cc -O2 -DMESSAGES=10000000 -DRAPIDHASH_LINK && "$room/beside_rust"
 }
 
 # Prints the instructions of a hash of 16, 100, and 4,096 bytes: EXPRESSION SEED
@@ -375,12 +364,6 @@ folds_two_rows() {
   "$1" -O2 "-I$include" -c "$top/packages/c/rapidhash_c.c" -o "$room/rows.o" && for name in v3 v3_micro v3_nano; do
     objdump --disassemble="rapidhash_${name}_with_rows_" "$room/rows.o" | grep -c '\smul '
   done | xargs | grep -x "$2"
-}
-
-# Compares the header's hashes of a million inputs from libFuzzer.
-fuzz() {
-  build_rust && beside_rust clang -O1 -fsanitize=fuzzer,address,undefined -fno-sanitize-recover=all &&
-    (cd "$room" && ./beside_rust -max_len=1200 -len_control=0 -runs=1000000)
 }
 
 # Checks that make without the kit and without cargo builds and installs the library alone, and says so.
@@ -549,7 +532,6 @@ test_library() {
   try_with "$1names_of_the_shared_library" "$2" defines_the_header @@RAPIDHASH_1 -D "$shared"
   try_with "$1archive" "$2" calls_from_c cc -std=c99
   try_with "$1cpp_archive" "$2 c++" calls_from_c c++ -x c++ -DIS_FAST=0
-  try_with "$1random_messages" "$2 cargo rustc" random_messages
   try_with "$1code_and_data" "$2" keeps_code_and_data_apart
 }
 
@@ -558,7 +540,6 @@ multilib='/usr/lib/gcc/x86_64-linux-gnu/*/32'
 fuzzer='/usr/lib/llvm-*/lib/clang/*/lib/linux/libclang_rt.fuzzer-x86_64.a'
 
 begin sanitizers has_the_values clang -O1 -fsanitize=address,undefined -fno-sanitize-recover=all
-begin fuzz fuzz
 
 # Messages above 4 GiB take some seconds. The standard does not change their hashes, so the first one hashes them all.
 for compiler in gcc clang; do
@@ -653,7 +634,6 @@ try_with header_first_program c++ first_program_runs
 test_library header_ cc "$room"/usr/lib/librapidhash_c.{a,so.1}
 try_with header_shared pkg-config builds_by_pkg_config "$room/usr/lib"
 try_with example_of_the_manual pkg-config manual_example_runs
-try_with fuzz "cargo rustc clang $fuzzer" ended fuzz
 
 # The proved library.
 lacks rt >/dev/null || prepare_by make -s -C "$top" library

@@ -66,7 +66,6 @@ try names bash -c '[ "$(go doc -all | grep -cE "^(func [A-Z]|type |var |\s(V[23]
 try methods bash -c '[ "$(go doc -all | grep -cE "^(func|type) ")" -eq 74 ]'
 try tests passes_every_test
 try race go test -timeout 0 -count 1 -short -race .
-try fuzz go test -timeout 0 -run - -fuzz FuzzPieces -fuzztime 20000x .
 try 386 env GOARCH=386 go test -timeout 0 -count 1 .
 try_with arm64 qemu-aarch64 env GOARCH=arm64 go test -timeout 0 -count 1 -short -exec qemu-aarch64 .
 try_with s390x qemu-s390x env GOARCH=s390x go test -timeout 0 -count 1 -short -exec qemu-s390x .

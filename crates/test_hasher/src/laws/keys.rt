@@ -5,7 +5,7 @@ use rapidhash::key::{
     write_nothing,
 };
 use rapidhash::laws::same_keys;
-use rapidhash::v3::{RapidSecrets, RapidStreamHasherV3, rapidhash_v3};
+use rapidhash::v3::{RapidSecrets, RapidStreamHasherV3};
 
 #[test]
 fn bytes_do_not_move_between_fields(rt: HostRuntime) {
@@ -31,16 +31,6 @@ fn nothing_is_no_empty_text(rt: HostRuntime) {
     }
     assert!(rt; !same_keys(&[], &[Field::Nothing]));
     assert!(rt; !same_keys(&[Field::Integer(1)], &[Field::Integer(1), Field::Nothing]));
-}
-
-// The tags, the lengths and the integers, written out.
-#[test]
-fn encoding_of_a_key(rt: HostRuntime) {
-    let key = [Field::Nothing, Field::Integer(0x102), Field::Bytes(b"hi")];
-    let bytes = [
-        0u8, 1, 2, 1, 0, 0, 0, 0, 0, 0, 2, 2, 0, 0, 0, 0, 0, 0, 0, 104, 105,
-    ];
-    assert_eq!(rt; rapidhash_v3_key(&key), rapidhash_v3(&bytes));
 }
 
 #[test]

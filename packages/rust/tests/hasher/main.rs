@@ -1,6 +1,5 @@
-//! Tests the hasher of maps: its integers and blocks, its states, and keys that derive `Hash`.
+//! Tests the hasher of maps: its blocks, its states, and keys that derive `Hash`.
 
-mod integers;
 mod keys;
 mod proved {
     mod blocks;

@@ -1,4 +1,4 @@
-//! The hashes of the Rust crate, for packages/c/tests/fuzz.c. A pointer leads to the stated number of bytes.
+//! The hashes of the Rust crate for C, whose instructions are counted. A pointer leads to the stated number of bytes.
 
 extern crate rapidhash;
 
@@ -37,22 +37,5 @@ pub unsafe extern "C" fn rust_hash(
     match secrets.seed % 2 {
         0 => hash::<false>(name, bytes, secrets),
         _ => hash::<true>(name, bytes, secrets),
-    }
-}
-
-/// Writes the secrets derived from a number, or the default secrets with a seed word.
-#[no_mangle]
-pub extern "C" fn rust_secrets(
-    made: bool,
-    number: u64,
-    of_v1: &mut v1::RapidSecrets,
-    others: &mut v3::RapidSecrets,
-) {
-    if made {
-        *of_v1 = v1::RapidSecrets::seed(number);
-        *others = v3::RapidSecrets::seed(number);
-    } else {
-        *of_v1 = v1::RapidSecrets::seed_cpp(number);
-        *others = v3::RapidSecrets::seed_cpp(number);
     }
 }
