@@ -35,6 +35,7 @@ func TestZeroStreams(t *testing.T) {
 	other.Write(data())
 	compare(t, "reset and copied", other.Sum64(), 7088138960297660729)
 	compare(t, "block size", uint64(sized.BlockSize()), 112)
+	compare(t, "of micro", uint64(V3Micro.New().BlockSize()), 80)
 	saved, _ := new(Stream).MarshalBinary()
 	if known, _ := New().MarshalBinary(); !bytes.Equal(saved, known) {
 		t.Errorf("%x is not %x", saved, known)

@@ -1,9 +1,6 @@
 //! Known values that no data file has: reads, products, secrets, hashes with default secrets.
 
-use crate::counts::{
-    counts_of_five, counts_of_seven, counts_of_seven_by_bytes, counts_of_seven_by_two,
-    counts_of_three,
-};
+use crate::counts::{after_one_piece, after_single_bytes, after_two_pieces};
 use rapidhash_portable::seeding::{GlobalSecrets, SeedSource};
 use rapidhash_portable::util::{rapid_mix, rapid_mum, read_u32, read_u32_combined, read_u64};
 use rapidhash_portable::{v1, v2, v3};
@@ -110,14 +107,9 @@ fn hashes_with_default_secrets(rt: HostRuntime) {
 fn counted_hashers_hash(rt: HostRuntime) {
     let secrets = v3::DEFAULT_RAPID_SECRETS;
     let bytes = [7; 241];
-    let seven = counts_of_seven(&secrets, &bytes).finish();
-    assert!(rt; seven == v3::rapidhash_v3(&bytes));
-    let by_bytes = counts_of_seven_by_bytes(&secrets, &bytes).finish();
-    assert!(rt; by_bytes == seven);
-    let by_two = counts_of_seven_by_two(&secrets, &bytes[..112], &bytes[112..]).finish();
-    assert!(rt; by_two == seven);
-    let five = counts_of_five(&secrets, &bytes).finish();
-    assert!(rt; five == v3::rapidhash_v3_micro_inline::<true, false>(&bytes, &secrets));
-    let three = counts_of_three(&secrets, &bytes).finish();
-    assert!(rt; three == v3::rapidhash_v3_nano_inline::<true, false>(&bytes, &secrets));
+    let seven = v3::rapidhash_v3(&bytes);
+    assert!(rt; after_one_piece::<7>(&secrets, &bytes).finish() == seven);
+    assert!(rt; after_single_bytes::<7>(&secrets, &bytes).finish() == seven);
+    let by_two = after_two_pieces::<7>(&secrets, &bytes[..112], &bytes[112..]);
+    assert!(rt; by_two.finish() == seven);
 }

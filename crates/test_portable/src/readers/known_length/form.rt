@@ -43,68 +43,32 @@ pub(crate) const FORMS: [Form; 12] = [
 impl Form {
     /// The call itself.
     fn hash(self, reader: &mut CountingReader<'_>, len: u64) -> io::Result<u64> {
+        let (one, two) = (&v1::RapidSecrets::seed(3), &v2::RapidSecrets::seed(3));
         match self {
-            Form::V1File | Form::V1FileSeeded | Form::V1FileInline | Form::V1Source => {
-                self.hash_v1(reader, len)
-            }
-            Form::V20Source | Form::V21Source | Form::V22Source => {
-                self.hash_v2_source(reader, len)
-            }
-            _ => self.hash_v2_file(reader, len),
+            Form::V1File => v1::rapidhash_v1_file(reader, len),
+            Form::V1FileSeeded => v1::rapidhash_v1_file_seeded(reader, len, one),
+            Form::V1FileInline => v1::rapidhash_v1_file_inline::<_, true>(reader, len, one),
+            Form::V2File => v2::rapidhash_v2_2_file(reader, len),
+            Form::V2FileSeeded => v2::rapidhash_v2_2_file_seeded(reader, len, two),
+            Form::V20FileInline => v2::rapidhash_v2_file_inline::<_, 0, true>(reader, len, two),
+            Form::V21FileInline => v2::rapidhash_v2_file_inline::<_, 1, false>(reader, len, two),
+            Form::V22FileInline => v2::rapidhash_v2_file_inline::<_, 2, true>(reader, len, two),
+            _ => self.hash_source(&mut Source::new(reader), len),
         }
     }
 
-    /// The call of V1.
-    fn hash_v1(self, reader: &mut CountingReader<'_>, len: u64) -> io::Result<u64> {
-        let secrets = &v1::RapidSecrets::seed(3);
+    /// The call of a source.
+    fn hash_source(
+        self,
+        source: &mut Source<&mut CountingReader<'_>>,
+        len: u64,
+    ) -> io::Result<u64> {
+        let (one, two) = (&v1::RapidSecrets::seed(3), &v2::RapidSecrets::seed(3));
         match self {
-            Form::V1FileSeeded => {
-                v1::rapidhash_v1_file_seeded::<CountingReader>(reader, len, secrets)
-            }
-            Form::V1FileInline => {
-                v1::rapidhash_v1_file_inline::<CountingReader, true>(reader, len, secrets)
-            }
-            Form::V1Source => {
-                let mut source = Source::new(reader);
-                v1::rapidhash_v1_source::<&mut CountingReader, true>(&mut source, len, secrets)
-            }
-            _ => v1::rapidhash_v1_file::<CountingReader>(reader, len),
-        }
-    }
-
-    /// The call of V2 of a file.
-    fn hash_v2_file(self, reader: &mut CountingReader<'_>, len: u64) -> io::Result<u64> {
-        let secrets = &v2::RapidSecrets::seed(3);
-        match self {
-            Form::V2FileSeeded => {
-                v2::rapidhash_v2_2_file_seeded::<CountingReader>(reader, len, secrets)
-            }
-            Form::V20FileInline => {
-                v2::rapidhash_v2_file_inline::<CountingReader, 0, true>(reader, len, secrets)
-            }
-            Form::V21FileInline => {
-                v2::rapidhash_v2_file_inline::<CountingReader, 1, false>(reader, len, secrets)
-            }
-            Form::V22FileInline => {
-                v2::rapidhash_v2_file_inline::<CountingReader, 2, true>(reader, len, secrets)
-            }
-            _ => v2::rapidhash_v2_2_file::<CountingReader>(reader, len),
-        }
-    }
-
-    /// The call of V2 of a source.
-    fn hash_v2_source(self, reader: &mut CountingReader<'_>, len: u64) -> io::Result<u64> {
-        let secrets = &v2::RapidSecrets::seed(3);
-        let mut source = Source::new(reader);
-        let source = &mut source;
-        match self {
-            Form::V20Source => {
-                v2::rapidhash_v2_source::<&mut CountingReader, 0, false>(source, len, secrets)
-            }
-            Form::V21Source => {
-                v2::rapidhash_v2_source::<&mut CountingReader, 1, true>(source, len, secrets)
-            }
-            _ => v2::rapidhash_v2_source::<&mut CountingReader, 2, false>(source, len, secrets),
+            Form::V1Source => v1::rapidhash_v1_source::<_, true>(source, len, one),
+            Form::V20Source => v2::rapidhash_v2_source::<_, 0, false>(source, len, two),
+            Form::V21Source => v2::rapidhash_v2_source::<_, 1, true>(source, len, two),
+            _ => v2::rapidhash_v2_source::<_, 2, false>(source, len, two),
         }
     }
 

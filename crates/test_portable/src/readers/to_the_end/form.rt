@@ -44,54 +44,27 @@ pub(crate) const FORMS: [Form; 11] = [
 impl Form {
     /// The call itself.
     fn hash(self, reader: &mut CountingReader<'_>) -> io::Result<u64> {
-        match self {
-            Form::File => v3::rapidhash_v3_file::<&mut CountingReader>(reader),
-            Form::Source | Form::SourceSized | Form::SourceMicro | Form::SourceNano => {
-                self.hash_of_source(reader)
-            }
-            _ => self.hash_of_file(reader),
-        }
-    }
-
-    /// The call of a file with secrets.
-    fn hash_of_file(self, reader: &mut CountingReader<'_>) -> io::Result<u64> {
         let secrets = &RapidSecrets::seed(3);
         match self {
-            Form::FileInline => {
-                v3::rapidhash_v3_file_inline::<&mut CountingReader, true>(reader, secrets)
-            }
-            Form::FileSizedOne => {
-                v3::rapidhash_v3_file_sized::<&mut CountingReader, 1, false>(reader, secrets)
-            }
-            Form::FileSizedLarge => {
-                v3::rapidhash_v3_file_sized::<&mut CountingReader, 10000, true>(reader, secrets)
-            }
-            Form::FileMicro => {
-                v3::rapidhash_v3_file_lanes::<&mut CountingReader, 5, 100, true>(reader, secrets)
-            }
-            Form::FileNano => {
-                v3::rapidhash_v3_file_lanes::<&mut CountingReader, 3, 9000, false>(reader, secrets)
-            }
-            _ => v3::rapidhash_v3_file_seeded::<&mut CountingReader>(reader, secrets),
+            Form::File => v3::rapidhash_v3_file(reader),
+            Form::FileSeeded => v3::rapidhash_v3_file_seeded(reader, secrets),
+            Form::FileInline => v3::rapidhash_v3_file_inline::<_, true>(reader, secrets),
+            Form::FileSizedOne => v3::rapidhash_v3_file_sized::<_, 1, false>(reader, secrets),
+            Form::FileSizedLarge => v3::rapidhash_v3_file_sized::<_, 10000, true>(reader, secrets),
+            Form::FileMicro => v3::rapidhash_v3_file_lanes::<_, 5, 100, true>(reader, secrets),
+            Form::FileNano => v3::rapidhash_v3_file_lanes::<_, 3, 9000, false>(reader, secrets),
+            _ => self.hash_source(&mut Source::new(reader)),
         }
     }
 
     /// The call of a source.
-    fn hash_of_source(self, reader: &mut CountingReader<'_>) -> io::Result<u64> {
+    fn hash_source(self, source: &mut Source<&mut CountingReader<'_>>) -> io::Result<u64> {
         let secrets = &RapidSecrets::seed(3);
-        let mut source = Source::new(reader);
-        let source = &mut source;
         match self {
-            Form::SourceSized => {
-                v3::rapidhash_v3_source_sized::<&mut CountingReader, 113, true>(source, secrets)
-            }
-            Form::SourceMicro => {
-                v3::rapidhash_v3_source_lanes::<&mut CountingReader, 5, 7, false>(source, secrets)
-            }
-            Form::SourceNano => {
-                v3::rapidhash_v3_source_lanes::<&mut CountingReader, 3, 9000, true>(source, secrets)
-            }
-            _ => v3::rapidhash_v3_source::<&mut CountingReader, false>(source, secrets),
+            Form::SourceSized => v3::rapidhash_v3_source_sized::<_, 113, true>(source, secrets),
+            Form::SourceMicro => v3::rapidhash_v3_source_lanes::<_, 5, 7, false>(source, secrets),
+            Form::SourceNano => v3::rapidhash_v3_source_lanes::<_, 3, 9000, true>(source, secrets),
+            _ => v3::rapidhash_v3_source::<_, false>(source, secrets),
         }
     }
 
