@@ -102,14 +102,14 @@ REPLACED = [
     ("inner/hasher", "> Hasher for RapidHasher<'s, AVALANCHE, SPONGE, COMPACT, PROTECTED> {\n",
      "> Hasher for RapidHasher<'s, AVALANCHE, SPONGE, COMPACT, PROTECTED> {\n    forward_integers!();\n\n",
      "Rattle's law on Hasher maps the integer writes to `write`; Rust has none"),
-    ("tests/replay/proved/mod", "pub mod forged;", "pub mod forged;\npub mod form;", "another crate's in Rattle"),
-    *[("tests/replay/proved/seeds", f"""            let made = {version}::RapidSecrets::seed_cpp(number);
+    ("tests/replay/proved/mod", "pub mod draws;", "pub mod draws;\npub mod form;", "another crate's in Rattle"),
+    *[("tests/replay/proved/draws", f"""            let made = {version}::RapidSecrets::seed_cpp(number);
             if {version}::RapidSecrets::seed_of_word(number) != made.seed {{
                 bail!("two seeds");
             }}
             made
 """, f"            {version}::RapidSecrets::seed_cpp(number)\n", "it is private") for version in ("v1", "v3")],
-    ("tests/replay/proved/hashers", "fn answered<", "pub fn answered<", "a test makes the call"),
+    ("tests/replay/proved/items", "fn answered<", "pub fn answered<", "a test makes the call"),
     ("tests/replay/proved/items", "Item::Usize(value.parse::<usize>()?)",
      "value.parse().map_or(Item::U64(value.parse()?), Item::Usize)", "32 bits hold some of the values"),
     ("tests/replay/proved/items", "Item::Isize(value.parse::<isize>()?)",

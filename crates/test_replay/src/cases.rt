@@ -2,7 +2,7 @@
 
 use crate::bodies::{agrees, version_of};
 use crate::rules::{message, number, numbers, secrets_of};
-use crate::{draws, hashers, keys, readers, seeds, shards, streams};
+use crate::{draws, items, keys, readers, shards, streams};
 use anyhow::{Result, bail};
 use std::alloc::Global;
 
@@ -27,9 +27,9 @@ pub fn replay(alloc: Global, line: &str) -> Result<bool> {
             Ok(agrees(tested, options, &secrets, bytes.as_slice(), number(value)?))
         }
         "reader" => readers::replay(alloc, version, secrets, argument, number(value)?),
-        "items" => hashers::replay(alloc, version, secrets, argument, number(value)?),
+        "items" => items::replay(alloc, version, secrets, argument, number(value)?),
         "stream" => streams::replay(alloc, version, &secrets_of(secrets)?.seven, argument, value),
-        "secrets" => seeds::replay(alloc, version, secrets, value),
+        "secrets" => draws::replay_secrets(alloc, version, secrets, value),
         "key" => keys::replay(alloc, secrets, argument, number(value)?),
         "shard" | "first_hash" | "bucket" => shards::replay(alloc, kind, argument, value),
         "fingerprint" => shards::replay_fingerprint(alloc, argument, number(value)?),

@@ -7,13 +7,10 @@
 mod bodies;
 mod cases;
 mod draws;
-mod forged;
-mod hashers;
 mod items;
 mod keys;
 mod readers;
 mod rules;
-mod seeds;
 mod shards;
 mod streams;
 

@@ -3,8 +3,7 @@
 use super::kit::Result;
 use super::proved::bodies::{Secrets, Tested, body};
 use super::proved::form::{Options, Version};
-use super::proved::hashers;
-use super::proved::items::Item;
+use super::proved::items::{Item, answered};
 use super::proved::rules::secrets_of;
 use rapidhash::v3::RapidStreamHasherLanes;
 use rapidhash::{v1, v3};
@@ -142,9 +141,9 @@ fn one(draws: &mut Draws, message: &[u8]) -> Result<u64> {
         None => {
             let items = in_memory(draws, message);
             return Ok(if compact {
-                hashers::answered::<true>(options, sponge, &seven, &items)
+                answered::<true>(options, sponge, &seven, &items)
             } else {
-                hashers::answered::<false>(options, sponge, &seven, &items)
+                answered::<false>(options, sponge, &seven, &items)
             });
         }
     };

@@ -6,7 +6,7 @@ use crate::replay::kit::*;
 
 use super::bodies::{agrees, version_of};
 use super::rules::{message, number, numbers, secrets_of};
-use super::{draws, hashers, keys, readers, seeds, shards, streams};
+use super::{draws, items, keys, readers, shards, streams};
 
 /// The columns of a file.
 pub const COLUMNS: &str = "kind\tversion\tsecrets\targument\tvalue";
@@ -32,9 +32,9 @@ pub fn replay(line: &str) -> Result<bool> {
             Ok(agrees(tested, options, &secrets, bytes.as_slice(), number(value)?))
         }
         "reader" => readers::replay(version, secrets, argument, number(value)?),
-        "items" => hashers::replay(version, secrets, argument, number(value)?),
+        "items" => items::replay(version, secrets, argument, number(value)?),
         "stream" => streams::replay(version, &secrets_of(secrets)?.seven, argument, value),
-        "secrets" => seeds::replay(version, secrets, value),
+        "secrets" => draws::replay_secrets(version, secrets, value),
         "key" => keys::replay(secrets, argument, number(value)?),
         "shard" | "first_hash" | "bucket" => shards::replay(kind, argument, value),
         "fingerprint" => shards::replay_fingerprint(argument, number(value)?),
