@@ -53,8 +53,8 @@
 #define RAPIDHASH_C_VERSION_STRING "1.0"
 #define RAPIDHASH_C_VERSION_NUMBER (100 * RAPIDHASH_C_VERSION_MAJOR + RAPIDHASH_C_VERSION_MINOR)
 
-/* Inlined functions and tables. In C++ all files of a program share them, as the functions that call them need, and so
- * must define the same macros of this header. A shared library exports none. Before C++17 each file has its tables. */
+/* Inlined functions and tables. In C++, all translation units share them, so all must define the same macros before they
+ * include this header. A shared library exports none. Before C++17, each unit has its own tables. */
 #ifndef __cplusplus
 #define RAPIDHASH_SHARED_ static
 #elif defined(__ELF__) && defined(__GNUC__)
@@ -96,8 +96,8 @@
 #define RAPIDHASH_API extern
 #endif
 
-/* Calls of the library. A hash reads memory and changes none, so that a compiler may join equal calls. It may warn of
- * NULL. If the code is inlined, the compiler sees both for itself. */
+/* Attributes of library calls: a hash is pure, so equal calls can be merged, and a NULL argument can be diagnosed.
+ * Inlined code needs neither. */
 #if defined(RAPIDHASH_LINK) && defined(__GNUC__)
 #define RAPIDHASH_PURE_ RAPIDHASH_API __attribute__((pure))
 #define RAPIDHASH_NONNULL_(...) __attribute__((nonnull(__VA_ARGS__)))

@@ -102,7 +102,7 @@ calls_from_cpp() {
 # Checks the names that a shared library of the header exports: all with -fvisibility=hidden, and none of them with a
 # RAPIDHASH_API that hides them. No inlined function is an external symbol. Of a DLL, a definition exports the names and
 # a declaration imports them: COMPILER
-is_as_visible_as_asked() {
+exports_match_visibility() {
   local build=("$1" -std=c99 -O2 -fPIC -shared "-I$include" "$top/packages/c/rapidhash_c.c" -o "$room/visible.so")
   local dll=("$1" -E -P -DRAPIDHASH_DLL)
   "${build[@]}" -fvisibility=hidden && defines_the_header '' -D "$room/visible.so" &&
@@ -155,7 +155,7 @@ names_parameters_alike() {
 # Checks that the library has the names of C if a C++ compiler builds it, and that at run time a hash of C++ calls the
 # code of the C header. No C++ file of a program may have a function or a table of its own, which its inline functions
 # would share by name only, and each is hidden in a shared library: COMPILER
-shares_its_definitions() {
+obeys_one_definition_rule() {
   "$1" -x c++ -std=c++11 "-I$include" -c "$top/packages/c/rapidhash_c.c" -o "$room/as_cpp.o" &&
     nm --format=posix "$room/as_cpp.o" | awk '$2 == "T" { print $1 }' | sort >"$room/names" &&
     declared | diff - "$room/names" && "$1" -std=c++17 -O2 "-I$include" -x c++ -S -o "$room/run_time.s" - <<'CPP' &&
@@ -565,13 +565,13 @@ for standard in c++11 c++17 c++20; do
   try_with "cpp_header_${standard}_clang" clang++ calls_from_cpp clang++ "$standard"
 done
 for compiler in g++ clang++; do
-  try_with "cpp_definitions_$compiler" "$compiler" shares_its_definitions "$compiler"
+  try_with "cpp_definitions_$compiler" "$compiler" obeys_one_definition_rule "$compiler"
 done
 for compiler in g++ clang++; do
   try_with "cpp_fields_$compiler" "$compiler" refuses_what_is_no_field "$compiler"
   try_with "cpp_streams_$compiler" "$compiler" exports_a_stream "$compiler"
 done
-for compiler in gcc clang; do try_with "visibility_$compiler" "$compiler" is_as_visible_as_asked "$compiler"; done
+for compiler in gcc clang; do try_with "visibility_$compiler" "$compiler" exports_match_visibility "$compiler"; done
 try_with all_warnings_of_clang 'clang clang++' has_no_warning
 try_with casts_of_c g++ includes_the_headers g++ -Wall -Wextra -Wold-style-cast -Wuseless-cast
 try_with cppcheck cppcheck has_no_fault_of_cppcheck

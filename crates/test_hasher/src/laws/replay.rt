@@ -107,7 +107,7 @@ fn held_by(answers: usize) -> usize {
 
 /// Eighteen allocations of each call, for half a million hashes.
 #[test]
-fn a_replay_tells_that_memory_was_refused(rt: HostRuntime) -> Result<(), Fail> {
+fn replay_reports_allocation_failure(rt: HostRuntime) -> Result<(), Fail> {
     each_allocation_fails(&rt, false)?;
     each_allocation_fails(&rt, true)?;
     Ok(())
