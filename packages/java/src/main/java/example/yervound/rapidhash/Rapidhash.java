@@ -20,118 +20,56 @@ import java.util.Objects;
  *
  * @param <S> the secrets of the version: {@link SecretsV1} or {@link Secrets}
  */
-public abstract class Rapidhash<S extends SeedAndSecrets> {
+public final class Rapidhash<S extends SeedAndSecrets> {
+    private enum Family { V1, V2, V3, PROTECTED }
+
     /** V1. */
-    public static final Rapidhash<SecretsV1> V1 = new Rapidhash<>("V1", SecretsV1.DEFAULT) {
-        @Override
-        long of(byte[] data, int at, int n, long seed, SeedAndSecrets s) {
-            return Hashes.v1(data, at, n, seed, s);
-        }
-
-        @Override
-        long of(ByteBuffer data, int at, int n, long seed, SeedAndSecrets s) {
-            return BufferHashes.v1(data, at, n, seed, s);
-        }
-    };
+    public static final Rapidhash<SecretsV1> V1 = new Rapidhash<>("V1", Family.V1, 0, SecretsV1.DEFAULT);
     /** V2.0. */
-    public static final Rapidhash<Secrets> V2_0 = new Rapidhash<>("V2_0", Secrets.DEFAULT) {
-        @Override
-        long of(byte[] data, int at, int n, long seed, SeedAndSecrets s) {
-            return Hashes.v2(data, at, n, 0, seed, s);
-        }
-
-        @Override
-        long of(ByteBuffer data, int at, int n, long seed, SeedAndSecrets s) {
-            return BufferHashes.v2(data, at, n, 0, seed, s);
-        }
-    };
+    public static final Rapidhash<Secrets> V2_0 = new Rapidhash<>("V2_0", Family.V2, 0, Secrets.DEFAULT);
     /** V2.1. */
-    public static final Rapidhash<Secrets> V2_1 = new Rapidhash<>("V2_1", Secrets.DEFAULT) {
-        @Override
-        long of(byte[] data, int at, int n, long seed, SeedAndSecrets s) {
-            return Hashes.v2(data, at, n, 1, seed, s);
-        }
-
-        @Override
-        long of(ByteBuffer data, int at, int n, long seed, SeedAndSecrets s) {
-            return BufferHashes.v2(data, at, n, 1, seed, s);
-        }
-    };
+    public static final Rapidhash<Secrets> V2_1 = new Rapidhash<>("V2_1", Family.V2, 1, Secrets.DEFAULT);
     /** V2.2. */
-    public static final Rapidhash<Secrets> V2_2 = new Rapidhash<>("V2_2", Secrets.DEFAULT) {
-        @Override
-        long of(byte[] data, int at, int n, long seed, SeedAndSecrets s) {
-            return Hashes.v2(data, at, n, 2, seed, s);
-        }
-
-        @Override
-        long of(ByteBuffer data, int at, int n, long seed, SeedAndSecrets s) {
-            return BufferHashes.v2(data, at, n, 2, seed, s);
-        }
-    };
+    public static final Rapidhash<Secrets> V2_2 = new Rapidhash<>("V2_2", Family.V2, 2, Secrets.DEFAULT);
     /** V3, the recommended version. */
-    public static final Rapidhash<Secrets> V3 = new Rapidhash<>("V3", Secrets.DEFAULT) {
-        @Override
-        long of(byte[] data, int at, int n, long seed, SeedAndSecrets s) {
-            return Hashes.v3(data, at, n, 7, seed, s);
-        }
-
-        @Override
-        long of(ByteBuffer data, int at, int n, long seed, SeedAndSecrets s) {
-            return BufferHashes.v3(data, at, n, 7, seed, s);
-        }
-    };
+    public static final Rapidhash<Secrets> V3 = new Rapidhash<>("V3", Family.V3, 7, Secrets.DEFAULT);
     /** V3 micro, with five lanes. */
-    public static final Rapidhash<Secrets> V3_MICRO = new Rapidhash<>("V3_MICRO", Secrets.DEFAULT) {
-        @Override
-        long of(byte[] data, int at, int n, long seed, SeedAndSecrets s) {
-            return Hashes.v3(data, at, n, 5, seed, s);
-        }
-
-        @Override
-        long of(ByteBuffer data, int at, int n, long seed, SeedAndSecrets s) {
-            return BufferHashes.v3(data, at, n, 5, seed, s);
-        }
-    };
+    public static final Rapidhash<Secrets> V3_MICRO = new Rapidhash<>("V3_MICRO", Family.V3, 5, Secrets.DEFAULT);
     /** V3 nano, with three lanes. */
-    public static final Rapidhash<Secrets> V3_NANO = new Rapidhash<>("V3_NANO", Secrets.DEFAULT) {
-        @Override
-        long of(byte[] data, int at, int n, long seed, SeedAndSecrets s) {
-            return Hashes.v3(data, at, n, 3, seed, s);
-        }
-
-        @Override
-        long of(ByteBuffer data, int at, int n, long seed, SeedAndSecrets s) {
-            return BufferHashes.v3(data, at, n, 3, seed, s);
-        }
-    };
+    public static final Rapidhash<Secrets> V3_NANO = new Rapidhash<>("V3_NANO", Family.V3, 3, Secrets.DEFAULT);
     /** V3 with protected products: a factor of 0 does not erase the other. */
-    public static final Rapidhash<Secrets> V3_PROTECTED = new Rapidhash<>("V3_PROTECTED", Secrets.DEFAULT) {
-        @Override
-        long of(byte[] data, int at, int n, long seed, SeedAndSecrets s) {
-            return ProtectedHash.v3(data, at, n, seed, s);
-        }
-
-        @Override
-        long of(ByteBuffer data, int at, int n, long seed, SeedAndSecrets s) {
-            return BufferProtectedHash.v3(data, at, n, seed, s);
-        }
-    };
+    public static final Rapidhash<Secrets> V3_PROTECTED =
+        new Rapidhash<>("V3_PROTECTED", Family.PROTECTED, 7, Secrets.DEFAULT);
 
     /** All versions, from V1 to V3_PROTECTED. */
     public static final List<Rapidhash<?>> ALL = List.of(V1, V2_0, V2_1, V2_2, V3, V3_MICRO, V3_NANO, V3_PROTECTED);
 
     private final String name;
+    private final Family family;
+    /** The minor version of V2, or the number of V3's lanes. */
+    private final int form;
     private final S defaults;
 
-    private Rapidhash(String name, S defaults) {
+    private Rapidhash(String name, Family family, int form, S defaults) {
         this.name = name;
+        this.family = family;
+        this.form = form;
         this.defaults = defaults;
     }
 
-    abstract long of(byte[] data, int at, int n, long seed, SeedAndSecrets s);
+    private long of(byte[] data, int at, int n, long seed, SeedAndSecrets s) {
+        return family == Family.V3 ? Hashes.v3(data, at, n, form, seed, s)
+            : family == Family.V2 ? Hashes.v2(data, at, n, form, seed, s)
+            : family == Family.V1 ? Hashes.v1(data, at, n, seed, s)
+            : ProtectedHash.v3(data, at, n, seed, s);
+    }
 
-    abstract long of(ByteBuffer data, int at, int n, long seed, SeedAndSecrets s);
+    private long of(ByteBuffer data, int at, int n, long seed, SeedAndSecrets s) {
+        return family == Family.V3 ? BufferHashes.v3(data, at, n, form, seed, s)
+            : family == Family.V2 ? BufferHashes.v2(data, at, n, form, seed, s)
+            : family == Family.V1 ? BufferHashes.v1(data, at, n, seed, s)
+            : BufferProtectedHash.v3(data, at, n, seed, s);
+    }
 
     /** Returns the hash of all bytes with the default seed and secrets. */
     public long hash(byte[] bytes) {
@@ -300,10 +238,10 @@ public abstract class Rapidhash<S extends SeedAndSecrets> {
     }
 
     private int lanes() {
-        if (this != V3 && this != V3_MICRO && this != V3_NANO) {
+        if (family != Family.V3) {
             throw new UnsupportedOperationException(this + " has no stream");
         }
-        return this == V3 ? 7 : this == V3_MICRO ? 5 : 3;
+        return form;
     }
 
     private long ofBuffer(ByteBuffer buffer, long seed, SeedAndSecrets secrets) {
