@@ -122,13 +122,19 @@ export function isHex(encoding) {
 /** Returns the error for a source that was read before: it would have no piece. */
 export const readBefore = () => new TypeError("updateFrom: the source was read before");
 
+/** Node's own check, where there is no Response, as in jsdom and with --no-experimental-fetch. */
+const { isDisturbed } = globalThis.process?.getBuiltinModule?.("stream") ?? {};
+
 /** Returns whether a stream was read before, at least in part, or cancelled. The rest may be the caller's message. */
-export function wasRead(source) {
-  if (source?.readableDidRead === true) return true; // a Node stream
-  if (typeof Response !== "function" || typeof ReadableStream !== "function" || !(source instanceof ReadableStream))
-    return false;
+export function wasRead(stream) {
+  if (stream.readableDidRead === true || isDisturbed?.(stream)) return true;
   try {
-    return !new Response(source); // which reads nothing, and refuses such a stream
+    getter(ReadableStream.prototype, "locked")(stream); // which a web stream has, also of another window
+  } catch {
+    return false;
+  }
+  try {
+    return typeof Response === "function" && !new Response(stream); // reads nothing, and refuses such a stream
   } catch {
     return true;
   }
@@ -151,25 +157,28 @@ function wasBegun(source) {
   return isOnce && !source.errored && (begun.has(source) || !begun.add(source));
 }
 
-/** Returns the pieces of a Response, or of a Request. */
-function piecesOfBody(source) {
+/** Returns the stream of a Response, or of a Request. */
+function streamOfBody(source) {
   if (source.bodyUsed === true) throw readBefore();
-  if (source.body !== null) return piecesOf(source.body);
+  if (source.body !== null) return streamOf(source.body);
   if (/^(opaque|opaqueredirect|error)$/.test(source.type))
     throw new TypeError(`updateFrom: a Response of the type '${source.type}' shows no body`);
-  return [];
+  return (async function* () {})();
 }
 
-/** Returns the pieces of a web stream or a Node stream, or of a Blob, a File or a Response, which have one. Some
- * engines have no iterator for web streams. */
-export function piecesOf(source) {
-  if (isUsedUp(source) || wasBegun(source)) throw readBefore();
-  if (typeof source?.[Symbol.asyncIterator] === "function") return source;
-  if (typeof source?.getReader === "function") return readAll(source.getReader());
-  if (typeof source?.stream === "function") return piecesOf(source.stream());
-  if (typeof source?.arrayBuffer === "function" && source.body !== undefined) return piecesOfBody(source);
+/** Returns the stream inside a Blob, a File or a Response, or a web stream, a Node stream or an iterable unchanged. */
+export function streamOf(source) {
+  if ([source?.[Symbol.asyncIterator], source?.getReader].some((call) => typeof call === "function")) return source;
+  if (typeof source?.stream === "function") return streamOf(source.stream());
+  if (typeof source?.arrayBuffer === "function" && source.body !== undefined) return streamOfBody(source);
   throw new TypeError(`updateFrom: source must be a stream, a Blob, a Response, or another async iterable, not ${
     whatIs(source)}`);
+}
+
+/** Returns the pieces of a result of streamOf. Some engines have no iterator for web streams. */
+export function piecesOf(stream) {
+  if (isUsedUp(stream) || wasBegun(stream)) throw readBefore();
+  return typeof stream[Symbol.asyncIterator] === "function" ? stream : readAll(stream.getReader());
 }
 
 async function* readAll(reader) {

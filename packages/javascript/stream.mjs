@@ -1,5 +1,5 @@
 // Messages in pieces.
-import { bytesOf, choose, isHex, part, piecesOf, readBefore, sizeOf, wasRead } from "./arguments.mjs";
+import { bytesOf, choose, isHex, part, piecesOf, readBefore, sizeOf, streamOf, wasRead } from "./arguments.mjs";
 import { isLong, messageOf, piece, stateSize } from "./library.mjs";
 
 /** The offset of the stream of the C header in a state: the secrets come first. */
@@ -112,17 +112,18 @@ export class Stream {
   /** Appends all pieces of a web stream or a Node stream. Resolves to the hasher. */
   async updateFrom(source) {
     if (this.#isReading) throw new TypeError("updateFrom: the hasher still reads another source");
-    const isRest = wasRead(source);
+    const stream = streamOf(source);
+    const isRest = wasRead(stream);
     let isEmpty = this.#isReading = true;
     try {
-      for await (const data of piecesOf(source)) {
+      for await (const data of piecesOf(stream)) {
         this.update(data);
         isEmpty = false;
       }
     } finally {
       this.#isReading = false;
     }
-    if (isEmpty && (isRest || source.readableDidRead === true)) throw readBefore();
+    if (isEmpty && (isRest || stream.readableDidRead === true)) throw readBefore();
     return this;
   }
 

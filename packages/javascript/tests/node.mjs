@@ -173,6 +173,14 @@ test("objects of another realm", () => {
   }
 });
 
+test("a used web stream where there is no Response", { skip: !process.getBuiltinModule }, async () => {
+  const [{ Response }, used] = [globalThis, new Blob(["text"]).stream()];
+  await used.cancel();
+  delete globalThis.Response;
+  await assert.rejects(new V3().updateFrom(used), { message: "updateFrom: the source was read before" })
+    .finally(() => Object.assign(globalThis, { Response }));
+});
+
 test("require", () => {
   const require = createRequire(import.meta.url);
   assert.match(require.resolve("yervound-rapidhash"), /rapidhash\.cjs$/);

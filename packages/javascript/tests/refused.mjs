@@ -261,6 +261,18 @@ test("sources that were read before", async () => {
   await isRefused(request);
 });
 
+test("used streams inside objects and of another window", async () => {
+  const used = streamOf("hello");
+  await used.cancel();
+  for (const holder of [{ stream: () => used }, { body: used, arrayBuffer() {} }]) await isRefused(holder);
+  if (typeof document === "undefined") return;
+  const { contentWindow } = document.body.appendChild(document.createElement("iframe"));
+  const [fresh, cancelled] = [1, 2].map(() => new contentWindow.Blob(["hello"]).stream());
+  assert.equal((await new V3().updateFrom(fresh)).digest(), 3327445792987248966n);
+  await cancelled.cancel();
+  for (const stream of [fresh, cancelled]) await isRefused(stream);
+});
+
 test("an iterator for two calls, and a hasher in two calls", async () => {
   const pieces = async function* () {
     yield* ["hel", "lo"];
