@@ -127,7 +127,7 @@ const { isDisturbed } = globalThis.process?.getBuiltinModule?.("stream") ?? {};
 
 /** Returns whether a stream was read before, at least in part, or cancelled. The rest may be the caller's message. */
 export function wasRead(stream) {
-  if (stream.readableDidRead === true || isDisturbed?.(stream)) return true;
+  if (stream.readableDidRead === true || isDisturbed?.(stream) || ended.has(stream)) return true;
   try {
     getter(ReadableStream.prototype, "locked")(stream); // which a web stream has, also of another window
   } catch {
@@ -148,8 +148,15 @@ function isUsedUp(source) {
   return source.readableEnded !== true || source.readableDidRead !== false;
 }
 
-/** The streams and iterators that a call has begun to read: none has its pieces for a second one. */
+/** The streams and iterators that a call reads or has not read to the end: none has its pieces for a second one. */
 const begun = new WeakSet();
+/** Those that a call has read to the end. They may have other pieces, as a cursor that is rewound. */
+const ended = new WeakSet();
+
+/** Notes that a call has read a stream or an iterator to the end. */
+export function end(source) {
+  if (begun.delete(source)) ended.add(source);
+}
 
 /** Returns whether a call has begun to read a stream or an iterator, and from now on one has. */
 function wasBegun(source) {

@@ -1,5 +1,5 @@
 // Messages in pieces.
-import { bytesOf, choose, isHex, part, piecesOf, readBefore, sizeOf, streamOf, wasRead } from "./arguments.mjs";
+import { bytesOf, choose, end, isHex, part, piecesOf, readBefore, sizeOf, streamOf, wasRead } from "./arguments.mjs";
 import { isLong, messageOf, piece, stateSize } from "./library.mjs";
 
 /** The offset of the stream of the C header in a state: the secrets come first. */
@@ -120,6 +120,7 @@ export class Stream {
         this.update(data);
         isEmpty = false;
       }
+      end(stream);
     } finally {
       this.#isReading = false;
     }

@@ -273,6 +273,18 @@ test("used streams inside objects and of another window", async () => {
   for (const stream of [fresh, cancelled]) await isRefused(stream);
 });
 
+test("a cursor that is rewound, and one that fails", async () => {
+  const cursor = { next() {}, async *[Symbol.asyncIterator]() { yield* this.left.splice(0); } };
+  for (let round = 0; round < 2; round++) {
+    cursor.left = ["hel", "lo"];
+    assert.equal((await new V3().updateFrom(cursor)).digest(), 3327445792987248966n);
+    await isRefused(cursor);
+  }
+  cursor[Symbol.asyncIterator] = () => ({ next: () => Promise.reject(Error("broken")) });
+  await assert.rejects(new V3().updateFrom(cursor), { message: "broken" });
+  await isRefused(cursor); // whose first pieces may be gone
+});
+
 test("an iterator for two calls, and a hasher in two calls", async () => {
   const pieces = async function* () {
     yield* ["hel", "lo"];
