@@ -104,6 +104,7 @@ export function hex(hash: bigint): string;
 /** Returns the shard of a hash, below `count`: the integer part of hash * count / 2^64. It has the type of `count`. */
 export function shard(hash: bigint, count: number): number;
 export function shard(hash: bigint, count: bigint): bigint;
+export function shard(hash: bigint, count: bigint | number): bigint | number;
 
 /** Returns the first hash of a shard. The shard has the hashes from it to before the first of the next shard. */
 export function firstHash(shard: bigint | number, count: bigint | number): bigint;

@@ -1,5 +1,5 @@
 // Code that the types accept or refuse. tsc compiles it, and nothing runs it.
-import { hex, load, loadSync, ready, v3, v3Hex, V3, V3Micro, V3Nano, type Hasher, type Message, type Options,
+import { hex, load, loadSync, ready, shard, v3, v3Hex, V3, V3Micro, V3Nano, type Hasher, type Message, type Options,
   type Rapidhash } from "yervound-rapidhash";
 
 const library: Rapidhash = loadSync();
@@ -18,6 +18,7 @@ const hasher: Hasher = new library.V3(optional(1n)[0]).update(data).clone().rese
 const digits: string = hasher.load(hasher.save()).digest("hex");
 const isHasher = (value: unknown): value is V3 => value instanceof V3;
 const micro: V3Micro = new V3Micro();
+const counted = (count: bigint | number): bigint | number => shard(hash, count);
 const known = (encoding?: "hex"): bigint | string => new V3Nano().update(data).digest(encoding);
 
 async function pieces(): Promise<bigint> {
@@ -64,4 +65,4 @@ loadSync("rapidhash.wasm");
 // @ts-expect-error The properties are read-only.
 library.room = 7;
 
-export { digits, isHasher, known, micro, pieces, rounded, shared, text };
+export { counted, digits, isHasher, known, micro, pieces, rounded, shared, text };
