@@ -198,6 +198,14 @@ def keys_by(language, text):
                  GOCACHE=str(ROOM / "cache"))[1].splitlines()
 
 
+def taken_nulls(cells):
+    """Returns what the expressions of JavaScript, whose types do not exclude null, take it for."""
+    lines = (f"try {{ const {column[-1]} = null; console.log('{column}:', {cell}); }} catch {{}}\n"
+             for column, cell in cells.items())
+    (ROOM / "nulls.mjs").write_text("".join(lines))
+    return shell("node nulls.mjs", ROOM)[1].splitlines()
+
+
 def converts(language, cells):
     """Compares the keys of a language with those of the model."""
     values = [(column, value, fields if isinstance(fields, list) else [fields]) for column, value, fields in VALUES
@@ -208,8 +216,9 @@ def converts(language, cells):
     if len(found) != len(wanted):
         tell(language, *found[-20:], f"{len(found)} keys, not {len(wanted)}")
         return
-    tell(language, *(f"{column} {value}: {key}" for (column, value, _), key, right in zip(values, found, wanted)
-                     if not re.fullmatch(r"-?\d+", key) or int(key) % 2**64 != right))
+    nulls = taken_nulls(cells) if language == "JavaScript" else []
+    tell(language, *nulls, *(f"{column} {value}: {key}" for (column, value, _), key, right in zip(values, found, wanted)
+                             if not re.fullmatch(r"-?\d+", key) or int(key) % 2**64 != right))
 
 
 def build(language):
