@@ -2,6 +2,7 @@ package rapidhash
 
 import (
 	"bytes"
+	"fmt"
 	"sync"
 	"testing"
 )
@@ -105,37 +106,54 @@ func TestNilSecretsPanic(t *testing.T) {
 	}
 }
 
-// TestNoVersionPanics checks that a number that is no version panics. One of V3's may return the hash of V3 instead, up
-// to 112 bytes and without a stream.
+// hasStream returns whether a number is a version of V3.
+func hasStream(number uint) bool { return number == 112 || number == 80 || number == 48 }
+
+// panicsAsNoVersion checks that the call of a number that is no version panics, and no other. A number of V3 may return
+// the hash of V3 instead, up to 112 bytes.
+func panicsAsNoVersion(t *testing.T, name string, isVersion bool, v3 uint64, call func() uint64) {
+	t.Helper()
+	value := v3 + 1
+	found := panicOf(func() { value = call() })
+	if isVersion && found != nil || !isVersion && found != noVersion && (found != nil || value != v3) {
+		t.Errorf("%s: %v", name, found)
+	}
+}
+
 func TestNoVersionPanics(t *testing.T) {
 	message := make([]byte, 5000)
 	for _, size := range []int{0, 1, 7, 16, 17, 48, 49, 97, 112, 113, 224, 300, 5000} {
-		bytes, text, secrets := message[:size], string(message[:size]), SeedSecrets(0)
-		for number := uint(0); number < 5000; number++ {
-			v2, v3, isV3 := VersionV2(number), VersionV3(number), number == 112 || number == 80 || number == 48
-			for kind, version := range map[string]hasher{"V2": v2, "V3": v3} {
+		bytes, text, secrets, known := message[:size], string(message[:size]), SeedSecrets(0), V3.Sum64(message[:size])
+		for _, number := range []uint{0, 1, 2, 3, 47, 48, 49, 79, 80, 81, 111, 112, 113, 4999} {
+			for kind, version := range map[string]hasher{"V2": VersionV2(number), "V3": VersionV3(number)} {
+				is, v3 := kind == "V2" && number < 3 || kind == "V3" && hasStream(number), known
+				if kind == "V2" || size > 112 {
+					v3++ // which no call returns
+				}
 				for name, call := range map[string]func() uint64{
-					"slice":               func() uint64 { return version.Sum64(bytes) - V3.Sum64(bytes) },
-					"string":              func() uint64 { return version.Sum64String(text) - V3.Sum64(bytes) },
-					"slice with a seed":   func() uint64 { return version.Sum64WithSeed(bytes, 0) - V3.Sum64(bytes) },
-					"string with a seed":  func() uint64 { return version.Sum64StringWithSeed(text, 0) - V3.Sum64(bytes) },
-					"slice with secrets":  func() uint64 { return version.Sum64WithSecrets(bytes, secrets) - V3.Sum64(bytes) },
-					"string with secrets": func() uint64 { return version.Sum64StringWithSecrets(text, secrets) - V3.Sum64(bytes) },
+					"slice":               func() uint64 { return version.Sum64(bytes) },
+					"string":              func() uint64 { return version.Sum64String(text) },
+					"slice with a seed":   func() uint64 { return version.Sum64WithSeed(bytes, 0) },
+					"string with a seed":  func() uint64 { return version.Sum64StringWithSeed(text, 0) },
+					"slice with secrets":  func() uint64 { return version.Sum64WithSecrets(bytes, secrets) },
+					"string with secrets": func() uint64 { return version.Sum64StringWithSecrets(text, secrets) },
 				} {
-					difference := uint64(1)
-					found := panicOf(func() { difference = call() })
-					if isVersion := kind == "V2" && number < 3 || kind == "V3" && isV3; isVersion != (found == nil) &&
-						(isVersion || kind == "V2" || size > 112 || difference != 0) || found != nil && found != noVersion {
-						t.Errorf("%s, %d: %s of %d bytes: %v", kind, number, name, size, found)
-					}
+					panicsAsNoVersion(t, fmt.Sprint(kind, number, name, size), is, v3, call)
 				}
 			}
-			for name, start := range map[string]func() *Stream{
-				"New": v3.New, "NewWithSeed": func() *Stream { return v3.NewWithSeed(7) },
-				"NewWithSecrets": func() *Stream { return v3.NewWithSecrets(&own) }} {
-				if found := panicOf(func() { start() }); isV3 != (found == nil) || !isV3 && found != noVersion {
-					t.Errorf("%s of %d: %v", name, number, found)
-				}
+		}
+	}
+}
+
+// TestNoVersionHasNoStream checks that a number that is no version of V3 starts no stream.
+func TestNoVersionHasNoStream(t *testing.T) {
+	for _, number := range []uint{0, 3, 47, 48, 49, 79, 80, 81, 111, 112, 113} {
+		v3 := VersionV3(number)
+		for _, start := range []func() *Stream{v3.New, func() *Stream { return v3.NewWithSeed(7) },
+			func() *Stream { return v3.NewWithSecrets(&own) }} {
+			found := panicOf(func() { start() })
+			if hasStream(number) != (found == nil) || found != nil && found != noVersion {
+				t.Errorf("%d: %v", number, found)
 			}
 		}
 	}

@@ -25,41 +25,6 @@ test("default secrets", () => {
   assert.equal(v3(digits.join("")), 12980804195221024151n);
 });
 
-test("made secrets", () => {
-  const made = library.makeSecrets(0x12345678);
-  assert.equal(made[0], 0x6d95b902ea9b0223n);
-  assert.equal(made[7], 0x6333af257102a99en);
-  assert.deepEqual(library.makeSecretsV1(0x12345678), made.slice(0, 4));
-});
-
-// Hashes a message in pieces. The first has 1 byte, and `grow` returns the size of the next from the last.
-function inPieces(hasher, message, grow) {
-  for (let at = 0, size = 1; at < message.length; at += size, size = grow(size))
-    hasher.update(message.subarray(at, at + size));
-  return hasher.digest();
-}
-
-test("uneven pieces", () => {
-  for (const [Stream, whole] of [[V3, v3], [V3Micro, v3Micro], [V3Nano, v3Nano]]) {
-    const value = whole(data, { secrets: own });
-    const hasher = new Stream({ secrets: own }).update(short).reset();
-    assert.equal(inPieces(hasher, data, (size) => size + 1), value);
-    assert.equal(hasher.digest(), value);
-  }
-});
-
-test("whole as in pieces, at each length", () => {
-  const aboveAPiece = Array.from({ length: 130 }, (_, at) => piece + at);
-  for (const length of [0, 1, 112, 113, 65537, ...aboveAPiece, 1000000]) {
-    const message = Uint8Array.from({ length }, (_, at) => at % 251);
-    for (const [whole, Stream] of [[v3, V3], [v3Micro, V3Micro], [v3Nano, V3Nano]]) {
-      const hash = whole(message, { seed: 5n });
-      assert.equal(inPieces(new Stream({ seed: 5n }), message, (size) => 3 * size + 1), hash);
-      assert.notEqual(whole(message, { seed: 6n }), hash);
-    }
-  }
-});
-
 test("long messages", () => {
   const message = Uint8Array.from({ length: 1000000 }, (_, at) => at % 251);
   assert.equal(v3(message), 3141031059669918984n);
@@ -252,21 +217,6 @@ test("a hash as digits, without a BigInt", () => {
     const hasher = new Stream({ seed: 7 }).update(long);
     assert.equal(hasher.digest("hex"), hex(hasher.digest()));
   }
-});
-
-test("a saved hasher", async () => {
-  const other = await load();
-  for (const name of ["V3", "V3Micro", "V3Nano"])
-    for (const length of [0, 1, 48, 49, 120]) {
-      const first = new library[name]({ secrets: own }).update(data.subarray(0, length));
-      const saved = first.save();
-      const rest = data.subarray(length);
-      const hash = new library[name]({ secrets: own }).update(data).digest();
-      const loaded = [new library[name]({ secrets: own }).update("other").load(saved),
-        new other[name]({ secrets: own }).load(saved.slice().buffer), new library[name]({ secrets: own }).load(saved)];
-      for (const hasher of loaded) assert.equal(hasher.update(rest).digest(), hash);
-      assert.equal(first.update(rest).digest(), hash);
-    }
 });
 
 test("streams of the web", async () => {

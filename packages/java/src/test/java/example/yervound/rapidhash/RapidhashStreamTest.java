@@ -13,7 +13,6 @@ import java.nio.file.Path;
 import java.nio.file.StandardOpenOption;
 import java.util.List;
 import java.util.zip.CheckedInputStream;
-import java.util.zip.Checksum;
 import org.junit.Test;
 
 public class RapidhashStreamTest {
@@ -42,25 +41,6 @@ public class RapidhashStreamTest {
         }
     }
 
-    /** Writes a message of each length up to three rows after another of each such length and a reset. */
-    @Test
-    public void resets() {
-        byte[] message = Messages.bytes(500);
-        for (Rapidhash<Secrets> version : STREAMED) {
-            RapidhashStream stream = version.stream(OWN);
-            for (int length = 0; length <= 3 * 112 + 1; length++) {
-                long known = version.hash(message, 0, length, OWN);
-                for (int before = 0; before <= 3 * 112 + 1; before++) {
-                    stream.update(message, 100, before);
-                    stream.reset();
-                    stream.update(message, 0, length);
-                    assertEquals(version + " of " + length + " after " + before, known, stream.getValue());
-                    stream.reset();
-                }
-            }
-        }
-    }
-
     /** Updates by a buffer whose memory is gone: that of a closed arena, which JDK 22 and later have. */
     @Test
     public void failedUpdates() throws Exception {
@@ -83,40 +63,6 @@ public class RapidhashStreamTest {
                 stream.update(message, before, 300);
                 assertEquals(version + " after " + before, version.hash(message, 0, before + 300, OWN),
                     stream.getValue());
-            }
-        }
-    }
-
-    @Test
-    public void singleBytes() {
-        byte[] message = Messages.bytes(300);
-        for (Rapidhash<Secrets> version : STREAMED) {
-            Checksum stream = version.stream();
-            for (int size = 0; size < message.length; size++) {
-                assertEquals(version.hash(message, 0, size), stream.getValue());
-                stream.update(message[size] | 0x7fffff00);
-            }
-            stream.reset();
-            assertEquals(version.hash(new byte[0]), stream.getValue());
-        }
-    }
-
-    @Test
-    public void longPieces() {
-        byte[] message = Messages.bytes(200_000);
-        for (Rapidhash<Secrets> version : STREAMED) {
-            for (long seed : Messages.SEEDS) {
-                RapidhashStream stream = version.stream(seed);
-                stream.update(message);
-                assertEquals(version.hash(message, seed), stream.getValue());
-                stream.reset();
-                for (int at = 0; at < message.length; at++) {
-                    stream.update(message, at, 1);
-                }
-                assertEquals(version.hash(message, seed), stream.getValue());
-                stream.reset();
-                stream.update(message);
-                assertEquals(version.hash(message, seed), stream.getValue());
             }
         }
     }
