@@ -114,7 +114,7 @@ def random_file(name, megabytes):
     return ROOM / name
 
 
-def take(programs, words, scale):
+def fastest(programs, words, scale):
     """Runs each program once. Each prints a value, which must be the same for all, and its time."""
     values, times = {}, {}
     for name, program in ((name, program) for name in programs for program in programs[name]):
@@ -126,7 +126,7 @@ def take(programs, words, scale):
     return times
 
 
-def asked(usage, known, turns, number=False):
+def parse_arguments(usage, known, turns, number=False):
     """Returns the arguments of the command line, or none if it requests everything, and the number of turns. An
     argument is a known word, or, if the bench takes one, a number."""
     parser = argparse.ArgumentParser(description=usage, formatter_class=argparse.RawDescriptionHelpFormatter)
