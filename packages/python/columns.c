@@ -43,18 +43,21 @@ int open_out(PyObject *out, size_t count, Py_buffer *buffer)
     return -1;
 }
 
-int open_column(PyObject *module, PyObject *const *args, size_t count, struct column *column)
+/* As open_column, but for out. */
+static int start_column(PyObject *module, PyObject *const *args, struct column *column)
 {
     const struct form *form = form_of(args[0]);
     struct start start;
     column->has_missing = args[4] != Py_None;
     if (form == NULL || read_start(module, form, args[1], args[2], &start) < 0 ||
-        (column->has_missing && read_word(args[4], "missing", &column->missing) < 0) ||
-        open_out(args[3], count, &column->out) < 0)
+        (column->has_missing && read_word(args[4], "missing", &column->missing) < 0))
         return -1;
     read_secrets(form, &start, column);
     return 0;
 }
+
+int open_column(PyObject *module, PyObject *const *args, size_t count, struct column *column)
+{ return start_column(module, args, column) < 0 ? -1 : open_out(args[3], count, &column->out); }
 
 int overlaps(const Py_buffer *out, const Py_buffer *buffer, const char *name)
 {
@@ -178,6 +181,46 @@ PyObject *each(PyObject *module, PyObject *const *args, Py_ssize_t count)
     }
     PyBuffer_Release(&column.out);
     return status == 0 ? PyLong_FromSsize_t(size) : NULL;
+}
+
+/* Hashes the items of an iterator into a bytearray, which grows. Returns their number, or -1 with an error set. */
+static Py_ssize_t hash_next(struct column *column, PyObject *items, PyObject *room)
+{
+    Py_ssize_t at = 0;
+    int status = 0;
+    PyObject *item;
+    while (status == 0 && (item = PyIter_Next(items)) != NULL) {
+        if (PyByteArray_Size(room) == 8 * at)
+            status = PyByteArray_Resize(room, 16 * at + 256);
+        column->out.buf = PyByteArray_AsString(room);
+        if (status == 0)
+            status = hash_item(column, at++, item);
+        Py_DECREF(item);
+        if (status == 0 && at % ITEMS == 0)
+            status = PyErr_CheckSignals();
+    }
+    return status == 0 && !PyErr_Occurred() && PyByteArray_Resize(room, 8 * at) == 0 ? at : -1;
+}
+
+/* each_next(iterator, version, seed, secrets, out, missing): the hashes, which are copied to out unless it is None. The
+ * iterator may fill one buffer again, so each item is hashed before the next. */
+PyObject *each_next(PyObject *module, PyObject *const *args, Py_ssize_t count)
+{
+    struct column column;
+    PyObject *room = count == 6 && start_column(module, args + 1, &column) == 0
+        ? PyByteArray_FromStringAndSize(NULL, 0) : NULL;
+    const Py_ssize_t size = room == NULL ? -1 : hash_next(&column, args[0], room);
+    int status = size < 0 ? -1 : 0;
+    if (size >= 0 && args[4] != Py_None) {
+        status = open_out(args[4], (size_t)size, &column.out);
+        if (status == 0) {
+            memcpy(column.out.buf, PyByteArray_AsString(room), 8 * (size_t)size);
+            PyBuffer_Release(&column.out);
+        }
+    }
+    if (status < 0)
+        Py_CLEAR(room);
+    return room;
 }
 
 /* each_row(buffer, version, seed, secrets, out, None, width), in which the width is a positive divisor of the

@@ -140,6 +140,7 @@ static PyMethodDef calls[] = {
     {"make_secrets", make_secrets, METH_O, NULL}, {"make_secrets_v1", make_secrets_v1, METH_O, NULL},
     {"seed_secrets", seed_secrets, METH_O, NULL},
     {"each", FAST(each), METH_FASTCALL, NULL}, {"each_row", FAST(each_row), METH_FASTCALL, NULL},
+    {"each_next", FAST(each_next), METH_FASTCALL, NULL}, {"kept", kept, METH_O, NULL},
     {"each_slice", FAST(each_slice), METH_FASTCALL, NULL}, {"key", FAST(key_of), METH_FASTCALL, NULL},
     {"each_key", FAST(each_key), METH_FASTCALL, NULL}, {"arrow", FAST(arrow), METH_FASTCALL, NULL},
     {"each_arrow", FAST(each_arrow), METH_FASTCALL, NULL}, {"shard", FAST(shard), METH_FASTCALL, NULL},

@@ -102,6 +102,8 @@ PyObject *each_arrow(PyObject *module, PyObject *const *args, Py_ssize_t count);
 PyObject *key_of(PyObject *module, PyObject *const *args, Py_ssize_t count);
 PyObject *each_key(PyObject *module, PyObject *const *args, Py_ssize_t count);
 PyObject *each(PyObject *module, PyObject *const *args, Py_ssize_t count);
+PyObject *each_next(PyObject *module, PyObject *const *args, Py_ssize_t count);
+PyObject *kept(PyObject *module, PyObject *field);
 PyObject *each_row(PyObject *module, PyObject *const *args, Py_ssize_t count);
 PyObject *each_slice(PyObject *module, PyObject *const *args, Py_ssize_t count);
 PyObject *shard(PyObject *module, PyObject *const *args, Py_ssize_t count);

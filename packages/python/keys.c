@@ -41,26 +41,54 @@ static int add_integer(PyObject *field, Py_ssize_t at, Py_ssize_t row, struct ke
     return 0;
 }
 
-/* Appends the bytes of a str, or of a buffer of single bytes, which are B, or c as char of ctypes. A buffer of numbers
- * is none, and neither is a scalar of NumPy or ctypes, such as a date, which has a buffer too. */
+/* Opens the bytes of a str, or of a buffer of single bytes, which are B, or c as char of ctypes. A buffer of numbers is
+ * none, and neither is a scalar of NumPy or ctypes, such as a date, which has a buffer too. Returns whether a field has
+ * bytes, or -1 with an error set. */
+static int open_bytes(PyObject *field, struct message *message)
+{
+    const Py_buffer *const buffer = &message->buffer;
+    message->buffer.obj = NULL;
+    if (PyUnicode_Check(field) || PyBytes_Check(field))
+        return read_message(field, "the field", message) < 0 ? -1 : 1;
+    if (!PyObject_CheckBuffer(field) || class_has(field, "dtype"))
+        return 0;
+    if (PyObject_GetBuffer(field, &message->buffer, PyBUF_FORMAT | PyBUF_C_CONTIGUOUS) < 0)
+        return -1;
+    message->bytes = buffer->buf;
+    message->len = (size_t)buffer->len;
+    return (letter_of(buffer) == 'B' || (buffer->itemsize == 1 && strchr(format_of(buffer), 'c') != NULL)) &&
+           buffer->ndim > 0 && !lends_masked(buffer);
+}
+
+/* kept(field): the field of an iterator, which may fill one buffer again, so its bytes are copied. A later call sets
+ * the error of a field that has none. */
+PyObject *kept(PyObject *module, PyObject *field)
+{
+    struct message message;
+    int are_bytes;
+    (void)module;
+    if (PyUnicode_Check(field) || PyBytes_CheckExact(field) || PyIndex_Check(field) || !PyObject_CheckBuffer(field))
+        return Py_INCREF(field), field;
+    are_bytes = open_bytes(field, &message);
+    if (are_bytes > 0)
+        field = PyBytes_FromStringAndSize(message.bytes, (Py_ssize_t)message.len);
+    else
+        Py_INCREF(field);
+    if (are_bytes < 0)
+        PyErr_Clear();
+    else
+        release_message(&message);
+    return field;
+}
+
+/* Appends the bytes of a field. Returns 0, or -1 with an error set. */
 static int add_bytes(PyObject *field, Py_ssize_t at, Py_ssize_t row, struct key *key)
 {
     struct message message;
     char place[64];
-    int are_bytes = PyUnicode_Check(field) || PyBytes_Check(field);
-    message.buffer.obj = NULL;
-    if (are_bytes) {
-        if (read_message(field, "the field", &message) < 0)
-            return refuse_field(at, row);
-    } else if (PyObject_CheckBuffer(field) && !class_has(field, "dtype")) {
-        const Py_buffer *const buffer = &message.buffer;
-        if (PyObject_GetBuffer(field, &message.buffer, PyBUF_FORMAT | PyBUF_C_CONTIGUOUS) < 0)
-            return refuse_field(at, row);
-        message.bytes = buffer->buf;
-        message.len = (size_t)buffer->len;
-        are_bytes = letter_of(buffer) == 'B' || (buffer->itemsize == 1 && strchr(format_of(buffer), 'c') != NULL);
-        are_bytes = are_bytes && buffer->ndim > 0 && !lends_masked(buffer);
-    }
+    int are_bytes = open_bytes(field, &message);
+    if (are_bytes < 0)
+        return refuse_field(at, row);
     if (are_bytes && key->out != NULL && is_overwritten(key->out, row, &message, "a field")) {
         are_bytes = 0;
     } else if (are_bytes) {

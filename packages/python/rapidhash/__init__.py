@@ -139,7 +139,9 @@ def each(items, version="v3", seed=None, secrets=None, out=None, missing=None):
         except (AttributeError, NotImplementedError, TypeError) as error:  # of Dask, or of a MultiIndex
             raise TypeError(f"items must be an iterable of messages, not {type(items)!r}: {error}") from None
     if type(items) not in (list, tuple):
-        items = tuple(_iterator("items", "an iterable of messages", items))
+        items = _iterator("items", "an iterable of messages", items)
+        hashes = _extension.each_next(items, version, seed, secrets, out, missing)
+        return array("Q", hashes) if out is None else out
     out = _room(len(items)) if out is None else out
     _extension.each(items, version, seed, secrets, out, missing)
     return out
@@ -211,7 +213,7 @@ def _fields(at, column):
     except (AttributeError, BufferError, NotImplementedError, TypeError, ValueError) as error:
         raise TypeError(f"columns[{at}] must be a column of fields, not {type(column)!r}: {error}") from None
     if rows is None and type(column) not in (list, tuple):
-        column = tuple(_iterator(f"columns[{at}]", "a column of fields", column))
+        column = tuple(map(_extension.kept, _iterator(f"columns[{at}]", "a column of fields", column)))
     return column, len(column) if rows is None else rows
 
 

@@ -222,6 +222,44 @@ class Signals(unittest.TestCase):
             signal.signal(signal.SIGALRM, before)
 
 
+class Iterators(unittest.TestCase):
+    def test_one_buffer_that_is_filled_again(self):
+        def pieces(view):
+            buffer = bytearray(1)
+            for buffer[0] in WHOLE:
+                yield view(buffer)
+
+        for view in (bytearray, memoryview, lambda buffer: memoryview(buffer).toreadonly(), lambda buffer: buffer):
+            found, room = rapidhash.each(pieces(view), "v1", 7), array.array("Q", [0]) * len(WHOLE)
+            self.assertEqual(found, rapidhash.each_row(WHOLE, 1, "v1", 7))
+            self.assertIs(rapidhash.each(pieces(view), "v1", 7, out=room), room)
+            self.assertEqual(room, found)
+            keys = rapidhash.each_key(pieces(view), memoryview(WHOLE))
+            self.assertEqual(keys, rapidhash.each_key([bytes([byte]) for byte in WHOLE], memoryview(WHOLE)))
+
+    def test_errors(self):
+        def items(*values):
+            yield from values
+            raise LookupError("no more")
+
+        room, text = array.array("Q", [0]), bytearray(b"a")
+        for call, kind, error in (
+            (lambda: rapidhash.each(items(text)), LookupError, "no more$"),
+            (lambda: rapidhash.each(items(text, None)), TypeError, r"items\[1\] is None: pass `missing`"),
+            (lambda: rapidhash.each(iter([text] * 2), out=room), ValueError, "out must have room for exactly 2 hashes"),
+            (lambda: rapidhash.each(iter([text]), out=text), TypeError, "out must be a buffer of unsigned 64-bit"),
+            (lambda: rapidhash.each(iter([text]), "v4"), ValueError, "version must be the name of a hash"),
+            (lambda: rapidhash.each_key(items(text)), LookupError, "no more$"),
+            (lambda: rapidhash.each_key(iter([text, memoryview(b"abc")[::2]])), BufferError, r"columns\[0\]\[1\]: "),
+            (lambda: rapidhash.each_key(iter([array.array("b")])), TypeError, r"columns\[0\]\[0\] must be None"),
+        ):
+            with self.assertRaisesRegex(kind, f"^{error}"):
+                call()
+        self.assertEqual(rapidhash.each(iter([None, text]), missing=5, out=array.array("Q", [0, 0]))[0], 5)
+        text.append(0)  # A bytearray refuses this while its buffer is exported.
+        room.append(0)
+
+
 class Out(unittest.TestCase):
     def test_the_room_of_the_caller(self):
         room, wanted = array.array("Q", [7]) * 202, rapidhash.each(ITEMS)
