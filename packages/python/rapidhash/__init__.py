@@ -15,6 +15,7 @@ memoryview, array.array or mmap, or a str, which is hashed as its UTF-8. It is n
 Other threads run while a message of more than 64 KiB is hashed, or columns without Python objects.
 """
 
+import codecs
 import copyreg
 import functools
 import itertools
@@ -404,11 +405,11 @@ def file_digest(fileobj, digest=V3, /):
     for a text file, and BlockingIOError for a non-blocking file that has no data yet."""
     if not callable(digest):
         raise TypeError(f"digest must create a hasher, as V3 does, and it is {type(digest)!r}")
+    read = getattr(fileobj, "readinto", None)
+    decodes = isinstance(fileobj, (codecs.StreamReader, codecs.StreamRecoder))  # They lend readinto of their file.
+    if read is None or decodes or isinstance(getattr(fileobj, "encoding", None), str):
+        raise ValueError(f"the file must be open in binary mode and have readinto, not {type(fileobj)!r}")
     hasher = digest()
-    try:
-        read = fileobj.readinto
-    except AttributeError:
-        raise ValueError(f"the file must be open in binary mode and have readinto, not {type(fileobj)!r}") from None
     buffer = bytearray(1 << 18)
     view = memoryview(buffer)
     while True:

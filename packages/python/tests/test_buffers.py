@@ -2,6 +2,7 @@
 per wheel."""
 
 import array
+import codecs
 import ctypes
 import hashlib
 import io
@@ -186,7 +187,13 @@ class Files(unittest.TestCase):
             lying = type("Lying", (), {"readinto": lambda self, buffer: size})()
             with self.assertRaisesRegex(OSError, rf"^readinto\(\) returned {size}, not a number from 0 to 262144$"):
                 rapidhash.file_digest(lying)
-        for file in ("path", io.StringIO("text"), type("Reads", (), {"read": lambda self, size: b""})()):
+        read, write = codecs.getreader("utf-8"), codecs.getwriter("utf-8")
+        coded = (read(io.BytesIO(b"text")), codecs.StreamReaderWriter(io.BytesIO(b"text"), read, write),
+                 codecs.EncodedFile(io.BytesIO(b"text"), "utf-8"))
+        spooled = tempfile.SpooledTemporaryFile(mode="w+")
+        self.addCleanup(spooled.close)
+        reads = type("Reads", (), {"read": lambda self, size: b""})()
+        for file in ("path", io.StringIO("text"), reads, *coded, spooled):
             with self.assertRaisesRegex(ValueError, "^the file must be open in binary mode and have readinto, not <cl"):
                 rapidhash.file_digest(file)
         with self.assertRaisesRegex(TypeError, "^digest must create a hasher, as V3 does, and it is <class 'str'>$"):
