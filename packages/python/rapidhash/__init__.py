@@ -45,7 +45,7 @@ def make_secrets(number, version=3):
     Raises OverflowError if the number is not from 0 to 2**64 - 1, and ValueError for another version."""
     version = _integer("version", version)
     if version not in (1, 2, 3):
-        raise ValueError(f"version must be 1, 2 or 3, not {version}")
+        raise ValueError("version must be 1, 2 or 3")
     return SecretsV1(_extension.make_secrets_v1(number)) if version == 1 else Secrets(_extension.make_secrets(number))
 
 
@@ -154,10 +154,10 @@ def each_row(data, width, version="v3", seed=None, secrets=None, out=None):
     Raises ValueError if `width` does not divide the number of bytes, or if `out` overlaps `data`."""
     view, width = _view("data", data), _integer("width", width)
     if width < 1:
-        raise ValueError(f"width must be at least 1, not {width}")
+        raise ValueError("width must be at least 1")
     count, rest = divmod(view.nbytes, width)
     if rest:
-        raise ValueError(f"data has {view.nbytes} bytes, which is no multiple of the width {width}")
+        raise ValueError(f"data has {view.nbytes} bytes, which is no multiple of the width")
     out = _room(count) if out is None else out
     _extension.each_row(data, version, seed, secrets, out, None, width if count else 1)
     return out
@@ -346,7 +346,7 @@ def _hash(number):
     """Returns a number that may be a hash."""
     number = _integer("a hash", number)
     if not 0 <= number < 2**64:
-        raise OverflowError(f"a hash must be from 0 to 2**64 - 1, not {number}")
+        raise OverflowError("a hash must be from 0 to 2**64 - 1")
     return number
 
 
@@ -417,7 +417,7 @@ def file_digest(fileobj, digest=V3, /):
         if size is None:
             raise BlockingIOError("the file is non-blocking and has no data yet")
         if not 0 <= size <= len(buffer):
-            raise OSError(f"readinto() returned {size}, not a number from 0 to {len(buffer)}")
+            raise OSError(f"readinto() must return a number from 0 to {len(buffer)}")
         if size == 0:
             return hasher
         hasher.update(view[:size])

@@ -183,9 +183,9 @@ class Files(unittest.TestCase):
             rapidhash.file_digest(Counted(long, 3))
 
     def test_what_is_no_binary_file(self):
-        for size in (-1, (1 << 18) + 1, 10**9):
+        for size in (-1, (1 << 18) + 1, 10**9, 10**5000):
             lying = type("Lying", (), {"readinto": lambda self, buffer: size})()
-            with self.assertRaisesRegex(OSError, rf"^readinto\(\) returned {size}, not a number from 0 to 262144$"):
+            with self.assertRaisesRegex(OSError, r"^readinto\(\) must return a number from 0 to 262144$"):
                 rapidhash.file_digest(lying)
         read, write = codecs.getreader("utf-8"), codecs.getwriter("utf-8")
         coded = (read(io.BytesIO(b"text")), codecs.StreamReaderWriter(io.BytesIO(b"text"), read, write),

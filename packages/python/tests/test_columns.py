@@ -357,11 +357,11 @@ class Refused(unittest.TestCase):
             rapidhash.each_slice(b"abc", other(0, 1))
 
     def test_widths(self):
-        for width in (0, -1, -2**70):
-            with self.assertRaisesRegex(ValueError, "^width must be at least 1"):
+        for width in (0, -1, -2**70, -10**5000):  # Python writes no number of over 4300 digits.
+            with self.assertRaisesRegex(ValueError, "^width must be at least 1$"):
                 rapidhash.each_row(b"abc", width)
-        for width in (2, 4, 2**32 + 3, 2**64 + 3):
-            with self.assertRaisesRegex(ValueError, "^data has 3 bytes, which is no multiple of the width"):
+        for width in (2, 4, 2**32 + 3, 2**64 + 3, 10**5000):
+            with self.assertRaisesRegex(ValueError, "^data has 3 bytes, which is no multiple of the width$"):
                 rapidhash.each_row(b"abc", width)
         self.assertEqual(len(rapidhash.each_row(b"", 2**70)), 0)
         with self.assertRaisesRegex(TypeError, "^width must be an integer"):

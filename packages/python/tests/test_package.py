@@ -105,8 +105,8 @@ class Calls(unittest.TestCase):
                 self.assertRaisesRegex(OverflowError, r"^seed must be from 0 to 2\*\*64 - 1$", call, data, seed=seed)
         for number in (-1, 2**64):
             self.assertRaisesRegex(OverflowError, "^number must be from 0", rapidhash.make_secrets, number)
-        for version in (0, 4, 99, -1):
-            self.assertRaisesRegex(ValueError, f"^version must be 1, 2 or 3, not {version}$",
+        for version in (0, 4, 99, -1, 10**5000):
+            self.assertRaisesRegex(ValueError, "^version must be 1, 2 or 3$",
                                    rapidhash.make_secrets, 5, version)
         rapidhash.v3(data)
         rapidhash.V3(data)
