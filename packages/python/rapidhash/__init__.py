@@ -68,11 +68,16 @@ def _has(value, name):
     return not isinstance(value, tuple) and hasattr(type(value), name)
 
 
+def _sort(kind):
+    """Returns the name of the base class of ctypes that a class has, or None."""
+    return next((base.__name__ for base in kind.__mro__ if base.__module__ == "_ctypes"), None)
+
+
 @functools.lru_cache()
 def _has_addresses(kind):
     """Returns whether a class is one of ctypes and has pointers or objects. Formats hide those of a union, or of a base
     class."""
-    sort = next((base.__name__ for base in kind.__mro__ if base.__module__ == "_ctypes"), None)
+    sort = _sort(kind)
     if sort == "_SimpleCData":
         return kind._type_ in "OPXZz"
     if sort == "Array":
@@ -95,6 +100,8 @@ def _view(name, data):
 
 def _iterator(name, kind, items):
     try:
+        if _sort(type(items)) == "_Pointer":
+            raise TypeError("it has no end")
         return iter(items)
     except TypeError as error:
         raise TypeError(f"{name} must be {kind}, not {type(items)!r}: {error}") from None

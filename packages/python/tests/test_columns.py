@@ -315,6 +315,13 @@ class Out(unittest.TestCase):
 
 
 class Refused(unittest.TestCase):
+    def test_pointers_have_no_end(self):
+        for pointer in (ctypes.pointer((ctypes.c_char * 4)()), ctypes.POINTER(ctypes.c_uint64)()):
+            for call, name in ((rapidhash.each, "items"), (rapidhash.fingerprint, "hashes")):
+                with self.assertRaisesRegex(TypeError, f"^{name} must be .* iterable of .*: it has no end$"):
+                    call(pointer)
+        self.assertEqual(rapidhash.each((ctypes.c_char_p * 2)(b"a", b"b")), rapidhash.each(["a", "b"]))
+
     def test_items(self):
         for items in ([b"", 7], iter([b"", 7]), (b"", 7), [b"", 7, b""]):
             with self.assertRaisesRegex(
