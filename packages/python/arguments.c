@@ -9,6 +9,8 @@ int read_word(PyObject *number, const char *name, uint64_t *word)
         return -1;
     }
     index = PyNumber_Index(number);
+    if (index == NULL && PyErr_ExceptionMatches(PyExc_TypeError))
+        name_error(name);
     if (index == NULL)
         return -1;
     *word = PyLong_AsUnsignedLongLong(index);

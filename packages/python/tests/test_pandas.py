@@ -162,6 +162,8 @@ class Pandas(unittest.TestCase):
         self.refused("^hash must be an integer", TypeError, rapidhash.shard, number, 10)
         self.refused("^count must be an integer", TypeError, rapidhash.shard, 5, number)
         self.refused("^missing must be an integer", TypeError, rapidhash.each, [None], missing=number)
+        self.refused("^seed: only integer scalar arrays", TypeError, rapidhash.v3, b"", numpy.arange(2))
+        self.refused("^count: only integer scalar arrays", TypeError, rapidhash.shard, 7, numpy.arange(2))
         self.refused("^a hash must be an integer", TypeError, rapidhash.fingerprint, [number])
         self.refused("^width must be an integer", TypeError, rapidhash.each_row, b"", number)
         for value in (numpy.ma.array("abc"), numpy.ma.array(b"abc"), numpy.ma.array((1, 2), "i8,i8")):
