@@ -63,9 +63,17 @@ int is_masked(PyObject *object)
 }
 
 /* Returns a new reference to the object that lends the memory of a view, or to any other object itself, or NULL with an
- * error set. The object of an open buffer is behind a PickleBuffer, too. */
+ * error set. The object of an open buffer is behind a PickleBuffer, too, which may be that of another view. */
 static PyObject *owner_of(PyObject *object)
-{ return PyMemoryView_Check(object) ? attribute_of(object, "obj") : (Py_INCREF(object), object); }
+{
+    Py_INCREF(object);
+    while (object != NULL && PyMemoryView_Check(object)) {
+        PyObject *const view = object;
+        object = attribute_of(view, "obj");
+        Py_DECREF(view);
+    }
+    return object;
+}
 
 int lends_masked(const Py_buffer *buffer)
 {

@@ -115,7 +115,8 @@ class Columns(unittest.TestCase):
                  type("Derived", (text,), {"_fields_": [("other", ctypes.c_uint64)]}), text * 2, (text * 2) * 2,
                  derived, derived * 2, union(derived, ctypes.Structure), union(derived), colon, union(unknown)]
         for kind in kinds:
-            for data in (kind(), memoryview(kind()), pickle.PickleBuffer(kind())):
+            coat = pickle.PickleBuffer(memoryview(kind()))
+            for data in (kind(), memoryview(kind()), pickle.PickleBuffer(kind()), coat, memoryview(coat)):
                 for call in (rapidhash.v3, rapidhash.V3, lambda data: rapidhash.each_row(data, 8)):
                     with self.assertRaisesRegex(TypeError, "^data must not be an array of objects or pointers, "):
                         call(data)

@@ -147,8 +147,13 @@ class Pandas(unittest.TestCase):
         self.refused(f"^offsets{error}", TypeError, rapidhash.each_slice, b"a", view)
         self.refused(f"^out{error}", TypeError, rapidhash.each, ["a", "b"], out=view)
         self.refused(r"^items\[0\] must be bytes", TypeError, rapidhash.each, [view])
+        coat = pickle.PickleBuffer(view)
+        for name, call in ((r"columns\[0\]", rapidhash.each_key), ("hashes", rapidhash.fingerprint)):
+            self.refused(f"^{name}{error}", TypeError, call, coat)
+            self.refused(f"^{name}{error}", TypeError, call, memoryview(coat))
         octets = numpy.ma.array([1, 2], mask=[0, 1], dtype="u1")
-        for data in (memoryview(octets), pickle.PickleBuffer(octets), pickle.PickleBuffer(memoryview(octets))):
+        coat = pickle.PickleBuffer(memoryview(octets))
+        for data in (memoryview(octets), pickle.PickleBuffer(octets), coat, memoryview(coat)):
             self.refused(f"^data{error}", TypeError, rapidhash.v3, data)
             self.refused(r"^fields\[0\] must be None", TypeError, rapidhash.v3_key, data)
             self.refused(r"^columns\[0\]\[0\] must be None", TypeError, rapidhash.each_key, [data])
