@@ -6,6 +6,20 @@
 #include <Python.h>
 #include <rapidhash_c.h>
 
+/* A wheel counts references by functions of the interpreter. From 3.12 on, interpreters with a lock of their own share
+ * objects that are not counted, such as None and b"a", and the headers of 3.11 would count them without a lock. */
+#ifdef Py_LIMITED_API
+#undef Py_NewRef
+#undef Py_INCREF
+#undef Py_XINCREF
+#undef Py_DECREF
+#undef Py_XDECREF
+#define Py_INCREF(object) Py_IncRef((PyObject *)(object))
+#define Py_XINCREF(object) Py_IncRef((PyObject *)(object))
+#define Py_DECREF(object) Py_DecRef((PyObject *)(object))
+#define Py_XDECREF(object) Py_DecRef((PyObject *)(object))
+#endif
+
 /* Other threads can run while more than this many bytes are hashed. */
 #define LONG 65536
 

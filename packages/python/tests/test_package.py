@@ -39,6 +39,18 @@ class Package(unittest.TestCase):
                              "print(rapidhash.V3(secrets=rapidhash.make_secrets(1)).intdigest())"),
                          (0, f"{rapidhash.v3(b'', secrets=rapidhash.make_secrets(1))}\n" * 3))
 
+    @unittest.skipIf(sys.version_info < (3, 12), "interpreters with a lock of their own came with 3.12")
+    def test_interpreters_that_run_at_once(self):
+        """They share objects such as None and b"a"."""
+        interpreters = "_interpreters" if sys.version_info >= (3, 13) else "_xxsubinterpreters"
+        self.assertEqual(run(f"import {interpreters} as own, threading\n"
+                             "code = 'import rapidhash\\nfor _ in range(9000): rapidhash.each([b\"a\", b\"b\"] * 99)'\n"
+                             "pairs = [(own.create(), code) for _ in range(4)]\n"
+                             "threads = [threading.Thread(target=own.run_string, args=pair) for pair in pairs]\n"
+                             "for thread in threads: thread.start()\n"
+                             "for thread in threads: thread.join()\n"
+                             "print('end')"), (0, "end\n"))
+
 
 class Calls(unittest.TestCase):
     def test_arguments_by_place_and_by_name(self):
