@@ -107,6 +107,11 @@ def _iterator(name, kind, items):
         raise TypeError(f"{name} must be {kind}, not {type(items)!r}: {error}") from None
 
 
+def _is_whole(dtype):
+    """Returns whether a type of NumPy, and none of pandas, is of integers."""
+    return getattr(dtype, "kind", "O") in "iu" and not hasattr(dtype, "na_value")
+
+
 def _listed(column):
     """Returns a Series or an Index of pandas, or a masked array of NumPy, as a list with None for its missing
     values."""
@@ -125,6 +130,35 @@ def _listed(column):
     return items
 
 
+def _rows(column):
+    """Returns the number of rows of a buffer, or None for another object."""
+    try:
+        view = memoryview(column)
+    except TypeError:
+        return None
+    return len(view) if view.ndim else 1
+
+
+def _column(name, kind, column, of_fields=False):
+    """Returns an Arrow array as a capsule and its number of rows, and a Series, an Index or a masked array as a list or,
+    of fields, a buffer of integers. Returns any other column as it is, of fields with the rows of a buffer."""
+    refused = f"{name} must be {kind}, not {type(column)!r}"
+    if isinstance(column, (str, bytes, bytearray)) or _has(column, "columns"):
+        raise TypeError(refused)
+    if _has(column, "__arrow_c_array__"):
+        return _extension.arrow(column, name)
+    errors = AttributeError, NotImplementedError, TypeError  # of Dask, or of a MultiIndex
+    try:
+        is_series = _has(column, "isna")
+        if of_fields and is_series and _is_whole(column.dtype):
+            column = column.to_numpy()
+        elif is_series or _extension.is_masked(column):
+            column = _listed(column)
+        return column, _rows(column) if of_fields else None
+    except (*errors, BufferError, ValueError) if of_fields else errors as error:
+        raise TypeError(f"{refused}: {error}") from None
+
+
 def each(items, version="v3", seed=None, secrets=None, out=None, missing=None):
     """Returns the hash of each item of an iterable, or of an Arrow array of strings or bytes, as an array.array of type
     'Q'.
@@ -134,18 +168,12 @@ def each(items, version="v3", seed=None, secrets=None, out=None, missing=None):
     an item that is None, null in Arrow, masked in NumPy, or missing in a Series of pandas. Without it, such an item
     raises TypeError. So does a number: `each_key` hashes integers. Raises ValueError if `out` overlaps an Arrow
     array, or a later item."""
-    if isinstance(items, (str, bytes, bytearray)) or _has(items, "columns"):
-        raise TypeError(f"items must be an iterable of messages, not {type(items)!r}")
-    if _has(items, "__arrow_c_array__"):
-        column, rows = _extension.arrow(items, "items")
+    column, rows = _column("items", "an iterable of messages", items)
+    if rows is not None:
         out = _room(rows) if out is None else out
         _extension.each_arrow(column, version, seed, secrets, out, missing)
         return out
-    if _has(items, "isna") or _extension.is_masked(items):
-        try:
-            items = _listed(items)
-        except (AttributeError, NotImplementedError, TypeError) as error:  # of Dask, or of a MultiIndex
-            raise TypeError(f"items must be an iterable of messages, not {type(items)!r}: {error}") from None
+    items = column
     if type(items) not in (list, tuple):
         items = _iterator("items", "an iterable of messages", items)
         hashes = _extension.each_next(items, version, seed, secrets, out, missing)
@@ -196,30 +224,9 @@ def v3_key(*fields, seed=None, secrets=None):
     return _extension.key(fields, seed, secrets)
 
 
-def _rows(column):
-    """Returns the number of rows of a buffer, or None for another object."""
-    try:
-        view = memoryview(column)
-    except TypeError:
-        return None
-    return len(view) if view.ndim else 1
-
-
 def _fields(at, column):
     """Returns a column as a list, a tuple, a buffer of integers, or a capsule of Arrow's, and the number of rows."""
-    if isinstance(column, (str, bytes, bytearray)) or _has(column, "columns"):
-        raise TypeError(f"columns[{at}] must be a column of fields, not {type(column)!r}")
-    if _has(column, "__arrow_c_array__"):
-        return _extension.arrow(column, f"columns[{at}]")
-    try:
-        if _has(column, "isna"):  # a Series or an Index of pandas
-            whole = getattr(column.dtype, "kind", "O") in "iu" and not hasattr(column.dtype, "na_value")
-            column = column.to_numpy() if whole else _listed(column)
-        elif _extension.is_masked(column):
-            column = _listed(column)
-        rows = _rows(column)
-    except (AttributeError, BufferError, NotImplementedError, TypeError, ValueError) as error:
-        raise TypeError(f"columns[{at}] must be a column of fields, not {type(column)!r}: {error}") from None
+    column, rows = _column(f"columns[{at}]", "a column of fields", column, True)
     if rows is None and type(column) not in (list, tuple):
         column = tuple(map(_extension.kept, _iterator(f"columns[{at}]", "a column of fields", column)))
     return column, len(column) if rows is None else rows
