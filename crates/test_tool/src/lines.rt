@@ -1,7 +1,7 @@
 //! The printed lines.
 
 use crate::ends::{
-    SOMETHING, SOMETHING_LINE, V1, V3, V3_LINE, counted, of_file, of_stdin, versions, whole, writer,
+    SOMETHING, SOMETHING_LINE, V1, V3, V3_LINE, of_file, of_stdin, versions, whole, writer,
 };
 use crate::writers::FullWriter;
 use rapidhash_tool::{CliFault, help, run_file, run_help, run_stdin};
@@ -21,28 +21,6 @@ const OF_SOMETHING: [u64; 7] = seven! {
 const OF_SOMETHING_PROTECTED: [u64; 7] = seven! {
     14951285551641890068 17893560372563139203 17893560372563139203 17893560372563139203
     9190969184432848932 9190969184432848932 9190969184432848932
-};
-
-// Of the bytes 0 to 59.
-const OF_60: [u64; 7] = seven! {
-    13504714392771582078 13186137053657766175 13012060828128651499 6181707366222537282
-    4019770469993714914 4019770469993714914 2215003878582675931
-};
-
-const OF_60_PROTECTED: [u64; 7] = seven! {
-    6468868215947200268 16843117783405955737 7511735898977599527 4976199966969934088
-    11252768679679600228 11252768679679600228 1713723861806489385
-};
-
-// Of the bytes 0 to 199.
-const OF_200: [u64; 7] = seven! {
-    9257997393371529010 14313477656795349801 14313477656795349801 14313477656795349801
-    11319255389218479170 3555686792459783170 1733455076046618124
-};
-
-const OF_200_PROTECTED: [u64; 7] = seven! {
-    1717351545928846253 11164339708799121817 11164339708799121817 11164339708799121817
-    14349953989156417912 4897950914338820965 16770306864220385383
 };
 
 // Every version prints these hashes, from standard input and from a file.
@@ -77,19 +55,8 @@ fn all_print(
 
 #[test]
 fn all_versions(rt: HostRuntime) -> Result<(), Fail> {
-    let bytes = counted();
-    let tables: [(&[u8], bool, [u64; 7]); 6] = [
-        (SOMETHING, false, OF_SOMETHING),
-        (SOMETHING, true, OF_SOMETHING_PROTECTED),
-        (&bytes[..60], false, OF_60),
-        (&bytes[..60], true, OF_60_PROTECTED),
-        (&bytes, false, OF_200),
-        (&bytes, true, OF_200_PROTECTED),
-    ];
-    for (bytes, protected, hashes) in tables {
-        all_print(&rt, bytes, protected, hashes)?;
-    }
-    Ok(())
+    all_print(&rt, SOMETHING, false, OF_SOMETHING)?;
+    all_print(&rt, SOMETHING, true, OF_SOMETHING_PROTECTED)
 }
 
 // The hashes in these lines.
@@ -143,25 +110,22 @@ fn lengths_of_files(rt: HostRuntime) {
 
 // V3, micro and nano hash and print all bytes, whatever the length is.
 #[test]
-fn lengths_that_are_not_looked_at(rt: HostRuntime) -> Result<(), Fail> {
-    let bytes = counted();
-    let all = versions(false);
-    for i in 4..7usize {
-        let hash = OF_200[i];
-        let line = format!(in rt.alloc(); "{hash}\n")?;
-        for len in [0, 99, 200, 201, u64::MAX] {
-            assert!(rt;
-                all[i].hash_file(whole(&bytes), len) == Ok(hash),
-                "at {len}"
+fn lengths_that_are_not_looked_at(rt: HostRuntime) {
+    let [_, _, _, _, all @ ..] = versions(false);
+    for version in all {
+        for len in [0, 5, 10, 11, u64::MAX] {
+            let hash = version.hash_file(whole(SOMETHING), len);
+            assert!(rt; hash == Ok(OF_SOMETHING[4]), "at {len}");
+            let ended = of_file(
+                version,
+                whole(SOMETHING),
+                len,
+                writer(Vec::new(rt.alloc()), 0),
             );
-            let ended = of_file(all[i], whole(&bytes), len, writer(Vec::new(rt.alloc()), 0));
             assert!(rt; ended.result == Ok(()), "at {len}");
-            assert!(rt; ended.written.as_slice() == line.as_bytes(), "at {len}");
+            assert!(rt; ended.written.as_slice() == V3_LINE, "at {len}");
         }
     }
-    let ended = of_file(V3, whole(SOMETHING), 99, writer(Vec::new(rt.alloc()), 0));
-    assert!(rt; ended.written.as_slice() == V3_LINE);
-    Ok(())
 }
 
 #[test]
