@@ -54,7 +54,7 @@ def known(fields):
     texts = ("x" + (it.encode() if isinstance(it, str) else it).hex() if isinstance(it, (str, bytes)) else str(it)
              for it in fields)
     seed, *secrets = secrets_of("default", "", False)
-    return hash_of("V3", b"".join(map(field_bytes, texts)), seed, secrets)
+    return hash_of("v3", b"".join(map(field_bytes, texts)), seed, secrets)
 
 
 # The programs of the languages around their values: the file, the command, the text, which has its values at VALUES,

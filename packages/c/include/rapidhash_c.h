@@ -53,8 +53,8 @@
 #define RAPIDHASH_C_VERSION_STRING "1.0"
 #define RAPIDHASH_C_VERSION_NUMBER (100 * RAPIDHASH_C_VERSION_MAJOR + RAPIDHASH_C_VERSION_MINOR)
 
-/* Inlined functions and tables. In C++, all translation units share them, so all must define the same macros before they
- * include this header. A shared library exports none. Before C++17, each unit has its own tables. */
+/* Inlined functions and tables. In C++, all translation units share them, so all must define the same macros before
+ * they include this header. A shared library exports none. Before C++17, each unit has its own tables. */
 #ifndef __cplusplus
 #define RAPIDHASH_SHARED_ static
 #elif defined(__ELF__) && defined(__GNUC__)

@@ -9,7 +9,7 @@ def known(*fields):
     """Returns the key of fields by the model, as SQL has it."""
     encoding = b"".join(field_bytes(field if isinstance(field, str) else f"x{field.hex()}") for field in fields)
     seed, *secrets = secrets_of("default", "", False)
-    return str(signed(hash_of("V3", encoding, seed, secrets)))
+    return str(signed(hash_of("v3", encoding, seed, secrets)))
 
 
 def encodings():

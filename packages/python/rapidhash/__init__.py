@@ -140,8 +140,8 @@ def _rows(column):
 
 
 def _column(name, kind, column, of_fields=False):
-    """Returns an Arrow array as a capsule and its number of rows, and a Series, an Index or a masked array as a list or,
-    of fields, a buffer of integers. Returns any other column as it is, of fields with the rows of a buffer."""
+    """Returns an Arrow array as a capsule and its number of rows, and a Series, an Index or a masked array as a list
+    or, of fields, a buffer of integers. Returns any other column as it is, of fields with the rows of a buffer."""
     refused = f"{name} must be {kind}, not {type(column)!r}"
     if isinstance(column, (str, bytes, bytearray)) or _has(column, "columns"):
         raise TypeError(refused)
