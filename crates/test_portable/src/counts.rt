@@ -54,8 +54,8 @@ pub fn after_two_pieces<'a, const LANES: usize>(
     hasher
 }
 
-/// States the numbers of steps around each chunk, which is folded when a further byte comes: of
-/// seven lanes a chunk has 112 bytes, of five 80, of three 48.
+/// Compares the numbers of steps around each chunk with known ones. A chunk is folded when a
+/// further byte comes: of seven lanes it has 112 bytes, of five 80, of three 48.
 #[tactic(auto, unfolding(rapidhash_portable::specs::Stream::chunk_count))]
 pub fn known_counts()
     ensures seven { map (chunk_count 7)
