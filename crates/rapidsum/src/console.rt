@@ -92,7 +92,7 @@ impl<'a> Console<'a> {
     }
 
     // Writes a text to standard error, after the lines so far.
-    fn write_stderr(&mut self, text: &[u8]) -> Result<(), Problem> {
+    fn say(&mut self, text: &[u8]) -> Result<(), Problem> {
         self.flush()?;
         if let Err(error) = self.rt.stderr().write_all(text) {
             self.untold = Some(Problem::Write(error));
@@ -101,19 +101,19 @@ impl<'a> Console<'a> {
     }
 
     /// Reports on standard error why a file or a list is refused.
-    pub fn report_error(&mut self, name: &[u8], why: &str) -> Result<(), Problem> {
-        self.report_between(name, ": ", why)
+    pub fn complain(&mut self, name: &[u8], why: &str) -> Result<(), Problem> {
+        self.complain_by(name, ": ", why)
     }
 
     // Does the same with this text between the name and the reason.
-    fn report_between(&mut self, name: &[u8], between: &str, why: &str) -> Result<(), Problem> {
+    fn complain_by(&mut self, name: &[u8], between: &str, why: &str) -> Result<(), Problem> {
         let mut text = Vec::new(self.rt.alloc());
         text.extend_from_slice(b"rapidsum: ")?;
         push_name(&mut text, name)?;
         text.extend_from_slice(between.as_bytes())?;
         text.extend_from_slice(why.as_bytes())?;
         text.push(b'\n')?;
-        self.write_stderr(text.as_slice())
+        self.say(text.as_slice())
     }
 
     /// Returns whether a name in a list can name a file, and reports it otherwise.
@@ -122,24 +122,24 @@ impl<'a> Console<'a> {
         match (list, name) {
             (_, []) => {
                 let why = format!(in alloc; "{number}: invalid zero-length file name")?;
-                self.report_between(list, ":", why.as_str())?;
+                self.complain_by(list, ":", why.as_str())?;
             }
-            ([b'-'], [b'-']) => self.write_stderr(STDIN_TWICE)?,
+            ([b'-'], [b'-']) => self.say(STDIN_TWICE)?,
             _ => return Ok(true),
         }
         Ok(false)
     }
 
     /// Reports on standard error why a file could not be opened or read.
-    pub fn report_io_error(&mut self, name: &[u8], error: io::Error) -> Result<(), Problem> {
+    pub fn complain_of(&mut self, name: &[u8], error: io::Error) -> Result<(), Problem> {
         let why = reason_of(self.rt.alloc(), &error)?;
-        self.report_error(name, why.as_str())
+        self.complain(name, why.as_str())
     }
 
     // Reports a malformed line of a list.
     fn warn_of_line(&mut self, name: &[u8], number: u64) -> Result<(), Problem> {
         let why = format!(in self.rt.alloc(); "{number}: improperly formatted checksum line")?;
-        self.report_error(name, why.as_str())
+        self.complain(name, why.as_str())
     }
 
     /// Reports each malformed line of a list, if the option `--warn` is set.
@@ -160,7 +160,7 @@ impl<'a> Console<'a> {
         }
         let what = if count == 1 { one } else { several };
         let text = format!(in self.rt.alloc(); "rapidsum: WARNING: {count} {what}\n")?;
-        self.write_stderr(text.as_bytes())
+        self.say(text.as_bytes())
     }
 
     /// Prints the warnings at the end of a list, unless the option `--status` is set.
@@ -190,13 +190,13 @@ impl<'a> Console<'a> {
             return Ok(());
         }
         if different > 1 && !list.names_a_version() {
-            self.report_error(
+            self.complain(
                 name,
                 "no file matched: the list may be for another version, seed or program",
             )?;
         }
         if checked.count(Verdict::Missing) > 0 {
-            self.report_error(name, "no file was verified")?;
+            self.complain(name, "no file was verified")?;
         }
         Ok(())
     }
@@ -210,7 +210,7 @@ impl Report for Console<'_> {
         error: Option<io::Error>,
     ) -> Result<(), Problem> {
         if let Some(error) = error {
-            self.report_io_error(name, error)?;
+            self.complain_of(name, error)?;
         }
         let end = match verdict {
             Verdict::Same if self.options.has(QUIET) => return Ok(()),

@@ -88,7 +88,7 @@ fn print_sum(console: &mut Console<'_>, disk: &Disk<'_>, name: &[u8]) -> Result<
             Ok(true)
         }
         Err(Problem::Read(error)) => {
-            console.report_io_error(name, error)?;
+            console.complain_of(name, error)?;
             Ok(false)
         }
         Err(problem) => Err(problem),
@@ -111,7 +111,7 @@ fn text_of(
     match read_whole(console.rt.alloc(), disk, name) {
         Ok(text) => Ok(Some(text)),
         Err(error) => {
-            console.report_io_error(name, error)?;
+            console.complain_of(name, error)?;
             Ok(None)
         }
     }
@@ -143,7 +143,7 @@ fn list_named(
     match read_from(console.rt.alloc(), disk, name) {
         Ok(list) => Ok(Some(list)),
         Err(Problem::Read(error)) => {
-            console.report_io_error(name, error)?;
+            console.complain_of(name, error)?;
             Ok(None)
         }
         Err(problem) => Err(problem),
@@ -160,7 +160,7 @@ fn check_list(console: &mut Console<'_>, disk: &Disk<'_>, name: &[u8]) -> Result
     };
     console.warn_of_lines(name, &list)?;
     if list.entries.is_empty() {
-        console.report_error(name, "no properly formatted checksum lines found")?;
+        console.complain(name, "no properly formatted checksum lines found")?;
         return Ok(false);
     }
     let ignore_missing = console.options.has(IGNORE_MISSING);
