@@ -1,6 +1,6 @@
 /* The hashes of the rows of columns of fields. */
 #include "arrow.h"
-#include "fields.h"
+#include "key.h"
 
 /* A column of fields: the items of a list or a tuple, the integers of a buffer, or a column of Arrow, whose integers
  * are in a buffer without an object. The integers begin `stride` bytes apart, which can be negative. */

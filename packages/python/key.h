@@ -2,7 +2,7 @@
 #ifndef RAPIDHASH_KEY_H
 #define RAPIDHASH_KEY_H
 
-#include <rapidhash_c.h>
+#include "extension.h"
 
 /* The encoding of a key. A long one is in the stream, but for its last bytes. `integers` is NULL, or a type that is
  * known to have integers, and `out` is NULL, or the buffer of the hashes of rows. */
@@ -54,4 +54,23 @@ static uint64_t finish(struct key *key)
     return rapidhash_stream_finish(&key->stream);
 }
 
+#ifdef __GNUC__
+#pragma GCC visibility push(hidden)
+#endif
+
+/* Appends a field. Returns 0, or -1 with an error set that names its place: fields[at], or columns[at][row]. */
+int add_field(PyObject *field, Py_ssize_t at, Py_ssize_t row, struct key *key);
+
+/* Releases the type that a key holds. */
+void release_key(struct key *key);
+
+/* Sets the error of an integer that has more than 64 bits. Returns -1. */
+int refuse_value(Py_ssize_t at, Py_ssize_t row);
+
+/* Reads the secrets of a call into `own`. Returns 0, or -1 with an error set. */
+int read_own(PyObject *module, PyObject *seed, PyObject *secrets, struct rapidhash_secrets *own);
+
+#ifdef __GNUC__
+#pragma GCC visibility pop
+#endif
 #endif

@@ -1,5 +1,5 @@
 /* The fields of a key, and the hash of one: None, an integer of 64 bits, a str, or bytes. */
-#include "fields.h"
+#include "key.h"
 
 /* Names the place of an error: fields[at], or columns[at][row]. */
 static void name_place(char *place, size_t size, Py_ssize_t at, Py_ssize_t row)
