@@ -36,9 +36,10 @@ head -c 10000000 large >ten_million
 
 # Tests every version, plain and protected, with messages of the cases: no byte as standard input, 58 bytes from
 # a pipe, and 65,537 bytes as a file. The contracts of run_stdin and run_file hold for every version.
-awk -F '\t' '$2 == 1 && $4 != 1 && $6 == "square" && $7 ~ /^(0|58|65537)$/ && $8 == "default" {
-  print $7, $9, ($3 ? "--protected " : "") "--" ($1 ~ /^v/ ? "" : "v3-") $1 ($5 == "-" ? "" : "." $5)
-}' "$top"/crates/test_replay/data/*.tsv >known_hashes
+awk -F '\t' '$1 == "hash" && $2 !~ /raw|bug/ && $3 == "default" && sub(/^square:/, "", $4) && $4 ~ /^(0|58|65537)$/ {
+  is_protected = sub(/_protected$/, "", $2); sub(/^v2_/, "v2.", $2); sub(/_/, "-", $2)
+  print $4, $5, (is_protected ? "--protected " : "") "--" $2
+}' "$top/crates/test_replay/data/library.tsv" >known_hashes
 for bytes in 58 65537; do
   perl -e 'print map chr(($_ * $_ + 7 * $_ + $ARGV[0]) % 251), 0 .. $ARGV[0] - 1' "$bytes" >"of_$bytes"
 done
