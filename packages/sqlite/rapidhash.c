@@ -360,5 +360,8 @@ int sqlite3_rapidhash_init(sqlite3 *database, char **error, const sqlite3_api_ro
     for (at = 0; at < 2 * COUNT(aggregates) && status == SQLITE_OK; at++)
         status = sqlite3_create_window_function(database, aggregates[at / 2].name, 1 + (int)(at % 2), FLAGS,
             (void *)&aggregates[at / 2], step, report_value, report_value, refuse_inverse, NULL);
+    /* While a statement runs, SQLite defines no function again. */
+    if (status != SQLITE_OK && error != NULL)
+        *error = sqlite3_mprintf("%s", sqlite3_errmsg(database));
     return status;
 }

@@ -43,6 +43,8 @@ ERRORS = {
     "rapidhash_first_hash(10, 10)": "rapidhash_first_hash: the shard must be from 0 to the count less 1, not 10",
     "rapidhash_bucket(7, 4294967296)": "rapidhash_bucket: the count must be from 1 to 4294967295, not 4294967296",
     "rapidhash_fingerprint(1.5)": "rapidhash_fingerprint: the hash must be an INTEGER",
+    f"load_extension('{TOP}/build/rapidhash')":
+        "error during initialization: unable to delete/modify user-function due to active statements",
 }
 # Writes headers without the flag that SQLite 3.31 introduced.
 OLDER = """mkdir older
