@@ -5,12 +5,12 @@ _rapidsum() {
   local IFS=$' \t\n'
   local help options word=${COMP_WORDS[COMP_CWORD]#=} before=" ${COMP_WORDS[*]:1:COMP_CWORD-1} "
   help=$(rapidsum --help 2>/dev/null)
-  options=" $(grep -oE '^ +(-., )?--[a-z0-9-]+' <<<"$help")"
+  options=" $(command grep -oE '^ +(-., )?--[a-z0-9-]+' <<<"$help")"
   COMPREPLY=()
   case ${before/% = / } in
     *" --help "* | *" -h "* | *" --version "* | *" -V "*) options= ;;
     *" -- "*) return ;;
-    *" --algorithm " | *" -a ") options=$(sed -n 's/.*values: \(.*\)]/\1/p' <<<"$help") word=" $word" ;;
+    *" --algorithm " | *" -a ") options=$(command sed -n 's/.*values: \(.*\)]/\1/p' <<<"$help") word=" $word" ;;
     *" --seed ") options='' word=" $word" ;;
   esac
   if [[ $word == [-\ ]* || -z $options ]]; then

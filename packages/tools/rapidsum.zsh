@@ -1,6 +1,7 @@
 #compdef rapidsum
 # Completion of rapidsum for zsh, with the options, their texts and the versions in its help. A word that begins
 # with a hyphen names no file but after --.
+setopt local_options no_bash_rematch # which would leave `match` empty
 local line match names
 local -a options
 for line in ${(f)"$(_call_program options rapidsum --help 2>/dev/null)"}; do

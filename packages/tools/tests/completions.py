@@ -58,15 +58,15 @@ OFFERS = [
     ("versions for sums", "rapidsum --algorithm v", VERSIONS),
 ]
 
-# The arguments of each shell, the commands that it runs first, also with a user's own IFS, and the function that shows
-# the words of its line.
+# The arguments of each shell, the commands that it runs first, also with a user's own IFS, alias and option, and the
+# function that shows the words of its line.
 SHELLS = {
     "bash": (["--norc", "--noprofile", "-i"],
-             [f". '{SHARE}/rapidhash.bash'", f". '{SHARE}/rapidsum.bash'", "bind 'set bell-style none'",
-              r"IFS=$'\n'"]),
+             ["alias grep='grep --color=always'", f". '{SHARE}/rapidhash.bash'", f". '{SHARE}/rapidsum.bash'",
+              "bind 'set bell-style none'", r"IFS=$'\n'"]),
     "zsh": (["-f", "-i"],
             ["bindkey -e", "setopt no_beep no_list_beep no_auto_menu", "fpath=($FOLDER/functions $fpath)",
-             "autoload -Uz compinit", "compinit -u -D"]),
+             "autoload -Uz compinit", "compinit -u -D", "setopt bash_rematch"]),
 }
 SHOW = "show() { printf '<<'; printf '%s|' \"$@\"; printf '>>\\n'; }"
 
