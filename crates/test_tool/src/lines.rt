@@ -111,8 +111,9 @@ fn lengths_of_files(rt: HostRuntime) {
 // V3, micro and nano hash and print all bytes, whatever the length is.
 #[test]
 fn lengths_that_are_not_looked_at(rt: HostRuntime) {
-    let [_, _, _, _, all @ ..] = versions(false);
-    for version in all {
+    let all = versions(false);
+    for i in 4..7usize {
+        let version = all[i];
         for len in [0, 5, 10, 11, u64::MAX] {
             let hash = version.hash_file(whole(SOMETHING), len);
             assert!(rt; hash == Ok(OF_SOMETHING[4]), "at {len}");
