@@ -3,7 +3,6 @@
 use rapidhash::inner::RapidHasher;
 use rapidhash::rng::RapidRng;
 use rapidhash_portable::form::Options;
-use rapidhash_portable::util::{read_u32, read_u64};
 use rapidhash_portable::v3::DEFAULT_RAPID_SECRETS;
 use std::alloc::{AllocError, Global};
 use std::hash::Hasher;
@@ -26,13 +25,22 @@ fn mix(protected: bool, a: u64, b: u64) -> u64 {
     low ^ high
 }
 
+/// The little-endian number of some bytes.
+fn word(bytes: &[u8], place: usize, size: usize) -> u64 {
+    let mut word = 0u64;
+    if let Some(part) = bytes.get(place..place.saturating_add(size)) {
+        for byte in part.iter().rev() {
+            word = word.wrapping_shl(8) | u64::from(*byte);
+        }
+    }
+    word
+}
+
 /// A lane after a pair of the message.
 fn step(protected: bool, bytes: &[u8], pair: usize, secret: u64, lane: u64) -> u64 {
     let place = pair.wrapping_mul(16);
-    let (first, second) = (
-        read_u64(bytes, place),
-        read_u64(bytes, place.wrapping_add(8)),
-    );
+    let first = word(bytes, place, 8);
+    let second = word(bytes, place.wrapping_add(8), 8);
     mix(protected, first ^ secret, second ^ lane)
 }
 
@@ -75,27 +83,20 @@ fn shape_of(n: usize) -> [usize; 3] {
 
 /// The last two words.
 fn last_words(bytes: &[u8]) -> (u64, u64) {
-    match (bytes, bytes.len()) {
-        ([], _) => (0, 0),
-        ([first, .., last], n) if n < 4 => {
-            (
-                u64::from(*first).wrapping_shl(45) | u64::from(*last),
-                u64::from(bytes[n / 2]),
-            )
-        }
-        ([one], _) => (
-            u64::from(*one).wrapping_shl(45) | u64::from(*one),
-            u64::from(*one),
-        ),
-        (_, n @ 4..=7) => (
-            u64::from(read_u32(bytes, 0)),
-            u64::from(read_u32(bytes, n.wrapping_sub(4))),
-        ),
-        (_, n) => {
-            let first = if n > 16 { n.wrapping_sub(16) } else { 0 };
-            (read_u64(bytes, first), read_u64(bytes, n.wrapping_sub(8)))
-        }
+    let n = bytes.len();
+    if n > 3 {
+        let size = if n > 7 { 8 } else { 4 };
+        let first = if n > 16 { n.saturating_sub(16) } else { 0 };
+        return (
+            word(bytes, first, size),
+            word(bytes, n.saturating_sub(size), size),
+        );
     }
+    let first = word(bytes, 0, 1).wrapping_shl(45);
+    (
+        first | word(bytes, n.saturating_sub(1), 1),
+        word(bytes, n / 2, 1),
+    )
 }
 
 /// The hash of a hasher with the default seed after one write.
