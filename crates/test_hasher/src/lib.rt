@@ -1,6 +1,6 @@
 //! The tests of the in-memory hasher, its states, maps and sets, of the generator and of the laws:
 //! properties without a contract. The numbers are worked out by hand, or are those of the Rust
-//! crate; messages of every length are compared with a plain program.
+//! crate.
 #![tactic(auto)]
 
 #[cfg(test)]
@@ -15,7 +15,5 @@ mod generator;
 mod keys;
 #[cfg(test)]
 mod laws;
-#[cfg(test)]
-mod sizes;
 #[cfg(test)]
 mod states;
