@@ -130,17 +130,3 @@ pub(crate) fn v2_of_slice<const MINOR: u8>(bytes: &[u8], len: u64) -> Asked
     let flag = source.failed();
     told(answer, flag, source.into_inner().len())
 }
-
-/// V2 of `len` bytes by the file form with all options, over a reader of one byte per read.
-pub(crate) fn v2_of_file<const MINOR: u8>(bytes: &[u8], len: u64) -> Outcome
-    requires { MINOR ≤ 2 }
-{
-    let secrets = &v2::DEFAULT_RAPID_SECRETS;
-    let mut reader = sound(bytes);
-    let answer = v2::rapidhash_v2_file_inline::<CountingReader, MINOR, false>(
-        &mut reader,
-        len,
-        secrets,
-    );
-    Outcome::new(answer, &reader)
-}

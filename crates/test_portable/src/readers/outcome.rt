@@ -24,8 +24,4 @@ impl Outcome {
             left: reader.left.len(),
         }
     }
-    /// Whether it is this hash, and the reader was read to its end.
-    pub(crate) fn is_hash(&self, hash: u64) -> bool {
-        self.returned == Ok(hash) && self.left == 0
-    }
 }

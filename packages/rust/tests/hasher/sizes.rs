@@ -35,7 +35,7 @@ fn last_words(bytes: &[u8]) -> (u64, u64) {
         0 => (0, 0),
         1..=3 => (u64::from(bytes[0]) << 45 | u64::from(bytes[n - 1]), u64::from(bytes[n / 2])),
         4..=7 => (word(bytes, 0, 4), word(bytes, n - 4, 4)),
-        _ => (word(bytes, if n > 16 { n - 16 } else { 0 }, 8), word(bytes, n - 8, 8)),
+        _ => (word(bytes, n.saturating_sub(16), 8), word(bytes, n - 8, 8)),
     }
 }
 
