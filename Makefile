@@ -161,7 +161,7 @@ test:
 	@prove --exec "" packages/tools/tests tests/examples
 
 # Each file of figures has a bench with its name. A bench that fails leaves the figures unchanged.
-bench: $(patsubst %,bench/%.tsv,slices rust c hand java tool sums packages size xxh3 quality growth)
+bench: $(patsubst %,bench/%.tsv,rust c hand java tool sums packages size xxh3 quality growth)
 	@bench/figures --write
 
 .PHONY: always

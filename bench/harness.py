@@ -13,7 +13,7 @@ from statistics import geometric_mean
 
 TOP = Path(__file__).resolve().parent.parent
 ROOM = TOP / "build" / "bench"
-# This library in Rattle, its Rust crate, the crate rapidhash if RAPIDHASH_CRATE names its directory, xxHash, SHA-256.
+# This library, its Rust crate, the crate rapidhash if RAPIDHASH_CRATE names its directory, xxHash, SHA-256.
 LIBRARIES = "ours rust crate xxh3 sha256".split()
 CRATES = {"rust": TOP / "packages" / "rust"}
 if "RAPIDHASH_CRATE" in os.environ:
@@ -58,12 +58,6 @@ def with_versions(*names):
     return "with " + ", ".join(f"{name} {run(*VERSIONS[name])}" for name in names)
 
 
-def build_rattle(crate):
-    """Builds this library's program."""
-    run("rt", "run", folder=TOP / "crates" / crate)
-    return TOP / "crates" / crate / "out" / crate
-
-
 def depend(name, crate):
     """Returns the line of a manifest that gives a crate a name."""
     package = re.search(r'^name = "(.*)"', (CRATES[crate] / "Cargo.toml").read_text(), re.MULTILINE)[1]
@@ -80,10 +74,9 @@ def build_program(room, source, dependencies, features, profile):
     return room / "target" / "release" / "program"
 
 
-def build_rust(name, source, features=(), profile="lto"):
-    """Builds the program from a source with the crate of this name."""
-    room = "_".join([Path(source).stem, name, *features, profile])
-    return build_program(room, source, depend("rapidhash", name), features, profile)
+def build_rust(name, source):
+    """Builds the program from a source with the crate of this name, in the default release profile."""
+    return build_program(f"{Path(source).stem}_{name}", source, depend("rapidhash", name), [], "release")
 
 
 def build_rows(profile, place=""):
@@ -93,12 +86,6 @@ def build_rows(profile, place=""):
         sys.exit("bench: RAPIDHASH_CRATE must name the directory of the crate rapidhash")
     dependencies = "\n".join([depend("rapidhash", "rust"), depend("upstream", "crate")])
     return build_program(f"rows_{profile}{place}", "rust.rs", dependencies, [place] * (place != ""), profile)
-
-
-def build(crate, source):
-    """Builds the programs of a bench, keyed by library."""
-    programs = {"ours": [build_rattle(crate)]}
-    return programs | {name: [build_rust(name, source)] for name in CRATES}
 
 
 def wheel(name):
@@ -112,18 +99,6 @@ def random_file(name, megabytes):
     """Writes a file of random bytes, and returns its path."""
     run("dd", "if=/dev/urandom", f"of={name}", "bs=1M", "iflag=fullblock", f"count={megabytes}")
     return ROOM / name
-
-
-def fastest(programs, words, scale):
-    """Runs each program once. Each prints a value, which must be the same for all, and its time."""
-    values, times = {}, {}
-    for name, program in ((name, program) for name in programs for program in programs[name]):
-        value, time = subprocess.check_output([program, *words], text=True).split()
-        keep_least(times, {name: int(time) / scale})
-        values.setdefault(value, name)
-    if len(values) > 1:
-        sys.exit(f"{' '.join(map(str, words))}: different values {values}")
-    return times
 
 
 def parse_arguments(usage, known, turns, number=False):
@@ -165,7 +140,7 @@ def measure(title, unit, rows, work, turns):
     print_heading(f"{title}, the least of {turns} turns")
     names = [name for name in LIBRARIES if any(name in times for times in best.values())]
     rows = [(what.rpartition(" ")[0], what, times) for what, times in best.items()]
-    print_table(unit, names, rows, [("crate", "ours"), ("crate", "rust")], 2)
+    print_table(unit, names, rows, [("crate", "ours")], 2)
 
 
 def mean_ratio(rows, ours="ours", other="crate"):

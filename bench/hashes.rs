@@ -1,10 +1,10 @@
 //! Hashes of messages and readers, and the first state of a thread, with a crate.
 
 use super::rapidhash::{fast, v1, v2, v3};
-use crate::common::least;
 use crate::{Row, Texts};
 use std::hint::black_box;
 use std::io::Read;
+use std::time::Instant;
 
 /// The hashes summed: the processor works on several at a time.
 #[inline(never)]
@@ -107,6 +107,10 @@ pub fn readers() -> Vec<Row> {
 /// The first state of each of many threads.
 pub fn first_states() -> Vec<Row> {
     black_box(fast::RandomState::new());
-    let first = || least(1, || _ = black_box(fast::RandomState::new()));
+    let first = || {
+        let start = Instant::now();
+        black_box(fast::RandomState::new());
+        start.elapsed().as_nanos()
+    };
     vec![Row::timed("thread", "first state", 1, move || std::thread::spawn(first).join().unwrap())]
 }

@@ -3,8 +3,6 @@
 //! the rounds. `bench/rust` builds and runs it: `ROUNDS PART.. LENGTHS..`. With lengths, only their messages are
 //! hashed. With the feature `further`, all functions are 16 bytes further on.
 
-mod common;
-
 #[cfg(feature = "further")]
 std::arch::global_asm!(include_str!("padding.s"), ".text");
 
@@ -25,7 +23,6 @@ mod theirs {
     pub mod keys;
 }
 
-use common::random_bytes;
 use rapidhash::rng::RapidRng;
 use std::hint::black_box;
 use std::ops::Range;
@@ -105,8 +102,9 @@ fn main() {
     let mut words = std::env::args().skip(1);
     let rounds = words.next().and_then(|word| word.parse().ok()).expect("ROUNDS PART.. LENGTHS..");
     let (lengths, wanted): (Vec<String>, Vec<String>) = words.partition(|word| word.starts_with(char::is_numeric));
-    let bytes = random_bytes(&mut RapidRng::new(7), 1 << 17).leak();
-    let mut texts = black_box(all_texts(bytes));
+    let mut rng = RapidRng::new(7);
+    let bytes: Vec<u8> = (0..1 << 17).map(|_| (rng.next() % 256) as u8).collect();
+    let mut texts = black_box(all_texts(bytes.leak()));
     texts.retain(|texts| lengths.is_empty() || lengths.contains(&texts.lengths));
     let texts: &'static [Texts] = texts.leak();
     let parts: [(&str, fn(&'static [Texts]) -> [Vec<Row>; 2]); 4] = [
