@@ -161,14 +161,14 @@ test:
 	@prove --exec "" packages/tools/tests tests/examples
 
 # Each file of figures has a bench with its name. A bench that fails leaves the figures unchanged.
-bench: $(patsubst %,bench/%.tsv,rust c hand java tool sums packages size xxh3 quality growth)
+bench: $(patsubst %,bench/%.tsv,rust c hand java sums packages size xxh3 quality growth)
 	@bench/figures --write
 
 .PHONY: always
 bench/%.tsv: always
 	@mkdir -p build && bench/$(or $(words_of_$*),$*) >build/$*.tsv && mv build/$*.tsv $@
 words_of_hand = c hand
-words_of_sums = tool sums
+words_of_xxh3 = c wide
 
 # scripts/install reads the directories from variables, so that the shell interprets none of their characters.
 folders = PREFIX BINDIR LIBDIR INCLUDEDIR DATADIR DESTDIR

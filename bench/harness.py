@@ -101,15 +101,14 @@ def random_file(name, megabytes):
     return ROOM / name
 
 
-def parse_arguments(usage, known, turns, number=False):
-    """Returns the arguments of the command line, or none if it requests everything, and the number of turns. An
-    argument is a known word, or, if the bench takes one, a number."""
+def parse_arguments(usage, known, turns):
+    """Returns the known words of the command line, or none if it requests everything, and the number of turns."""
     parser = argparse.ArgumentParser(description=usage, formatter_class=argparse.RawDescriptionHelpFormatter)
     parser.add_argument("words", nargs="*", metavar="WORD", help=f"any of: {' '.join(known)}")
     parser.add_argument("--turns", type=int, default=turns, help="how many turns, of which the least counts")
     parsed = parser.parse_args()
     for word in parsed.words:
-        if word not in known and not (number and word.isdecimal()):
+        if word not in known:
             parser.error(f"{word} is no word of this bench")
     return parsed.words, parsed.turns
 
