@@ -4,7 +4,7 @@
 //     const hash = v3("hello");
 //
 // A hash is a BigInt below 2n ** 64n, the same on every machine. README.md describes every call.
-import { bytesOf, callOf, choose, kindOf, sizeOf, word } from "./arguments.mjs";
+import { bytesOf, choose, kindOf, sizeOf, word } from "./arguments.mjs";
 import { encodeKey } from "./key.mjs";
 import { checkModule, isLong, Library, messageOf, piece } from "./library.mjs";
 import { names, Stream } from "./stream.mjs";
@@ -64,13 +64,20 @@ export function hex(hash) {
   return word("hex: hash", hash).toString(16).padStart(16, "0");
 }
 
-/** Returns the two calls of a version with `count` words of secrets: for a BigInt and for hexadecimal digits. They hash
- * a message longer than a piece with a stream of `lanes` lanes, if the version has one. */
-function form(library, name, count, lanes) {
+/** The versions: the name of each call, its export, the number of its words of secrets and, if it has streams, that of
+ * their lanes. */
+const versions = {
+  v1: ["v1", 4], v2_0: ["v2_0", 8], v2_1: ["v2_1", 8], v2_2: ["v2_2", 8],
+  v3: ["v3", 8, 7], v3Micro: ["v3_micro", 8, 5], v3Nano: ["v3_nano", 8, 3], v3Protected: ["v3_protected", 8],
+};
+
+/** Returns the two calls of a version: for a BigInt and for hexadecimal digits. They hash a message longer than a piece
+ * with a stream, if the version has one. */
+function form(library, ofHash, [name, count, lanes]) {
   const { atBytes } = library;
   const { [name]: whole, [`${name}_low`]: low } = library.exports;
   checkModule(whole && low);
-  const [ofHash, ofDigits] = [callOf(name), `${callOf(name)}Hex`];
+  const ofDigits = `${ofHash}Hex`;
   const standard = count === 4 ? library.atDefaultV1 : library.atDefault;
   const general = (data, options, encoding) => {
     if (options === undefined && typeof data === "string" && 3 * data.length <= piece && !encoding)
@@ -108,41 +115,33 @@ function keys(library, v3) {
   };
 }
 
-/** Returns the class of the hashers with `lanes` lanes, over the library that a function returns. */
-function hashers(libraryNeeded, lanes) {
-  const name = names[lanes];
-  return { [name]: class extends Stream {
+/** Returns the classes of the hashers by their names, over the library that a function returns. */
+function classes(libraryNeeded) {
+  return Object.fromEntries(Object.entries(names).map(([lanes, name]) => [name, { [name]: class extends Stream {
     constructor(options) {
-      super(libraryNeeded(), lanes, options);
+      super(libraryNeeded(), Number(lanes), options);
     }
-  } }[name];
+  } }[name]]));
 }
 
 /** Returns the result of load: each call takes data and, optionally, { seed } or { secrets }. `room` is
  * the maximum length in bytes of a message for V1, V2, and protected V3, if the engine has the memory. */
 function calls(library) {
   const secrets = (name, count) => (number) => library.take(name, count, number);
-  const [v1, v1Hex] = form(library, "v1", 4);
-  const [v2_0, v2_0Hex] = form(library, "v2_0", 8);
-  const [v2_1, v2_1Hex] = form(library, "v2_1", 8);
-  const [v2_2, v2_2Hex] = form(library, "v2_2", 8);
-  const [v3, v3Hex] = form(library, "v3", 8, 7);
-  const [v3Micro, v3MicroHex] = form(library, "v3_micro", 8, 5);
-  const [v3Nano, v3NanoHex] = form(library, "v3_nano", 8, 3);
-  const [v3Protected, v3ProtectedHex] = form(library, "v3_protected", 8);
-  const key = keys(library, v3);
+  const hashes = Object.fromEntries(Object.entries(versions).flatMap(([name, version]) => {
+    const [hash, digits] = form(library, name, version);
+    return [[name, hash], [`${name}Hex`, digits]];
+  }));
+  const key = keys(library, hashes.v3);
   return {
-    v1, v2_0, v2_1, v2_2, v3, v3Micro, v3Nano, v3Protected,
-    v1Hex, v2_0Hex, v2_1Hex, v2_2Hex, v3Hex, v3MicroHex, v3NanoHex, v3ProtectedHex,
+    ...hashes,
     v3Key: (...fields) => key(fields),
     v3KeyWith: (options, ...fields) => key(fields, options),
     makeSecrets: secrets("make_secrets", 8),
     seedSecrets: secrets("seed_secrets", 8),
     makeSecretsV1: secrets("make_secrets_v1", 4),
     seedSecretsV1: secrets("seed_secrets_v1", 4),
-    V3: hashers(() => library, 7),
-    V3Micro: hashers(() => library, 5),
-    V3Nano: hashers(() => library, 3),
+    ...classes(() => library),
     room: library.room,
   };
 }
@@ -168,28 +167,11 @@ export async function ready() {
   if (own === undefined) await (loading ??= libraryOf(inside()).then(share).finally(() => (loading = undefined)));
 }
 
-export const v1 = hash("v1");
-export const v2_0 = hash("v2_0");
-export const v2_1 = hash("v2_1");
-export const v2_2 = hash("v2_2");
-export const v3 = hash("v3");
-export const v3Micro = hash("v3Micro");
-export const v3Nano = hash("v3Nano");
-export const v3Protected = hash("v3Protected");
-export const v1Hex = hash("v1Hex");
-export const v2_0Hex = hash("v2_0Hex");
-export const v2_1Hex = hash("v2_1Hex");
-export const v2_2Hex = hash("v2_2Hex");
-export const v3Hex = hash("v3Hex");
-export const v3MicroHex = hash("v3MicroHex");
-export const v3NanoHex = hash("v3NanoHex");
-export const v3ProtectedHex = hash("v3ProtectedHex");
-export const v3Key = call("v3Key");
-export const v3KeyWith = call("v3KeyWith");
-export const makeSecrets = call("makeSecrets");
-export const seedSecrets = call("seedSecrets");
-export const makeSecretsV1 = call("makeSecretsV1");
-export const seedSecretsV1 = call("seedSecretsV1");
-export const V3 = hashers(ourLibrary, 7);
-export const V3Micro = hashers(ourLibrary, 5);
-export const V3Nano = hashers(ourLibrary, 3);
+/** Returns the exported calls of these names. */
+const exported = (call, names) => Object.fromEntries(names.map((name) => [name, call(name)]));
+export const { v1, v2_0, v2_1, v2_2, v3, v3Micro, v3Nano, v3Protected } = exported(hash, Object.keys(versions));
+export const { v1Hex, v2_0Hex, v2_1Hex, v2_2Hex, v3Hex, v3MicroHex, v3NanoHex, v3ProtectedHex } =
+  exported(hash, Object.keys(versions).map((name) => `${name}Hex`));
+export const { v3Key, v3KeyWith, makeSecrets, seedSecrets, makeSecretsV1, seedSecretsV1 } = exported(call,
+  ["v3Key", "v3KeyWith", "makeSecrets", "seedSecrets", "makeSecretsV1", "seedSecretsV1"]);
+export const { V3, V3Micro, V3Nano } = classes(ourLibrary);

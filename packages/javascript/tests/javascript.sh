@@ -115,7 +115,7 @@ try install works_as_its_page_says "$top/packages/javascript/README.md"
 try files has_its_files
 try lay_out lay_out
 try page runs_the_page
-for name in known refused keys saved shards shared cases node; do
+for name in known refused keys saved shared cases node; do
   try "node_$name" runs_in_node "$name"
 done
 try changed_files refuses_changed_files

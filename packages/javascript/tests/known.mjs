@@ -208,7 +208,6 @@ test("hexadecimal digits", () => {
 test("a hash as digits, without a BigInt", () => {
   assert.equal(library.v3Hex("hello"), "2e2d7651b45f7946");
   assert.equal(library.v3Hex(""), "0338dc4be2cecdae");
-  assert.equal(versions.length, 8);
   const long = new Uint8Array(piece + 1).fill(7);
   for (const version of versions)
     for (const message of [data, "text", long])
@@ -256,7 +255,6 @@ test("many pieces, and empty ones", async () => {
 test("both starts, alone and side by side", async () => {
   const other = await load();
   assert.deepEqual(Object.keys(other), Object.keys(library));
-  assert.equal(Object.keys(library).length, 26);
   assert.equal(other.v3("hello"), 3327445792987248966n);
   const [left, right] = [new V3().update("hel"), new other.V3().update("hel")];
   assert.equal(left.update("lo").digest(), right.update("lo").digest());
