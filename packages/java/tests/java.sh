@@ -198,13 +198,6 @@ contains_the_licences() {
   (cd "$room" && jar -xf "$jar" META-INF) && has_the_licences "$room/META-INF"
 }
 
-# Checks that the classes have the number of public types and members that the package had at its release.
-has_its_names() {
-  jar -tf "$jar" | sed -n 's|^\(example/.*\)\.class$|\1|p' | xargs javap -cp "$jar" -public |
-    sed -E "/^((final|abstract) )*(class|enum)/,/^}/d" >"$room/names" &&
-    cat "$room/names" && [ "$(grep -c '\bpublic ' "$room/names")" -eq 74 ]
-}
-
 # Checks that all classes but those for later JDKs are for the oldest JDK that README.md names: JDK 11 reads major
 # version 55.
 is_for_the_jdk_of_the_page() {
@@ -237,7 +230,6 @@ prepare_by compile "$room/tests" "$jar:$junit" "$folder/src/test"
 try java_licences contains_the_licences
 try java_module runs_as_a_module
 try java_pom pom_is_current
-try java_names has_its_names
 try java_secrets tells_secrets_apart
 try java_version is_for_the_jdk_of_the_page
 try java_copies copies_whole_arrays
