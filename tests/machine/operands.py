@@ -1,11 +1,12 @@
-"""Has the file that is run and the operands of its instructions."""
+"""Has the file that is run, the operands of its instructions, and the conditions of its branches. An instruction that
+sets flags keeps its operation, operands, result and bits, and a condition asks for their bounds."""
 
 import re
 
 from capstone.x86 import X86_OP_IMM, X86_OP_REG
 
 from cases import shell
-from linear import MASK, Refusal, add, name
+from linear import MASK, Refusal, add, below, equal, known, less, name
 from terms import join, low_bits, split
 
 NAMES = ["rax eax ax al", "rcx ecx cx cl", "rdx edx dx dl", "rbx ebx bx bl", "rsp esp sp spl", "rbp ebp bp bpl",
@@ -13,6 +14,8 @@ NAMES = ["rax eax ax al", "rcx ecx cx cl", "rdx edx dx dl", "rbx ebx bx bl", "rs
 REGISTERS = {text: (index, bits) for index, row in enumerate(NAMES) for text, bits in zip(row.split(), (64, 32, 16, 8))}
 
 UNALIGNED = "movdqu", "movups"  # all other instructions need an address of 128 bits that is a multiple of 16
+# The condition that holds when another does not.
+OPPOSITES = {"ne": "e", "ae": "b", "a": "be", "ge": "l", "g": "le", "ns": "s"}
 
 
 class Elf:
@@ -101,3 +104,25 @@ def operand_of(machine, instruction, operand, after):
         elif register:
             terms.append((REGISTERS[text][0], scale))
     return Place(machine, start, terms, 8 * operand.size, instruction.mnemonic not in UNALIGNED)
+
+
+def holds(machine, condition):
+    """Returns whether a condition holds, which must be so for all values of the names, or for none."""
+    if condition in OPPOSITES:
+        return not holds(machine, OPPOSITES[condition])
+    if condition in ("be", "le"):
+        return holds(machine, "e") or holds(machine, condition[0])
+    if machine.flags is None:
+        raise Refusal(f"the condition {condition} of an instruction that sets no known flags")
+    operation, first, second, result, bits = machine.flags
+    if condition == "e":
+        return equal(first, second) if operation == "subtract" else equal(result)
+    if condition == "b" and operation != "add":
+        return operation == "subtract" and less(first, second)
+    if condition == "l" and operation == "subtract" and below(first, bits - 1) and below(second, bits - 1):
+        return less(first, second)
+    if not known(first, second, result):
+        raise Refusal(f"the condition {condition} of {result}")
+    differ = {"logic": 0, "subtract": (first ^ second) & (first ^ result), "add": ~(first ^ second) & (first ^ result)}
+    sign, overflow = result >> bits - 1 & 1, differ[operation] >> bits - 1 & 1
+    return bool({"b": result < first, "s": sign, "l": sign ^ overflow}[condition])

@@ -2,10 +2,9 @@
 
 import capstone
 
-from flags import OPPOSITES, holds
 from linear import MASK, Refusal, add, is_kind, known, make, name, parts, subtract
 from memory import Memory
-from operands import NAMES, Number, operand_of
+from operands import NAMES, OPPOSITES, Number, holds, operand_of
 from terms import bit_and, bit_or, join, low_bits, multiply, shift_left, shift_right, sign, split, xor
 
 RAX, RDX, RSP, RBP, RSI, RDI, SAVED = 0, 2, 4, 5, 6, 7, (3, 5, 12, 13, 14, 15)
