@@ -1,6 +1,6 @@
 #!/usr/bin/env bash
 # reads: .ci tests
-# Tests what judges the cases: tests/cases.sh, tests/cases.py, tests/release/must_fail.py, and .ci/run. Each must report
+# Tests what judges the cases: tests/cases.sh, tests/cases.py, .ci/run, .ci/setup and tests/formulas. Each must report
 # every failure.
 . "$(dirname "$0")/cases.sh"
 
@@ -14,41 +14,12 @@ try() {
 # LINES SCRIPT
 ends() {
   local status
-  mkdir -p "$room/tests/examples" "$room/.ci" && cp "$top"/tests/{cases.{sh,py},tools.sh} "$room/tests" &&
-    cp "$top/.ci/packages" "$room/.ci" &&
-    cp "$top/tests/examples/room.sh" "$room/tests/examples" &&
-    printf '%s\n' "$3" >"$room/tests/script" && "${4:-bash}" "$room/tests/script" >"$room/said" 2>&1
+  mkdir -p "$room/tests" "$room/.ci" && cp "$top"/tests/{cases.{sh,py},tools.sh} "$room/tests" &&
+    cp "$top/.ci/packages" "$room/.ci" && printf '%s\n' "$3" >"$room/tests/script" &&
+    "${4:-bash}" "$room/tests/script" >"$room/said" 2>&1
   status=$?
   [ "$status" = "$1" ] && [ "$(grep -v '^# ' "$room/said")" = "$2" ] &&
     { [ "$1" -eq 0 ] || grep -q '^# ' "$room/said"; }
-}
-
-# Runs tests/release/must_fail.py over an edit of which the checker says this, and perhaps over its twin, and compares
-# its first line: LINE SAID [SAID-OF-THE-TWIN]
-edit_ends() {
-  rm -rf "$room/edits" && mkdir -p "$room"/edits/{crates/one/{must-fail,src},tests/release,bin} && cd "$room/edits" &&
-    touch crates.txt HANDLES && cp "$top/tests/cases.py" tests &&
-    cp "$top"/tests/release/{must_fail,edits}.py tests/release && echo '{ 1 }' >crates/one/src/lib.rt &&
-    printf '%s\n' 'refused: f, goal' 'file: src/lib.rt' 'old: { 1 }' 'new: { 2 }' >crates/one/must-fail/a.edit &&
-    { [ -z "${3-}" ] || sed -i '1a # twin: { 3 }' crates/one/must-fail/a.edit; } &&
-    printf '%s\n' '#!/bin/sh' 'grep -q "{ 2 }" src/lib.rt && echo "fn one::f: $SAID"' \
-      'grep -q "{ 3 }" src/lib.rt && echo "fn one::f: $TWIN"' >bin/rt && chmod +x bin/rt &&
-    SAID=$2 TWIN=${3-} PATH=$PWD/bin:$PATH python3 tests/release/must_fail.py >../said
-  [ "$?:$(head -n 1 "$room/said")" = "$(($(grep -c ^not <<<"$1"))):$1 - one/a" ]
-}
-
-# Runs tests/release/failing_tests.py over an edit, with which a test has this result, and without it that one. So many
-# of its cases must fail: COUNT RESULT RESULT-WITHOUT
-test_ends() {
-  rm -rf "$room/edits" &&
-    mkdir -p "$room"/edits/{crates/{one/{must-fail,src},two},scripts,packages/rust,tests/release,bin} &&
-    cd "$room/edits" && touch crates.txt HANDLES && cp "$top/tests/cases.py" tests &&
-    echo '{ 1 }' >crates/one/src/lib.rt && cp "$top"/tests/release/{edits,failing_tests}.py tests/release &&
-    printf '%s\n' 'refused: f, goal' 'file: src/lib.rt' 'old: { 1 }' 'new: { 2 }' >crates/one/must-fail/a.edit &&
-    printf 'edit\tplace\ttest\none/a\ttwo\tt\n' >tests/release/failing_tests.tsv &&
-    printf '#!/bin/sh\ngrep -q "{ 2 }" ../one/src/lib.rt && echo test t ... %s || echo test t ... %s\n' "$2" "$3" \
-      >bin/rt && chmod +x bin/rt && PATH=$PWD/bin:$PATH python3 tests/release/failing_tests.py >../said
-  [ "$?:$(grep -c '^not ok' "$room/said")" = "$(($1 > 0)):$1" ] && grep -qx '1\.\.2' "$room/said"
 }
 
 # Runs the gate, with the word in `mode`, in a repository in which this is one of two scripts, and another file perhaps
@@ -90,49 +61,8 @@ try a_skipped_rest ends 0 $'ok - a\nok - all other cases # SKIP no rt (*rattle-k
 try a_skipped_script_in_python ends 0 '1..0 # SKIP no rt (*rattle-kit)' \
   'import os; from cases import *; os.environ["PATH"] = "/usr/bin:/bin"; needs("sh", "/usr/b*n", "rt"); finish()' \
   python3
-for bad in 'runs bad 0 "" "" echo more' 'runs bad 0 "" "" sh -c "exit 3"' 'runs bad 0 "" "" sh -c "echo more >&2"' \
-  'prepare_by false' 'try bad failing read:error=EIO a wc -w a' 'try bad reads_in 1 a wc -w a' \
-  'try bad reads_in 1 a true' "try bad grows_by_a_factor perl -e '\$a = 1 x 1e6 x \$_ for 1..99'"; do
-  [[ $bad != try* ]] || can_trace || continue
-  name=bad && [[ $bad != prepare* ]] || name=prepare
-  try "a_failure_of $bad" ends 1 "not ok - $name"$'\n1..1' "$start; $bad; finish"
-done
-# The helpers of several scripts must refuse a folder without one licence, commands on a page that print another hash or
-# call the toolchain, a page without commands, and a build by CMake with a test less.
-page='printf "\140\140\140sh\n%s\n\140\140\140\n" "$commands" >page'
-hello=3327445792987248966
-for bad in 'touch "$top"/{LICENSE-{MIT,APACHE},NOTICE} LICENSE-{MIT,APACHE}; try bad has_the_licences .' \
-  'touch "$top"/{LICENSE-{MIT,APACHE},NOTICE} LICENSE-MIT NOTICE; try bad has_the_licences .' \
-  "commands='echo 1 # YERVOUND'; $page; try bad works_as_its_page_says \$PWD/page" \
-  "commands='rt; echo $hello # YERVOUND'; $page; try bad works_as_its_page_says \$PWD/page" \
-  "commands='echo $hello'; $page; try bad works_as_its_page_says \$PWD/page" \
-  'cmake() { mkdir -p "$room/cmake" && echo "rapidhash_c_DIR:PATH=a/" >"$room/cmake/CMakeCache.txt"; }
-  ctest() { echo "100% tests passed, 0 tests failed out of 5"; }; try bad builds_by_cmake a'; do
-  try "a_failure_of ${bad:0:60}" ends 1 $'not ok - bad\n1..1' "$start; $bad; finish"
-done
-try a_page_that_works ends 0 $'ok - good\n1..1' \
-  "$start; commands='echo $hello # YERVOUND'; $page; try good works_as_its_page_says \$PWD/page; finish"
-of_program='BUILT=$0; . "$(dirname "$0")/examples/room.sh"'
-for bad in 'answers bad a "" echo b' 'answers bad "" "" false' 'answers bad "" "" sh -c "echo more >&2"' \
-  'fault bad 1 a sh -c "echo script: a >&2"' 'fault bad 1 a sh -c "echo script: b >&2; exit 1"' \
-  'fault bad 1 a sh -c "echo more; echo script: a >&2; exit 1"'; do
-  try "a_failure_of $bad" ends 1 $'not ok - bad\n1..1' "$of_program; $bad; finish"
-done
-long='from cases import *; compare("bad", [1] * 100 + [2], [1] * 100 + [3]); compare("a", shell("false; true")[0], 1)'
-try long_values_that_differ ends 1 $'not ok - bad\nok - a\n1..2' "$long; finish()" python3
-try stale_files env -C "$top" python3 -Bc 'import sys; sys.argv = ["", "--check"]; sys.path.insert(0, "scripts")
-from made_files import TOP, run
-name, text = "LICENSE-APACHE", (TOP / "LICENSE-APACHE").read_text()
-changed = (name, text), (name, text[:-9]), (name, ""), ("none", text)
-assert [run("", "", {it: new}) for it, new in changed] == [0, 1, 1, 1]'
-for said in 'ok:not proved: `goal`' 'not ok:not proved: `other`' 'not ok:proved: `goal`'; do
-  try "edit_of_which_the_checker_says ${said#*:}" edit_ends "${said%%:*}" "${said#*:}"
-done
-try an_edit_with_a_twin edit_ends ok 'not proved: `goal`' proved
-try an_edit_whose_twin_is_refused edit_ends 'not ok' 'not proved: `goal`' 'not proved: `goal`'
-try an_edit_with_which_a_test_fails test_ends 0 FAILED ok
-try an_edit_that_no_test_sees test_ends 1 ok ok
-try a_test_that_fails_without_the_edit test_ends 1 FAILED FAILED
+try a_failing_case_in_python ends 1 $'not ok - bad\nok - a\n1..2' \
+  'from cases import *; compare("bad", 1, 2); compare("a", shell("false; true")[0], 1); finish()' python3
 two_cases='printf "ok - a\nok - b\n1..2\n"'
 try a_gate gate_ends '6 passed, 0 failed' "$two_cases"
 try the_page_of_a_gate grep -qxF '| result | 6 passed, 0 failed |' "$room/gate/build/gate.md"
