@@ -92,8 +92,8 @@ struct field<Integer, typename std::enable_if<std::is_integral<Integer>::value |
 template <class First, class Second> struct field<std::pair<First, Second>> {
     static void add(::rapidhash_stream *state, const std::pair<First, Second> &value) noexcept
     {
-        add_field(state, value.first);
-        add_field(state, value.second);
+        rapidhash::add_field(state, value.first);
+        rapidhash::add_field(state, value.second);
     }
 };
 
@@ -105,7 +105,7 @@ template <class... Values> struct field<std::tuple<Values...>> {
     template <std::size_t At>
     static void add(::rapidhash_stream *state, const std::tuple<Values...> &value, from<At>) noexcept
     {
-        add_field(state, std::get<At>(value));
+        rapidhash::add_field(state, std::get<At>(value));
         add(state, value, from<At + 1>());
     }
     static void add(::rapidhash_stream *state, const std::tuple<Values...> &value) noexcept
@@ -119,7 +119,7 @@ template <class List> void add_list(::rapidhash_stream *state, const List &items
 {
     ::rapidhash_key_integer(state, static_cast<std::int64_t>(items.size()));
     for (auto &&item : items)
-        add_field<typename std::remove_cv<typename List::value_type>::type>(state, item);
+        rapidhash::add_field<typename std::remove_cv<typename List::value_type>::type>(state, item);
 }
 
 /* Selects a list whose memory is not bytes. */
@@ -130,13 +130,16 @@ template <class Item, class Allocator>
 struct field<std::vector<Item, Allocator>, if_list<std::vector<Item, Allocator>>> {
     static void add(::rapidhash_stream *state, const std::vector<Item, Allocator> &value) noexcept
     {
-        add_list(state, value);
+        rapidhash::add_list(state, value);
     }
 };
 
 template <class Item, std::size_t Size>
 struct field<std::array<Item, Size>, if_list<std::array<Item, Size>>> {
-    static void add(::rapidhash_stream *state, const std::array<Item, Size> &value) noexcept { add_list(state, value); }
+    static void add(::rapidhash_stream *state, const std::array<Item, Size> &value) noexcept
+    {
+        rapidhash::add_list(state, value);
+    }
 };
 
 #if __cplusplus >= 202002L
@@ -144,7 +147,7 @@ template <class Item, std::size_t Size>
 struct field<std::span<Item, Size>, if_list<std::span<Item, Size>>> {
     static void add(::rapidhash_stream *state, const std::span<Item, Size> &value) noexcept
     {
-        add_list(state, value);
+        rapidhash::add_list(state, value);
     }
 };
 #endif
@@ -197,7 +200,7 @@ template <class Value> struct field<std::optional<Value>> {
                   "an optional field is itself no optional, pair, tuple or nullptr");
     static void add(::rapidhash_stream *state, const std::optional<Value> &value) noexcept
     {
-        value ? add_field(state, *value) : add_field(state, nullptr);
+        value ? rapidhash::add_field(state, *value) : rapidhash::add_field(state, nullptr);
     }
 };
 
@@ -208,11 +211,11 @@ template <> struct field<std::filesystem::path> {
         ::rapidhash_key_integer(state, std::distance(value.begin(), value.end()));
         for (const std::filesystem::path &element : value)
             if (element.has_root_directory())
-                add_field(state, "/");
+                rapidhash::add_field(state, "/");
             else if constexpr (sizeof(std::filesystem::path::value_type) == 1)
-                add_field(state, element.native());
+                rapidhash::add_field(state, element.native());
             else
-                add_field(state, element.u8string());
+                rapidhash::add_field(state, element.u8string());
     }
 };
 #endif
@@ -224,7 +227,7 @@ std::uint64_t key(const Secrets &own, const Fields &...fields) noexcept
 {
     ::rapidhash_stream state;
     ::rapidhash_v3_start(&state, &own);
-    const int in_order[] = {0, (add_field(&state, fields), 0)...};
+    const int in_order[] = {0, (rapidhash::add_field(&state, fields), 0)...};
     static_cast<void>(in_order);
     return ::rapidhash_stream_finish(&state);
 }
@@ -232,13 +235,13 @@ std::uint64_t key(const Secrets &own, const Fields &...fields) noexcept
 template <class... Fields>
 std::uint64_t key(seed start, const Fields &...fields) noexcept
 {
-    return key(seed_secrets(start), fields...);
+    return rapidhash::key(seed_secrets(start), fields...);
 }
 
 template <class... Fields>
 std::uint64_t key(const Fields &...fields) noexcept
 {
-    return key(seed(0), fields...);
+    return rapidhash::key(seed(0), fields...);
 }
 
 /* Hashes the keys of an unordered container with the default seed and secrets: a text or bytes by hash, and every other
@@ -250,10 +253,10 @@ public:
 
     RAPIDHASH_CONSTEXPR std::size_t operator()(bytes value) const noexcept
     {
-        return static_cast<std::size_t>(hash(value));
+        return static_cast<std::size_t>(rapidhash::hash(value));
     }
     template <class Value, if_no_bytes<Value> = 0>
-    std::size_t operator()(const Value &value) const noexcept { return static_cast<std::size_t>(key(value)); }
+    std::size_t operator()(const Value &value) const noexcept { return std::size_t(rapidhash::key(value)); }
 };
 
 /* The same with a seed word, or with a seed and secrets. If others choose the keys, make them from a random number:
@@ -267,9 +270,9 @@ public:
     template <class Secrets, if_secrets<Secrets> = 0>
     explicit seeded_hasher(const Secrets &own) noexcept : secrets_(own) {}
 
-    std::size_t operator()(bytes value) const noexcept { return static_cast<std::size_t>(hash(value, secrets_)); }
+    std::size_t operator()(bytes value) const noexcept { return std::size_t(rapidhash::hash(value, secrets_)); }
     template <class Value, if_no_bytes<Value> = 0>
-    std::size_t operator()(const Value &value) const noexcept { return static_cast<std::size_t>(key(secrets_, value)); }
+    std::size_t operator()(const Value &value) const noexcept { return std::size_t(rapidhash::key(secrets_, value)); }
 
 private:
     secrets secrets_;

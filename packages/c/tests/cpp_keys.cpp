@@ -24,6 +24,12 @@ struct point {
     int x, y, z;
 };
 
+/* Functions of a program that the header must not call instead of its own. */
+template <class Any> std::uint64_t key(const Any &) { return 0; }
+template <class Any> std::uint64_t key(const rapidhash::secrets &, const Any &) { return 0; }
+template <class Any> void add_field(::rapidhash_stream *, const Any &) {}
+template <class Any> void add_list(::rapidhash_stream *, const std::vector<Any> &) {}
+
 /* Compares a hash by the default seed, and by seed word 7. Both are cut to the size of a word of the machine. */
 template <class Value>
 void compare_hashers(const std::string &name, const Value &value, std::uint64_t known, std::uint64_t seeded)
@@ -103,6 +109,8 @@ static void check_lists()
     compare_hashers("a vector of vectors", lists, 16365743134400273687U, 17557123899752749624U);
     compare_hashers("a vector of pairs", pairs, 4633099409459385466U, 10745796545195027368U);
     compare_hashers("a vector of 300 integers", many, 3262792477141326892U, 58619643111436865U);
+    compare_hashers("a vector of ports", std::vector<port>{port::of_tests}, rapidhash::key(1, 4711),
+                    rapidhash::key(rapidhash::seed(7), 1, 4711));
     compare("an array of constant pairs", rapidhash::key(constant), rapidhash::key(1, 2, 3));
     compare("a list in a key", rapidhash::key(std::vector<int>{1, 2}, std::vector<int>{3}),
             rapidhash::key(2, 1, 2, 1, 3));
