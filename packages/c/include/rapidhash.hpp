@@ -119,10 +119,6 @@ private:
     std::size_t size_;
 };
 
-/* Selects a function for values that are neither a text nor bytes. */
-template <class Value>
-using if_no_bytes = typename std::enable_if<!std::is_convertible<const Value &, bytes>::value, int>::type;
-
 /* Selects a function for secrets, which a list in braces does not become. */
 template <class Secrets>
 using if_secrets = typename std::enable_if<std::is_base_of<secrets, Secrets>::value, int>::type;

@@ -244,9 +244,16 @@ std::uint64_t key(const Fields &...fields) noexcept
     return rapidhash::key(seed(0), fields...);
 }
 
+/* Finds values that are neither a text nor bytes, or whose field a program has specialized. */
+template <class Value, bool = std::is_convertible<const Value &, bytes>::value, class = void>
+struct is_key : std::true_type {};
+template <class Value>
+struct is_key<Value, true, decltype(static_cast<void>(field<Value>::is_refused))> : std::false_type {};
+template <class Value> using if_key = typename std::enable_if<is_key<Value>::value, int>::type;
+
 /* Hashes the keys of an unordered container with the default seed and secrets: a text or bytes by hash, and every other
- * value by key. It has no state, so that a table is as small as with std::hash. Every bit of a hash depends on each bit
- * of the key, as is_avalanching tells other tables. */
+ * value, also one with a field of the program, by key. It has no state, so that a table is as small as with std::hash.
+ * Every bit of a hash depends on each bit of the key, as is_avalanching tells other tables. */
 class hasher {
 public:
     using is_avalanching = void;
@@ -255,7 +262,7 @@ public:
     {
         return static_cast<std::size_t>(rapidhash::hash(value));
     }
-    template <class Value, if_no_bytes<Value> = 0>
+    template <class Value, if_key<Value> = 0>
     std::size_t operator()(const Value &value) const noexcept { return std::size_t(rapidhash::key(value)); }
 };
 
@@ -271,7 +278,7 @@ public:
     explicit seeded_hasher(const Secrets &own) noexcept : secrets_(own) {}
 
     std::size_t operator()(bytes value) const noexcept { return std::size_t(rapidhash::hash(value, secrets_)); }
-    template <class Value, if_no_bytes<Value> = 0>
+    template <class Value, if_key<Value> = 0>
     std::size_t operator()(const Value &value) const noexcept { return std::size_t(rapidhash::key(secrets_, value)); }
 
 private:

@@ -24,6 +24,9 @@ struct point {
     int x, y, z;
 };
 
+/* A text that a program compares in its own way, here by its length. */
+struct any_text : std::string { using std::string::string; };
+
 /* Functions of a program that the header must not call instead of its own. */
 template <class Any> std::uint64_t key(const Any &) { return 0; }
 template <class Any> std::uint64_t key(const rapidhash::secrets &, const Any &) { return 0; }
@@ -49,6 +52,9 @@ template <> struct field<point> {
         for (int coordinate : {value.x, value.y, value.z}) add_field(state, coordinate);
     }
 };
+template <> struct field<any_text> {
+    static void add(::rapidhash_stream *state, const any_text &value) noexcept { add_field(state, value.size()); }
+};
 } /* namespace rapidhash */
 
 static void check_hashers()
@@ -72,6 +78,7 @@ static void check_hashers()
                     rapidhash::key(rapidhash::seed(7), "user", "user"));
     compare_hashers("an empty tuple", std::tuple<>(), 232177599295442350U, rapidhash::key(rapidhash::seed(7)));
     compare_hashers("a pair in a pair", make_pair(1, make_pair(2, 3)), 6441087399367438507U, 8866160986004792078U);
+    compare_hashers("a text of a program", any_text(4711, 'a'), 17387702299298608986U, 3930916115193605498U);
     compare_hashers("a type of a program", point{1, 2, 3}, 6441087399367438507U, 8866160986004792078U);
 #if __cplusplus >= 201703L
     compare_hashers("an optional", std::optional<int>(4711), 17387702299298608986U, 3930916115193605498U);
