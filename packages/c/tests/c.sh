@@ -379,12 +379,14 @@ SAID
 }
 
 # Checks that a packager's flags reach the compiler and the linker, that no older header is in the way of ours, and that
-# the flags of a program that links the library leave no function out.
+# the flags of a program that links the library leave no function out. CMake finds the library by the size of a pointer.
 takes_the_flags() {
   mkdir "$room/old" && sed 's/VERSION_MINOR 0/VERSION_MINOR 77/' "$header" >"$room/old/rapidhash_c.h" &&
     make_by_cc_alone clean && make_by_cc_alone library CFLAGS='-m32 -O2' CPPFLAGS="-I$room/old -DRAPIDHASH_LINK" &&
     readelf -h "$room/bare/build/header/librapidhash_c.so.1" | grep ELF32 &&
-    objdump -d --disassemble=rapidhash_c_version "$room/bare/build/header/rapidhash_c.o" | grep 'mov *\$0x64,%eax'
+    objdump -d --disassemble=rapidhash_c_version "$room/bare/build/header/rapidhash_c.o" | grep 'mov *\$0x64,%eax' &&
+    make_by_cc_alone install PREFIX="$room/32" &&
+    finds_by_cmake "$room/32" 'find_package(rapidhash_c 1.0 CONFIG REQUIRED)' rapidhash_c::header
 }
 
 # Checks that make builds a product again if it was killed, with the shell that it may have started, when the compiler
@@ -628,7 +630,7 @@ try_with preconditions_of_the_manual mandoc manual_has_the_preconditions
 
 # The library that cc builds from the header, which replaces the proved one on other machines.
 try header_build builds_from_the_header
-try_with header_flags "gcc $multilib/libgcc.a" takes_the_flags
+try_with header_flags "gcc cmake c++ $multilib/libgcc.a" takes_the_flags
 try header_killed survives_a_kill
 try_with header_first_program c++ first_program_runs
 test_library header_ cc "$room"/usr/lib/librapidhash_c.{a,so.1}
