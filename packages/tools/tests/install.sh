@@ -207,10 +207,13 @@ serves_headers_elsewhere() {
     grep -F '"/opt/headers"' "$lib/cmake/rapidhash_c/rapidhash_c-config.cmake"
 }
 
-# Checks that the library is found if a directory of PREFIX is a link to another depth.
+# Checks that the library is found if a directory of PREFIX, or one beside the library, is a link to another depth.
 serves_a_linked_folder() {
   mkdir -p "$room/linked/a/b/lib" && ln -s a/b/lib "$room/linked/lib" && installs PREFIX="$room/linked" &&
-    builds_by_pkg_config "$room/linked/lib"
+    builds_by_pkg_config "$room/linked/lib" && mkdir -p "$room/aside"/{lib,a/pkgconfig,a/cmake} &&
+    ln -s ../a/{pkgconfig,cmake} "$room/aside/lib" && installs PREFIX="$room/aside" &&
+    grep -F "\"$room/aside/lib\"" "$room/aside/a/cmake/rapidhash_c/rapidhash_c-config.cmake" &&
+    builds_by_pkg_config "$room/aside/lib"
 }
 
 # Checks that nothing is copied if a single product is missing, and that a line names the command to run first.
