@@ -78,6 +78,13 @@ template <> struct field<std::nullptr_t> {
     static void add(::rapidhash_stream *state, std::nullptr_t) noexcept { ::rapidhash_key_nothing(state); }
 };
 
+/* The type of an integer or an enumerator. An enumerator of char has a sign on each machine, although char has not. */
+template <class Integer, bool = std::is_enum<Integer>::value> struct integer_of { using type = Integer; };
+template <class Integer> struct integer_of<Integer, true> {
+    using base = typename std::underlying_type<Integer>::type;
+    using type = typename std::conditional<std::is_same<base, char>::value, signed char, base>::type;
+};
+
 template <class Integer>
 struct field<Integer, typename std::enable_if<std::is_integral<Integer>::value || std::is_enum<Integer>::value>::type> {
     static_assert(sizeof(Integer) <= 8, "an integer of a key has at most 64 bits");
@@ -85,7 +92,8 @@ struct field<Integer, typename std::enable_if<std::is_integral<Integer>::value |
                   "a char has a sign on some machines alone: cast it to an unsigned char, or pass a text");
     static void add(::rapidhash_stream *state, Integer value) noexcept
     {
-        ::rapidhash_key_integer(state, static_cast<std::int64_t>(value));
+        using type = typename integer_of<Integer>::type;
+        ::rapidhash_key_integer(state, static_cast<std::int64_t>(static_cast<type>(value)));
     }
 };
 

@@ -578,7 +578,7 @@ try_with all_warnings_of_clang 'clang clang++' has_no_warning
 try_with casts_of_c g++ includes_the_headers g++ -Wall -Wextra -Wold-style-cast -Wuseless-cast
 try_with cppcheck cppcheck has_no_fault_of_cppcheck
 try_with names_of_parameters cppcheck names_parameters_alike
-try_with cpp_header_32_bits "g++ $multilib/libstdc++.a" calls_from_cpp g++ c++11 -m32 \
+try_with cpp_header_32_bits "g++ $multilib/libstdc++.a" calls_from_cpp g++ c++11 -m32 -funsigned-char \
   -idirafter /usr/include/x86_64-linux-gnu
 
 # Each path of the loads and the product, on machines of 64 and 32 bits and of both byte orders. A test stands in for
