@@ -60,27 +60,6 @@ static int open_bytes(PyObject *field, struct message *message)
            buffer->ndim > 0 && !lends_masked(buffer);
 }
 
-/* kept(field): the field of an iterator, which may fill one buffer again, so its bytes are copied. A later call sets
- * the error of a field that has none. */
-PyObject *kept(PyObject *module, PyObject *field)
-{
-    struct message message;
-    int are_bytes;
-    (void)module;
-    if (PyUnicode_Check(field) || PyBytes_CheckExact(field) || PyIndex_Check(field) || !PyObject_CheckBuffer(field))
-        return Py_INCREF(field), field;
-    are_bytes = open_bytes(field, &message);
-    if (are_bytes > 0)
-        field = PyBytes_FromStringAndSize(message.bytes, (Py_ssize_t)message.len);
-    else
-        Py_INCREF(field);
-    if (are_bytes < 0)
-        PyErr_Clear();
-    else
-        release_message(&message);
-    return field;
-}
-
 /* Appends the bytes of a field. Returns 0, or -1 with an error set. */
 static int add_bytes(PyObject *field, Py_ssize_t at, Py_ssize_t row, struct key *key)
 {
@@ -122,6 +101,43 @@ void release_key(struct key *key)
 {
     Py_XDECREF((PyObject *)key->integers);
     key->integers = NULL;
+}
+
+/* Returns the integer of the field of an iterator. Returns the field if it has none, or NULL with an error set. */
+static PyObject *kept_integer(PyObject *field)
+{
+    PyObject *const index = PyNumber_Index(field);
+    if (index != NULL || !PyErr_ExceptionMatches(PyExc_Exception))
+        return index;
+    PyErr_Clear();
+    return Py_INCREF(field), field;
+}
+
+/* kept(field): the field of an iterator, which may fill one buffer again, so its bytes are copied, and its integer is
+ * read. A later call sets the error of a field that has none. */
+PyObject *kept(PyObject *module, PyObject *field)
+{
+    struct message message;
+    struct key key;
+    int are_bytes;
+    (void)module;
+    key.integers = NULL;
+    if (PyUnicode_Check(field) || PyBytes_CheckExact(field) || PyLong_CheckExact(field))
+        return Py_INCREF(field), field;
+    if (is_integer(field, &key)) {
+        release_key(&key);
+        return kept_integer(field);
+    }
+    are_bytes = open_bytes(field, &message);
+    if (are_bytes > 0)
+        field = PyBytes_FromStringAndSize(message.bytes, (Py_ssize_t)message.len);
+    else
+        Py_INCREF(field);
+    if (are_bytes < 0)
+        PyErr_Clear();
+    else
+        release_message(&message);
+    return field;
 }
 
 int add_field(PyObject *field, Py_ssize_t at, Py_ssize_t row, struct key *key)

@@ -238,6 +238,17 @@ class Iterators(unittest.TestCase):
             keys = rapidhash.each_key(pieces(view), memoryview(WHOLE))
             self.assertEqual(keys, rapidhash.each_key([bytes([byte]) for byte in WHOLE], memoryview(WHOLE)))
 
+    def test_one_integer_that_changes(self):
+        class Count:
+            def __index__(self):
+                return self.number
+
+        def numbers(count):
+            for count.number in range(9):
+                yield count
+
+        self.assertEqual(rapidhash.each_key(numbers(Count())), rapidhash.each_key(range(9)))
+
     def test_errors(self):
         def items(*values):
             yield from values
