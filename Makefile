@@ -161,7 +161,7 @@ test:
 	@prove --exec "" packages/tools/tests tests/examples
 
 # Each file of figures has a bench with its name. A bench that fails leaves the figures unchanged.
-bench: $(patsubst %,bench/%.tsv,rust c hand java sums packages size xxh3 quality growth)
+bench: $(patsubst %,bench/%.tsv,rust counts c c_counts hand java sums packages size xxh3 quality growth)
 	@bench/figures --write
 
 .PHONY: always
@@ -169,6 +169,8 @@ bench/%.tsv: always
 	@mkdir -p build && bench/$(or $(words_of_$*),$*) >build/$*.tsv && mv build/$*.tsv $@
 words_of_hand = c hand
 words_of_xxh3 = c wide
+words_of_counts = rust counts
+words_of_c_counts = c counts
 
 # scripts/install reads the directories from variables, so that the shell interprets none of their characters.
 folders = PREFIX BINDIR LIBDIR INCLUDEDIR DATADIR DESTDIR

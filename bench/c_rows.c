@@ -1,7 +1,8 @@
 /* Times the hashes of the C header, with XXH3 those of XXH3, or with HAND those of hand.h, on the messages of
  * bench/rust.rs and in the same loops. It prints a row per line: the form, the row and the nanoseconds, the minimum of
  * its repeats. With the word hand, it times the forms that the header and a rival have, and streams of 1,024 bytes.
- * With a second word, it times the row of these lengths alone. */
+ * With a second word, it times the row of these lengths alone. With a loop and a form as third and fourth word, it makes
+ * that row's calls once. */
 #define _POSIX_C_SOURCE 200809L
 #include <stdbool.h>
 #include <stdint.h>
@@ -17,18 +18,16 @@
 #include <rapidhash_c.h>
 #endif
 
-enum { BYTES = 1 << 17, MOST = 20000, EQUAL = 21, MIXED = 5, REPEATS = 40, LOOPS = 5, EACH = 500, SUM = 1 << 18 };
+enum { BYTES = 1 << 17, MOST = 20000, EQUAL = 21, MIXED = 5, REPEATS = 40, LOOPS = 3, EACH = 500, SUM = 1 << 18 };
 
 /* The equal lengths of the messages of a row, and the ranges of its mixed lengths. */
 static const size_t equal[EQUAL] = {0, 3, 4, 8, 12, 16, 17, 24, 32, 48, 64, 100, 112, 113, 160, 256, 512, 1024, 4096,
                                     16384, 65536};
 static const size_t mixed[MIXED][2] = {{1, 16}, {8, 16}, {1, 32}, {1, 64}, {1, 300}};
-static const char *const loops[LOOPS] = {"sum", "store", "join", "chain", "call"};
+static const char *const loops[LOOPS] = {"sum", "chain", "call"};
 static uint8_t bytes[BYTES];
 static struct { size_t start, length; } parts[MOST];
 static struct { const uint8_t *bytes; size_t length; } texts[MOST];
-/* Not static, so that the compiler must store the hashes. */
-uint64_t stored[MOST];
 static volatile uint64_t sink;
 
 /* The forms: X(name, title, the hash of `length` bytes at `text`) for each. */
@@ -102,7 +101,7 @@ static uint64_t in_saved_halves(const uint8_t *text, size_t length)
     STREAMS(X)
 #endif
 
-/* The five loops of a form. The compiler may inline the hash into all but the last. */
+/* The three loops of a form. The compiler may inline the hash into all but the last. */
 #define LOOP(name, loop, step) \
     static uint64_t name##_##loop(size_t count) \
     { \
@@ -115,13 +114,11 @@ static uint64_t in_saved_halves(const uint8_t *text, size_t length)
     static uint64_t name##_hash(const uint8_t *text, size_t length) { return hash; } \
     __attribute__((noinline)) static uint64_t name##_called(const uint8_t *text, size_t length) { return hash; } \
     LOOP(name, sum, last += name##_hash(texts[i].bytes, texts[i].length)) \
-    LOOP(name, store, last = stored[i] = name##_hash(texts[i].bytes, texts[i].length)) \
-    LOOP(name, join, last = (last ^ name##_hash(bytes + parts[i].start, parts[i].length)) * 3) \
     LOOP(name, chain, last = name##_hash(bytes + last % 64, parts[i].length)) \
     LOOP(name, call, last += name##_called(texts[i].bytes, texts[i].length))
 FORMS(FORM)
 
-#define LISTED(name, title, hash) {title, {name##_sum, name##_store, name##_join, name##_chain, name##_call}},
+#define LISTED(name, title, hash) {title, {name##_sum, name##_chain, name##_call}},
 static const struct form {
     const char *title;
     uint64_t (*work[LOOPS])(size_t count);
@@ -157,6 +154,12 @@ static double least(uint64_t (*work)(size_t count), size_t count)
     return (double)least / (double)count;
 }
 
+/* Makes calls for callgrind. */
+__attribute__((noinline)) void counted(uint64_t (*work)(size_t count), size_t count) { sink = work(count); }
+
+/* The loop whose calls are made once, or NULL. */
+static const char *counted_loop;
+
 /* Prints the rows of a form: its loops over the messages of each range, from a first to a last length, or only of the
  * range with a name. Ranges of mixed lengths are for forms from 0 bytes on. */
 static void rows(const struct form *form, size_t first, size_t last, const char *only)
@@ -178,25 +181,32 @@ static void rows(const struct form *form, size_t first, size_t last, const char 
             texts[at].length = parts[at].length;
         }
         for (int loop = 0; loop < LOOPS && (!only || strcmp(only, lengths) == 0); loop++)
-            printf("%s\t%s %s\t%.3f\n", form->title, lengths, loops[loop], least(form->work[loop], count));
+            if (!counted_loop)
+                printf("%s\t%s %s\t%.3f\n", form->title, lengths, loops[loop],
+                       least(form->work[loop], count));
+            else if (strcmp(loops[loop], counted_loop) == 0)
+                counted(form->work[loop], count);
     }
 }
 
 int main(int argc, char **argv)
 {
     const bool is_hand = argc > 1 && strcmp(argv[1], "hand") == 0;
-    const char *const only = argc > 2 ? argv[2] : NULL;
+    const char *const only = argc > 2 ? argv[2] : NULL, *const form = argc > 4 ? argv[4] : NULL;
     uint64_t state = 7;
 
     for (size_t at = 0; at < BYTES; at++)
         bytes[at] = (uint8_t)next_word(&state);
     word = next_word(&state);
+    counted_loop = argc > 3 ? argv[3] : NULL;
 #if !defined(XXH3) && !defined(HAND)
     rapidhash_v1_make_secrets(7, &three);
     rapidhash_make_secrets(7, &seven);
 #endif
     for (size_t at = 0; at < sizeof forms / sizeof *forms; at++) {
         const bool is_stream = strncmp(forms[at].title, "stream", 6) == 0;
+        if (form && strcmp(forms[at].title, form) != 0)
+            continue;
         if (!is_hand && (!is_stream || strcmp(forms[at].title, "stream of 16") == 0))
             rows(&forms[at], 0, SIZE_MAX, only);
         else if (is_hand && is_stream)

@@ -1,15 +1,18 @@
-"""Builds programs that do the same work, runs them alternately, and prints the minimum times in the format of
-bench/*.tsv."""
+"""Builds programs that do the same work, links each in several orders, runs them alternately, and prints the times in
+the format of bench/*.tsv. Where the linker puts a function decides up to a half of its time at short lengths, on
+processors on which a jump that touches a multiple of 32 bytes costs extra. So a time is the mean of all layouts, of
+each of which the least of all turns counts."""
 
 import argparse
 import datetime
 import itertools
 import os
 import re
+import shlex
 import subprocess
 import sys
 from pathlib import Path
-from statistics import geometric_mean
+from statistics import fmean, geometric_mean
 
 TOP = Path(__file__).resolve().parent.parent
 ROOM = TOP / "build" / "bench"
@@ -24,6 +27,7 @@ LENGTHS = "0 3 4 8 12 16 17 24 32 48 64 100 112 113 160 256 512 1024 4096 16384 
 VERSIONS = {"gcc": ["gcc", "-dumpfullversion"], "clang": ["clang", "-dumpversion"],
             "xxHash": ["pkg-config", "--modversion", "libxxhash"]}
 # How a profile differs from cargo's default release profile.
+LAYOUTS = 16
 PROFILES = {"release": [], "lto": ["--config=profile.release.lto='fat'", "--config=profile.release.codegen-units=1"]}
 MANIFEST = """[package]
 name = "program"
@@ -33,9 +37,6 @@ edition = "2024"
 [[bin]]
 name = "program"
 path = "{source}"
-
-[features]
-further = []
 
 [dependencies]
 {dependencies}
@@ -64,28 +65,38 @@ def depend(name, crate):
     return f'{name} = {{ package = "{package}", path = "{CRATES[crate]}" }}'
 
 
-def build_program(room, source, dependencies, features, profile):
-    """Builds a Rust program in a directory of its own."""
+def in_layouts(link, program):
+    """Links a program in each layout by the words of a command of lld, without the output, and returns the programs."""
+    programs = [program.with_name(f"{program.name}_{layout}") for layout in range(1, LAYOUTS + 1)]
+    for layout, linked in enumerate(programs, 1):
+        run(*link, "-fuse-ld=lld", f"-Wl,--shuffle-sections=.text*={layout}", "-o", linked)
+    return programs
+
+
+def build_program(room, source, dependencies, profile):
+    """Builds a Rust program in a directory of its own. Returns it, and the words of the command that linked it."""
     room = ROOM / room
     room.mkdir(parents=True, exist_ok=True)
     (room / "Cargo.toml").write_text(MANIFEST.format(source=TOP / "bench" / source, dependencies=dependencies))
-    words = ["--release", *PROFILES[profile], "--offline", "--quiet", "--features", ",".join(features)]
-    run("cargo", "build", *words, folder=room)
-    return room / "target" / "release" / "program"
+    words = ["--release", *PROFILES[profile], "--offline", "--quiet"]
+    run("cargo", "clean", "--release", "--package", "program", "--offline", "--quiet", folder=room)
+    link = shlex.split(run("cargo", "rustc", *words, "--", "--print=link-args", "-Csave-temps", folder=room))
+    at = link.index("-o")
+    return room / "target" / "release" / "program", link[link.index("cc"):at] + link[at + 2:]
 
 
 def build_rust(name, source):
     """Builds the program from a source with the crate of this name, in the default release profile."""
-    return build_program(f"{Path(source).stem}_{name}", source, depend("rapidhash", name), [], "release")
+    return build_program(f"{Path(source).stem}_{name}", source, depend("rapidhash", name), "release")[0]
 
 
-def build_rows(profile, place=""):
-    """Builds the program that runs the rows of this crate and of the crate rapidhash in turn. The place `further` puts
-    all functions 16 bytes further on."""
+def build_rows(profile):
+    """Builds the program that runs the rows of this crate and of the crate rapidhash in turn, in each layout."""
     if "crate" not in CRATES:
         sys.exit("bench: RAPIDHASH_CRATE must name the directory of the crate rapidhash")
     dependencies = "\n".join([depend("rapidhash", "rust"), depend("upstream", "crate")])
-    return build_program(f"rows_{profile}{place}", "rust.rs", dependencies, [place] * (place != ""), profile)
+    program, link = build_program(f"rows_{profile}", "rust.rs", dependencies, profile)
+    return in_layouts(link, program)
 
 
 def wheel(name):
@@ -162,31 +173,57 @@ def print_table(unit, names, rows, ratios, needed):
 
 
 def alternate(commands, words, turns, lengths=("",)):
-    """Runs commands that print rows (group, name, nanoseconds) alternately, and returns the least times, keyed by the
-    build and the group, by the row, and by the library. The commands are keyed by build and library, which a row may
-    state before its nanoseconds. With lengths, a command has one of them as its last word, and all turns of a length
-    follow one another."""
-    best = {}
-    for length, _ in itertools.product(lengths, range(turns)):
-        for (build, library), command in commands.items():
-            for line in subprocess.check_output([*command, *words, *[length] * (length != "")], text=True).splitlines():
+    """Runs commands that print rows (group, name, nanoseconds) alternately. Returns the least time of each layout, keyed
+    by the build and the group, by the row, and by the library. The commands, one for each layout, are keyed by build and
+    library, which a row may state before its nanoseconds. With lengths, a command has one of them as its last word, and
+    all turns of a length follow one another."""
+    best, layouts = {}, max(map(len, commands.values()))
+    for length, layout, _ in itertools.product(lengths, range(layouts), range(turns)):
+        for (build, library), programs in commands.items():
+            command = [*programs[layout % len(programs)], *words, *[length] * (length != "")]
+            for line in subprocess.check_output(command, text=True).splitlines():
                 group, name, *of, nanos = line.split("\t")
-                keep_least(best.setdefault((build, group), {}).setdefault(name, {}), {(*of, library)[0]: float(nanos)})
+                of_row = best.setdefault((build, group), {}).setdefault(name, {})
+                keep_least(of_row.setdefault((*of, library)[0], {}), {layout: float(nanos)})
     return best
 
 
+def over_layouts(times, ours, other):
+    """Returns the mean time of each library over the layouts, and the lowest and the highest ratio of a layout, if there
+    are several."""
+    means = {library: fmean(of_layouts.values()) for library, of_layouts in times.items()}
+    if len(times[ours]) > 1 and other in times:
+        ratios = [times[other][layout] / times[ours][layout] for layout in times[ours]]
+        means |= {"lowest": min(ratios), "highest": max(ratios)}
+    return means
+
+
 def print_rows(title, best, ours, others):
-    """Prints the rows of alternate: for each length the mean over its loops, and per group the mean of the ratios."""
-    rows = []
+    """Prints the rows of alternate: for each length the mean over its loops, then each loop, and per group the mean of
+    the ratios."""
+    rows, each = [], []
     for (build, group), of_group in best.items():
         loops = {}
         for name, times in of_group.items():
-            loops.setdefault(re.sub(" (sum|store|join|chain|call)$", "", name), []).append(times)
-        for length, all_times in loops.items():
-            means = {it: geometric_mean(times[it] for times in all_times) for it in all_times[0]}
+            length, _, loop = re.fullmatch("(.*?)( (sum|chain|call))?", name).groups()
+            loops.setdefault(length, []).append(over_layouts(times, ours, others[0]))
+            each += [("", f"{group} {name}, {build}", loops[length][-1])] * (loop is not None)
+        for length, of_loops in loops.items():
+            means = {it: geometric_mean(times[it] for times in of_loops) for it in of_loops[0]}
             rows.append((f"{group}, {build}", f"{group} {length}, {build}", means))
     print_heading(title)
-    print_table("ns", [ours, *others], rows, [(other, ours) for other in others], 1)
+    extremes = ["lowest", "highest"] * any("lowest" in times for *_, times in rows)
+    print_table("ns", [ours, *others, *extremes], rows + each, [(other, ours) for other in others], 1)
+
+
+def count(program, *words):
+    """Returns the instructions and the taken jumps of the function `counted` of a program, by callgrind."""
+    found = ROOM / "callgrind.out"
+    run("valgrind", "--tool=callgrind", "--toggle-collect=counted", "--collect-jumps=yes", "--dump-instr=yes",
+        f"--callgrind-out-file={found}", program, *words)
+    text = found.read_text()
+    jumps = re.findall(r"^(?:jump=(\d+)|jcnd=(\d+)/)", text, re.M)
+    return int(re.search(r"^totals: (\d+)", text, re.M)[1]), sum(int(one or other) for one, other in jumps)
 
 
 def read_figures(name):

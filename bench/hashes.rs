@@ -12,21 +12,6 @@ fn summed(texts: &Texts, hash: impl Fn(&[u8]) -> u64) -> u64 {
     texts.slices.iter().fold(0, |sum, text| sum.wrapping_add(hash(text)))
 }
 
-/// The hashes stored, as a filter or a column stores them.
-#[inline(never)]
-fn stored(texts: &Texts, out: &mut [u64], hash: impl Fn(&[u8]) -> u64) -> u64 {
-    for (text, place) in texts.slices.iter().zip(out.iter_mut()) {
-        *place = hash(text);
-    }
-    out[0]
-}
-
-/// The hashes of parts of a buffer, joined in order.
-#[inline(never)]
-fn joined(texts: &Texts, hash: impl Fn(&[u8]) -> u64) -> u64 {
-    texts.parts.iter().fold(0, |sum: u64, part| (sum ^ hash(&texts.bytes[part.clone()])).wrapping_mul(3))
-}
-
 /// Each message begins where the hash before it says: the time from bytes to hash.
 #[inline(never)]
 fn chained(texts: &Texts, hash: impl Fn(&[u8]) -> u64) -> u64 {
@@ -42,14 +27,11 @@ fn called(text: &[u8], hash: impl Fn(&[u8]) -> u64) -> u64 {
     hash(text)
 }
 
-/// Returns the rows of a form: five loops over each length and range.
+/// Returns the rows of a form: three loops over each length and range.
 fn form(name: &str, texts: &'static [Texts], hash: impl Fn(&[u8]) -> u64 + Copy + 'static) -> Vec<Row> {
     let row = |of: &'static Texts| {
-        let mut out = vec![0; of.slices.len()];
-        let works: [(&str, Box<dyn FnMut() -> u64>); 5] = [
+        let works: [(&str, Box<dyn FnMut() -> u64>); 3] = [
             ("sum", Box::new(move || summed(of, hash))),
-            ("store", Box::new(move || stored(of, &mut out, hash))),
-            ("join", Box::new(move || joined(of, hash))),
             ("chain", Box::new(move || chained(of, hash))),
             ("call", Box::new(move || summed(of, |text| called(text, hash)))),
         ];

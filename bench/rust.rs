@@ -1,10 +1,7 @@
 //! Times the calls of a Rust program with this library and with the crate rapidhash in turn, in the profile that it was
 //! built in. It prints a line per row and library: the group, the row, the library and the nanoseconds, the minimum of
 //! the rounds. `bench/rust` builds and runs it: `ROUNDS PART.. LENGTHS..`. With lengths, only their messages are
-//! hashed. With the feature `further`, all functions are 16 bytes further on.
-
-#[cfg(feature = "further")]
-std::arch::global_asm!(include_str!("padding.s"), ".text");
+//! hashed. With 0 rounds and a form, a loop and a library, `0 FORM LOOP LIBRARY LENGTH`, it makes that row's calls once.
 
 #[path = "."]
 mod ours {
@@ -70,12 +67,14 @@ pub fn between(rng: &mut RapidRng, low: usize, high: usize) -> usize {
     low + rng.next() as usize % (high - low + 1)
 }
 
-/// Returns the messages of each length and range: 500 of a length, but at most 256 KiB, and 20,000 of a range.
-fn all_texts(bytes: &'static [u8]) -> Vec<Texts> {
+/// Returns the messages of each of these lengths and ranges, or of all: 500 of a length, but at most 256 KiB, and 20,000
+/// of a range.
+fn all_texts(bytes: &'static [u8], wanted: &[String]) -> Vec<Texts> {
     let mut rng = RapidRng::new(9);
     let equal = LENGTHS.iter().map(|&length| (length.to_string(), length, length, 500.min((1 << 18) / (length + 1))));
     let mixed = RANGES.iter().map(|&(low, high)| (format!("{low}-{high}"), low, high, 20_000));
-    let texts = equal.chain(mixed).map(|(lengths, low, high, count)| {
+    let is_wanted = |lengths: &String| wanted.is_empty() || wanted.contains(lengths);
+    let texts = equal.chain(mixed).filter(|row| is_wanted(&row.0)).map(|(lengths, low, high, count)| {
         let mut part = |_| {
             let (start, length) = (between(&mut rng, 0, 4095), between(&mut rng, low, high));
             start..start + length
@@ -98,15 +97,25 @@ fn measure(rounds: usize, mut row: Row, mut other: Row) {
     }
 }
 
+/// Makes the calls of a row once, for callgrind.
+#[inline(never)]
+#[unsafe(no_mangle)]
+fn counted(row: &mut Row) -> u128 {
+    (row.work)()
+}
+
 fn main() {
     let mut words = std::env::args().skip(1);
     let rounds = words.next().and_then(|word| word.parse().ok()).expect("ROUNDS PART.. LENGTHS..");
     let (lengths, wanted): (Vec<String>, Vec<String>) = words.partition(|word| word.starts_with(char::is_numeric));
     let mut rng = RapidRng::new(7);
     let bytes: Vec<u8> = (0..1 << 17).map(|_| (rng.next() % 256) as u8).collect();
-    let mut texts = black_box(all_texts(bytes.leak()));
-    texts.retain(|texts| lengths.is_empty() || lengths.contains(&texts.lengths));
-    let texts: &'static [Texts] = texts.leak();
+    let texts: &'static [Texts] = black_box(all_texts(bytes.leak(), &lengths)).leak();
+    if let (0, [form, shape, library]) = (rounds, &wanted[..]) {
+        let rows = if library == "rust" { ours::hashes::slices(texts) } else { theirs::hashes::slices(texts) };
+        let is_asked = |row: &Row| row.group == *form && row.name.ends_with(&format!(" {shape}"));
+        return rows.into_iter().filter(is_asked).for_each(|mut row| _ = black_box(counted(&mut row)));
+    }
     let parts: [(&str, fn(&'static [Texts]) -> [Vec<Row>; 2]); 4] = [
         ("slices", |texts| [ours::hashes::slices(texts), theirs::hashes::slices(texts)]),
         ("readers", |_| [ours::hashes::readers(), theirs::hashes::readers()]),
