@@ -15,10 +15,10 @@ import { createContext, runInContext, runInNewContext } from "node:vm";
 import { load, loadSync } from "yervound-rapidhash";
 
 const library = loadSync();
-const { V3, V3Micro, V3Nano } = library;
+const { V3 } = library;
 const versions = Object.keys(library).filter((name) => `${name}Hex` in library);
 const large = new URL("large", import.meta.url);
-const streams = [[V3, 17274253787457370873n], [V3Micro, 463558115858540857n], [V3Nano, 4447162916058394582n]];
+const known = 17274253787457370873n; // of the file
 
 /** Makes a call so many frames before the end of the stack. Returns whether it was made. */
 function isMade(call, frames) {
@@ -56,11 +56,8 @@ test("calls at the end of the stack, which may stop halfway", () => {
 });
 
 test("streams of Node", async () => {
-  for (const [Stream, value] of streams) {
-    assert.equal((await new Stream().updateFrom(createReadStream(large))).digest(), value);
-    const text = createReadStream(large, "latin1");
-    assert.equal((await new Stream().updateFrom(text)).digest(), value);
-  }
+  for (const encoding of [undefined, "latin1"])
+    assert.equal((await new V3().updateFrom(createReadStream(large, encoding))).digest(), known);
   const used = Readable.from(["text"]);
   await new V3().updateFrom(used);
   const destroyed = Readable.from(["text"]).destroy();
@@ -77,7 +74,7 @@ test("streams of Node", async () => {
     await assert.rejects(new V3().updateFrom(source), { name: "TypeError",
       message: "updateFrom: the source was read before" });
   const [shared, taken] = [Readable.from(["hel", "lo"]), Readable.from(["text"])];
-  const [, both] = await Promise.allSettled([V3, V3Nano].map((Stream) => new Stream().updateFrom(shared)));
+  const [, both] = await Promise.allSettled([V3, library.V3Nano].map((Stream) => new Stream().updateFrom(shared)));
   assert.equal(both.reason?.message, "updateFrom: the source was read before");
   const [, nothing] = await Promise.allSettled([taken.toArray(), new V3().updateFrom(taken)]);
   assert.equal(nothing.reason?.message, "updateFrom: the source was read before");

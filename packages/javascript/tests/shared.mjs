@@ -30,7 +30,7 @@ test("each call and class is that of a library", () => {
   for (const name of Object.keys(library).filter((name) => name !== "room" && !name.startsWith("V")))
     for (const given of others[name] ?? (/Secrets/.test(name) ? [[7]] : messages))
       assert.deepEqual([calls[name](...given)], [library[name](...given)]);
-  for (const name of ["V3", "V3Micro", "V3Nano"])
+  for (const name of Object.keys(library).filter((name) => name.startsWith("V")))
     for (const hasher of [new calls[name]({ seed: 7 }), new calls[name]({ seed: 7 }).clone()])
       assert.equal(hasher.update(data).digest(), new library[name]({ seed: 7 }).update(data).digest());
 });
