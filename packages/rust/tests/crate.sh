@@ -31,25 +31,26 @@ packages() {
     ! grep -n '](\.*[a-zA-Z_/]*\.' README.md
 }
 
+# Creates the directory $project, with Debian's registry and these lines at the end of its manifest: NAME LINE..
+create() {
+  project=$room/$1
+  rm -rf "$project" && mkdir -p "$project"/{src,.cargo} && cp "$room/registry.toml" "$project/.cargo/config.toml" &&
+    printf '%s\n' '[package]' 'name = "first"' 'version = "0.0.0"' 'edition = "2021"' "${@:2}" >"$project/Cargo.toml"
+}
+
 # Runs the first program of the README in a new project, with the dependency that a page names: PAGE COMMAND..
 readme_runs() {
-  local project=$room/project page=$1
-  shift
-  rm -rf "$project" && mkdir -p "$project/src" &&
+  create project "$(blocks "$1" toml dependencies | sed "s|/path/to/yervound|$top|")" &&
     awk '/^```rust$/ { on = 1; next } /^```$/ { if (on) exit } on' README.md >"$project/src/main.rs" &&
-    printf '[package]\nname = "first"\nversion = "0.0.0"\nedition = "2021"\n' >"$project/Cargo.toml" &&
-    blocks "$page" toml dependencies | sed "s|/path/to/yervound|$top|" >>"$project/Cargo.toml" &&
-    (cd "$project" && "$@" run --quiet) >"$room/printed" && [ "$(cat "$room/printed")" = 3327445792987248966 ]
+    (cd "$project" && "${@:2}" run --quiet) >"$room/printed" && [ "$(cat "$room/printed")" = 3327445792987248966 ]
 }
 
 # Links the crate without its default feature into a library with its own handler of panics: a library that uses std has
 # two of them and does not compile. The names in this library have the constants of generic functions.
 needs_core_alone() {
-  local project=$room/bare
-  rm -rf "$project" && mkdir -p "$project/src" && printf '%s\n' '[package]' 'name = "bare"' 'version = "0.0.0"' \
-    'edition = "2021"' '[lib]' 'crate-type = ["staticlib"]' '[dependencies]' \
+  create bare '[lib]' 'crate-type = ["staticlib"]' '[dependencies]' \
     "yervound-rapidhash = { path = \"$top/packages/rust\", default-features = false }" \
-    '[profile.dev]' 'panic = "abort"' >"$project/Cargo.toml" &&
+    '[profile.dev]' 'panic = "abort"' &&
     printf '%s\n' '#![no_std]' 'use rapidhash::{v1, v2, v3};' \
       '#[panic_handler]' 'fn stop(_: &core::panic::PanicInfo) -> ! { loop {} }' \
       '#[no_mangle]' 'pub extern "C" fn hello(a: &v1::RapidSecrets, b: &v3::RapidSecrets) -> u64 {' \
@@ -62,7 +63,7 @@ needs_core_alone() {
 # Checks by the names in that library that no default hash folds one row at a time, which is slower: the options in the
 # name are AVALANCHE, COMPACT and PROTECTED.
 folds_two_rows() {
-  nm -C "$CARGO_TARGET_DIR/debug/libbare.a" 2>/dev/null | grep -oE '(with_rows|above_inlined)::<.*' | sort -u |
+  nm -C "$CARGO_TARGET_DIR/debug/libfirst.a" 2>/dev/null | grep -oE '(with_rows|above_inlined)::<.*' | sort -u |
     diff - <(printf '%s, true, false, false>\n' 'above_inlined::<'{3,5,7} 'with_rows::<2' &&
       echo 'with_rows::<true, false, false, false>')
 }
@@ -115,9 +116,8 @@ builds_without_script() {
 
 # Checks that the compiler refuses calls with invalid constants, and a char in a key, and names the reason.
 refuses_constants() {
-  local project=$room/constants call reason
-  rm -rf "$project" && mkdir -p "$project/src" && printf '%s\n' '[package]' 'name = "first"' 'version = "0.0.0"' \
-    'edition = "2021"' '[dependencies]' "yervound-rapidhash = { path = \"$top/packages/rust\" }" >"$project/Cargo.toml"
+  local call reason
+  create constants '[dependencies]' "yervound-rapidhash = { path = \"$top/packages/rust\" }" || return
   cat >"$room/calls" <<'CALLS'
 rapidhash_v2_inline::<2, true, false, false>(b"", &DEFAULT_RAPID_SECRETS)|
 rapidhash_v2_inline::<3, true, false, false>(b"", &DEFAULT_RAPID_SECRETS)|MINOR must be 0, 1 or 2
@@ -142,42 +142,36 @@ CALLS
 # Runs the tests of packages/rust/compat in a project whose dependency is the crate rapidhash, replaced by that package.
 # Debian's directory of crates is its registry.
 drops_in() {
-  local project=$room/drop_in
-  mkdir -p "$project/.cargo" "$project/src" && touch "$project/src/lib.rs" &&
-    cp "$room/registry.toml" "$project/.cargo/config.toml" &&
-    printf '%s\n' '[package]' 'name = "first"' 'version = "0.0.0"' 'edition = "2021"' '[dependencies]' \
-      'rapidhash = { version = "4.5.1", features = ["rng_06", "unsafe", "nightly", "getrandom_04"] }' \
-      'rand_core = { version = "0.6", default-features = false }' \
-      'hashbrown = { version = "0.12", default-features = false, features = ["raw"] }' 'indexmap = "1"' \
-      '[[test]]' 'name = "drop_in"' "path = \"$top/packages/rust/compat/tests/drop_in.rs\"" \
-      "$(blocks compat/README.md toml patch | sed "s|/path/to/yervound|$top|")" >"$project/Cargo.toml" &&
+  create drop_in '[dependencies]' \
+    'rapidhash = { version = "4.5.1", features = ["rng_06", "unsafe", "nightly", "getrandom_04"] }' \
+    'rand_core = { version = "0.6", default-features = false }' \
+    'hashbrown = { version = "0.12", default-features = false, features = ["raw"] }' 'indexmap = "1"' \
+    '[[test]]' 'name = "drop_in"' "path = \"$top/packages/rust/compat/tests/drop_in.rs\"" \
+    "$(blocks compat/README.md toml patch | sed "s|/path/to/yervound|$top|")" && touch "$project/src/lib.rs" &&
     (cd "$project" && tests_pass cargo test --test drop_in)
 }
 
 # Runs cargo in a project over packages/rust/compat without default features, whose library uses what the crate
 # deprecates: 'FEATURES' COMMAND..
 over_compat() {
-  local project=$room/compat features
+  local features
   features=$(printf '"%s", ' $1)
-  shift
-  mkdir -p "$project/src" && printf '%s\n' 'pub use rapidhash::v3::rapidhash_v3;' >"$project/src/lib.rs" &&
-    printf '%s\n' '[package]' 'name = "first"' 'version = "0.0.0"' 'edition = "2021"' '[[test]]' 'name = "attack"' \
-      "path = \"$top/packages/rust/tests/attack.rs\"" '[dependencies.rapidhash]' \
-      "path = \"$top/packages/rust/compat\"" 'default-features = false' "features = [${features#\"\", }]" \
-      >"$project/Cargo.toml" && mkdir -p "$project/.cargo" && cp "$room/registry.toml" "$project/.cargo/config.toml" &&
-    (cd "$project" && rm -f Cargo.lock && RUSTFLAGS='-D warnings' "$@")
+  create compat '[[test]]' 'name = "attack"' "path = \"$top/packages/rust/tests/attack.rs\"" \
+    '[dependencies.rapidhash]' "path = \"$top/packages/rust/compat\"" 'default-features = false' \
+    "features = [${features#\"\", }]" && echo 'pub use rapidhash::v3::rapidhash_v3;' >"$project/src/lib.rs" &&
+    (cd "$project" && RUSTFLAGS='-D warnings' "${@:2}")
 }
 
 # Runs the traits of rand_core 0.9 over a package that has this part of its interface: Debian has rand_core 0.6.
 generates_by_rand_core_09() {
   local patch="patch.crates-io.rand_core.path=\"$top/packages/rust/compat/tests/rand_core\""
-  over_compat rng true && printf '%s\n' '[dependencies.rand_core]' 'version = "0.9"' >>"$room/compat/Cargo.toml" &&
+  over_compat rng true && printf '%s\n' '[dependencies.rand_core]' 'version = "0.9"' >>"$project/Cargo.toml" &&
     printf '%s\n' '#[test] #[allow(deprecated)] fn words() { use rapidhash::rng::RapidRng;' \
       'use rand_core::{RngCore, SeedableRng};' \
       'let (mut one, mut two) = (RapidRng::seed_from_u64(1), RapidRng::from_seed([1, 0, 0, 0, 0, 0, 0, 0]));' \
       'let mut bytes = [0; 8]; two.fill_bytes(&mut bytes); assert_eq!(one.next_u64(), u64::from_le_bytes(bytes));' \
-      'assert_eq!(one.next_u32(), two.next_u64() as u32); }' >"$room/compat/src/lib.rs" &&
-    (cd "$room/compat" && rm -f Cargo.lock && RUSTFLAGS='-D warnings' tests_pass cargo --config "$patch" test --lib)
+      'assert_eq!(one.next_u32(), two.next_u64() as u32); }' >"$project/src/lib.rs" &&
+    (cd "$project" && RUSTFLAGS='-D warnings' tests_pass cargo --config "$patch" test --lib)
 }
 
 # Checks that compat refuses a feature for random words that it does not have: FEATURE
@@ -194,18 +188,16 @@ deprecates() {
     'pub fn state() { let _ = rapidhash::fast::SeedableState::with_seed(1, &[2; 7]); }' '#[expect(deprecated)]' \
     'pub fn v1(file: &mut std::fs::File) { let _ = rapidhash::v1::rapidhash_v1_file(file); }' '#[expect(deprecated)]' \
     'pub fn v2(file: &mut std::fs::File) { let _ = rapidhash::v2::rapidhash_v2_2_file(file); }' \
-    >"$room/compat/src/lib.rs" && (cd "$room/compat" && RUSTFLAGS='-D warnings' cargo check)
+    >"$project/src/lib.rs" && (cd "$project" && RUSTFLAGS='-D warnings' cargo check)
 }
 
 # Runs states and the generator where std has neither random words nor a clock: there the words are the same in each run
 # until a program sets its own, and a feature that promises others does not compile.
 works_without_a_system() {
-  local project=$room/wasm32 built=$room/debian/wasm32-unknown-unknown/debug/first.wasm
-  mkdir -p "$project/src" "$project/.cargo" && cp "$room/registry.toml" "$project/.cargo/config.toml" &&
-    printf '%s\n' '[package]' 'name = "first"' 'version = "0.0.0"' 'edition = "2021"' '[lib]' \
-      'crate-type = ["cdylib"]' '[features]' 'more = ["rapidhash/getrandom_04"]' '[dependencies]' \
-      "rapidhash = { path = \"$top/packages/rust/compat\" }" \
-      "proved = { package = \"yervound-rapidhash\", path = \"$top/packages/rust\" }" >"$project/Cargo.toml" &&
+  local built=$room/debian/wasm32-unknown-unknown/debug/first.wasm
+  create wasm32 '[lib]' 'crate-type = ["cdylib"]' '[features]' 'more = ["rapidhash/getrandom_04"]' '[dependencies]' \
+    "rapidhash = { path = \"$top/packages/rust/compat\" }" \
+    "proved = { package = \"yervound-rapidhash\", path = \"$top/packages/rust\" }" &&
     printf '%s\n' '#![allow(deprecated)]' 'use std::hash::{BuildHasher, Hasher};' \
       '#[no_mangle] pub extern "C" fn word() -> u64 { rapidhash::rng::RapidRng::default().next() }' \
       '#[no_mangle] pub extern "C" fn key() -> u64 { let state = rapidhash::fast::RandomState::new();' \
@@ -233,10 +225,8 @@ has_no_label_of_a_compiler() {
 
 # Checks that a state without std executes at most 50 instructions. If each made its secrets anew, it would be 150.
 makes_states_from_stored_words() {
-  local project=$room/states
-  mkdir -p "$project/src" && printf '%s\n' '[package]' 'name = "first"' 'version = "0.0.0"' 'edition = "2021"' \
-    '[dependencies]' "yervound-rapidhash = { path = \"$top/packages/rust\", default-features = false }" \
-    >"$project/Cargo.toml" && printf '%s\n' '#[inline(never)] #[no_mangle] pub extern "C" fn counted(times: usize) {' \
+  create states '[dependencies]' \
+    "yervound-rapidhash = { path = \"$top/packages/rust\", default-features = false }" && printf '%s\n' '#[inline(never)] #[no_mangle] pub extern "C" fn counted(times: usize) {' \
     'for _ in 0..times { std::hint::black_box(rapidhash::fast::RandomState::new()); } }' \
     'fn main() { counted(999 + std::env::args().count()) }' >"$project/src/main.rs" &&
     (cd "$project" && cargo build --release && valgrind --tool=callgrind --callgrind-out-file=/dev/null \
