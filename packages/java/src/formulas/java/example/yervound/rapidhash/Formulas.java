@@ -21,8 +21,6 @@ import java.util.List;
  */
 public final class Formulas {
     private static final int ROOM = 32768;
-    private static final List<Rapidhash<Secrets>> OTHERS = List.of(Rapidhash.V2_0, Rapidhash.V2_1, Rapidhash.V2_2,
-        Rapidhash.V3, Rapidhash.V3_MICRO, Rapidhash.V3_NANO);
     private static final ByteBuffer HEAP = ByteBuffer.allocate(64 + ROOM);
     private static final ByteBuffer DIRECT = ByteBuffer.allocateDirect(64 + ROOM);
 
@@ -54,6 +52,7 @@ public final class Formulas {
         return bytes.length == 0 ? null : words;
     }
 
+    @SuppressWarnings("unchecked") // Only the first version has secrets of another type.
     private static long hash(long[] record, ByteBuffer room) {
         boolean isProtected = (record[1] & 2) != 0;
         if (record[0] < 0 || record[0] > 6 || isProtected && record[0] != 4) {
@@ -61,7 +60,7 @@ public final class Formulas {
         }
         return record[0] == 0
             ? hash(Rapidhash.V1, SecretsV1.of(record[3], Arrays.copyOfRange(record, 4, 7)), record, room)
-            : hash(isProtected ? Rapidhash.V3_PROTECTED : OTHERS.get((int) record[0] - 1),
+            : hash(isProtected ? Rapidhash.V3_PROTECTED : (Rapidhash<Secrets>) Rapidhash.ALL.get((int) record[0]),
                 Secrets.of(record[3], Arrays.copyOfRange(record, 4, 11)), record, room);
     }
 
