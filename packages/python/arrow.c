@@ -1,6 +1,5 @@
 /* The columns of other packages, by Apache Arrow's C data interface: strings, bytes, integers and nulls. */
-#include "arrow.h"
-#include "column.h"
+#include "extension.h"
 
 /* Returns the bits of the rows, of which those that are 0 are null, or NULL without any. */
 static const unsigned char *bits_of(const struct arrow *arrow)

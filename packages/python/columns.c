@@ -1,5 +1,5 @@
 /* The hashes of many messages in one call, written to an array of unsigned 64-bit integers. */
-#include "column.h"
+#include "extension.h"
 
 /* V1's default secrets are those of this seed word. */
 #define V1_WORD UINT64_C(0xbdd89aa982704029)

@@ -1,5 +1,4 @@
 /* The hashes of the rows of columns of fields. */
-#include "arrow.h"
 #include "key.h"
 
 /* A column of fields: the items of a list or a tuple, the integers of a buffer, or a column of Arrow, whose integers

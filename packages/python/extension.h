@@ -1,4 +1,4 @@
-/* What the files of the extension share: forms, arguments, and the functions over several messages. */
+/* What the files of the extension share: forms, arguments, columns, and the functions over several messages. */
 #ifndef RAPIDHASH_EXTENSION_H
 #define RAPIDHASH_EXTENSION_H
 
@@ -110,6 +110,66 @@ int is_overwritten(const Py_buffer *out, Py_ssize_t hashes, const struct message
 
 /* Returns a new reference to an item of a list or tuple, or NULL with an error set. */
 PyObject *item_of(PyObject *items, int is_list, Py_ssize_t at);
+
+/* The buffer of the hashes, the secrets of all messages, and the hash of a missing one. `own` has the secrets of a
+ * seed, and `missing` is valid only if has_missing is not 0. */
+struct column {
+    uint64_t (*hash)(const void *bytes, size_t len, const void *secrets);
+    const void *secrets;
+    union {
+        struct rapidhash_secrets others;
+        struct rapidhash_v1_secrets v1;
+    } own;
+    Py_buffer out;
+    uint64_t missing;
+    int has_missing;
+};
+
+/* Reads the arguments version, seed, secrets, out and missing. Returns 0, or -1 with an error set. */
+int open_column(PyObject *module, PyObject *const *args, size_t count, struct column *column);
+
+/* Write the hash of a message, or of a missing one, to `at`, which need not be aligned. */
+static inline void put_hash(const struct column *column, Py_ssize_t at, uint64_t hash)
+{ memcpy((char *)column->out.buf + 8 * at, &hash, sizeof hash); }
+static inline void put(const struct column *column, Py_ssize_t at, const void *bytes, size_t len)
+{ put_hash(column, at, column->hash(bytes, len, column->secrets)); }
+
+/* The structures of Arrow's C data interface, which an object with __arrow_c_array__ lends in two capsules. */
+struct ArrowSchema {
+    const char *format, *name, *metadata;
+    int64_t flags, n_children;
+    struct ArrowSchema **children, *dictionary;
+    void (*release)(struct ArrowSchema *schema);
+    void *private_data;
+};
+
+struct ArrowArray {
+    int64_t length, null_count, offset, n_buffers, n_children;
+    const void **buffers;
+    struct ArrowArray **children, *dictionary;
+    void (*release)(struct ArrowArray *array);
+    void *private_data;
+};
+
+/* A column, in a capsule of the name ARROW. `letter` is that of its integers in a buffer's format, or 0 for strings and
+ * bytes, and `first` is its first integer or offset, of `width` bytes, or NULL. Without a width, all rows are null. */
+#define ARROW "rapidhash.arrow"
+struct arrow {
+    struct ArrowSchema schema;
+    struct ArrowArray array;
+    const char *first;
+    Py_ssize_t width;
+    char letter;
+};
+
+/* Returns whether a row is null. */
+int is_null(const struct arrow *arrow, Py_ssize_t row);
+
+/* Finds the bytes of a row. Returns 0, or -1 without an error set if its offsets do not ascend. */
+int find_bytes(const struct arrow *arrow, Py_ssize_t row, struct message *message);
+
+/* Returns whether the hashes would overwrite a part of a column. If so, sets an error. */
+int overlaps_arrow(const Py_buffer *out, const struct arrow *arrow, const char *name);
 
 PyObject *arrow(PyObject *module, PyObject *const *args, Py_ssize_t count);
 PyObject *each_arrow(PyObject *module, PyObject *const *args, Py_ssize_t count);

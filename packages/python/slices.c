@@ -1,5 +1,5 @@
 /* The hashes of the strings of a column in Apache Arrow's layout: data, offsets, and a bit for each string. */
-#include "column.h"
+#include "extension.h"
 
 /* The arguments of a call. Without validity, no string is missing. */
 struct slices {
