@@ -1,9 +1,6 @@
 package example.yervound.rapidhash;
 
 import java.nio.ByteBuffer;
-import java.nio.ByteOrder;
-import java.nio.CharBuffer;
-import java.nio.charset.CharacterCodingException;
 import java.nio.charset.StandardCharsets;
 import java.util.Objects;
 
@@ -36,46 +33,106 @@ public final class RapidhashKey {
 
     /** Returns the hash of a key with a seed and secrets. */
     public static long hashWithSecrets(Secrets secrets, Object... fields) {
-        RapidhashStream stream = Rapidhash.V3.stream(Objects.requireNonNull(secrets, "secrets"));
+        Encoding key = new Encoding(Objects.requireNonNull(secrets, "secrets"));
         for (int at = 0; at < Objects.requireNonNull(fields, "fields").length; at++) {
-            add(stream, fields[at], at);
+            key.add(fields[at], at);
         }
-        return stream.getValue();
+        return key.hash();
     }
 
-    private static void add(RapidhashStream stream, Object field, int at) {
-        if (field == null) {
-            stream.update(NOTHING);
-        } else if (field instanceof Long || field instanceof Integer || field instanceof Short
-            || field instanceof Byte) {
-            addNumber(stream, INTEGER, ((Number) field).longValue());
-        } else if (field instanceof byte[]) {
-            addBytes(stream, ByteBuffer.wrap((byte[]) field));
-        } else if (field instanceof ByteBuffer) {
-            addBytes(stream, ((ByteBuffer) field).duplicate());
-        } else if (field instanceof CharSequence) {
-            addBytes(stream, encode((CharSequence) field, at));
-        } else {
-            throw new IllegalArgumentException(
-                "fields[" + at + "] must be null, an integer, a text or bytes, not " + field.getClass().getName()
-                    + "; docs/BINDINGS.md lists conversions");
+    /** Returns the UTF-8 of a text, of which String would replace half of a surrogate pair. */
+    private static byte[] encode(String text, int at) {
+        for (int place = 0; place < text.length(); place++) {
+            char letter = text.charAt(place);
+            if (Character.isSurrogate(letter)
+                && (++place == text.length() || !Character.isSurrogatePair(letter, text.charAt(place)))) {
+                throw new IllegalArgumentException("fields[" + at + "] has half of a surrogate pair");
+            }
         }
+        return text.getBytes(StandardCharsets.UTF_8);
     }
 
-    private static ByteBuffer encode(CharSequence text, int at) {
-        try {
-            return StandardCharsets.UTF_8.newEncoder().encode(CharBuffer.wrap(text));
-        } catch (CharacterCodingException e) {
-            throw new IllegalArgumentException("fields[" + at + "] has half of a surrogate pair", e);
+    /** The encoding of a key. That of a long one is in the stream, but for its last bytes. */
+    private static final class Encoding {
+        private final byte[] bytes = new byte[128];
+        private final Secrets secrets;
+        private RapidhashStream stream;
+        private int end;
+
+        Encoding(Secrets secrets) {
+            this.secrets = secrets;
         }
-    }
 
-    private static void addBytes(RapidhashStream stream, ByteBuffer bytes) {
-        addNumber(stream, BYTES, bytes.remaining());
-        stream.update(bytes);
-    }
+        void add(Object field, int at) {
+            if (field == null) {
+                leave(1);
+                bytes[end++] = NOTHING;
+            } else if (field instanceof Long || field instanceof Integer || field instanceof Short
+                || field instanceof Byte) {
+                add(INTEGER, ((Number) field).longValue());
+            } else if (field instanceof CharSequence) {
+                add(encode(field.toString(), at));
+            } else if (field instanceof byte[]) {
+                add((byte[]) field);
+            } else if (field instanceof ByteBuffer) {
+                add(((ByteBuffer) field).duplicate());
+            } else {
+                throw new IllegalArgumentException(
+                    "fields[" + at + "] must be null, an integer, a text or bytes, not " + field.getClass().getName()
+                        + "; docs/BINDINGS.md lists conversions");
+            }
+        }
 
-    private static void addNumber(RapidhashStream stream, byte tag, long number) {
-        stream.update(ByteBuffer.allocate(9).order(ByteOrder.LITTLE_ENDIAN).put(tag).putLong(number).array());
+        /** Adds a tag and a number, least significant byte first. */
+        private void add(byte tag, long number) {
+            leave(9);
+            bytes[end++] = tag;
+            for (int shift = 0; shift < 64; shift += 8) {
+                bytes[end++] = (byte) (number >> shift);
+            }
+        }
+
+        private void add(byte[] field) {
+            add(BYTES, field.length);
+            if (leave(field.length)) {
+                System.arraycopy(field, 0, bytes, end, field.length);
+                end += field.length;
+            } else {
+                stream.update(field);
+            }
+        }
+
+        private void add(ByteBuffer field) {
+            int size = field.remaining();
+            add(BYTES, size);
+            if (leave(size)) {
+                field.get(bytes, end, size);
+                end += size;
+            } else {
+                stream.update(field);
+            }
+        }
+
+        /** Returns whether so many bytes have room, for which the bytes before them may go to the stream. */
+        private boolean leave(int count) {
+            if (count > bytes.length - end) {
+                flush();
+            }
+            return count <= bytes.length;
+        }
+
+        private void flush() {
+            stream = stream == null ? Rapidhash.V3.stream(secrets) : stream;
+            stream.update(bytes, 0, end);
+            end = 0;
+        }
+
+        long hash() {
+            if (stream == null) {
+                return Rapidhash.V3.hash(bytes, 0, end, secrets);
+            }
+            flush();
+            return stream.getValue();
+        }
     }
 }

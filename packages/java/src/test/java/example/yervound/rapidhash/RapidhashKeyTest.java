@@ -6,6 +6,7 @@ import static org.junit.Assert.assertThrows;
 
 import java.math.BigInteger;
 import java.nio.ByteBuffer;
+import java.nio.ByteOrder;
 import java.nio.CharBuffer;
 import java.nio.charset.StandardCharsets;
 import java.util.List;
@@ -34,6 +35,22 @@ public class RapidhashKeyTest {
         assertEquals(RapidhashKey.hash("中文"), RapidhashKey.hash((Object) "中文".getBytes(StandardCharsets.UTF_8)));
         assertEquals(Rapidhash.V3.hash(new byte[0]), RapidhashKey.hash());
         assertNotEquals(RapidhashKey.hash("ab", "c"), RapidhashKey.hash("a", "bc"));
+    }
+
+    /** Compares keys of all lengths up to some 1,200 bytes with the hashes of their encodings. */
+    @Test
+    public void longKeys() {
+        for (int size = 0; size < 300; size++) {
+            byte[] bytes = Messages.bytes(size);
+            String text = "x".repeat(size);
+            ByteBuffer encoded = ByteBuffer.allocate(2000).order(ByteOrder.LITTLE_ENDIAN).put((byte) 1).putLong(-size);
+            for (byte[] field : new byte[][] {bytes, bytes, text.getBytes(StandardCharsets.US_ASCII), bytes}) {
+                encoded.put((byte) 2).putLong(size).put(field);
+            }
+            long known = Rapidhash.V3.hash(encoded.put((byte) 0).flip(), 7L);
+            ByteBuffer direct = ByteBuffer.allocateDirect(size).put(bytes).flip();
+            assertEquals("" + size, known, RapidhashKey.hashWithSeed(7, -size, bytes, direct, text, bytes, null));
+        }
     }
 
     @Test
