@@ -41,6 +41,14 @@ template <class Value>
 struct is_variant<Value, decltype(static_cast<void>(std::declval<const Value &>().valueless_by_exception()))>
     : std::true_type {};
 
+/* Finds texts that compare by traits of a program, so that equal ones can have different bytes. */
+template <class Value, class = void> struct has_own_traits : std::false_type {};
+template <class Value>
+struct has_own_traits<Value, decltype(static_cast<void>(sizeof(typename Value::traits_type)
+                                                        + sizeof(typename Value::value_type)))>
+    : std::integral_constant<bool, !std::is_same<typename Value::traits_type,
+                                                 std::char_traits<typename Value::value_type>>::value> {};
+
 /* Appends a value to a V3 stream of C, as the fields of a key. But for a time, different values of a type are different
  * messages:
  *
@@ -60,6 +68,8 @@ template <class Value, class = void> struct field {
                   "a pointer is no field: pass what it points to, nullptr, or rapidhash::bytes(pointer, length)");
     static_assert(!is_variant<Value>::value,
                   "a variant is no field: pass its index(), and then its value by std::visit");
+    static_assert(!has_own_traits<Value>::value,
+                  "a text that compares in its own way has no field: specialize rapidhash::field, or pass its bytes");
     static_assert(is_refused || std::is_convertible<const Value &, bytes>::value,
                   "a field is nullptr, an integer, an enumerator, a text, bytes, a time, a duration, or a pair, tuple, "
                   "vector, array, span, optional or path");
@@ -253,7 +263,8 @@ std::uint64_t key(const Fields &...fields) noexcept
 }
 
 /* Finds values that are neither a text nor bytes, or whose field a program has specialized. */
-template <class Value, bool = std::is_convertible<const Value &, bytes>::value, class = void>
+template <class Value, bool = std::is_convertible<const Value &, bytes>::value && !has_own_traits<Value>::value,
+          class = void>
 struct is_key : std::true_type {};
 template <class Value>
 struct is_key<Value, true, decltype(static_cast<void>(field<Value>::is_refused))> : std::false_type {};
@@ -303,6 +314,8 @@ public:
     using Hasher::Hasher;
 
     RAPIDHASH_CONSTEXPR std::size_t operator()(bytes value) const noexcept { return Hasher::operator()(value); }
+    template <class Value, typename std::enable_if<has_own_traits<Value>::value, int>::type = 0>
+    std::size_t operator()(const Value &value) const = delete;
 };
 
 using text_hasher = basic_text_hasher<hasher>;

@@ -184,6 +184,7 @@ refuses_what_is_no_field() {
       <<<"#include <rapidhash.hpp>
 #include <memory>
 #include <variant>
+struct own : std::char_traits<char> {};
 std::uint64_t hash() { return rapidhash::key($value); }" && grep "$why" "$room/said" || { echo "$value" && return 1; }
   done <<VALUES
 static_cast<__int128>(1)|an integer of a key has at most 64 bits
@@ -200,6 +201,8 @@ rapidhash::stream({std::uint64_t(5)}).finish()|error: .*\(would use explicit con
 1.5|a field is nullptr, an integer, an enumerator, a text, bytes, a time, a duration, or a pair, tuple, vector, array, \
 span, optional or path
 std::wstring()|a field is nullptr, an integer,
+std::basic_string<char, own>()|a text that compares in its own way has no field: specialize rapidhash::field, or pass
+rapidhash::text_hasher()(std::basic_string<char, own>())|error: .*deleted function
 std::optional<std::optional<int>>()|an optional field is itself no optional, pair, tuple or nullptr
 std::optional<std::pair<int, int>>()|an optional field is itself no optional,
 std::optional<std::tuple<int>>()|an optional field is itself no optional,
