@@ -1,8 +1,8 @@
 /* Times the hashes of the C header, with XXH3 those of XXH3, or with HAND those of hand.h, on the messages of
  * bench/rust.rs and in the same loops. It prints a row per line: the form, the row and the nanoseconds, the minimum of
  * its repeats. With the word hand, it times the forms that the header and a rival have, and streams of 1,024 bytes.
- * With a second word, it times the row of these lengths alone. With a loop and a form as third and fourth word, it makes
- * that row's calls once. */
+ * With a second word, it times the row of these lengths alone. With a loop and a form as third and fourth word, it
+ * makes that row's calls once. */
 #define _POSIX_C_SOURCE 200809L
 #include <stdbool.h>
 #include <stdint.h>

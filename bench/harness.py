@@ -173,10 +173,10 @@ def print_table(unit, names, rows, ratios, needed):
 
 
 def alternate(commands, words, turns, lengths=("",)):
-    """Runs commands that print rows (group, name, nanoseconds) alternately. Returns the least time of each layout, keyed
-    by the build and the group, by the row, and by the library. The commands, one for each layout, are keyed by build and
-    library, which a row may state before its nanoseconds. With lengths, a command has one of them as its last word, and
-    all turns of a length follow one another."""
+    """Runs commands that print rows (group, name, nanoseconds) alternately. Returns the least time of each layout,
+    keyed by the build and the group, by the row, and by the library. The commands, one for each layout, are keyed by
+    build and library, which a row may state before its nanoseconds. With lengths, a command has one of them as its last
+    word, and all turns of a length follow one another."""
     best, layouts = {}, max(map(len, commands.values()))
     for length, layout, _ in itertools.product(lengths, range(layouts), range(turns)):
         for (build, library), programs in commands.items():
@@ -189,8 +189,8 @@ def alternate(commands, words, turns, lengths=("",)):
 
 
 def over_layouts(times, ours, other):
-    """Returns the mean time of each library over the layouts, and the lowest and the highest ratio of a layout, if there
-    are several."""
+    """Returns the mean time of each library over the layouts, and the lowest and the highest ratio of a layout, if
+    there are several."""
     means = {library: fmean(of_layouts.values()) for library, of_layouts in times.items()}
     if len(times[ours]) > 1 and other in times:
         ratios = [times[other][layout] / times[ours][layout] for layout in times[ours]]

@@ -1,7 +1,8 @@
 //! Times the calls of a Rust program with this library and with the crate rapidhash in turn, in the profile that it was
 //! built in. It prints a line per row and library: the group, the row, the library and the nanoseconds, the minimum of
 //! the rounds. `bench/rust` builds and runs it: `ROUNDS PART.. LENGTHS..`. With lengths, only their messages are
-//! hashed. With 0 rounds and a form, a loop and a library, `0 FORM LOOP LIBRARY LENGTH`, it makes that row's calls once.
+//! hashed. With 0 rounds and a form, a loop and a library, `0 FORM LOOP LIBRARY LENGTH`, it makes the calls of that row
+//! once.
 
 #[path = "."]
 mod ours {
@@ -67,8 +68,8 @@ pub fn between(rng: &mut RapidRng, low: usize, high: usize) -> usize {
     low + rng.next() as usize % (high - low + 1)
 }
 
-/// Returns the messages of each of these lengths and ranges, or of all: 500 of a length, but at most 256 KiB, and 20,000
-/// of a range.
+/// Returns the messages of each of these lengths and ranges, or of all: 500 of a length, but at most 256 KiB, and
+/// 20,000 of a range.
 fn all_texts(bytes: &'static [u8], wanted: &[String]) -> Vec<Texts> {
     let mut rng = RapidRng::new(9);
     let equal = LENGTHS.iter().map(|&length| (length.to_string(), length, length, 500.min((1 << 18) / (length + 1))));

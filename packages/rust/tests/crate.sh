@@ -226,7 +226,8 @@ has_no_label_of_a_compiler() {
 # Checks that a state without std executes at most 50 instructions. If each made its secrets anew, it would be 150.
 makes_states_from_stored_words() {
   create states '[dependencies]' \
-    "yervound-rapidhash = { path = \"$top/packages/rust\", default-features = false }" && printf '%s\n' '#[inline(never)] #[no_mangle] pub extern "C" fn counted(times: usize) {' \
+    "yervound-rapidhash = { path = \"$top/packages/rust\", default-features = false }" &&
+    printf '%s\n' '#[inline(never)] #[no_mangle] pub extern "C" fn counted(times: usize) {' \
     'for _ in 0..times { std::hint::black_box(rapidhash::fast::RandomState::new()); } }' \
     'fn main() { counted(999 + std::env::args().count()) }' >"$project/src/main.rs" &&
     (cd "$project" && cargo build --release && valgrind --tool=callgrind --callgrind-out-file=/dev/null \
