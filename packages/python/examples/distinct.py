@@ -14,16 +14,19 @@ import numpy
 import rapidhash
 from dask import compute, delayed
 from distributed import Client, LocalCluster
+from pandas import Series
 
 TEXTS = {"name": str, "number": str}
 
 
 def add_shard(part, shards):
-    """Returns a part with the shard of each row. Its numbers were read as texts, since pandas rounds long ones."""
+    """Returns a part with its numbers and the shard of each row. They were read as texts, since pandas rounds long
+    ones, and a number may be written in several ways."""
     names = [name or None for name in part["name"]]
     numbers = [int(number) if number else None for number in part["number"]]
     keys = rapidhash.each_key(names, numbers)
-    return part.assign(shard=numpy.asarray(rapidhash.shard(keys, shards)))  # An array would have another type.
+    shard = numpy.asarray(rapidhash.shard(keys, shards))  # An array would have another type.
+    return part.assign(number=Series(numbers, part.index, dtype=object), shard=shard)
 
 
 def count(part):
@@ -35,7 +38,9 @@ def main():
     workers, shards, parts = int(sys.argv[1]), int(sys.argv[2]), sys.argv[3:]
     cluster = LocalCluster(n_workers=workers, threads_per_worker=1, dashboard_address=None)
     with cluster, Client(cluster):
-        table = dask.dataframe.read_csv(parts, names=[*TEXTS], dtype=TEXTS, keep_default_na=False, blocksize=None)
+        # If it skips blank lines, pandas loses the blank at the start of a line in which its buffer ends.
+        table = dask.dataframe.read_csv(parts, names=[*TEXTS], dtype=TEXTS, keep_default_na=False, blocksize=None,
+                                        skip_blank_lines=False)
         table = table.map_partitions(add_shard, shards, meta=TEXTS | {"shard": "u8"})
         table = table.set_index("shard", divisions=[*range(shards + 1)], shuffle="tasks")
         for shard, counts in enumerate(compute(*map(delayed(count), table.to_delayed()))):

@@ -66,12 +66,18 @@ def row(draw):
     return (None if draw.random() < 0.05 else name, None if draw.random() < 0.05 else number)
 
 
+def written(number, place):
+    """Returns the number of a row as a file has it, some with a sign and zeros before it."""
+    return "" if number is None else f"{number:+05}" if place % 7 == 0 else str(number)
+
+
 def write_parts(rows):
     """Writes the rows to files in turn. Returns their names."""
     names = [ROOM / f"part{part}.csv" for part in range(PARTS)]
     for part, name in enumerate(names):
         with open(name, "w", encoding="utf-8", newline="") as file:
-            csv.writer(file).writerows(["" if field is None else field for field in line] for line in rows[part::PARTS])
+            csv.writer(file).writerows([name or "", written(number, place)]
+                                       for place, (name, number) in enumerate(rows[part::PARTS]))
     return names
 
 
