@@ -70,7 +70,7 @@ print(json.dumps([list(shards), sample, whole]))"""
 
 
 def in_go():
-    """Returns what the page's lines in Go print for the file of rows, or nothing without Go."""
+    """Returns what the page's lines in Go print for a file that PostgreSQL writes."""
     [lines] = blocks(PAGE, "go")
     folder = ROOM / "go"
     folder.mkdir()
@@ -80,29 +80,18 @@ def in_go():
 import (
     "encoding/csv"
     "fmt"
+    "log"
     "os"
     "strconv"
     "yervound.example/rapidhash"
 )
-func text(word string) rapidhash.Field {{
-    if word == `\\N` {{
-        return rapidhash.Nothing()
-    }}
-    return rapidhash.Text(word)
-}}
-func number(word string) rapidhash.Field {{
-    if word == `\\N` {{
-        return rapidhash.Nothing()
-    }}
-    value, _ := strconv.ParseInt(word, 10, 64)
-    return rapidhash.Integer(value)
-}}
 func main() {{
     rows, _ := csv.NewReader(os.Stdin).ReadAll()
     {lines}
 }}
 """)
-    return shell("go run . <../people.csv", folder, GOPROXY="off", GOCACHE=str(ROOM / "gocache"), GOFLAGS="-mod=mod")
+    ask(f"\\copy people TO '{ROOM}/copied.csv' (FORMAT csv, NULL '\\N')")
+    return shell("go run . <../copied.csv", folder, GOPROXY="off", GOCACHE=str(ROOM / "gocache"), GOFLAGS="-mod=mod")
 
 
 def partitions(commands, whole):
