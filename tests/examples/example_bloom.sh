@@ -26,6 +26,11 @@ prints no_other_key_is_found "$program" --one-in 4294967295 odd <even
 mostly_absent at_most_one_in_100_other_keys_is_found "$program" odd
 split -n l/20 odd part.
 mostly_absent at_most_one_in_100_with_20_lists "$program" part.*
+# Of 200,000 other lines, 0.14 are found at this rate. If the marks of a key fell together, it would be some 70.
+seq 100 >few
+seq 10000001 10200000 >others
+[ "$("$program" --one-in 1000000 few <others | grep -c ^maybe)" -le 2 ]
+tell one_in_a_million $?
 reads_lines maybe maybe maybe no "$program" --one-in 4294967295
 
 exec </dev/null

@@ -1,7 +1,8 @@
 -- The keys that a filter finds.
-use Rattle.std.specs.Prelude.{◌≡◌, ℕ, ◌<◌, ◌+◌, ◌*◌, ◌%◌, ◌/◌, List, length, slice_index, ◌⊎◌}
+use Rattle.std.specs.Prelude.{◌≡◌, ℕ, suc, ◌<◌, ◌+◌, ◌%◌, ◌/◌, List, length, slice_index, ◌⊎◌}
 use Rattle.std.specs.Int.{bit_at}
 use Rattle.rapidhash.specs.Form.{standard, v3}
+use Rattle.rapidhash.specs.Generator.{word_at}
 use Rattle.rapidhash.specs.Hash.{default_hash}
 use Rattle.example_bloom.specs.declared.filter.Filter.{Filter}
 use Rattle.example_bloom.specs.declared.shape.Shape.{Shape}
@@ -10,9 +11,9 @@ use Rattle.example_bloom.specs.declared.shape.Shape.{Shape}
 abbrev pub hash_of : List ℕ → ℕ
 hash_of key = default_hash v3 standard key
 
--- the step of mark number `i` of a hash, for any number of bits
+-- the step of mark number `i` of a hash, for any number of bits: a word of the generator whose seed is the hash
 unfoldable pub step_of : ℕ → ℕ → ℕ
-step_of hash i = hash % 4294967296 + i * (hash / 4294967296)
+step_of hash i = word_at hash (suc i)
 
 -- the bit at a step is set: the steps go through the words, and then through the bits of a word
 abbrev pub HasBit : List ℕ → ℕ → Type 0

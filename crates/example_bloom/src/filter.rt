@@ -5,8 +5,12 @@ ghost use Rattle.example_bloom.specs.Filter.{Adds, Finds, HasSameShape, HasWords
 ghost use Rattle.example_bloom.specs.Filter.{HasBit, HasShape, Marks, Sets, step_of};
 
 use crate::shape::Shape;
-use rapidhash::v3::rapidhash_v3;
+use rapidhash::rng::rapidrng_fast;
+use rapidhash::v3::{DEFAULT_RAPID_SECRETS, rapidhash_v3};
 use std::alloc::{AllocError, Global};
+
+// The step of the generator's states.
+const STEP: u64 = DEFAULT_RAPID_SECRETS.secrets[0];
 
 /// A set of keys that finds every inserted key, and perhaps others.
 ///
@@ -18,12 +22,14 @@ pub struct Filter {
     marks: u32,
 }
 
-// The place of a key's mark number `i`, by this number and the count of words.
+// The place of a key's mark number `i`: the next word of a generator `i` steps from the hash. With
+// two halves of the hash as start and distance of the places, marks would fall together.
 #[tactic(auto, unfolding(crate::specs::Filter::step_of))]
 fn step(hash: u64, i: u32) -> u64
     ensures { result ≡ step_of hash i }
 {
-    hash % 4294967296 + (i as u64) * (hash / 4294967296)
+    let mut state = hash.wrapping_add((i as u64).wrapping_mul(STEP));
+    rapidrng_fast(&mut state)
 }
 
 // Sets a bit.
