@@ -18,8 +18,8 @@ const fewLetters = 20;
 const version = 100;
 /** The default secrets of V1 are those of this seed word, and the others those of 0. */
 const wordOfV1 = 0xbdd89aa982704029n;
-const needed = ["memory", "__heap_base", "version", "high", "start", "write", "reset", "finish", "finish_low", "save",
-  "restore", "make_secrets", "seed_secrets", "make_secrets_v1", "seed_secrets_v1"];
+const needed = ["memory", "__heap_base", "__stack_pointer", "version", "high", "start", "write", "reset", "finish",
+  "finish_low", "save", "restore", "make_secrets", "seed_secrets", "make_secrets_v1", "seed_secrets_v1"];
 
 /** The codes of the hexadecimal digits. toString(16) is slow above 31 bits. */
 const codes = Array.from("0123456789abcdef", (digit) => digit.charCodeAt(0));
@@ -37,6 +37,7 @@ export class Library {
   constructor({ exports }) {
     checkModule(needed.every((name) => name in exports) && exports.version() === version);
     this.exports = exports;
+    this.atStack = exports.__stack_pointer.value;
     this.atDefault = (exports.__heap_base.value + 15) & ~15;
     this.atDefaultV1 = this.atDefault + 64;
     this.atSecrets = this.atDefaultV1 + 32;
@@ -135,6 +136,12 @@ export class Library {
     const secrets = new BigUint64Array(count);
     for (let place = 0; place < count; place++) secrets[place] = this.views.secrets.getBigUint64(8 * place, true);
     return secrets;
+  }
+
+  /** Empties the module's stack, before a call with a frame there: save or restore. Such a call leaves its frame if it
+   * is stopped, at the end of the engine's stack or by a timeout of Node's vm. */
+  rewind() {
+    this.exports.__stack_pointer.value = this.atStack;
   }
 
   /** Returns the digits of a hash, of which an export returned the lower half. */

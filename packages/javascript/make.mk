@@ -13,8 +13,9 @@ $(module): packages/javascript/rapidhash.c packages/javascript/string.h packages
 	  { echo "make: $$program, of clang and lld, is not on PATH" >&2; exit 2; }; done
 	@mkdir -p build
 	@clang --target=wasm32 -std=c99 -Os -Wall -Wextra -Werror -ffreestanding -mbulk-memory \
-	  -isystem packages/javascript -Ipackages/c/include -c $< -o build/wasm.o
-	$(call made,wasm-ld --no-entry --strip-all --export=__heap_base -z stack-size=16384 build/wasm.o -o "$$new")
+	  -mmutable-globals -isystem packages/javascript -Ipackages/c/include -c $< -o build/wasm.o
+	$(call made,wasm-ld --no-entry --strip-all --export=__heap_base --export=__stack_pointer -z stack-size=16384 \
+	  build/wasm.o -o "$$new")
 
 # Lays out the directory of the package. module.mjs contains the module as text, and rapidhash.cjs is for `require`.
 $(folder): $(module) $(wildcard packages/javascript/*.*) LICENSE-MIT LICENSE-APACHE NOTICE

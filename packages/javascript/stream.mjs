@@ -158,6 +158,7 @@ export class Stream {
   save() {
     if (this.#half !== "") throw new TypeError("save: the message ends in half of a surrogate pair");
     const { exports, atBytes } = this.#library;
+    this.#library.rewind();
     exports.save(this.#enter(), atBytes);
     return this.#library.views.bytes.slice(0, savedSize);
   }
@@ -166,6 +167,7 @@ export class Stream {
   load(data) {
     const saved = bytesOf(data, "load");
     const { exports, atBytes } = this.#library;
+    this.#library.rewind();
     if (sizeOf(saved) !== savedSize || !exports.restore(this.#enter(), atBytes, this.#library.put(saved)))
       throw new TypeError(reasonOf(saved, this.#lanes));
     this.#half = "";

@@ -55,6 +55,18 @@ test("calls at the end of the stack, which may stop halfway", () => {
   }
 });
 
+test("saving at the end of the stack, which may leave frames on that of the module", () => {
+  const fresh = loadSync();
+  const hasher = new fresh.V3().update("hello");
+  const saved = hasher.save();
+  for (const call of [() => hasher.save(), () => hasher.load(saved)]) {
+    call();
+    for (let round = 0; round < 1000; round++) isMade(call, round % 20);
+    assert.equal(fresh.v3("hello", { seed: 1 }), library.v3("hello", { seed: 1 }));
+    assert.deepEqual(hasher.load(saved).save(), saved);
+  }
+});
+
 test("streams of Node", async () => {
   for (const encoding of [undefined, "latin1"])
     assert.equal((await new V3().updateFrom(createReadStream(large, encoding))).digest(), known);
