@@ -70,8 +70,13 @@ public final class RapidhashStream implements Checksum {
         if (buffer.hasArray()) {
             append(buffer.array(), buffer.arrayOffset() + at, buffer.remaining());
         } else if (buffer.hasRemaining()) {
-            buffer.get(at); // fails before anything changes if the buffer's arena is closed
-            append(buffer, at, buffer.remaining());
+            RapidhashStream before = buffer.remaining() > kept.length - end ? copy() : this;
+            try {
+                append(buffer, at, buffer.remaining());
+            } catch (RuntimeException | Error e) { // such as an arena that is closed, even by another thread
+                become(before);
+                throw e;
+            }
         }
         buffer.position(buffer.limit());
     }

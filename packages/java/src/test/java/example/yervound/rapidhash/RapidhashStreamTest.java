@@ -12,6 +12,7 @@ import java.nio.file.Files;
 import java.nio.file.Path;
 import java.nio.file.StandardOpenOption;
 import java.util.List;
+import java.util.concurrent.FutureTask;
 import java.util.zip.CheckedInputStream;
 import org.junit.Test;
 
@@ -41,18 +42,25 @@ public class RapidhashStreamTest {
         }
     }
 
+    private static AutoCloseable arena(String kind) throws ReflectiveOperationException {
+        return (AutoCloseable) Class.forName("java.lang.foreign.Arena").getMethod(kind).invoke(null);
+    }
+
+    private static ByteBuffer within(AutoCloseable arena, long size) throws ReflectiveOperationException {
+        Class<?> type = Class.forName("java.lang.foreign.Arena");
+        Object segment = type.getMethod("allocate", long.class).invoke(arena, size);
+        return (ByteBuffer) Class.forName("java.lang.foreign.MemorySegment").getMethod("asByteBuffer").invoke(segment);
+    }
+
     /** Updates by a buffer whose memory is gone: that of a closed arena, which JDK 22 and later have. */
     @Test
     public void failedUpdates() throws Exception {
         if (Runtime.version().feature() < 22) {
             return;
         }
-        Class<?> type = Class.forName("java.lang.foreign.Arena");
-        Object arena = type.getMethod("ofConfined").invoke(null);
-        Object segment = type.getMethod("allocate", long.class).invoke(arena, 300);
-        ByteBuffer gone = (ByteBuffer) Class.forName("java.lang.foreign.MemorySegment").getMethod("asByteBuffer")
-            .invoke(segment);
-        type.getMethod("close").invoke(arena);
+        AutoCloseable arena = arena("ofConfined");
+        ByteBuffer gone = within(arena, 300);
+        arena.close();
         byte[] message = Messages.bytes(700);
         for (Rapidhash<Secrets> version : STREAMED) {
             for (int before = 0; before < 400; before++) {
@@ -64,6 +72,34 @@ public class RapidhashStreamTest {
                 assertEquals(version + " after " + before, version.hash(message, 0, before + 300, OWN),
                     stream.getValue());
             }
+        }
+    }
+
+    /** Updates by a buffer whose memory goes meanwhile, because another thread closes the arena. */
+    @Test
+    public void updatesThatFailHalfway() throws Exception {
+        if (Runtime.version().feature() < 22) {
+            return;
+        }
+        byte[] message = Messages.bytes(150);
+        for (Rapidhash<Secrets> version : STREAMED) {
+            AutoCloseable arena = arena("ofShared");
+            ByteBuffer large = within(arena, 8_000_000);
+            RapidhashStream stream = version.stream(OWN);
+            new Thread(new FutureTask<>(() -> {
+                Thread.sleep(20);
+                arena.close();
+                return null;
+            })).start();
+            assertThrows(IllegalStateException.class, () -> {
+                for (;;) {
+                    stream.reset();
+                    stream.update(message);
+                    stream.update(large.rewind());
+                }
+            });
+            Thread.interrupted(); // The JVM interrupts the thread whose access fails.
+            assertEquals(version.toString(), version.hash(message, OWN), stream.getValue());
         }
     }
 
