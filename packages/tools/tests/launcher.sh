@@ -56,6 +56,8 @@ tool=kit/linked calls call_by_a_link 7 $'first\ninput' 1 ''
 chmod -R a-w repo
 calls read_only_checkout 7 $'first\ninput' 1 ''
 chmod -R u+w repo
+[ "$(echo input | PATH=$programs "$tool" 2>&-)" = $'first\ninput' ]
+tell closed_standard_error $?
 
 # Checks that the process that was started becomes the tool, which receives signals.
 becomes_the_tool() {
