@@ -7,7 +7,7 @@ _rapidhash() {
   COMPREPLY=()
   case " ${COMP_WORDS[*]:1:COMP_CWORD-1} " in
     *" --help "* | *" -h "*) options= ;;
-    *) options="$(rapidhash --help 2>/dev/null | command grep -oE '^  --[^ ]+') --help -h" ;;
+    *) options="$(rapidhash --help 2>/dev/null | command grep -oE '^  --[^ ]+') --help -h" || : ;;
   esac
   if [[ $word == -* || -z $options ]]; then
     compopt +o bashdefault +o default 2>/dev/null

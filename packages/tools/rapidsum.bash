@@ -4,8 +4,8 @@
 _rapidsum() {
   local IFS=$' \t\n'
   local help options word=${COMP_WORDS[COMP_CWORD]#=} before=" ${COMP_WORDS[*]:1:COMP_CWORD-1} "
-  help=$(rapidsum --help 2>/dev/null)
-  options=" $(command grep -oE '^ +(-., )?--[a-z0-9-]+' <<<"$help")"
+  help=$(rapidsum --help 2>/dev/null) || :
+  options=" $(command grep -oE '^ +(-., )?--[a-z0-9-]+' <<<"$help")" || :
   COMPREPLY=()
   case ${before/% = / } in
     *" --help "* | *" -h "* | *" --version "* | *" -V "*) options= ;;

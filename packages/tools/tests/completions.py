@@ -114,6 +114,10 @@ for program in ("rapidhash", "rapidsum"):
 for program, how in SHELLS.items():
     if shutil.which(program):
         press_tabs(program, *how)
+# In a shell that ends when a command fails, a program that is not on the PATH does not end it.
+for program in HELP:
+    run = f"{program}() {{ false; }}; . '{SHARE}/{program}.bash'; COMP_WORDS=(./{program} ''); COMP_CWORD=1; _{program}"
+    compare(f"bash: no {program}", shell('bash -euo pipefail -c "$RUN"', RUN=run), (0, ""))
 if shutil.which("fish"):
     ask_fish()
 finish()
