@@ -126,7 +126,7 @@ VALUES}""", '{ let mut h = RapidStreamHasherV3::new(&DEFAULT_RAPID_SECRETS); PAR
     "SQLite": ("a.sql", "sqlite3 -cmd '.load TOP/build/rapidhash' :memory: <a.sql", "VALUES", "PARTS\n", "",
         "SELECT rapidhash_v3_key(FIELDS) FROM (SELECT DECLARE);", {
         "boolean b": "IT AS b", "date d": "'IT' AS d", "time t": "'IT' AS t", "UUID u": "x'IT' AS u",
-        "decimal n": "'IT' AS n", "list l": "'[IT]' AS l"}),
+        "decimal n": "IT AS n", "list l": "'[IT]' AS l"}),
     "PostgreSQL": (None, None, "CREATE EXTENSION rapidhash; SET timezone = 'Asia/Kolkata';\nVALUES", "PARTS\n", "",
         "SELECT rapidhash_v3_key(FIELDS) FROM (SELECT DECLARE) AS v;", {
         "boolean b": "IT AS b", "date d": "date 'IT' AS d", "time t": "timestamptz 'IT+00' AS t",
@@ -155,6 +155,8 @@ def source(language, column, value, field):
         return value[:-3]
     if column == "time t" and language == "SQLite":  # has milliseconds of its own, and no fraction of whole seconds
         return value.rstrip("0").rstrip(".")
+    if column == "decimal n" and language == "SQLite":  # keeps digits as an INTEGER in a column of type DECIMAL
+        return value if value.lstrip("-").isdigit() else f"'{value}'"
     if column == "date d" and language == "C++":
         return str(field)
     if column in ("date d", "time t") and language in ("C++", "Rust"):

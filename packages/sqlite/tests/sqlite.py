@@ -9,10 +9,12 @@ from pathlib import Path
 
 sys.path.append(str(Path(__file__).parents[3] / "tests"))
 from cases import ROOM, TOP, blocks, compare, finish, needs, shell, skip_all, tell  # noqa: E402
-from sql import DIGITS, HELLO, NOTHING, TEXT, TEXT_HASH  # noqa: E402
+from sql import BINDINGS, DIGITS, HELLO, NOTHING, TEXT, TEXT_HASH  # noqa: E402
 from sql import case_queries, lines_with_results, refused_calls, signed, unpack  # noqa: E402
 
 PAGE = "packages/sqlite/README.md"
+# The expression for a decimal, whose text has an exponent if SQLite keeps it as such a REAL.
+DECIMAL = next(text for text in BINDINGS.split("`") if text.startswith("CASE WHEN n "))
 REAL = "a REAL cannot be hashed: cast it to TEXT, BLOB or INTEGER"
 ERRORS = {
     "rapidhash_v3(1.5)": f"rapidhash_v3: {REAL}",
@@ -30,6 +32,9 @@ ERRORS = {
     "rapidhash_v3_agg(1, 2, 3)": "wrong number of arguments to function rapidhash_v3_agg()",
     "rapidhash_v3_key('a', 2.0)":
         "rapidhash_v3_key: argument 2 is a REAL, and no field of a key: cast it to TEXT, BLOB or INTEGER; "
+        "docs/BINDINGS.md lists conversions",
+    f"rapidhash_v3_key({DECIMAL}) FROM (SELECT 1e20 AS n)":
+        "rapidhash_v3_key: argument 1 is a REAL, and no field of a key: cast it to TEXT, BLOB or INTEGER; "
         "docs/BINDINGS.md lists conversions",
     # An asterisk passes no arguments, so all rows would have the same key.
     "rapidhash_v3_key(*) FROM (VALUES (1))":
