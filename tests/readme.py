@@ -51,6 +51,10 @@ def run_shell_blocks():
             is_program = re.search(r"(?<![/\w])rapid(hash|sum)\b", command) is not None
             tell(command, *faults_of(line, ROOM / "files" if is_program else TOP,
                                      PATH=f"{programs}:" * is_program + os.environ["PATH"]))
+    (ROOM / "none").mkdir()
+    finds = re.findall(r"^find .*", "".join(blocks("docs/COMMANDS.md", "sh")), re.M)
+    compare("lists of no files", [shell(f"{line.partition(' #')[0]}; cat ../sums", ROOM / "none",
+                                        PATH=f"{programs}:{os.environ['PATH']}") for line in finds], [(0, "")] * 2)
 
 
 def run_first_program():
