@@ -251,6 +251,11 @@ if [ -n "${BUILT-}" ] && [ -x "$kit" ]; then
 fi
 
 runs no_input 1 '' $'rapidsum: -: Bad file descriptor\n' "$program" <&-
+# Neither a path (O_PATH) nor a file that is opened for control alone can be read: FLAGS COMMAND..
+with_input_by() { perl -MPOSIX -e 'POSIX::close(0); POSIX::open("first", oct shift); exec @ARGV' "$@"; }
+for flags in 3 010000000; do
+  runs "input_by_$flags" 1 '' $'rapidsum: -: Bad file descriptor\n' with_input_by "$flags" "$program"
+done
 # A closed pipe ends cargo's build by SIGPIPE, as it ends sha256sum, and the kit's with a status. Both end xargs.
 runs closed_pipe "$([ -n "${BUILT-}" ] && echo 141 || echo 255)" '' '' to_a_closed_pipe "$program" first first
 ends_xargs() {

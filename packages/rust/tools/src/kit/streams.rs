@@ -1,15 +1,20 @@
 //! What Rust's `std` does not tell of the standard streams. Its runtime opens /dev/null for those that were closed when
-//! the program started, and hides the errors of those that were opened for the other direction: reads would find
+//! the program started, and hides the errors of those that were not opened for their direction: reads would find
 //! nothing and writes would be lost. It knows terminals only from Rust 1.70 on.
 #![allow(unsafe_code)]
 
 use std::sync::atomic::{AtomicUsize, Ordering};
 
 const F_GETFL: i32 = 3;
-/// The bits of the direction, and their value for a stream that is only read, or only written.
-const O_ACCMODE: i32 = 3;
+/// The bits of the direction, with Linux's O_PATH, and their value for a stream that is read, written, or both.
+const O_ACCMODE: i32 = if cfg!(all(target_os = "linux", not(target_arch = "sparc64"))) {
+    0o10000003
+} else {
+    3
+};
 const O_RDONLY: i32 = 0;
 const O_WRONLY: i32 = 1;
+const O_RDWR: i32 = 2;
 
 static UNUSABLE: AtomicUsize = AtomicUsize::new(0);
 
@@ -25,10 +30,10 @@ extern "C" {
 static BEFORE_MAIN: extern "C" fn() = look;
 
 extern "C" fn look() {
-    for (stream, other) in [(0, O_WRONLY), (1, O_RDONLY)] {
-        // SAFETY: this command has no further argument, and changes nothing.
+    for (stream, own) in [(0, O_RDONLY), (1, O_WRONLY)] {
+        // SAFETY: this command has no further argument, and changes nothing. It returns -1 of a closed stream.
         let flags = unsafe { fcntl(stream, F_GETFL) };
-        if flags == -1 || flags & O_ACCMODE == other {
+        if ![own, O_RDWR].contains(&(flags & O_ACCMODE)) {
             UNUSABLE.fetch_or(1 << stream, Ordering::Relaxed);
         }
     }
