@@ -70,11 +70,13 @@ public final class RapidhashStream implements Checksum {
         if (buffer.hasArray()) {
             append(buffer.array(), buffer.arrayOffset() + at, buffer.remaining());
         } else if (buffer.hasRemaining()) {
-            RapidhashStream before = buffer.remaining() > kept.length - end ? copy() : this;
+            long[] words = lanes.words();
+            byte[] bytes = kept.clone();
             try {
                 append(buffer, at, buffer.remaining());
             } catch (RuntimeException | Error e) { // such as an arena that is closed, even by another thread
-                become(before);
+                lanes.set(words);
+                System.arraycopy(bytes, 0, kept, 0, bytes.length);
                 throw e;
             }
         }
