@@ -26,8 +26,8 @@ LENGTHS = "0 3 4 8 12 16 17 24 32 48 64 100 112 113 160 256 512 1024 4096 16384 
 # The commands that print the version of a compiler or rival.
 VERSIONS = {"gcc": ["gcc", "-dumpfullversion"], "clang": ["clang", "-dumpversion"],
             "xxHash": ["pkg-config", "--modversion", "libxxhash"]}
-# How a profile differs from cargo's default release profile.
 LAYOUTS = 16
+# How a profile differs from cargo's default release profile.
 PROFILES = {"release": [], "lto": ["--config=profile.release.lto='fat'", "--config=profile.release.codegen-units=1"]}
 MANIFEST = """[package]
 name = "program"
