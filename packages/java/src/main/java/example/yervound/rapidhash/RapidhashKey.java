@@ -65,7 +65,7 @@ public final class RapidhashKey {
 
         void add(Object field, int at) {
             if (field == null) {
-                leave(1);
+                makeRoom(1);
                 bytes[end++] = NOTHING;
             } else if (field instanceof Long || field instanceof Integer || field instanceof Short
                 || field instanceof Byte) {
@@ -85,7 +85,7 @@ public final class RapidhashKey {
 
         /** Adds a tag and a number, least significant byte first. */
         private void add(byte tag, long number) {
-            leave(9);
+            makeRoom(9);
             bytes[end++] = tag;
             for (int shift = 0; shift < 64; shift += 8) {
                 bytes[end++] = (byte) (number >> shift);
@@ -94,7 +94,7 @@ public final class RapidhashKey {
 
         private void add(byte[] field) {
             add(BYTES, field.length);
-            if (leave(field.length)) {
+            if (makeRoom(field.length)) {
                 System.arraycopy(field, 0, bytes, end, field.length);
                 end += field.length;
             } else {
@@ -105,7 +105,7 @@ public final class RapidhashKey {
         private void add(ByteBuffer field) {
             int size = field.remaining();
             add(BYTES, size);
-            if (leave(size)) {
+            if (makeRoom(size)) {
                 field.get(bytes, end, size);
                 end += size;
             } else {
@@ -113,8 +113,8 @@ public final class RapidhashKey {
             }
         }
 
-        /** Returns whether so many bytes have room, for which the bytes before them may go to the stream. */
-        private boolean leave(int count) {
+        /** Makes room for a number of bytes, by a flush if there is less. Returns whether they fit. */
+        private boolean makeRoom(int count) {
             if (count > bytes.length - end) {
                 flush();
             }
