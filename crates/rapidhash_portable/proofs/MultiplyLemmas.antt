@@ -19,3 +19,7 @@ mix_comm false a b = ap (λ p. bit_xor (p % 2 ^ 64) (p / 2 ^ 64)) (mul_comm a b)
 mix_comm true a b =
     ap (λ p. bit_xor (bit_xor a (p % 2 ^ 64)) (bit_xor b (p / 2 ^ 64))) (mul_comm a b)
     ∙ xor-exchange a b (b * a % 2 ^ 64) (b * a / 2 ^ 64)
+
+-- a number that is mixed into one of two mixed words may be mixed into the other
+pub xor-moved : (a t s : ℕ) → bit_xor (bit_xor a t) s ≡ bit_xor a (bit_xor s t)
+xor-moved a t s = xor_assoc a t s ∙ ap (bit_xor a) (xor_comm t s)

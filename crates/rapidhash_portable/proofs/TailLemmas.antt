@@ -79,3 +79,10 @@ pub after_tail-short : (protected : Bool) (table tail : List ℕ) (seed : ℕ) �
     → after_tail protected table (pair_of tail) 0 (length tail) seed ≡ seed
 unfolding after_tail fold_pairs
 after_tail-short protected table tail seed h = let none : (length tail - 1) / 16 ≡ 0 = omega arith in rw none refl
+
+-- a tail of at most 32 bytes has no second pair
+pub after_tail-single : (protected : Bool) (a b c : ℕ) (pair : ℕ → ℕ × ℕ) (t seed : ℕ) → t ≤ 32
+    → after_tail protected (a ∷ b ∷ c ∷ []) pair 0 t seed ≡ after_tail protected (a ∷ []) pair 0 t seed
+after_tail-single protected a b c pair t seed h =
+    after_tail-same protected (a ∷ b ∷ c ∷ []) pair t seed 2 (omega arith)
+    ∙ after_tail-same protected (a ∷ b ∷ c ∷ []) pair t seed 1 (omega arith)

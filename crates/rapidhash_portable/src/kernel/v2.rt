@@ -25,66 +25,77 @@ pub fn hash<const MINOR: u8, const AVALANCHE: bool, const COMPACT: bool, const P
         result ≡ portable_hash (V2 MINOR) chosen seed secrets.now bytes.now }
 {
     let n = bytes.len();
+    let start = seed ^ n as u64;
     if n > 16 {
-        return long::<MINOR, AVALANCHE, COMPACT, PROTECTED>(bytes, seed, secrets);
+        return long::<MINOR, AVALANCHE, COMPACT, PROTECTED>(bytes, start, secrets);
     }
-    close_short::<AVALANCHE, PROTECTED>(bytes, short_words_v2::<MINOR>(bytes), seed, secrets)
+    close_short::<AVALANCHE, PROTECTED>(bytes, short_words_v2::<MINOR>(bytes), start, secrets)
 }
 
-/// Returns the hash of at most 16 bytes from their two words.
+/// Returns the hash of at most 16 bytes from their two words and the seed with their length.
 #[inline(always)]
 #[tactic(auto, using(crate::proofs::Cases::short))]
 fn close_short<const AVALANCHE: bool, const PROTECTED: bool>(
     bytes: &[u8],
     words: (u64, u64),
-    seed: u64,
+    start: u64,
     secrets: &[u64; 7],
 ) -> u64
     requires { length bytes.now ≤ 16 }
-    ensures { (minor : ℕ) → words ≡ short_words (V2 minor) bytes.now →
+    ensures { (minor seed : ℕ) → words ≡ short_words (V2 minor) bytes.now →
+        start ≡ start_seed (V2 minor) (length bytes.now) seed →
         result ≡ portable_hash (V2 minor) (options AVALANCHE PROTECTED) seed secrets.now bytes.now }
 {
     let len = bytes.len() as u64;
     let second = secrets[1];
-    close::<AVALANCHE, PROTECTED>(words, seed ^ len, second, (ALTERNATING_BITS ^ len, second))
+    close::<AVALANCHE, PROTECTED>(words, start, second, (ALTERNATING_BITS ^ len, second))
 }
 
-/// Returns the hash above 16 bytes. A message that has no row makes no call.
+/// Returns the hash above 16 bytes from the seed with the length. A message that has no row makes
+/// no call. It is cold so that shorter messages take no jump.
+#[cold]
 #[inline(always)]
 fn long<const MINOR: u8, const AVALANCHE: bool, const COMPACT: bool, const PROTECTED: bool>(
     bytes: &[u8],
-    seed: u64,
+    start: u64,
     secrets: &[u64; 7],
 ) -> u64
     requires above_16 { 16 < length bytes.now }
     requires minor { MINOR ≤ 2 }
-    ensures { let chosen = options AVALANCHE PROTECTED in
+    ensures { (seed : ℕ) → start ≡ start_seed (V2 MINOR) (length bytes.now) seed →
+        let chosen = options AVALANCHE PROTECTED in
         result ≡ portable_hash (V2 MINOR) chosen seed secrets.now bytes.now }
 {
     let n = bytes.len();
     if n <= longest_rowless::<MINOR>() {
-        without_rows::<MINOR, AVALANCHE, PROTECTED>(bytes, seed, secrets)
+        without_rows::<MINOR, AVALANCHE, PROTECTED>(bytes, start, secrets)
     } else {
-        with_rows::<MINOR, AVALANCHE, COMPACT, PROTECTED>(bytes, seed, secrets)
+        with_rows::<MINOR, AVALANCHE, COMPACT, PROTECTED>(bytes, start, secrets)
     }
 }
 
-/// Returns the hash above 16 bytes of a message that has no row.
+/// Returns the hash above 16 bytes of a message that has no row. Up to 32 bytes it tests no further
+/// pair.
 #[inline(always)]
 fn without_rows<const MINOR: u8, const AVALANCHE: bool, const PROTECTED: bool>(
     bytes: &[u8],
-    seed: u64,
+    start: u64,
     secrets: &[u64; 7],
 ) -> u64
     requires above_16 { 16 < length bytes.now }
     requires rowless { length bytes.now ≤ longest_rowless (V2 MINOR) }
     requires minor { MINOR ≤ 2 }
-    ensures { let chosen = options AVALANCHE PROTECTED in
+    ensures { (seed : ℕ) → start ≡ start_seed (V2 MINOR) (length bytes.now) seed →
+        let chosen = options AVALANCHE PROTECTED in
         result ≡ portable_hash (V2 MINOR) chosen seed secrets.now bytes.now }
 {
     let len = bytes.len() as u64;
+    if len <= 32 {
+        let seed = fold_tail::<1, PROTECTED>(bytes, &[secrets[0]], start);
+        return close_long::<AVALANCHE, PROTECTED>(bytes, len, seed, secrets);
+    }
     let table = [secrets[0], secrets[1], secrets[last_place::<MINOR>()]];
-    let seed = fold_tail::<3, PROTECTED>(bytes, &table, seed ^ len);
+    let seed = fold_tail::<3, PROTECTED>(bytes, &table, start);
     close_long::<AVALANCHE, PROTECTED>(bytes, len, seed, secrets)
 }
 
@@ -94,15 +105,16 @@ fn without_rows<const MINOR: u8, const AVALANCHE: bool, const PROTECTED: bool>(
 #[tactic(auto, using(crate::proofs::Cases::tests), unfolding(crate::specs::Form::shape_of))]
 fn with_rows<const MINOR: u8, const AVALANCHE: bool, const COMPACT: bool, const PROTECTED: bool>(
     bytes: &[u8],
-    seed: u64,
+    start: u64,
     secrets: &[u64; 7],
 ) -> u64
     requires { longest_rowless (V2 MINOR) < length bytes.now }
-    ensures { let chosen = options AVALANCHE PROTECTED in
+    ensures { (seed : ℕ) → start ≡ start_seed (V2 MINOR) (length bytes.now) seed →
+        let chosen = options AVALANCHE PROTECTED in
         result ≡ portable_hash (V2 MINOR) chosen seed secrets.now bytes.now }
 {
     let len = bytes.len() as u64;
-    let (joined, tail) = mixed_lanes::<COMPACT, PROTECTED>(bytes, seed ^ len, secrets);
+    let (joined, tail) = mixed_lanes::<COMPACT, PROTECTED>(bytes, start, secrets);
     close_tail::<AVALANCHE, PROTECTED>(tail, bytes, len, joined, secrets)
 }
 

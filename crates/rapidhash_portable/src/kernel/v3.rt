@@ -3,7 +3,8 @@
 ghost use Rattle.std.specs.Prelude.{◌≡◌, ◌<◌, ◌≤◌, ◌+◌, ◌*◌, ◌%◌, ℕ, List, length, drop};
 ghost use Rattle.rapidhash_portable.specs.declared.form.Form.TheVariants.{V3};
 ghost use Rattle.rapidhash_portable.specs.Folded.{AfterRows};
-ghost use Rattle.rapidhash_portable.specs.Form.{longest_rowless, options, shape_of, start_seed};
+ghost use Rattle.rapidhash_portable.specs.Form.{longest_rowless, options, shape_of, start_seed, tail_places};
+ghost use Rattle.rapidhash_portable.specs.Tail.{picked};
 ghost use Rattle.rapidhash_portable.specs.Hash.{portable_hash};
 ghost use Rattle.rapidhash_portable.specs.Words.{last_16, short_words};
 
@@ -62,7 +63,8 @@ fn close_short<const LANES: usize, const AVALANCHE: bool, const PROTECTED: bool>
     close::<AVALANCHE, PROTECTED>(words, start, second, (ALTERNATING_BITS, second ^ n))
 }
 
-/// Returns the hash above 16 bytes.
+/// Returns the hash above 16 bytes. It is cold so that shorter messages take no jump.
+#[cold]
 #[inline(always)]
 #[tactic(auto, using(crate::proofs::Cases::no_rows))]
 fn long<const LANES: usize, const AVALANCHE: bool, const COMPACT: bool, const PROTECTED: bool>(
@@ -78,10 +80,29 @@ fn long<const LANES: usize, const AVALANCHE: bool, const COMPACT: bool, const PR
 {
     let n = bytes.len();
     if n <= LONGEST_INLINED && n <= 16 * LANES {
-        close_tail::<AVALANCHE, PROTECTED>(bytes, bytes, seed, secrets)
+        close_rowless::<LANES, AVALANCHE, PROTECTED>(bytes, seed, secrets)
     } else {
         above_inlined::<LANES, AVALANCHE, COMPACT, PROTECTED>(bytes, seed, secrets)
     }
+}
+
+/// Returns the hash above 16 bytes of a message that has no row. It mixes the length into the
+/// secret alone: in [`close_tail`], that would take one more register.
+#[inline(always)]
+fn close_rowless<const LANES: usize, const AVALANCHE: bool, const PROTECTED: bool>(
+    bytes: &[u8],
+    seed: u64,
+    secrets: &[u64; 7],
+) -> u64
+    requires above_16 { 16 < length bytes.now }
+    requires odd { LANES % 2 ≡ 1 }
+    requires rowless { length bytes.now ≤ 16 * LANES }
+    ensures { let chosen = options AVALANCHE PROTECTED in
+        result ≡ portable_hash (V3 LANES) chosen seed secrets.now bytes.now }
+{
+    let folded = fold_tail::<6, PROTECTED>(bytes, &tail_secrets(secrets), seed);
+    let secret = secrets[1] ^ bytes.len() as u64;
+    close::<AVALANCHE, PROTECTED>(last_16(bytes), folded, secret, (ALTERNATING_BITS, secret))
 }
 
 /// Returns the hash of a message that has no row, out of line and without lanes.
@@ -142,10 +163,18 @@ pub(crate) fn close_tail<const AVALANCHE: bool, const PROTECTED: bool>(
         AfterRows PROTECTED secrets.now x (shape_of (V3 lanes) (length x)) seed joined tail.now →
         result ≡ portable_hash (V3 lanes) (options AVALANCHE PROTECTED) seed secrets.now x }
 {
-    let (second, third) = (secrets[1], secrets[2]);
-    let table = [third, third, second, second, third, second];
-    let seed = fold_tail::<6, PROTECTED>(tail, &table, joined);
-    let t = tail.len() as u64;
+    let seed = fold_tail::<6, PROTECTED>(tail, &tail_secrets(secrets), joined);
+    let (t, second) = (tail.len() as u64, secrets[1]);
     let (a, b) = last_16(ending);
     close::<AVALANCHE, PROTECTED>((a ^ t, b), seed, second, (ALTERNATING_BITS, second ^ t))
+}
+
+/// Returns the secrets that the pairs of a tail are mixed with, in order.
+#[inline(always)]
+#[tactic(auto, unfolding(crate::specs::Form::tail_places))]
+fn tail_secrets(secrets: &[u64; 7]) -> [u64; 6]
+    ensures { (lanes n : ℕ) → result ≡ picked secrets.now (tail_places (V3 lanes) n) }
+{
+    let (second, third) = (secrets[1], secrets[2]);
+    [third, third, second, second, third, second]
 }

@@ -49,7 +49,8 @@ const fn close_short<const LANES: usize, const AVALANCHE: bool, const PROTECTED:
 }
 
 const_fn! {
-/// Returns the hash above 16 bytes.
+/// Returns the hash above 16 bytes. It is cold so that shorter messages take no jump.
+#[cold]
 #[inline(always)]
 const fn long<const LANES: usize, const AVALANCHE: bool, const COMPACT: bool, const PROTECTED: bool>(
     bytes: &[u8],
@@ -58,10 +59,25 @@ const fn long<const LANES: usize, const AVALANCHE: bool, const COMPACT: bool, co
 ) -> u64 {
     let n = bytes.len();
     if n <= LONGEST_INLINED && n <= 16 * LANES {
-        close_tail::<AVALANCHE, PROTECTED>(bytes, bytes, seed, secrets)
+        close_rowless::<LANES, AVALANCHE, PROTECTED>(bytes, seed, secrets)
     } else {
         above_inlined::<LANES, AVALANCHE, COMPACT, PROTECTED>(bytes, seed, secrets)
     }
+}
+}
+
+const_fn! {
+/// Returns the hash above 16 bytes of a message that has no row. It mixes the length into the
+/// secret alone: in [`close_tail`], that would take one more register.
+#[inline(always)]
+const fn close_rowless<const LANES: usize, const AVALANCHE: bool, const PROTECTED: bool>(
+    bytes: &[u8],
+    seed: u64,
+    secrets: &[u64; 7],
+) -> u64 {
+    let folded = fold_tail::<6, PROTECTED>(bytes, &tail_secrets(secrets), seed);
+    let secret = secrets[1] ^ bytes.len() as u64;
+    close::<AVALANCHE, PROTECTED>(last_16(bytes), folded, secret, (ALTERNATING_BITS, secret))
 }
 }
 
@@ -106,11 +122,18 @@ pub(crate) const fn close_tail<const AVALANCHE: bool, const PROTECTED: bool>(
     joined: u64,
     secrets: &[u64; 7],
 ) -> u64 {
-    let (second, third) = (secrets[1], secrets[2]);
-    let table = [third, third, second, second, third, second];
-    let seed = fold_tail::<6, PROTECTED>(tail, &table, joined);
-    let t = tail.len() as u64;
+    let seed = fold_tail::<6, PROTECTED>(tail, &tail_secrets(secrets), joined);
+    let (t, second) = (tail.len() as u64, secrets[1]);
     let (a, b) = last_16(ending);
     close::<AVALANCHE, PROTECTED>((a ^ t, b), seed, second, (ALTERNATING_BITS, second ^ t))
+}
+}
+
+const_fn! {
+/// Returns the secrets that the pairs of a tail are mixed with, in order.
+#[inline(always)]
+const fn tail_secrets(secrets: &[u64; 7]) -> [u64; 6] {
+    let (second, third) = (secrets[1], secrets[2]);
+    [third, third, second, second, third, second]
 }
 }

@@ -12,4 +12,4 @@ returns g c = λ lanes seed x long last rows.
     let chosen = options (not (nat_eq g.row.AVALANCHE 0)) (not (nat_eq g.row.PROTECTED 0)) in
     let start = start_seed-long lanes (length x) seed long in
     let hash = hash-is (V3 lanes) chosen seed c.args.secrets.now x c.args.tail.now c.args.joined (rw start rows) in
-    grind (arith, hash, last_words-long (V3 lanes) x long, mixed_words-long)
+    grind (arith, hash, c.tail_secrets.ensures lanes (length x), last_words-long (V3 lanes) x long, mixed_words-long)
