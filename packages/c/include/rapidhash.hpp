@@ -62,7 +62,7 @@ inline secrets seed_secrets(seed start) noexcept
 
 /* A view of bytes, the argument of the functions below. A std::string, string_view, vector, array, or span of bytes or
  * characters converts implicitly, and so do a C string, without its terminating zero, an array of characters, up to its
- * first zero or its end, and an array of other bytes as a whole. It owns nothing. */
+ * first zero or its end, if it has a known one, and an array of other bytes as a whole. It owns nothing. */
 class bytes {
     template <class Range>
     using element = typename std::remove_pointer<decltype(std::declval<const Range &>().data())>::type;
@@ -82,12 +82,14 @@ class bytes {
     template <class Text>
     using if_text = typename std::enable_if<std::is_pointer<Text>::value && is_character<
         typename std::remove_const<typename std::remove_pointer<Text>::type>::type>::value, int>::type;
+    template <class Text> struct pointer_of { using type = Text; };
+    template <class Element> struct pointer_of<Element[]> { using type = Element *; };
 
 public:
     bytes(const void *data, std::size_t size) noexcept : data_(chars(data)), size_(size) {}
     template <class Text, if_text<typename std::decay<Text>::type> = 0>
     RAPIDHASH_CONSTEXPR bytes(const Text &text, std::size_t size) noexcept : data_(chars(text)), size_(size) {}
-    template <class Text, if_text<Text> = 0>
+    template <class Text, if_text<typename pointer_of<Text>::type> = 0>
     RAPIDHASH_CONSTEXPR bytes(const Text &text) noexcept : data_(chars(text)), size_(length(text)) {}
     template <class Element, std::size_t Size, class = if_byte<Element>>
     RAPIDHASH_CONSTEXPR bytes(const Element (&array)[Size]) noexcept : data_(chars(array)), size_(Size)

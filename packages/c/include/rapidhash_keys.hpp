@@ -88,12 +88,15 @@ template <> struct field<std::nullptr_t> {
     static void add(::rapidhash_stream *state, std::nullptr_t) noexcept { ::rapidhash_key_nothing(state); }
 };
 
-/* The type of an integer or an enumerator. An enumerator of char has a sign on each machine, although char has not. */
+/* The type of an integer or an enumerator. A wchar_t of 32 bits, and an enumerator of it or of char, has a sign on each
+ * machine, although the types have not. */
 template <class Integer, bool = std::is_enum<Integer>::value> struct integer_of { using type = Integer; };
 template <class Integer> struct integer_of<Integer, true> {
     using base = typename std::underlying_type<Integer>::type;
-    using type = typename std::conditional<std::is_same<base, char>::value, signed char, base>::type;
+    using type = typename std::conditional<std::is_same<base, char>::value, signed char,
+                                           typename integer_of<base>::type>::type;
 };
+template <> struct integer_of<wchar_t, false> { using type = std::int32_t; };
 
 template <class Integer>
 struct field<Integer, typename std::enable_if<std::is_integral<Integer>::value || std::is_enum<Integer>::value>::type> {
@@ -135,6 +138,8 @@ template <class... Values> struct field<std::tuple<Values...>> {
 /* Appends the items of a list after their number. */
 template <class List> void add_list(::rapidhash_stream *state, const List &items) noexcept
 {
+    static_assert(!std::is_volatile<typename std::remove_reference<decltype(*items.begin())>::type>::value,
+                  "a list of a key has no volatile items: copy them, perhaps into a vector");
     ::rapidhash_key_integer(state, static_cast<std::int64_t>(items.size()));
     for (auto &&item : items)
         rapidhash::add_field<typename std::remove_cv<typename List::value_type>::type>(state, item);

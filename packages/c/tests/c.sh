@@ -210,6 +210,8 @@ std::optional<const std::optional<int>>()|an optional field is itself no optiona
 std::optional<std::nullptr_t>()|an optional field is itself no optional,
 std::vector<double>()|a field is nullptr, an integer,
 L"user"|a field is nullptr, an integer,
+std::array<volatile int, 1>()|a list of a key has no volatile items: copy them, perhaps into a vector
+std::array<volatile unsigned char, 1>()|a list of a key has no volatile items:
 static_cast<const int *>(nullptr)|a pointer is no field: pass what it points to, nullptr, or \
 rapidhash::bytes(pointer, length)
 std::unique_ptr<int>()|a pointer is no field: pass what it points to,
@@ -583,6 +585,9 @@ try_with cppcheck cppcheck has_no_fault_of_cppcheck
 try_with names_of_parameters cppcheck names_parameters_alike
 try_with cpp_header_32_bits "g++ $multilib/libstdc++.a" calls_from_cpp g++ c++11 -m32 -funsigned-char \
   -idirafter /usr/include/x86_64-linux-gnu
+# As on ARM.
+try_with cpp_header_of_unsigned_wide_characters clang++ calls_from_cpp clang++ c++11 -Xclang -fwchar-type=int \
+  -Xclang -fno-signed-wchar
 
 # Each path of the loads and the product, on machines of 64 and 32 bits and of both byte orders. A test stands in for
 # the functions of MSVC.

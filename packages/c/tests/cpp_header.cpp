@@ -26,6 +26,7 @@ int differing_constants();
 int number_of(const std::string &word);
 void check_keys();
 
+extern const char of_any_length[]; /* of cpp_types.cpp */
 static int passed, failed;
 
 void compare(const std::string &name, std::uint64_t value, std::uint64_t known);
@@ -71,6 +72,9 @@ static void check_texts()
     compare("a C string of UTF-8", rapidhash::hash(&u8"hello"[0]), hash_of_hello);
     compare("a part of a text of UTF-8", rapidhash::hash({u8"hello, world", 5}), hash_of_hello);
     compare("a C string", rapidhash::hash(pointer), hash_of_hello);
+    compare("a text of another file", rapidhash::hash(of_any_length), hash_of_hello);
+    compare("its field", rapidhash::key(of_any_length), rapidhash::key("hello"));
+    compare("its hash in a table", rapidhash::hasher()(of_any_length), static_cast<std::size_t>(hash_of_hello));
     compare("a string", rapidhash::hash(text), hash_of_hello);
     compare("a vector", rapidhash::hash(vector), hash_of_hello);
     compare("an array", rapidhash::hash(array), hash_of_hello);

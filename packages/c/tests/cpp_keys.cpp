@@ -20,6 +20,7 @@ namespace {
 enum class port : std::uint16_t { of_tests = 4711 };
 enum plain { minus_five = -5 };
 enum class letter : char {};
+enum class wide : wchar_t {};
 
 struct point {
     int x, y, z;
@@ -68,6 +69,10 @@ static void check_hashers()
     compare_hashers("an integer of 8 bits", static_cast<unsigned char>(200), 2158476182241621136U, 812482810406273927U);
     compare_hashers("an enumerator", port::of_tests, 17387702299298608986U, 3930916115193605498U);
     compare_hashers("an enumerator of a plain type", minus_five, 7077718965458860014U, 12242059137079312251U);
+    const wchar_t wide_minus_five = static_cast<wchar_t>(-5);
+    const int as_integer = sizeof(wchar_t) == 4 ? -5 : 65531;
+    compare("a wide character", rapidhash::key(wide_minus_five), rapidhash::key(as_integer));
+    compare("an enumerator of it", rapidhash::key(static_cast<wide>(wide_minus_five)), rapidhash::key(as_integer));
     compare_hashers("an enumerator of char", static_cast<letter>('\xfb'), 7077718965458860014U, 12242059137079312251U);
     compare_hashers("a truth value", false, 2551358084531978446U, 10397672620287050828U);
     compare_hashers("nothing", nullptr, 5702620981742189058U, 9713595378912556722U);

@@ -11,6 +11,9 @@
 using namespace rapidhash;
 template <class From, class To> using converts = std::is_convertible<From, To>;
 extern const secrets own;
+extern const char of_any_length[];
+extern const unsigned char bytes_of_any_length[];
+const char of_any_length[] = "hello";
 
 /* Finds whether hash can be called with a text and a number, which could be its length or a seed. */
 template <class Number, class = void> struct takes_a_number : std::false_type {};
@@ -25,6 +28,9 @@ static_assert(!converts<std::vector<std::uint16_t>, bytes>::value, "numbers of 1
 static_assert(!converts<std::nullptr_t, bytes>::value, "nothing is no text");
 static_assert(!converts<volatile char *, bytes>::value && !converts<const volatile unsigned char (&)[2], bytes>::value,
               "volatile bytes are not read");
+static_assert(converts<decltype((of_any_length)), bytes>::value
+                  && !converts<decltype((bytes_of_any_length)), bytes>::value,
+              "an array of no known length is a C string");
 static_assert(!converts<int, seed>::value, "a number is no seed");
 static_assert(std::is_copy_assignable<stream>::value, "a stream can be copied");
 static_assert(!converts<seed, seeded_hasher>::value && !converts<secrets, seeded_hasher>::value
