@@ -190,8 +190,10 @@ install:
 uninstall:
 	@env -u ARCHIVE -u SHARED -u TOOLS scripts/install --remove
 
-# Replays the cases with the installed library, and asks the installed programs for a known hash.
+# Replays the cases with the installed library, and asks the installed programs for a known hash. Without the first
+# line, the compiler would take another installation.
 installcheck:
+	@ls "$$DESTDIR$$INCLUDEDIR/rapidhash_c.h" "$$DESTDIR$$LIBDIR/librapidhash_c.so" >/dev/null
 	@mkdir -p build && $(CC) -I"$$DESTDIR$$INCLUDEDIR" $(CPPFLAGS) $(or $(CFLAGS),-O2) -DRAPIDHASH_LINK \
 	  packages/c/tests/cases.c -L"$$DESTDIR$$LIBDIR" $(LDFLAGS) -lrapidhash_c -o build/installcheck
 	@LD_LIBRARY_PATH="$$DESTDIR$$LIBDIR" build/installcheck <crates/test_replay/data/cases.tsv

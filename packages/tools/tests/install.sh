@@ -263,12 +263,14 @@ has_the_modes() {
 }
 
 # Checks that the installed files pass in a stage with a quote and a comma in its name, by the compiler that CC names.
-# Variables may name a directory with other ones.
+# Variables may name a directory with other ones. Where nothing is installed, no other installation passes instead.
 checks_a_stage() {
   mkdir "$room/others" && echo '#error' | tee "$room"/others/{rapidhash_c.h,librapidhash_c.so.1} && ln -s "$room" \
     "$room/a',b" && LD_LIBRARY_PATH=$room/others make -s -C "$top" installcheck DESTDIR="$room/a',b" PREFIX=/usr \
     CPPFLAGS="-I$room/others" &&
     ! make -s -C "$top" installcheck DESTDIR="$room" PREFIX=/usr CC=false &&
+    ! CPATH=$prefix/include LIBRARY_PATH=$prefix/lib make -s -C "$top" installcheck PREFIX="$room/none" \
+      LDFLAGS="-Wl,-rpath,$prefix/lib" &&
     ! grep -nE '(^|[^"(a-z])cc -' "$top"/Makefile "$top"/packages/*/make.mk
 }
 
