@@ -14,9 +14,10 @@ import java.util.Objects;
  * hashes are not cryptographic: someone who chooses the bytes can make two messages collide. All methods are
  * thread-safe.
  *
- * <p>A method throws NullPointerException, naming the argument, if an argument is null. A hash of a buffer covers the
- * bytes from its position to its limit and changes neither, as {@link ByteBuffer#hashCode()} does. V3, micro and nano
- * have streams: to start one of another version throws UnsupportedOperationException.
+ * <p>A method throws NullPointerException, naming the argument, if an argument is null, and IllegalArgumentException
+ * for secrets of another type, which calls by a raw type can pass. A hash of a buffer covers the bytes from its
+ * position to its limit and changes neither, as {@link ByteBuffer#hashCode()} does. V3, micro and nano have streams: to
+ * start one of another version throws UnsupportedOperationException.
  *
  * @param <S> the secrets of the version: {@link SecretsV1} or {@link Secrets}
  */
@@ -86,7 +87,7 @@ public final class Rapidhash<S extends SeedAndSecrets> {
     /** Returns the hash of all bytes with a seed and secrets. */
     public long hash(byte[] bytes, S secrets) {
         Objects.requireNonNull(bytes, "bytes");
-        return of(bytes, 0, bytes.length, Objects.requireNonNull(secrets, "secrets").seed, secrets);
+        return of(bytes, 0, bytes.length, defaults.checked(secrets).seed, secrets);
     }
 
     /**
@@ -116,7 +117,7 @@ public final class Rapidhash<S extends SeedAndSecrets> {
      */
     public long hash(byte[] bytes, int offset, int length, S secrets) {
         Objects.checkFromIndexSize(offset, length, Objects.requireNonNull(bytes, "bytes").length);
-        return of(bytes, offset, length, Objects.requireNonNull(secrets, "secrets").seed, secrets);
+        return of(bytes, offset, length, defaults.checked(secrets).seed, secrets);
     }
 
     /** Returns the hash of a buffer's remaining bytes with the default seed and secrets. */
@@ -131,7 +132,7 @@ public final class Rapidhash<S extends SeedAndSecrets> {
 
     /** Returns the hash of a buffer's remaining bytes with a seed and secrets. */
     public long hash(ByteBuffer buffer, S secrets) {
-        return ofBuffer(buffer, Objects.requireNonNull(secrets, "secrets").seed, secrets);
+        return ofBuffer(buffer, defaults.checked(secrets).seed, secrets);
     }
 
     /** Returns the hash of a number's 8 bytes, least significant first, with the default seed and secrets. */
@@ -217,7 +218,7 @@ public final class Rapidhash<S extends SeedAndSecrets> {
 
     /** Starts a stream with a seed and secrets. */
     public RapidhashStream stream(S secrets) {
-        return new RapidhashStream(lanes(), Objects.requireNonNull(secrets, "secrets"));
+        return new RapidhashStream(lanes(), defaults.checked(secrets));
     }
 
     /** Returns the text of a hash as an unsigned decimal number. */

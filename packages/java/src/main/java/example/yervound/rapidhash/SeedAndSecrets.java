@@ -54,6 +54,15 @@ public abstract class SeedAndSecrets {
         return mixed | ((mixed & 0xffffL) == 0 ? 1 : 0);
     }
 
+    /** Returns other secrets of this type. The compiler does not check those of calls by a raw type. */
+    <S extends SeedAndSecrets> S checked(S others) {
+        if (Objects.requireNonNull(others, "secrets").getClass() != getClass()) {
+            throw new IllegalArgumentException(
+                getClass().getSimpleName() + " are needed, not " + others.getClass().getSimpleName());
+        }
+        return others;
+    }
+
     /** Returns the seed. */
     public long seed() {
         return seed;

@@ -11,6 +11,7 @@ import java.io.EOFException;
 import java.io.FileInputStream;
 import java.io.IOException;
 import java.io.InputStream;
+import java.nio.ByteBuffer;
 import java.nio.CharBuffer;
 import java.nio.channels.Channels;
 import java.nio.channels.FileChannel;
@@ -20,6 +21,7 @@ import java.nio.file.StandardOpenOption;
 import java.util.Arrays;
 import java.util.List;
 import org.junit.Test;
+import org.junit.function.ThrowingRunnable;
 
 /** Tests the hashes of numbers, texts and inputs. The known values are those of tests/model.py. */
 public class ValuesTest {
@@ -159,6 +161,24 @@ public class ValuesTest {
         assertEquals("no more", assertThrows(IOException.class, () -> stream.update(input)).getMessage());
         stream.update(new byte[] {'e', 'l', 'l', 'o'});
         assertEquals(3327445792987248966L, stream.getValue());
+    }
+
+    /** Calls without a type parameter, which the compiler does not check. */
+    @Test
+    @SuppressWarnings({"unchecked", "rawtypes"})
+    public void secretsOfAnotherVersion() {
+        for (Rapidhash version : Rapidhash.ALL) {
+            SeedAndSecrets other = version == Rapidhash.V1 ? OWN : Messages.OWN_V1;
+            String message = version == Rapidhash.V1 ? "SecretsV1 are needed, not Secrets"
+                : "Secrets are needed, not SecretsV1";
+            for (ThrowingRunnable call : List.<ThrowingRunnable>of(() -> version.hash(OF_TEXT, other),
+                () -> version.hash(OF_TEXT, 0, 3, other), () -> version.hash(ByteBuffer.wrap(OF_TEXT), other),
+                () -> version.hash(5, other), () -> version.hash("a", other), () -> version.hash('a', other))) {
+                assertEquals(message, assertThrows(IllegalArgumentException.class, call).getMessage());
+            }
+        }
+        Rapidhash version = Rapidhash.V3;
+        assertThrows(IllegalArgumentException.class, () -> version.stream(Messages.OWN_V1));
     }
 
     @Test
