@@ -536,8 +536,12 @@ RAPIDHASH_FORCE_INLINE_ const uint8_t *rapidhash_fold_all_rows_(
 #endif
     for (; twice && *n >= 2 * row + least; *n -= 2 * row, p += 2 * row)
         rapidhash_fold_rows_(lanes, 2, protect, lane, p, s);
-    for (; *n >= row + least; *n -= row, p += row)
+    while (*n >= row + least) {
         rapidhash_fold_rows_(lanes, 1, protect, lane, p, s);
+        *n -= row;
+        p += row;
+        if (twice) break; /* None is left. Without this line, clang loads all secrets before the row. */
+    }
     RAPIDHASH_ASSERT(*n < row + least);
     return p;
 }
