@@ -1,14 +1,18 @@
 #!/usr/bin/env python3
-# reads: docs tests/model.py crates/test_replay/data packages/c/include
+# reads: docs scripts/fields.py tests/fields.tsv tests/model.py crates/test_replay/data packages/c/include
 """Compares the hashes of model.py with the values of the upstream crate in the files of cases and on docs/ALGORITHM.md,
 and with the C header's hashes of messages above 100,000 bytes."""
 
 import ctypes
 import re
+import sys
 
 from cases import ROOM, TOP, compare, finish, lacks, shell, skip, tell
 from model import (PAGE, S, bucket, drawn, drawn_by_time, field_bytes, fingerprint, first_hash, hash_of, hashed_items,
                    made_secrets, message, saved, secrets_of, seed_source, shard)
+
+sys.path.append(str(TOP / "scripts"))
+from fields import made  # noqa: E402
 
 
 # Upstream's hashes of 2^32 + 205 bytes of 0, and of the key that has them. Without the upper bits of the length the
@@ -140,6 +144,7 @@ compare("values_on_the_page", len(rows), 5)
 saved_rows = re.findall(r"^\| (\d+) \| (\d+) \| ", (TOP / "docs" / "BINDINGS.md").read_text(), re.M)
 ends = [int(offset) + int(size) for offset, size in saved_rows]
 compare("offsets of a saved stream on its page", [*map(int, dict(saved_rows)), 208], [0, *ends])
+compare("values_of_types", (TOP / "tests/fields.tsv").read_text().splitlines(), [*made()])
 if lacks("cc"):
     skip("long messages in C", lacks("cc"))
 else:
