@@ -11,8 +11,8 @@ struct fields {
     char letter;
 };
 
-/* Why a row has no key: an error is set, an integer is too large, or offsets of Arrow do not ascend. */
-enum { HASHED, REFUSED, TOO_LARGE, NOT_ASCENDING };
+/* Why a row has no key: an error is set, or offsets of Arrow do not ascend. */
+enum { HASHED, REFUSED, NOT_ASCENDING };
 
 /* Opens a column of integers in a buffer. A single time of NumPy has one of its bytes. Returns their number, or -1 with
  * an error set. */
@@ -65,37 +65,26 @@ static int open_fields(PyObject *column, Py_ssize_t at, Py_ssize_t rows, struct 
     return -1;
 }
 
-#define SIGNED(letter, type) \
+#define INTEGER(letter, type, wide) \
     case letter: { \
         type number; \
         memcpy(&number, place, sizeof number); \
-        append_number(key, 1, (uint64_t)(int64_t)number); \
-        return HASHED; \
-    }
-#define UNSIGNED(letter, type) \
-    case letter: { \
-        type number; \
-        uint64_t value; \
-        memcpy(&number, place, sizeof number); \
-        value = number; \
-        if (value > INT64_MAX) return TOO_LARGE; \
-        append_number(key, 1, value); \
-        return HASHED; \
+        append_number(key, 1, (uint64_t)(wide)number); \
+        break; \
     }
 
 /* Appends an integer of a buffer. */
-static int add_number(const char *place, char letter, struct key *key)
+static void add_number(const char *place, char letter, struct key *key)
 {
     switch (letter) {
-        SIGNED('b', int8_t)
-        SIGNED('h', int16_t)
-        SIGNED('i', int32_t)
-        SIGNED('q', int64_t)
-        UNSIGNED('B', uint8_t)
-        UNSIGNED('H', uint16_t)
-        UNSIGNED('I', uint32_t)
-        default:
-        UNSIGNED('Q', uint64_t)
+        INTEGER('b', int8_t, int64_t)
+        INTEGER('h', int16_t, int64_t)
+        INTEGER('i', int32_t, int64_t)
+        INTEGER('B', uint8_t, uint64_t)
+        INTEGER('H', uint16_t, uint64_t)
+        INTEGER('I', uint32_t, uint64_t)
+        default: /* q or Q */
+        INTEGER('q', uint64_t, uint64_t)
     }
 }
 
@@ -116,7 +105,7 @@ static int add_row(const struct fields *fields, Py_ssize_t at, Py_ssize_t row, s
     if (fields->arrow != NULL && is_null(fields->arrow, row))
         return append(key, "", 1), HASHED;
     if (fields->arrow == NULL || fields->letter != 0)
-        return add_number((const char *)fields->buffer.buf + row * fields->stride, fields->letter, key);
+        return add_number((const char *)fields->buffer.buf + row * fields->stride, fields->letter, key), HASHED;
     if (find_bytes(fields->arrow, row, &message) < 0)
         return NOT_ASCENDING;
     append_number(key, 2, message.len);
@@ -165,8 +154,6 @@ static int run_rows(const struct fields *fields, Py_ssize_t columns, Py_ssize_t 
         status = hash_rows(fields, columns, rows, &key, out->buf, place);
         Py_END_ALLOW_THREADS
     }
-    if (status == TOO_LARGE)
-        refuse_value(place[0], place[1]);
     if (status == NOT_ASCENDING)
         PyErr_Format(PyExc_ValueError, "columns[%zd][%zd] has offsets that do not ascend from 0", place[0], place[1]);
     return status == HASHED ? 0 : -1;

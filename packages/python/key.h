@@ -64,9 +64,6 @@ int add_field(PyObject *field, Py_ssize_t at, Py_ssize_t row, struct key *key);
 /* Releases the type that a key holds. */
 void release_key(struct key *key);
 
-/* Sets the error of an integer that has more than 64 bits. Returns -1. */
-int refuse_value(Py_ssize_t at, Py_ssize_t row);
-
 /* Reads the secrets of a call into `own`. Returns 0, or -1 with an error set. */
 int read_own(PyObject *module, PyObject *seed, PyObject *secrets, struct rapidhash_secrets *own);
 

@@ -1,4 +1,5 @@
-/* The fields of a key, and the hash of one: None, an integer of 64 bits, a str, or bytes. */
+/* The fields of a key, and the hash of one. Other fields than None, a bool, an integer, a str or bytes become such in
+ * rapidhash/_fields.py. */
 #include "key.h"
 
 /* Names the place of an error: fields[at], or columns[at][row]. */
@@ -8,14 +9,6 @@ static void name_place(char *place, size_t size, Py_ssize_t at, Py_ssize_t row)
         PyOS_snprintf(place, size, "fields[%zd]", at);
     else
         PyOS_snprintf(place, size, "columns[%zd][%zd]", at, row);
-}
-
-int refuse_value(Py_ssize_t at, Py_ssize_t row)
-{
-    char place[64];
-    name_place(place, sizeof place, at, row);
-    PyErr_Format(PyExc_OverflowError, "%s must be from -2**63 to 2**63 - 1", place);
-    return -1;
 }
 
 /* Names the place of the error that is set. */
@@ -31,13 +24,19 @@ static int add_integer(PyObject *field, Py_ssize_t at, Py_ssize_t row, struct ke
 {
     PyObject *const index = PyNumber_Index(field);
     int overflow;
-    const long long value = index == NULL ? -1 : PyLong_AsLongLongAndOverflow(index, &overflow);
-    Py_XDECREF(index);
+    uint64_t value = index == NULL ? 0 : (uint64_t)PyLong_AsLongLongAndOverflow(index, &overflow);
+    char place[64];
     if (index == NULL)
         return refuse_field(at, row);
-    if (overflow != 0)
-        return refuse_value(at, row);
-    append_number(key, 1, (uint64_t)value);
+    if (overflow > 0)
+        value = PyLong_AsUnsignedLongLong(index);
+    Py_DECREF(index);
+    if (overflow != 0 && (overflow < 0 || PyErr_Occurred())) {
+        name_place(place, sizeof place, at, row);
+        PyErr_Format(PyExc_OverflowError, "%s must be from -2**63 to 2**64 - 1", place);
+        return -1;
+    }
+    append_number(key, 1, value);
     return 0;
 }
 
@@ -60,36 +59,62 @@ static int open_bytes(PyObject *field, struct message *message)
            buffer->ndim > 0 && !lends_masked(buffer);
 }
 
+/* Sets the error of a field of another type. Returns -1. */
+static int refuse_type(PyObject *field, Py_ssize_t at, Py_ssize_t row)
+{
+    char place[64];
+    name_place(place, sizeof place, at, row);
+    PyErr_Format(PyExc_TypeError, "%s must be None, a bool, an int, a str, bytes, a date, a datetime with an offset, "
+                 "a Decimal, a UUID, or a list or tuple of these, not %R%s", place, Py_TYPE(field),
+                 !PyFloat_Check(field) ? "" : row < 0 ? "; float_bits makes an int of a float"
+                 : "; float_bits makes an int of a float, and .astype(\"Int64\") ints of a Series");
+    return -1;
+}
+
+/* Appends the fields of a value that is neither None, an integer, a str nor bytes. */
+static int add_converted(PyObject *field, Py_ssize_t at, Py_ssize_t row, struct key *key)
+{
+    PyObject *const module = PyImport_ImportModule("rapidhash._fields");
+    PyObject *const fields = module == NULL ? NULL : PyObject_CallMethod(module, "fields_of", "(O)", field);
+    Py_ssize_t item, size;
+    Py_XDECREF(module);
+    if (fields == NULL)
+        return refuse_field(at, row);
+    size = fields == Py_None ? refuse_type(field, at, row) : PyTuple_Size(fields);
+    for (item = 0; item < size; item++)
+        if (add_field(PyTuple_GetItem(fields, item), at, row, key) < 0)
+            break;
+    Py_DECREF(fields);
+    return item == size ? 0 : -1;
+}
+
 /* Appends the bytes of a field. Returns 0, or -1 with an error set. */
 static int add_bytes(PyObject *field, Py_ssize_t at, Py_ssize_t row, struct key *key)
 {
     struct message message;
-    char place[64];
-    int are_bytes = open_bytes(field, &message);
+    const int are_bytes = open_bytes(field, &message);
+    int status = 0;
     if (are_bytes < 0)
         return refuse_field(at, row);
     if (are_bytes && key->out != NULL && is_overwritten(key->out, row, &message, "a field")) {
-        are_bytes = 0;
+        status = -1;
     } else if (are_bytes) {
         append_number(key, 2, message.len);
         append(key, message.bytes, message.len);
-    } else {
-        name_place(place, sizeof place, at, row);
-        PyErr_Format(PyExc_TypeError, "%s must be None, an int, a str or bytes, not %R; "
-                     "docs/BINDINGS.md lists conversions%s", place, Py_TYPE(field), row < 0 || !PyFloat_Check(field)
-                     ? "" : ", and .astype(\"Int64\") makes integers of a Series");
     }
     release_message(&message);
-    return are_bytes ? 0 : -1;
+    return are_bytes ? status : add_converted(field, at, row, key);
 }
 
-/* Returns whether an object is an integer, but neither a bool nor masked. The key holds the type of the last one. */
+/* Returns whether an object is an integer, but neither a bool, another scalar of NumPy, nor masked. The key holds the
+ * type of the last one. */
 static int is_integer(PyObject *field, struct key *key)
 {
     PyTypeObject *const type = Py_TYPE(field);
     if (PyLong_CheckExact(field) || type == key->integers)
         return 1;
-    if (PyBool_Check(field) || !PyIndex_Check(field) || kind_of(field) == 'b' || is_masked(field))
+    if (PyBool_Check(field) || !PyIndex_Check(field) || (kind_of(field) != 0 && strchr("iu", kind_of(field)) == NULL) ||
+        is_masked(field))
         return 0;
     release_key(key);
     Py_INCREF((PyObject *)type);
@@ -144,6 +169,8 @@ int add_field(PyObject *field, Py_ssize_t at, Py_ssize_t row, struct key *key)
 {
     if (field == Py_None)
         return append(key, "", 1), 0;
+    if (PyBool_Check(field))
+        return append_number(key, 1, field == Py_True), 0;
     return is_integer(field, key) ? add_integer(field, at, row, key) : add_bytes(field, at, row, key);
 }
 

@@ -26,13 +26,14 @@ from . import _extension
 from ._extension import v1, v2_0, v2_1, v2_2, v3, v3_micro, v3_nano, v3_protected
 from ._extension import v1_hexdigest, v2_0_hexdigest, v2_1_hexdigest, v2_2_hexdigest
 from ._extension import v3_hexdigest, v3_micro_hexdigest, v3_nano_hexdigest, v3_protected_hexdigest
+from ._fields import float_bits
 from ._secrets import Secrets, SecretsV1
 
 __all__ = ["v1", "v2_0", "v2_1", "v2_2", "v3", "v3_micro", "v3_nano", "v3_protected",
            "v1_hexdigest", "v2_0_hexdigest", "v2_1_hexdigest", "v2_2_hexdigest",
            "v3_hexdigest", "v3_micro_hexdigest", "v3_nano_hexdigest", "v3_protected_hexdigest",
            "each", "each_row", "each_slice", "v3_key", "each_key", "shard", "first_hash", "bucket", "fingerprint",
-           "make_secrets", "Secrets", "SecretsV1",
+           "float_bits", "make_secrets", "Secrets", "SecretsV1",
            "V3", "V3Micro", "V3Nano", "file_digest", "__version__"]
 
 __version__ = "1.0.0"
@@ -119,10 +120,12 @@ def _listed(column):
     if type(getattr(dtype, "na_value", None)).__name__ == "NAType":
         return column.to_numpy(dtype=object, na_value=None).tolist()  # Its own tolist() is slow.
     if getattr(dtype, "kind", "O") in "mM" and not _has(column, "isna"):
-        raise TypeError("docs/BINDINGS.md lists conversions of dates")  # NumPy lists some as numbers.
+        raise TypeError("NumPy lists some times as numbers: pass a list of dates or times")
     items = column.tolist()
     if not isinstance(items, list):  # of a masked array without a dimension
         raise TypeError("it has no rows")
+    if getattr(dtype, "kind", "O") == "V":
+        raise TypeError("it has records")
     if _has(column, "isna"):
         missing = column.isna()
         for at in itertools.compress(itertools.count(), missing.tolist() if _has(missing, "tolist") else missing):
@@ -213,22 +216,28 @@ def each_slice(data, offsets, version="v3", seed=None, secrets=None, out=None, v
 
 
 def v3_key(*fields, seed=None, secrets=None):
-    """Returns the hash of a key of several fields, the same in every language. A field is None, an int from -2**63 to
-    2**63 - 1, a str, or bytes. Different keys are hashed as different messages.
+    """Returns the hash of a key of several fields, the same in every language. A field is None, a bool, an int from
+    -2**63 to 2**64 - 1, a str, bytes, a date, a datetime with an offset, a Decimal, a UUID, or a list or tuple of these.
+    Missing values of pandas are None. `float_bits` makes an int of a float.
 
         >>> rapidhash.v3_key("user", 4711, None)
         14742763072502883419
 
-    Raises TypeError for any other field, such as a float, or a bool of Python or NumPy, and OverflowError for an int
-    outside the range."""
+    Raises TypeError for any other field, such as a float or a datetime without an offset, ValueError for a Decimal that
+    is not finite or needs more than 150,000 characters, and OverflowError for an int outside the range."""
     return _extension.key(fields, seed, secrets)
+
+
+def _kept(field):
+    """Returns a field of an iterator, which may fill it again, with its own bytes, integer or items."""
+    return tuple(map(_extension.kept, field)) if isinstance(field, (list, tuple)) else _extension.kept(field)
 
 
 def _fields(at, column):
     """Returns a column as a list, a tuple, a buffer of integers, or a capsule of Arrow's, and the number of rows."""
     column, rows = _column(f"columns[{at}]", "a column of fields", column, True)
     if rows is None and type(column) not in (list, tuple):
-        column = tuple(map(_extension.kept, _iterator(f"columns[{at}]", "a column of fields", column)))
+        column = tuple(map(_kept, _iterator(f"columns[{at}]", "a column of fields", column)))
     return column, len(column) if rows is None else rows
 
 

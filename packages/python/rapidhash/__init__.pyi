@@ -1,7 +1,10 @@
 from _typeshed import ReadableBuffer, WriteableBuffer
 from array import array
-from collections.abc import Callable, Iterable
+from collections.abc import Callable, Iterable, Sequence
+from datetime import date
+from decimal import Decimal
 from typing import Any, Protocol, SupportsIndex, TypeVar, overload
+from uuid import UUID
 
 from typing_extensions import Literal, Self
 
@@ -12,7 +15,7 @@ __all__ = [
     "v1_hexdigest", "v2_0_hexdigest", "v2_1_hexdigest", "v2_2_hexdigest",
     "v3_hexdigest", "v3_micro_hexdigest", "v3_nano_hexdigest", "v3_protected_hexdigest",
     "each", "each_row", "each_slice", "v3_key", "each_key", "shard", "first_hash", "bucket", "fingerprint",
-    "make_secrets", "Secrets", "SecretsV1",
+    "float_bits", "make_secrets", "Secrets", "SecretsV1",
     "V3", "V3Micro", "V3Nano", "file_digest", "__version__",
 ]
 
@@ -41,7 +44,9 @@ def v3_protected_hexdigest(data: _Data, seed: _Seed = ..., secrets: Secrets | No
 
 _Out = TypeVar("_Out", bound=WriteableBuffer)
 
-_Field = ReadableBuffer | str | SupportsIndex | None
+_Value = ReadableBuffer | str | SupportsIndex | date | Decimal | UUID | None
+_Field = _Value | Sequence[_Value]
+def float_bits(number: float) -> int: ...
 
 def v3_key(*fields: _Field, seed: _Seed = ..., secrets: Secrets | None = ...) -> int: ...
 

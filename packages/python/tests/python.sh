@@ -1,5 +1,5 @@
 #!/usr/bin/env bash
-# reads: packages/python packages/c/include crates/test_replay/data
+# reads: packages/python packages/c/include crates/test_replay/data tests/fields.tsv
 # Builds the Python package from source, installs it in fresh environments without a network, and tests the installed
 # copy. The interpreters that RAPIDHASH_TEST_PYTHONS names, with setuptools and wheel, also build and test the source
 # distribution. Missing programs are named, and their cases are not counted.
@@ -41,7 +41,7 @@ lay_out() {
   mkdir -p "$room/source" "$room/tests" && cd "$top" && cp LICENSE-* NOTICE "$room/source" &&
     git ls-files packages/python packages/c/include | xargs cp --parents -t "$room/source" &&
     (cd "$room/source" && find . | sort) >"$room/listed" &&
-    cp packages/python/tests/{test_*,check_types}.py crates/test_replay/data/cases.tsv "$room/tests"
+    cp packages/python/tests/{test_*,check_types}.py crates/test_replay/data/cases.tsv tests/fields.tsv "$room/tests"
 }
 
 leaves_nothing() {

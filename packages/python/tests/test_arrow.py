@@ -120,7 +120,7 @@ class Arrow(unittest.TestCase):
         for form, bound in extremes.items():
             found = rapidhash.each_key(self.column(form, [-bound, bound - 1, -1]), seed=7)
             self.assertEqual(list(found), [rapidhash.v3_key(number, seed=7) for number in (-bound, bound - 1, -1)])
-        for form, most in (("C", 2**8 - 1), ("S", 2**16 - 1), ("I", 2**32 - 1), ("L", 2**63 - 1)):
+        for form, most in (("C", 2**8 - 1), ("S", 2**16 - 1), ("I", 2**32 - 1), ("L", 2**64 - 1)):
             self.assertEqual(rapidhash.each_key(self.column(form, [most]))[0], rapidhash.v3_key(most))
 
     def test_nulls(self):
@@ -179,7 +179,6 @@ class Arrow(unittest.TestCase):
                 (lambda: key(self.column("l", [1]), self.column("g", [1])), TypeError, r"^columns\[1\] must be"),
                 (lambda: key(self.column("l", [1]), self.column("u", ["a", "b"])), ValueError,
                  r"^columns\[1\] has 2 rows, and columns\[0\] has 1$"),
-                (lambda: key(self.column("L", [1, 2**63])), OverflowError, r"^columns\[0\]\[1\] must be from "),
                 (lambda: each(self.column("u", ["", ""], buffers=short)), ValueError,
                  r"^items\[1\] has offsets that do not ascend from 0$"),
                 (lambda: each(self.column("u", [""], buffers=below)), ValueError,

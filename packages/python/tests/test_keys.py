@@ -83,18 +83,18 @@ class Keys(unittest.TestCase):
             def __index__(self):
                 raise KeyError("own")
 
-        for value in (1.5, True, [1], {}, object(), Date(8), array.array("i", [1]), array.array("d", [1]),
+        for value in (1.5, {}, object(), Date(8), array.array("i", [1]), array.array("d", [1]),
                       memoryview(b"").cast("b"), ctypes.c_ubyte(1), memoryview(b"a").cast("B", [])):
-            with self.assertRaisesRegex(TypeError, r"^fields\[1\] must be None, an int, a str or bytes, "
-                                        r"not <class '.*'>; docs/BINDINGS.md lists conversions$"):
+            with self.assertRaisesRegex(TypeError, r"^fields\[1\] must be None, a bool, an int, a str, .*, "
+                                        r"not <class '.*'>(; float_bits makes an int of a float)?$"):
                 rapidhash.v3_key(1, value)
-            with self.assertRaisesRegex(TypeError, r"^columns\[1\]\[2\] must be None, an int, a str or bytes, not "):
+            with self.assertRaisesRegex(TypeError, r"^columns\[1\]\[2\] must be None, a bool, an int, "):
                 rapidhash.each_key([1, 2, 3], ["a", None, value])
-        for value in (2**63, -2**63 - 1, 2**200):
-            with self.assertRaisesRegex(OverflowError, r"^fields\[0\] must be from -2\*\*63 to 2\*\*63 - 1$"):
+        for value in (2**64, -2**63 - 1, 2**200):
+            with self.assertRaisesRegex(OverflowError, r"^fields\[0\] must be from -2\*\*63 to 2\*\*64 - 1$"):
                 rapidhash.v3_key(value)
-        with self.assertRaisesRegex(OverflowError, r"^columns\[0\]\[1\] must be from -2\*\*63 to 2\*\*63 - 1$"):
-            rapidhash.each_key(array.array("Q", [2**63 - 1, 2**63]))
+        with self.assertRaisesRegex(OverflowError, r"^columns\[0\]\[1\] must be from -2\*\*63 to 2\*\*64 - 1$"):
+            rapidhash.each_key([1, 2**64])
         for call, place in ((lambda: rapidhash.v3_key(1, "\ud800"), r"fields\[1\]"),
                             (lambda: rapidhash.each_key([1] * 1000, ["a"] * 999 + ["b\ud800"]), r"columns\[1\]\[999\]"),
                             (lambda: rapidhash.each(["a"] * 999 + ["b\ud800"]), r"items\[999\]")):
@@ -186,8 +186,7 @@ class Keys(unittest.TestCase):
         self.assertEqual(list(rapidhash.each_key(*columns)), [rapidhash.v3_key(*row) for row in rows])
         if whole:
             self.assertEqual(list(rapidhash.each_key(whole[0])), [rapidhash.v3_key(n) for n in (1, 2**40, -3, 4)])
-            with self.assertRaisesRegex(OverflowError, r"^columns\[0\]\[3\] must be from "):
-                rapidhash.each_key(whole[1])
+            self.assertEqual(list(rapidhash.each_key(whole[1])), [rapidhash.v3_key(n) for n in (1, 2, 3, 2**63)])
 
     def test_a_class_over_list(self):
         class Other(list):

@@ -1,0 +1,81 @@
+"""The fields of values that are neither None, an integer, a text nor bytes, by the rules of docs/ALGORITHM.md."""
+
+import struct
+import sys
+from datetime import date, datetime, timedelta, timezone
+from decimal import MAX_EMAX, MAX_PREC, MIN_EMIN, Context, Decimal
+from uuid import UUID
+
+_EPOCH = datetime(1970, 1, 1, tzinfo=timezone.utc)
+_EXACT = Context(prec=MAX_PREC, Emin=MIN_EMIN, Emax=MAX_EMAX)
+_LONGEST = 150_000
+
+
+def float_bits(number):
+    """Returns the 64 bits of a float as an integer, which is a field of a key. Those of -0.0 are 0.
+
+    Raises TypeError for another type, and ValueError for NaN."""
+    if not isinstance(number, float):
+        raise TypeError(f"number must be a float, not {type(number)!r}")
+    if number != number:
+        raise ValueError("number must not be NaN")
+    return struct.unpack("<Q", struct.pack("<d", number + 0.0))[0]
+
+
+def _of(package, name):
+    """Returns an object of a package if it is imported, or else nothing that a value can be."""
+    return getattr(sys.modules.get(package), name, ())
+
+
+def _of_time(time):
+    if time.utcoffset() is None:
+        raise TypeError("a time must have an offset from UTC: .replace(tzinfo=timezone.utc) or .astimezone() gives one")
+    if isinstance(time, _of("pandas", "Timestamp")) and time.nanosecond:
+        raise ValueError("a time must be a whole number of microseconds: .floor('us') cuts it")
+    return int((time - _EPOCH) // timedelta(microseconds=1))
+
+
+def _of_decimal(number):
+    if not number.is_finite():
+        raise ValueError("a decimal number must be finite")
+    if not number:
+        return "0"
+    number = number.normalize(_EXACT)
+    sign, digits, exponent = number.as_tuple()
+    whole = max(len(digits) + exponent, 1)
+    if sign + whole + (exponent < 0) - min(exponent, 0) > _LONGEST:
+        raise ValueError(f"a decimal number must have at most {_LONGEST:,} characters without an exponent")
+    return f"{number:f}"
+
+
+def _of_list(items):
+    if any(isinstance(item, (list, tuple)) for item in items):
+        raise TypeError("a list in a key must not contain a list")
+    return (len(items), *items)
+
+
+def _of_day(value):
+    """Returns the field of a day of NumPy."""
+    return None if _of("numpy", "isnat")(value) else int(value.astype("int64"))
+
+
+def fields_of(value):
+    """Returns the fields of a value as a tuple, in which the items of a list can be of any type of a field, or None for
+    another type."""
+    if value is _of("pandas", "NaT") or value is _of("pandas", "NA"):
+        return (None,)
+    if isinstance(value, datetime):
+        return (_of_time(value),)
+    if isinstance(value, date):
+        return (value.toordinal() - 719163,)
+    if isinstance(value, Decimal):
+        return (_of_decimal(value),)
+    if isinstance(value, UUID):
+        return (value.bytes,)
+    if isinstance(value, (list, tuple)):
+        return _of_list(value)
+    if isinstance(value, _of("numpy", "bool_")):
+        return (int(value),)
+    if isinstance(value, _of("numpy", "datetime64")) and _of("numpy", "datetime_data")(value)[0] == "D":
+        return (_of_day(value),)
+    return None

@@ -1,0 +1,112 @@
+"""Replays tests/fields.tsv, the values of types and the encodings of their fields, with an installed copy of the
+package. scripts/fields.py says how."""
+
+import json
+import pathlib
+import unittest
+from array import array
+from datetime import date, datetime
+from decimal import Decimal
+from uuid import UUID
+
+import rapidhash
+
+HERE = pathlib.Path(__file__).resolve()
+PLACES = [HERE.with_name("fields.tsv"), *(top / "tests/fields.tsv" for top in HERE.parents)]
+FILE = next((place for place in PLACES if place.exists()), None)
+REFUSALS = TypeError, ValueError, ArithmeticError, KeyError
+
+
+def time(text):
+    """Returns a time, of which a text can have more digits than Python keeps."""
+    if not text.endswith("Z") and text[-6] not in "+-":
+        return datetime.strptime(text, "%Y-%m-%dT%H:%M:%S")
+    whole, point, fraction = (text[:-1] if text.endswith("Z") else text[:-6]).partition(".")
+    zone = "+00:00" if text.endswith("Z") else text[-6:]
+    return datetime.strptime(f"{whole}.{fraction.rstrip('0') or 0}{zone}", "%Y-%m-%dT%H:%M:%S.%f%z")
+
+
+def day(text):
+    return datetime.strptime(text, "%Y-%m-%d").date()
+
+
+MAKERS = {"boolean": {"true": True, "false": False}.__getitem__, "integer": int, "date": day, "time": time,
+          "uuid": UUID, "decimal": Decimal, "list": json.loads, "float": lambda text: rapidhash.float_bits(float(text))}
+
+
+def key_of(kind, text):
+    """Returns the key of a value by its type, by a list, and by a column, or `refused`."""
+    try:
+        value = None if text == "null" else MAKERS[kind](text)
+    except REFUSALS:
+        return "refused"
+    found = set()
+    for call in (lambda: rapidhash.v3_key(value), lambda: rapidhash.each_key([value])[0],
+                 lambda: rapidhash.each_key(iter([value]))[0]):
+        try:
+            found.add(call())
+        except REFUSALS:
+            found.add("refused")
+    assert len(found) == 1, (kind, text, found)
+    return found.pop()
+
+
+class Fields(unittest.TestCase):
+    @unittest.skipUnless(FILE, "no fields.tsv")
+    def test_values_of_types(self):
+        lines = [line.split("\t") for line in FILE.read_text().splitlines()[2:]]
+        for kind, text, encoding in lines:
+            wanted = encoding if encoding == "refused" else rapidhash.v3(bytes.fromhex(encoding))
+            self.assertEqual(key_of(kind, text), wanted, (kind, text))
+        self.assertGreater(len(lines), 470)
+
+    def test_long_decimals(self):
+        for text in ("1" * 131072, "0." + "0" * 100_000 + "1", "1e149999"):
+            self.assertEqual(rapidhash.v3_key(Decimal(text)), rapidhash.v3_key(f"{Decimal(text):f}"))
+        for text in ("1e150000", "-1e149999", "1e-150000", "1e1000000000", "1e-1000000000", "sNaN"):
+            with self.assertRaisesRegex(ValueError, r"^fields\[0\]: a decimal number must "):
+                rapidhash.v3_key(Decimal(text))
+
+    def test_refusals_have_names(self):
+        for value, kind, reason in (
+                (datetime(2024, 2, 29), TypeError, r"a time must have an offset from UTC: .*"),
+                ([1, [2]], TypeError, "a list in a key must not contain a list"),
+                (1.5, TypeError, ".*; float_bits makes an int of a float")):
+            with self.assertRaisesRegex(kind, rf"^fields\[1\](:| must be) {reason}$"):
+                rapidhash.v3_key(1, value)
+        for value in (1, "1.5", None):
+            self.assertRaisesRegex(TypeError, "^number must be a float, not ", rapidhash.float_bits, value)
+
+    def test_items_of_an_iterator_that_fills_one_list_again(self):
+        def rows():
+            row, number = [b"a", bytearray(b"b")], bytearray(b"c")
+            for _ in range(3):
+                row[1][0] += 1
+                number[0] += 1
+                yield row
+                yield number
+        wanted = [rapidhash.v3_key(it) for pair in zip(([b"a", b] for b in (b"c", b"d", b"e")), (b"d", b"e", b"f"))
+                  for it in pair]
+        self.assertEqual(list(rapidhash.each_key(rows())), wanted)
+
+    def test_numpy_and_pandas(self):
+        try:
+            import numpy
+            import pandas
+        except ImportError:
+            self.skipTest("no pandas")
+        utc = pandas.Timestamp("2024-02-29T12:34:56.789012Z")
+        for value, field in ((numpy.bool_(True), 1), (numpy.datetime64("2024-02-29"), 19782), (utc, 1709210096789012),
+                             (numpy.datetime64("NaT", "D"), None), (pandas.NA, None), (pandas.NaT, None),
+                             (numpy.uint64(2**64 - 1), -1)):
+            self.assertEqual(rapidhash.v3_key(value), rapidhash.v3_key(field), value)
+        for value in (utc + pandas.Timedelta(1), utc.tz_localize(None), numpy.datetime64("2024-02-29T00:00"),
+                      numpy.timedelta64(1, "D"), pandas.Timedelta(1), numpy.float64(1), numpy.array([1])):
+            self.assertRaises((TypeError, ValueError), rapidhash.v3_key, value)
+        days = array("q", (19782, -1))
+        column = pandas.Series([date.fromordinal(719163 + number) for number in days])
+        self.assertEqual(list(rapidhash.each_key(column)), list(rapidhash.each_key(days)))
+
+
+if __name__ == "__main__":
+    unittest.main()
