@@ -51,8 +51,10 @@ export interface Hasher {
   load(saved: ArrayBuffer | ArrayBufferView): this;
 }
 
-/** A field of a key: null, an integer of 64 bits (a safe one, or a BigInt), a text, or bytes. `undefined` is none. */
-export type Field = null | number | bigint | string | Uint8Array | ArrayBuffer | DataView;
+/** A field of a key: null, a boolean, an integer from -(2n ** 63n) to 2n ** 64n - 1n (a safe one, or a BigInt), a text,
+ * bytes, a Date as its time, or a list of these. `undefined` is none. */
+export type Value = null | boolean | number | bigint | string | Uint8Array | ArrayBuffer | DataView | Date;
+export type Field = Value | readonly Value[];
 
 /** The functions. A hash is from 0 to 2^64 - 1, the same on every machine. */
 export interface Rapidhash {
@@ -142,6 +144,26 @@ export const makeSecrets: Rapidhash["makeSecrets"];
 export const seedSecrets: Rapidhash["seedSecrets"];
 export const makeSecretsV1: Rapidhash["makeSecretsV1"];
 export const seedSecretsV1: Rapidhash["seedSecretsV1"];
+
+/** Returns the days since 1970-01-01 of a date `2024-02-29`, or of a Date that is midnight in UTC, and null for null.
+ * Throws a RangeError or a TypeError for anything else. */
+export function day(date: string | Date): number;
+export function day(date: string | Date | null): number | null;
+/** Returns the microseconds since 1970-01-01 00:00 UTC of a Date, or of a text with an offset from UTC, such as
+ * `2024-02-29T12:34:56.789012Z`, and null for null. Throws a RangeError or a TypeError for anything else. */
+export function time(value: string | Date): bigint;
+export function time(value: string | Date | null): bigint | null;
+/** Returns the 16 bytes of a UUID of 36 letters, and null for null. Throws a RangeError for another text. */
+export function uuid(text: string): Uint8Array;
+export function uuid(text: string | null): Uint8Array | null;
+/** Returns the text that all texts of a decimal number's value have in common, such as `1.5` for `1.50`, and null for
+ * null. Throws a RangeError for another text, or if more than 150,000 characters are needed without an exponent. */
+export function decimal(number: string | number | bigint): string;
+export function decimal(number: string | number | bigint | null): string | null;
+/** Returns the 64 bits of a number, those of 0 for -0, and null for null. Throws a RangeError for NaN. */
+export function floatBits(number: number): bigint;
+export function floatBits(number: number | null): bigint | null;
+
 export const V3: Rapidhash["V3"];
 export type V3 = Hasher;
 export const V3Micro: Rapidhash["V3Micro"];

@@ -1,6 +1,7 @@
 // The encoding of a key of several fields, which is the same in every language: for each field a tag, and then nothing,
 // the integer as 8 bytes, or the number of bytes as 8 bytes and the bytes. All numbers are little-endian.
 import { bytesOf, encodeInto, kindOf, sizeOf, whatIs } from "./arguments.mjs";
+import { millisecondsOf } from "./fields.mjs";
 
 const [nothing, integer, bytes] = [0, 1, 2];
 /** Up to this many letters, a loop is faster than encodeInto(). */
@@ -60,12 +61,13 @@ function putText(text, place, array, start) {
 /** Writes an integer as 8 bytes. */
 function putInteger(number, place, view, at) {
   if (typeof number === "bigint") {
-    if (BigInt.asIntN(64, number) !== number)
-      throw new RangeError(`fields[${place}] must be from -(2n ** 63n) to 2n ** 63n - 1n`);
-    view.setBigInt64(at, number, true);
+    if (BigInt.asIntN(64, number) !== number && BigInt.asUintN(64, number) !== number)
+      throw new RangeError(`fields[${place}] must be from -(2n ** 63n) to 2n ** 64n - 1n`);
+    view.setBigUint64(at, BigInt.asUintN(64, number), true);
   } else {
     if (!Number.isSafeInteger(number))
-      throw new RangeError(`fields[${place}] must be a safe integer, or a BigInt, not ${number}`);
+      throw new RangeError(`fields[${place}] must be a safe integer, or a BigInt, not ${number}; floatBits makes a ${
+        ""}BigInt of a number with a fraction`);
     view.setInt32(at, number | 0, true);
     view.setInt32(at + 4, Math.floor(number / 2 ** 32), true);
   }
@@ -77,44 +79,76 @@ function putSize(size, view, at) {
   view.setUint32(at + 4, Math.floor(size / 2 ** 32), true);
 }
 
-/** Writes the encoding of a key to an array of `room` bytes, of which `view` is a view. Returns the number of bytes; if
- * they may not fit, a number of bytes above the room that suffices for the fields so far. */
-function putKey(fields, array, view, room) {
-  let end = 0;
-  for (let place = 0; place < fields.length; place++) {
-    const field = fields[place], kind = typeof field, start = end + 9;
-    const text = kind === "object" && field !== null ? textOf(field, place) : undefined;
-    const most = start + (text !== undefined ? sizeOf(text) : kind === "string" ? 3 * field.length : 0);
-    if (most > room) return most;
-    if (field === null) {
-      array[end++] = nothing;
-    } else if (kind === "number" || kind === "bigint") {
-      array[end] = integer;
-      putInteger(field, place, view, end + 1);
-      end = start;
-    } else if (kind === "string" || text !== undefined) {
-      array[end] = bytes;
-      if (text !== undefined) array.set(text, start);
-      const after = text !== undefined ? most : putText(field, place, array, start);
-      putSize(after - start, view, end + 1);
-      end = after;
-    } else {
-      throw new TypeError(`fields[${place}] must be null, an integer, a string or a Uint8Array, not ${
-        whatIs(field)}; docs/BINDINGS.md lists conversions`);
-    }
-  }
+/** Returns the integer of a boolean or a Date, or undefined for anything else. */
+function integerOf(field, place) {
+  if (typeof field === "boolean") return Number(field);
+  const milliseconds = millisecondsOf(field);
+  if (Number.isNaN(milliseconds)) throw new RangeError(`fields[${place}] is an invalid Date`);
+  return milliseconds === undefined ? undefined : BigInt(milliseconds) * 1000n;
+}
+
+/** Writes fields: those of a list at its place, or else each at its own. Returns the same as putField. */
+function putFields(fields, place, out, room, start) {
+  let end = start;
+  for (let at = 0; at < fields.length && end <= room; at++) end = putField(fields[at], place ?? at, out, room, end);
   return end;
+}
+
+/** Writes a list: the number of its items, and then each. Returns the same as putField. */
+function putList(list, place, out, room, start) {
+  const items = Array.from({ length: list.length }, (_, at) => list[at]); // a getter may change the list
+  if (items.some(Array.isArray)) throw new TypeError(`fields[${place}]: a list in a key must not contain a list`);
+  return putFields([items.length, ...items], place, out, room, start);
+}
+
+/** Writes the field of another value than null, an integer or a string. Returns the same as putField. */
+function putOther(field, place, out, room, end) {
+  if (Array.isArray(field)) return putList(field, place, out, room, end);
+  const text = typeof field === "object" ? textOf(field, place) : undefined;
+  const number = text === undefined ? integerOf(field, place) : undefined;
+  if (number !== undefined) return putField(number, place, out, room, end);
+  if (text === undefined)
+    throw new TypeError(`fields[${place}] must be null, a boolean, an integer, a string, a Uint8Array, a Date or an ${
+      ""}array of these, not ${whatIs(field)}`);
+  const start = end + 9, after = start + sizeOf(text);
+  if (after > room) return after;
+  out.array[end] = bytes;
+  putSize(after - start, out.view, end + 1);
+  out.array.set(text, start);
+  return after;
+}
+
+/** Writes a field to an array of `room` bytes, of which `view` is a view. Returns the end of the field; if it may not
+ * fit, a number of bytes above the room that suffices for the fields so far. */
+function putField(field, place, out, room, end) {
+  const kind = typeof field, start = end + 9;
+  const most = kind === "string" ? start + 3 * field.length : start;
+  if (most > room) return most;
+  if (field === null) {
+    out.array[end] = nothing;
+    return end + 1;
+  }
+  if (kind === "bigint" || kind === "number") {
+    out.array[end] = integer;
+    putInteger(field, place, out.view, end + 1);
+    return start;
+  }
+  if (kind !== "string") return putOther(field, place, out, room, end);
+  out.array[end] = bytes;
+  const after = putText(field, place, out.array, start);
+  putSize(after - start, out.view, end + 1);
+  return after;
 }
 
 /** Writes the encoding of a key to the library's memory and returns its length, or, if it is long, returns it as a
  * Uint8Array. */
 export function encodeKey(fields, library, room) {
   const { views } = library;
-  let size = putKey(fields, views.bytes, views.view, room);
+  let size = putFields(fields, undefined, { array: views.bytes, view: views.view }, room, 0);
   if (size <= room) return size;
   for (;;) {
     const array = new Uint8Array(Math.ceil(1.25 * size));
-    const end = putKey(fields, array, new DataView(array.buffer), array.length);
+    const end = putFields(fields, undefined, { array, view: new DataView(array.buffer) }, array.length, 0);
     if (end <= array.length) return array.subarray(0, end);
     size = end;
   }

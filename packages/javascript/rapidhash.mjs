@@ -175,3 +175,4 @@ export const { v1Hex, v2_0Hex, v2_1Hex, v2_2Hex, v3Hex, v3MicroHex, v3NanoHex, v
 export const { v3Key, v3KeyWith, makeSecrets, seedSecrets, makeSecretsV1, seedSecretsV1 } = exported(call,
   ["v3Key", "v3KeyWith", "makeSecrets", "seedSecrets", "makeSecretsV1", "seedSecretsV1"]);
 export const { V3, V3Micro, V3Nano } = classes(ourLibrary);
+export { day, decimal, floatBits, time, uuid } from "./fields.mjs";

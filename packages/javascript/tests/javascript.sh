@@ -1,5 +1,5 @@
 #!/usr/bin/env bash
-# reads: packages/javascript packages/c/include crates/test_replay/data
+# reads: packages/javascript packages/c/include crates/test_replay/data tests/fields.tsv
 # Builds the JavaScript package, installs it from an empty directory with the commands on its page, and tests the
 # installed copy. The cases cover Node, the types, and browsers, with the page packages/javascript/page. Missing
 # programs are named, and their cases are not counted.
@@ -11,8 +11,8 @@ export npm_config_offline=true npm_config_audit=false npm_config_update_notifier
 has_its_files() {
   local folder=$room/first/node_modules/yervound-rapidhash
   has_the_licences "$folder" && (cd "$folder" && LC_ALL=C ls) | diff - <(
-    printf '%s\n' LICENSE-APACHE LICENSE-MIT NOTICE README.md arguments.mjs index.d.cts index.d.ts key.mjs \
-      library.mjs module.mjs package.json rapidhash.cjs rapidhash.mjs shards.mjs stream.mjs
+    printf '%s\n' LICENSE-APACHE LICENSE-MIT NOTICE README.md arguments.mjs fields.mjs index.d.cts \
+      index.d.ts key.mjs library.mjs module.mjs package.json rapidhash.cjs rapidhash.mjs shards.mjs stream.mjs
   ) && cd "$room/first" && node -p 'const its = require("yervound-rapidhash/package.json");
     `${its.license}, ${its.engines.node}, ${its.sideEffects}`' | grep -x 'MIT OR Apache-2.0, >=18, false'
 }
@@ -20,7 +20,7 @@ has_its_files() {
 # Lays out the tests beside the installed package, with the files that they read.
 lay_out() {
   cp "$top"/packages/javascript/tests/*.m* "$top/build/rapidhash.wasm" "$room/first" &&
-    cp "$top/crates/test_replay/data/cases.tsv" "$room/first" &&
+    cp "$top/crates/test_replay/data/cases.tsv" "$top/tests/fields.tsv" "$room/first" &&
     seq 1 20000000 | head -c 100000000 >"$room/first/large"
 }
 
@@ -115,7 +115,7 @@ try install works_as_its_page_says "$top/packages/javascript/README.md"
 try files has_its_files
 try lay_out lay_out
 try page runs_the_page
-for name in known refused keys saved shared cases node; do
+for name in known refused keys fields saved shared cases node; do
   try "node_$name" runs_in_node "$name"
 done
 try changed_files refuses_changed_files
