@@ -22,15 +22,21 @@ def float_bits(number):
     return struct.unpack("<Q", struct.pack("<d", number + 0.0))[0]
 
 
-def _of(package, name):
-    """Returns an object of a package if it is imported, or else nothing that a value can be."""
+def _class(package, name):
+    """Returns a class of a package that may be imported, or no class."""
     return getattr(sys.modules.get(package), name, ())
+
+
+def _is_missing(value):
+    """Returns whether a value is a missing one of pandas."""
+    pandas = sys.modules.get("pandas")
+    return any(value is getattr(pandas, name, _is_missing) for name in ("NA", "NaT"))
 
 
 def _of_time(time):
     if time.utcoffset() is None:
         raise TypeError("a time must have an offset from UTC: .replace(tzinfo=timezone.utc) or .astimezone() gives one")
-    if isinstance(time, _of("pandas", "Timestamp")) and time.nanosecond:
+    if isinstance(time, _class("pandas", "Timestamp")) and time.nanosecond:
         raise ValueError("a time must be a whole number of microseconds: .floor('us') cuts it")
     return int((time - _EPOCH) // timedelta(microseconds=1))
 
@@ -48,21 +54,25 @@ def _of_decimal(number):
     return f"{number:f}"
 
 
-def _of_list(items):
+def _of_list(value):
+    items = tuple(value)  # Another thread may change a list.
     if any(isinstance(item, (list, tuple)) for item in items):
         raise TypeError("a list in a key must not contain a list")
     return (len(items), *items)
 
 
-def _of_day(value):
-    """Returns the field of a day of NumPy."""
-    return None if _of("numpy", "isnat")(value) else int(value.astype("int64"))
+def _of_numpy(value):
+    """Returns the fields of a day of NumPy, or None for a time, which has no offset."""
+    numpy = sys.modules["numpy"]
+    if numpy.datetime_data(value)[0] != "D":
+        return None
+    return (None if numpy.isnat(value) else int(value.astype("int64")),)
 
 
 def fields_of(value):
     """Returns the fields of a value as a tuple, in which the items of a list can be of any type of a field, or None for
     another type."""
-    if value is _of("pandas", "NaT") or value is _of("pandas", "NA"):
+    if _is_missing(value):
         return (None,)
     if isinstance(value, datetime):
         return (_of_time(value),)
@@ -74,8 +84,6 @@ def fields_of(value):
         return (value.bytes,)
     if isinstance(value, (list, tuple)):
         return _of_list(value)
-    if isinstance(value, _of("numpy", "bool_")):
+    if isinstance(value, _class("numpy", "bool_")):
         return (int(value),)
-    if isinstance(value, _of("numpy", "datetime64")) and _of("numpy", "datetime_data")(value)[0] == "D":
-        return (_of_day(value),)
-    return None
+    return _of_numpy(value) if isinstance(value, _class("numpy", "datetime64")) else None

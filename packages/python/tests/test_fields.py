@@ -3,7 +3,9 @@ package. scripts/fields.py says how."""
 
 import json
 import pathlib
+import sys
 import unittest
+import unittest.mock
 from array import array
 from datetime import date, datetime
 from decimal import Decimal
@@ -55,9 +57,11 @@ class Fields(unittest.TestCase):
     @unittest.skipUnless(FILE, "no fields.tsv")
     def test_values_of_types(self):
         lines = [line.split("\t") for line in FILE.read_text().splitlines()[2:]]
-        for kind, text, encoding in lines:
-            wanted = encoding if encoding == "refused" else rapidhash.v3(bytes.fromhex(encoding))
-            self.assertEqual(key_of(kind, text), wanted, (kind, text))
+        for modules in ({"numpy": None, "pandas": None}, {}):  # without them, and perhaps with them
+            with unittest.mock.patch.dict(sys.modules, modules):
+                for kind, text, encoding in lines:
+                    wanted = encoding if encoding == "refused" else rapidhash.v3(bytes.fromhex(encoding))
+                    self.assertEqual(key_of(kind, text), wanted, (kind, text))
         self.assertGreater(len(lines), 470)
 
     def test_long_decimals(self):
