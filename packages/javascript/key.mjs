@@ -88,55 +88,56 @@ function integerOf(field, place) {
 }
 
 /** Writes fields: those of a list at its place, or else each at its own. Returns the same as putField. */
-function putFields(fields, place, out, room, start) {
+function putFields(fields, place, array, view, room, start) {
   let end = start;
-  for (let at = 0; at < fields.length && end <= room; at++) end = putField(fields[at], place ?? at, out, room, end);
+  for (let at = 0; at < fields.length && end <= room; at++)
+    end = putField(fields[at], place ?? at, array, view, room, end);
   return end;
 }
 
 /** Writes a list: the number of its items, and then each. Returns the same as putField. */
-function putList(list, place, out, room, start) {
+function putList(list, place, array, view, room, start) {
   const items = Array.from({ length: list.length }, (_, at) => list[at]); // a getter may change the list
   if (items.some(Array.isArray)) throw new TypeError(`fields[${place}]: a list in a key must not contain a list`);
-  return putFields([items.length, ...items], place, out, room, start);
+  return putFields([items.length, ...items], place, array, view, room, start);
 }
 
 /** Writes the field of another value than null, an integer or a string. Returns the same as putField. */
-function putOther(field, place, out, room, end) {
-  if (Array.isArray(field)) return putList(field, place, out, room, end);
+function putOther(field, place, array, view, room, end) {
+  if (Array.isArray(field)) return putList(field, place, array, view, room, end);
   const text = typeof field === "object" ? textOf(field, place) : undefined;
   const number = text === undefined ? integerOf(field, place) : undefined;
-  if (number !== undefined) return putField(number, place, out, room, end);
+  if (number !== undefined) return putField(number, place, array, view, room, end);
   if (text === undefined)
     throw new TypeError(`fields[${place}] must be null, a boolean, an integer, a string, a Uint8Array, a Date or an ${
       ""}array of these, not ${whatIs(field)}`);
   const start = end + 9, after = start + sizeOf(text);
   if (after > room) return after;
-  out.array[end] = bytes;
-  putSize(after - start, out.view, end + 1);
-  out.array.set(text, start);
+  array[end] = bytes;
+  putSize(after - start, view, end + 1);
+  array.set(text, start);
   return after;
 }
 
 /** Writes a field to an array of `room` bytes, of which `view` is a view. Returns the end of the field; if it may not
  * fit, a number of bytes above the room that suffices for the fields so far. */
-function putField(field, place, out, room, end) {
+function putField(field, place, array, view, room, end) {
   const kind = typeof field, start = end + 9;
   const most = kind === "string" ? start + 3 * field.length : start;
   if (most > room) return most;
   if (field === null) {
-    out.array[end] = nothing;
+    array[end] = nothing;
     return end + 1;
   }
   if (kind === "bigint" || kind === "number") {
-    out.array[end] = integer;
-    putInteger(field, place, out.view, end + 1);
+    array[end] = integer;
+    putInteger(field, place, view, end + 1);
     return start;
   }
-  if (kind !== "string") return putOther(field, place, out, room, end);
-  out.array[end] = bytes;
-  const after = putText(field, place, out.array, start);
-  putSize(after - start, out.view, end + 1);
+  if (kind !== "string") return putOther(field, place, array, view, room, end);
+  array[end] = bytes;
+  const after = putText(field, place, array, start);
+  putSize(after - start, view, end + 1);
   return after;
 }
 
@@ -144,11 +145,11 @@ function putField(field, place, out, room, end) {
  * Uint8Array. */
 export function encodeKey(fields, library, room) {
   const { views } = library;
-  let size = putFields(fields, undefined, { array: views.bytes, view: views.view }, room, 0);
+  let size = putFields(fields, undefined, views.bytes, views.view, room, 0);
   if (size <= room) return size;
   for (;;) {
     const array = new Uint8Array(Math.ceil(1.25 * size));
-    const end = putFields(fields, undefined, { array, view: new DataView(array.buffer) }, array.length, 0);
+    const end = putFields(fields, undefined, array, new DataView(array.buffer), array.length, 0);
     if (end <= array.length) return array.subarray(0, end);
     size = end;
   }
