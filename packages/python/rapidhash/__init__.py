@@ -216,9 +216,9 @@ def each_slice(data, offsets, version="v3", seed=None, secrets=None, out=None, v
 
 
 def v3_key(*fields, seed=None, secrets=None):
-    """Returns the hash of a key of several fields, the same in every language. A field is None, a bool, an int from
-    -2**63 to 2**64 - 1, a str, bytes, a date, a datetime with an offset, a Decimal, a UUID, or a list or tuple of these.
-    Missing values of pandas are None. `float_bits` makes an int of a float.
+    """Returns the hash of a key of several fields, the same in every language. A field is None, a bool, an int, a str,
+    bytes, a date, a datetime with an offset, a Decimal, a UUID, or a list or tuple of these. An int is from -2**63 to
+    2**64 - 1. Missing values of pandas are None. `float_bits` makes an int of a float.
 
         >>> rapidhash.v3_key("user", 4711, None)
         14742763072502883419
