@@ -34,7 +34,7 @@ VALUES = (
 NANOSECONDS, MICROSECONDS, TYPED = r"t .*\.\d{9}", r"t .*[1-9]", r"n (1E.*|-0\.0)"
 OTHER_LISTS = r"l \((|3, 2.*|'',|\(.*)\)"
 LACKS = {"Python": (NANOSECONDS,), "JavaScript": (MICROSECONDS, TYPED), "PostgreSQL": (NANOSECONDS, OTHER_LISTS),
-         "SQLite": (NANOSECONDS, TYPED, OTHER_LISTS), "Java": (), "Go": (TYPED,), "C++": (TYPED, OTHER_LISTS),
+         "SQLite": (NANOSECONDS, TYPED, OTHER_LISTS), "Go": (TYPED,), "C++": (TYPED, OTHER_LISTS),
          "Rust": (TYPED,)}
 QUOTE = '"'
 PAGE = (TOP / "docs/BINDINGS.md").read_text()
@@ -73,21 +73,6 @@ VALUES""", "f = []\nPARTSprint(v3_key(*f))\n", "f += [IT]\n", "DECLARE; f += [FI
         "{ const f = []; PARTS console.log(String(v3Key(...f))); }\n", "f.push(IT); ", "{ DECLARE; f.push(FIELDS); }", {
         "boolean b": "const b = IT", "date d": "const d = new Date('IT')", "time t": "const t = new Date('ITZ')",
         "UUID u": "const u = 'IT'", "decimal n": "const n = 'IT'", "list l": "const l = [IT]"}),
-    "Java": ("a.java", "java -cp TOP/build/yervound-rapidhash-1.0.0.jar a.java", """import java.math.BigDecimal;
-import java.nio.ByteBuffer;
-import java.time.*;
-import java.util.*;
-import java.util.stream.Stream;
-class a {
-    static void add(List<Object> f, Object... fields) { f.addAll(Arrays.asList(fields)); }
-    static void print(List<Object> f) { System.out.println(example.yervound.rapidhash.RapidhashKey.hash(f.toArray())); }
-    public static void main(String[] arguments) {
-VALUES}}""", "{ List<Object> f = new ArrayList<>(); PARTS print(f); }\n", "add(f, IT); ",
-        "{ DECLARE; add(f, FIELDS); }", {
-        "boolean b": "boolean b = IT", "date d": 'var d = LocalDate.parse("IT")',
-        "UUID u": 'var u = UUID.fromString("IT")',
-        "time t": """var t = LocalDateTime.parse("IT".replace(' ', 'T')).toInstant(ZoneOffset.UTC)""",
-        "decimal n": 'var n = new BigDecimal("IT")', "list l": "List<Object> l = List.of(IT)"}),
     "Go": ("a.go", "{ go mod init first && go mod edit -replace yervound.example/rapidhash=TOP/packages/go && "
            "go get yervound.example/rapidhash; } >log 2>&1; go run .", """package main
 
@@ -133,11 +118,11 @@ VALUES}""", '{ let mut h = RapidStreamHasherV3::new(&DEFAULT_RAPID_SECRETS); PAR
         "UUID u": "uuid 'IT' AS u", "decimal n": "numeric 'IT' AS n", "list l": "ARRAY[IT] AS l"}),
 }
 TOOLS = {"Python": ("cc", "/usr/lib/python3/dist-packages/setuptools", "/usr/include/python3*/Python.h"),
-         "JavaScript": ("node", "esbuild", "clang", "wasm-ld", "npm"), "Java": ("java", "javac"), "Go": ("go",),
+         "JavaScript": ("node", "esbuild", "clang", "wasm-ld", "npm"), "Go": ("go",),
          "C++": ("g++",), "Rust": ("cargo",), "SQLite": ("sqlite3", "cc", "/usr/include/sqlite3.h"),
          "PostgreSQL": SERVER}
 BUILDS = {"Python": 'make -s wheel && /usr/bin/python3 -m zipfile -e build/wheels/*.whl "$ROOM/wheel"',
-          "JavaScript": "make -s npm", "Java": "make -s jar", "SQLite": "make -s sqlite"}
+          "JavaScript": "make -s npm", "SQLite": "make -s sqlite"}
 
 
 def source(language, column, value, field):

@@ -1,5 +1,5 @@
 #!/usr/bin/env bash
-# reads: packages/java crates/test_replay/data scripts/java_buffers docs/BINDINGS.md
+# reads: packages/java crates/test_replay/data tests/fields.tsv scripts/java_buffers docs/BINDINGS.md
 # Builds the jar of the Java package with `make jar`, and tests it as a module, with JUnit over all vectors, and by the
 # commands on its page. Also compiles the program that computes formulas.
 . "$(dirname "$0")/../../../tests/cases.sh"
@@ -110,12 +110,13 @@ adds_the_later_product() {
     has_the_later_product "$jar" && passes CasesTest
 }
 
-# Builds and tests the package by Maven with Debian's plugins, offline, below the file of cases. No test may skip
-# itself. With the profile of later JDKs the jar must have their class.
+# Builds and tests the package by Maven with Debian's plugins, offline, below the files of cases and fields. No test may
+# skip itself. With the profile of later JDKs the jar must have their class.
 builds_by_maven() {
   local jar=$room/maven/target/yervound-rapidhash-1.0.0.jar
   cp -rs /usr/share/maven-repo "$room/maven-repo" && cp -r "$folder" "$room/maven" &&
-    install -D -t "$room/crates/test_replay/data" "$top/crates/test_replay/data/cases.tsv" && cd "$room/maven" &&
+    install -D -t "$room/crates/test_replay/data" "$top/crates/test_replay/data/cases.tsv" &&
+    install -D -t "$room/tests" "$top/tests/fields.tsv" && cd "$room/maven" &&
     mvn -o -B -Dmaven.repo.local="$room/maven-repo" package &&
     [ "$(cat target/surefire-reports/*.xml | grep -c '<testcase ')" -eq "$(grep -rhE '^ *@Test' src/test | wc -l)" ] &&
     [ "$(cat target/surefire-reports/*.xml | grep -c '<skipped')" -eq 0 ] &&

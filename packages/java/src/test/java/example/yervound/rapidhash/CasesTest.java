@@ -4,12 +4,9 @@ import static example.yervound.rapidhash.Messages.select;
 import static org.junit.Assert.assertEquals;
 import static org.junit.Assert.assertThrows;
 import static org.junit.Assert.assertTrue;
-import static org.junit.Assume.assumeTrue;
 
 import java.io.IOException;
 import java.nio.ByteBuffer;
-import java.nio.file.Files;
-import java.nio.file.Path;
 import java.util.Arrays;
 import java.util.HashSet;
 import java.util.LinkedHashSet;
@@ -22,31 +19,14 @@ import org.junit.Test;
 /** Replays the cases that every language has. Their README.md has the format. */
 public class CasesTest {
     private static final Map<String, Rapidhash<?>> VERSIONS = Messages.versions();
-    private static final Path CASES = Path.of("crates", "test_replay", "data", "cases.tsv");
 
     private final Set<String> found = new HashSet<>();
-
-    /** Returns the lines of the file in the repository, from this directory or one above it. */
-    static Iterable<String[]> lines() throws IOException {
-        Path top = Path.of("").toAbsolutePath();
-        while (top != null && !Files.exists(top.resolve(CASES))) {
-            top = top.getParent();
-        }
-        assumeTrue("the repository has cases.tsv, and the package alone does not", top != null);
-        return Files.lines(top.resolve(CASES)).filter(line -> !line.startsWith("#")).skip(1)
-            .map(line -> line.split("\t")).collect(Collectors.toList());
-    }
 
     static byte[] bytesOf(String text) {
         if (text.startsWith("ramp:")) {
             return Messages.bytes(Integer.parseInt(text.substring(5)));
         }
-        String digits = text.replace("-", "");
-        byte[] bytes = new byte[digits.length() / 2];
-        for (int at = 0; at < bytes.length; at++) {
-            bytes[at] = (byte) Integer.parseInt(digits.substring(2 * at, 2 * at + 2), 16);
-        }
-        return bytes;
+        return Messages.unhex(text.replace("-", ""));
     }
 
     /** Returns the numbers of a text, between commas or spaces. */
@@ -58,7 +38,7 @@ public class CasesTest {
     @Test
     public void cases() throws IOException {
         int count = 0;
-        for (String[] words : lines()) {
+        for (String[] words : Messages.lines("crates/test_replay/data/cases.tsv")) {
             String line = String.join(" ", words);
             assertEquals(line.substring(0, Math.min(120, line.length())), words[4], replay(words));
             count++;

@@ -1,9 +1,15 @@
 package example.yervound.rapidhash;
 
+import static org.junit.Assume.assumeTrue;
+
+import java.io.IOException;
 import java.nio.ByteBuffer;
+import java.nio.file.Files;
+import java.nio.file.Path;
 import java.util.Arrays;
 import java.util.List;
 import java.util.TreeMap;
+import java.util.stream.Collectors;
 
 /** The messages of the tests, and a message in each kind of buffer. */
 final class Messages {
@@ -12,6 +18,17 @@ final class Messages {
     static final long[] SEEDS = {0, 1, 1L << 32, 1L << 63, -1};
 
     private Messages() {}
+
+    /** Returns the lines below the head of a file in the repository, from this directory or one above it. */
+    static List<String[]> lines(String file) throws IOException {
+        Path top = Path.of("").toAbsolutePath();
+        while (top != null && !Files.exists(top.resolve(file))) {
+            top = top.getParent();
+        }
+        assumeTrue("the repository has " + file + ", and the package alone does not", top != null);
+        return Files.lines(top.resolve(file)).filter(line -> !line.startsWith("#")).skip(1)
+            .map(line -> line.split("\t")).collect(Collectors.toList());
+    }
 
     /** Returns so many bytes, which count from 0 to 250 again and again. */
     static byte[] bytes(int length) {
@@ -36,6 +53,15 @@ final class Messages {
         ByteBuffer direct = ByteBuffer.allocateDirect(bytes.length + 6).put(padded(bytes));
         direct.position(3).limit(3 + bytes.length);
         return List.of(heap, heap.slice(), heap.asReadOnlyBuffer(), direct, direct.slice(), direct.asReadOnlyBuffer());
+    }
+
+    /** Returns the bytes of hexadecimal digits. */
+    static byte[] unhex(String digits) {
+        byte[] bytes = new byte[digits.length() / 2];
+        for (int at = 0; at < bytes.length; at++) {
+            bytes[at] = (byte) Integer.parseInt(digits.substring(2 * at, 2 * at + 2), 16);
+        }
+        return bytes;
     }
 
     /** Returns the versions by their names in the files of vectors. */
