@@ -34,8 +34,7 @@ VALUES = (
 NANOSECONDS, MICROSECONDS, TYPED = r"t .*\.\d{9}", r"t .*[1-9]", r"n (1E.*|-0\.0)"
 OTHER_LISTS = r"l \((|3, 2.*|'',|\(.*)\)"
 LACKS = {"Python": (NANOSECONDS,), "JavaScript": (MICROSECONDS, TYPED), "PostgreSQL": (NANOSECONDS, OTHER_LISTS),
-         "SQLite": (NANOSECONDS, TYPED, OTHER_LISTS), "Go": (TYPED,), "C++": (TYPED, OTHER_LISTS),
-         "Rust": (TYPED,)}
+         "SQLite": (NANOSECONDS, TYPED, OTHER_LISTS), "C++": (TYPED, OTHER_LISTS), "Rust": (TYPED,)}
 QUOTE = '"'
 PAGE = (TOP / "docs/BINDINGS.md").read_text()
 
@@ -73,19 +72,6 @@ VALUES""", "f = []\nPARTSprint(v3_key(*f))\n", "f += [IT]\n", "DECLARE; f += [FI
         "{ const f = []; PARTS console.log(String(v3Key(...f))); }\n", "f.push(IT); ", "{ DECLARE; f.push(FIELDS); }", {
         "boolean b": "const b = IT", "date d": "const d = new Date('IT')", "time t": "const t = new Date('ITZ')",
         "UUID u": "const u = 'IT'", "decimal n": "const n = 'IT'", "list l": "const l = [IT]"}),
-    "Go": ("a.go", "{ go mod init first && go mod edit -replace yervound.example/rapidhash=TOP/packages/go && "
-           "go get yervound.example/rapidhash; } >log 2>&1; go run .", """package main
-
-import ("fmt"; "regexp"; "time"; . "yervound.example/rapidhash")
-
-func read(layout, text string) time.Time { t, _ := time.Parse(layout, text); return t }
-func main() {
-	_ = regexp.MustCompile
-VALUES}""", "{ var f []Field; PARTS; fmt.Println(V3Key(f...)) }\n", "f = append(f, Integer(IT)); ",
-        "{ DECLARE; f = append(f, FIELDS) }; ", {
-        "boolean b": "b := IT", "date d": 'd := read("2006-01-02", "IT")',
-        "time t": 't := read("2006-01-02 15:04:05", "IT")',
-        "UUID u": "u := [16]byte{IT}", "decimal n": 'n := "IT"', "list l": "l := []Field{IT}"}),
     "C++": ("a.cpp", "g++ -std=c++20 -ITOP/packages/c/include a.cpp -o a && ./a", """#include <array>
 #include <chrono>
 #include <iostream>
@@ -118,9 +104,8 @@ VALUES}""", '{ let mut h = RapidStreamHasherV3::new(&DEFAULT_RAPID_SECRETS); PAR
         "UUID u": "uuid 'IT' AS u", "decimal n": "numeric 'IT' AS n", "list l": "ARRAY[IT] AS l"}),
 }
 TOOLS = {"Python": ("cc", "/usr/lib/python3/dist-packages/setuptools", "/usr/include/python3*/Python.h"),
-         "JavaScript": ("node", "esbuild", "clang", "wasm-ld", "npm"), "Go": ("go",),
-         "C++": ("g++",), "Rust": ("cargo",), "SQLite": ("sqlite3", "cc", "/usr/include/sqlite3.h"),
-         "PostgreSQL": SERVER}
+         "JavaScript": ("node", "esbuild", "clang", "wasm-ld", "npm"), "C++": ("g++",), "Rust": ("cargo",),
+         "SQLite": ("sqlite3", "cc", "/usr/include/sqlite3.h"), "PostgreSQL": SERVER}
 BUILDS = {"Python": 'make -s wheel && /usr/bin/python3 -m zipfile -e build/wheels/*.whl "$ROOM/wheel"',
           "JavaScript": "make -s npm", "SQLite": "make -s sqlite"}
 
@@ -129,12 +114,10 @@ def source(language, column, value, field):
     """Returns a value as the source text of a language. C++ and Rust have no text of a date or a time."""
     if column == "list l":
         texts = [f'"{it}"' if isinstance(it, str) else str(it) for it in value]
-        if language == "Go":
-            texts = [f"{'Text' if it[0] == QUOTE else 'Integer'}({it})" for it in texts]
         if language == "Rust" and not value:
             return "0; 0"
         return ", ".join(texts).replace(QUOTE, "'" if language == "PostgreSQL" else QUOTE)
-    if column == "UUID u" and language in ("C++", "Go", "Rust", "SQLite"):
+    if column == "UUID u" and language in ("C++", "Rust", "SQLite"):
         return field.hex() if language == "SQLite" else ", ".join(map(str, field))
     if column == "time t" and language == "JavaScript":
         return value[:-3]
@@ -168,8 +151,7 @@ def block(language, column, value, fields, expression):
         lists, parts = value, count.replace("IT", str(len(value)))
     for it in lists:
         declare = declared[column].replace("IT", source(language, column, it, fields[0]))
-        more = "..." * (language == "Go" and column == "list l")
-        parts += part.replace("DECLARE", declare).replace("FIELDS", expression + more)
+        parts += part.replace("DECLARE", declare).replace("FIELDS", expression)
     return whole.replace("PARTS", parts)
 
 
@@ -181,8 +163,7 @@ def keys_by(language, text):
     folder = ROOM / language
     (folder / file).parent.mkdir(parents=True)
     (folder / file).write_text(text.replace("TOP", str(TOP)))
-    return shell(command.replace("TOP", str(TOP)), folder, PYTHONPATH=str(ROOM / "wheel"), GOPROXY="off",
-                 GOCACHE=str(ROOM / "cache"))[1].splitlines()
+    return shell(command.replace("TOP", str(TOP)), folder, PYTHONPATH=str(ROOM / "wheel"))[1].splitlines()
 
 
 def taken_nulls(cells):

@@ -5,6 +5,7 @@ import (
 	"io"
 	"os"
 	"strings"
+	"time"
 
 	"yervound.example/rapidhash"
 )
@@ -38,6 +39,25 @@ func Example_readme() {
 	// false
 	// 14742763072502883419
 	// 3327445792987248966 rapidhash: a saved Stream has 208 bytes, not 5
+}
+
+func ExampleV3Key() {
+	price, err := rapidhash.Decimal("1.50")
+	if err != nil {
+		fmt.Fprintln(os.Stderr, err)
+	}
+	bought, err := rapidhash.Time(time.Date(2024, 2, 29, 12, 34, 56, 789_012_000, time.UTC))
+	if err != nil {
+		fmt.Fprintln(os.Stderr, err)
+	}
+	tags := rapidhash.List(rapidhash.Text("new"), rapidhash.Bool(true))
+	fmt.Println(rapidhash.V3Key(price, bought, tags) == rapidhash.V3Key(rapidhash.Text("1.5"),
+		rapidhash.Integer(1709210096789012), rapidhash.Integer(2), rapidhash.Text("new"), rapidhash.Integer(1)))
+	_, err = rapidhash.Time(time.Unix(0, 1))
+	fmt.Println(err)
+	// Output:
+	// true
+	// rapidhash: Time: a part of a microsecond: t.Truncate(time.Microsecond) has none
 }
 
 func ExampleStream() {

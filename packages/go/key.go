@@ -7,20 +7,22 @@ const (
 	nothingTag = iota
 	integerTag
 	bytesTag
+	listTag // of a Field alone: the encoding of a list begins with an integer
 )
 
-// A Field is a field of a key: nothing (as SQL's NULL), an integer, or bytes. The zero Field is nothing. A Field of
-// bytes refers to them, so that they must not change before the key is hashed.
+// A Field is a field of a key: nothing (as SQL's NULL), an integer, bytes, or a list of these. Values of other types
+// are such fields by rules that are the same in every language. The zero Field is nothing, as a missing value of any
+// type is. A Field of bytes refers to them, so that they must not change before the key is hashed.
 type Field struct {
 	tag   byte
 	value int64
-	text  string
+	text  string // bytes, or the encoding of a list
 }
 
 // Nothing returns a field that is nothing.
 func Nothing() Field { return Field{} }
 
-// Integer returns a field that is an integer. An unsigned one of 64 bits is int64(value), its two's complement.
+// Integer returns a field that is an integer.
 func Integer(value int64) Field { return Field{tag: integerTag, value: value} }
 
 // Text returns a field that is the bytes of a string.
@@ -71,9 +73,23 @@ func (stream *Stream) WriteField(field Field) {
 	case integerTag:
 		binary.LittleEndian.PutUint64(head[1:], uint64(field.value))
 		stream.Write(head[:])
-	default:
+	case bytesTag:
 		binary.LittleEndian.PutUint64(head[1:], uint64(len(field.text)))
 		stream.Write(head[:])
+		fallthrough
+	default:
 		stream.WriteString(field.text)
 	}
+}
+
+// appendTo appends the encoding of a field that is no list.
+func (field *Field) appendTo(data []byte) []byte {
+	data = append(data, field.tag)
+	switch field.tag {
+	case integerTag:
+		return binary.LittleEndian.AppendUint64(data, uint64(field.value))
+	case bytesTag:
+		return append(binary.LittleEndian.AppendUint64(data, uint64(len(field.text))), field.text...)
+	}
+	return data
 }

@@ -19,10 +19,10 @@ func data() []byte {
 var own = Secrets{1, [7]uint64{2, 3, 5, 7, 11, 13, 17}}
 
 // compare compares a value with the known value of the Rust crate rapidhash 4.5.1.
-func compare(t *testing.T, name string, value, known uint64) {
+func compare[T comparable](t *testing.T, name string, value, known T) {
 	t.Helper()
 	if value != known {
-		t.Errorf("%s: %d, and %d is the known value", name, value, known)
+		t.Errorf("%s: %v, and %v is the known value", name, value, known)
 	}
 }
 

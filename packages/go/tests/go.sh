@@ -1,5 +1,5 @@
 #!/usr/bin/env bash
-# reads: packages/go crates/test_replay/data docs/BINDINGS.md tests/formulas/go
+# reads: packages/go crates/test_replay/data tests/fields.tsv docs/BINDINGS.md tests/formulas/go
 # Tests the Go package over all cases, also under emulation on other machines, and by the commands on its page.
 . "$(dirname "$0")/../../../tests/cases.sh"
 export GOCACHE=$room/go GOPROXY=off
@@ -62,8 +62,8 @@ try licences has_the_licences .
 try version requires_the_go_of_the_page
 try layout bash -c '[ -z "$(gofmt -l . ../../tests/formulas/go)" ]'
 # The functions, types and values of the release, and all with the methods.
-try names bash -c '[ "$(go doc -all | grep -cE "^(func [A-Z]|type |var |\s(V[23]\w+|V3) )|^\s(V\w+)$")" -eq 34 ]'
-try methods bash -c '[ "$(go doc -all | grep -cE "^(func|type) ")" -eq 74 ]'
+try names bash -c '[ "$(go doc -all | grep -cE "^(func [A-Z]|type |var |\s(V[23]\w+|V3) )|^\s(V\w+)$")" -eq 42 ]'
+try methods bash -c '[ "$(go doc -all | grep -cE "^(func|type) ")" -eq 82 ]'
 try tests passes_every_test
 try race go test -timeout 0 -count 1 -short -race .
 try 386 env GOARCH=386 go test -timeout 0 -count 1 .
