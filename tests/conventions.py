@@ -7,7 +7,6 @@ import re
 
 from cases import ROOM, TOP, compare, finish, lacks, shell, skip, tell
 from model import field_bytes, hash_of, secrets_of
-from sql import SERVER, ask, start_server, unpack
 
 # A column of the table, a value as text, and its fields. Dates and times are as GNU date computes them.
 VALUES = (
@@ -33,8 +32,8 @@ VALUES = (
 # Values that a language's type, or the expression for two items, cannot have.
 NANOSECONDS, MICROSECONDS, TYPED = r"t .*\.\d{9}", r"t .*[1-9]", r"n (1E.*|-0\.0)"
 OTHER_LISTS = r"l \((|3, 2.*|'',|\(.*)\)"
-LACKS = {"Python": (NANOSECONDS,), "JavaScript": (MICROSECONDS, TYPED), "PostgreSQL": (NANOSECONDS, OTHER_LISTS),
-         "SQLite": (NANOSECONDS, TYPED, OTHER_LISTS), "C++": (TYPED, OTHER_LISTS), "Rust": (TYPED,)}
+LACKS = {"Python": (NANOSECONDS,), "JavaScript": (MICROSECONDS, TYPED), "SQLite": (NANOSECONDS, TYPED, OTHER_LISTS),
+         "C++": (TYPED, OTHER_LISTS), "Rust": (TYPED,)}
 QUOTE = '"'
 PAGE = (TOP / "docs/BINDINGS.md").read_text()
 
@@ -98,14 +97,10 @@ VALUES}""", '{ let mut h = RapidStreamHasherV3::new(&DEFAULT_RAPID_SECRETS); PAR
         "SELECT rapidhash_v3_key(FIELDS) FROM (SELECT DECLARE);", {
         "boolean b": "IT AS b", "date d": "'IT' AS d", "time t": "'IT' AS t", "UUID u": "x'IT' AS u",
         "decimal n": "IT AS n", "list l": "'[IT]' AS l"}),
-    "PostgreSQL": (None, None, "CREATE EXTENSION rapidhash; SET timezone = 'Asia/Kolkata';\nVALUES", "PARTS\n", "",
-        "SELECT rapidhash_v3_key(FIELDS) FROM (SELECT DECLARE) AS v;", {
-        "boolean b": "IT AS b", "date d": "date 'IT' AS d", "time t": "timestamptz 'IT+00' AS t",
-        "UUID u": "uuid 'IT' AS u", "decimal n": "numeric 'IT' AS n", "list l": "ARRAY[IT] AS l"}),
 }
 TOOLS = {"Python": ("cc", "/usr/lib/python3/dist-packages/setuptools", "/usr/include/python3*/Python.h"),
          "JavaScript": ("node", "esbuild", "clang", "wasm-ld", "npm"), "C++": ("g++",), "Rust": ("cargo",),
-         "SQLite": ("sqlite3", "cc", "/usr/include/sqlite3.h"), "PostgreSQL": SERVER}
+         "SQLite": ("sqlite3", "cc", "/usr/include/sqlite3.h")}
 BUILDS = {"Python": 'make -s wheel && /usr/bin/python3 -m zipfile -e build/wheels/*.whl "$ROOM/wheel"',
           "JavaScript": "make -s npm", "SQLite": "make -s sqlite"}
 
@@ -116,7 +111,7 @@ def source(language, column, value, field):
         texts = [f'"{it}"' if isinstance(it, str) else str(it) for it in value]
         if language == "Rust" and not value:
             return "0; 0"
-        return ", ".join(texts).replace(QUOTE, "'" if language == "PostgreSQL" else QUOTE)
+        return ", ".join(texts)
     if column == "UUID u" and language in ("C++", "Rust", "SQLite"):
         return field.hex() if language == "SQLite" else ", ".join(map(str, field))
     if column == "time t" and language == "JavaScript":
@@ -158,8 +153,6 @@ def block(language, column, value, fields, expression):
 def keys_by(language, text):
     """Returns the keys that a program prints, or the lines that it printed instead."""
     file, command, *_ = PROGRAMS[language]
-    if language == "PostgreSQL":
-        return ask(text)
     folder = ROOM / language
     (folder / file).parent.mkdir(parents=True)
     (folder / file).write_text(text.replace("TOP", str(TOP)))
@@ -189,29 +182,15 @@ def converts(language, cells):
                              if not re.fullmatch(r"-?\d+", key) or int(key) % 2**64 != right))
 
 
-def build(language):
-    """Builds what the programs of a language need. Returns the command that stops the server, if it has one. Other
-    scripts may build the extension for PostgreSQL at the same time, so this one builds it in its room."""
-    stop, command, folder = None, BUILDS.get(language, ":"), TOP
-    if language == "PostgreSQL":
-        folder = ROOM / "unpacked"
-        stop, command = start_server(), unpack(folder, "postgresql").replace("sudo ", "")
-    status, printed = shell(command, folder, DESTDIR=str(ROOM))
-    if status != 0:
-        tell(f"build for {language}", *printed.splitlines()[-20:])
-    return stop
-
-
 EXPRESSIONS = table()
 compare("languages", [*EXPRESSIONS][1:], [*LACKS])
 for language, tools in TOOLS.items():
     if reason := lacks(*tools):
         skip(language, reason)
         continue
-    stop = build(language)
-    try:
-        converts(language, EXPRESSIONS[language])
-    finally:
-        shell(stop or ":", "/")
+    status, printed = shell(BUILDS.get(language, ":"))
+    if status != 0:
+        tell(f"build for {language}", *printed.splitlines()[-20:])
+    converts(language, EXPRESSIONS[language])
 
 finish()

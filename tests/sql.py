@@ -2,11 +2,13 @@
 
 import os
 import re
+import runpy
 import shutil
 import subprocess
 from pathlib import Path
 
 from cases import ROOM, TOP, blocks, compare, shell, tell
+from model import hash_of, secrets_of
 
 HELLO = 3327445792987248966
 NOTHING = 232177599295442350
@@ -23,6 +25,8 @@ DATA = ROOM / "data"
 NOBODY = "setpriv --reuid=65534 --regid=65534 --clear-groups " if os.geteuid() == 0 else ""
 # The page with the expressions by which other values become fields of a key.
 BINDINGS = (TOP / "docs/BINDINGS.md").read_text()
+# The encoding of a value of a type, as hexadecimal digits or `refused`, by the rule for all languages.
+ENCODING = runpy.run_path(str(TOP / "scripts/fields.py"))["encoding"]
 
 
 def unpack(folder, binding):
@@ -36,6 +40,18 @@ def unpack(folder, binding):
 def signed(number):
     """Returns the SQL integer with the 64 bits of a hash."""
     return number - (number >> 63 << 64)
+
+
+def key_of(encoding):
+    """Returns the key with an encoding by the model, as SQL has it, or `refused`."""
+    seed, *secrets = secrets_of("default", "", False)
+    return encoding if encoding == "refused" else signed(hash_of("v3", bytes.fromhex(encoding), seed, secrets))
+
+
+def values_of_types():
+    """Returns the types, values and encodings of fields that every language has."""
+    lines = (TOP / "tests/fields.tsv").read_text().splitlines()
+    return [line.split("\t") for line in lines if not line.startswith("#")][1:]
 
 
 def pieces(message):

@@ -1,15 +1,21 @@
-/* The hashes of keys of several fields: NULL, a text, a bytea or an integer. */
+/* The hashes of keys of several fields, by docs/ALGORITHM.md of the repository. */
 #include <postgres.h>
-
-#include <catalog/pg_type.h>
-#include <fmgr.h>
-#include <mb/pg_wchar.h>
-#include <rapidhash_c.h>
-#include <utils/builtins.h>
-#include <utils/lsyscache.h>
 #if PG_VERSION_NUM >= 160000
 #include <varatt.h>
 #endif
+
+#include <catalog/pg_type.h>
+#include <fmgr.h>
+#include <math.h>
+#include <mb/pg_wchar.h>
+#include <rapidhash_c.h>
+#include <utils/array.h>
+#include <utils/builtins.h>
+#include <utils/date.h>
+#include <utils/lsyscache.h>
+#include <utils/numeric.h>
+#include <utils/timestamp.h>
+#include <utils/uuid.h>
 
 /* Appends a text as UTF-8, the same bytes in a database of any encoding. */
 static void add_text(const char *text, size_t len, struct rapidhash_stream *stream)
@@ -23,57 +29,175 @@ static void add_text(const char *text, size_t len, struct rapidhash_stream *stre
     }
 }
 
-/* Returns how to write a value of a type as a field, by the rule for all languages. */
+/* An argument of a call for a key: the name of the call, the place of the argument, and the stream of the key. */
+struct argument {
+    const char *name;
+    int place;
+    struct rapidhash_stream *stream;
+};
+
+static pg_attribute_noreturn() void refuse(const struct argument *argument, const char *reason, const char *hint)
+{
+    ereport(ERROR, (errcode(ERRCODE_DATATYPE_MISMATCH),
+                    errmsg("%s: argument %d %s, and no field of a key", argument->name, argument->place, reason),
+                    errhint("%s", hint)));
+}
+
+static void require(bool is_right, const struct argument *argument, const char *reason)
+{
+    if (!is_right)
+        refuse(argument, reason, "Pass NULL or another value in its place.");
+}
+
+/* Returns how to write a value of a type that is no field. */
 static const char *hint_for(Oid type)
 {
     switch (type) {
-        case BOOLOID:
-            return "Pass 0 or 1: b::int.";
-        case DATEOID:
-            return "Pass the days since 1970-01-01: d - date '1970-01-01'.";
         case TIMESTAMPOID:
-            return "Pass the microseconds since 1970-01-01: (extract(epoch FROM t) * 1000000)::bigint.";
-        case TIMESTAMPTZOID:
-            return "Pass the microseconds in UTC since 1970-01-01: "
-                   "(extract(epoch FROM t AT TIME ZONE 'UTC') * 1000000)::bigint.";
-        case UUIDOID:
-            return "Pass its 16 bytes: uuid_send(u).";
-        case NUMERICOID:
-            return "Pass it as text without trailing zeros: trim_scale(n)::text.";
+            return "Pass an instant, by its offset or time zone: t AT TIME ZONE 'UTC'.";
+        case FLOAT4OID:
+        case FLOAT8OID:
+            return "Pass its 64 bits: rapidhash_float_bits(x).";
+        case BPCHAROID:
+            return "Pass it as text, without trailing spaces: c::text.";
         default:
-            if (OidIsValid(get_element_type(type)))
-                return "Pass the number of items and then each item: cardinality(l), l[1], l[2].";
             return "Pass a text, bytea or bigint that does not depend on settings, and make it alike in all programs.";
     }
 }
 
-/* Appends an argument to a key, or raises an error if its type is no field. */
+/* Returns the type that a domain of domains is made of, if its values can be fields or items, else none. */
+static Oid field_type(Oid type)
+{
+    type = getBaseType(type);
+    switch (type) {
+        case BOOLOID:
+        case INT2OID:
+        case INT4OID:
+        case INT8OID:
+        case DATEOID:
+        case TIMESTAMPTZOID:
+        case UUIDOID:
+        case NUMERICOID:
+        case TEXTOID:
+        case VARCHAROID:
+        case UNKNOWNOID:
+        case BYTEAOID:
+            return type;
+        default:
+            return InvalidOid;
+    }
+}
+
+/* Appends the days or microseconds since 1970. The server counts them from 2000. */
+static void add_since_2000(const struct argument *argument, int64 count, int64 units_of_a_day)
+{
+    const int64 between = (int64)(POSTGRES_EPOCH_JDATE - UNIX_EPOCH_JDATE) * units_of_a_day;
+    require(count <= PG_INT64_MAX - between, argument, "is a time of more than 64 bits");
+    rapidhash_key_integer(argument->stream, count + between);
+}
+
+/* Appends the digits of a number without trailing zeros: at most 131072 before the point and 16383 after it. */
+static void add_numeric(const struct argument *argument, Datum value)
+{
+    const Numeric number = DatumGetNumeric(value);
+    char *digits;
+    require(!numeric_is_nan(number), argument, "is NaN");
+    require(!numeric_is_inf(number), argument, "is infinite");
+    digits = numeric_normalize(number);
+    rapidhash_key_bytes(argument->stream, digits, strlen(digits));
+    pfree(digits);
+    if ((Pointer)number != DatumGetPointer(value))
+        pfree(number);
+}
+
+static void add_bytes(const struct argument *argument, Datum value, bool is_text)
+{
+    struct varlena *const bytes = PG_DETOAST_DATUM_PACKED(value);
+    if (is_text)
+        add_text(VARDATA_ANY(bytes), VARSIZE_ANY_EXHDR(bytes), argument->stream);
+    else
+        rapidhash_key_bytes(argument->stream, VARDATA_ANY(bytes), VARSIZE_ANY_EXHDR(bytes));
+    if ((Pointer)bytes != DatumGetPointer(value))
+        pfree(bytes);
+}
+
+/* Appends a value of a type that is no list. */
+static void add_value(const struct argument *argument, Oid type, Datum value)
+{
+    switch (type) {
+        case BOOLOID:
+            rapidhash_key_integer(argument->stream, DatumGetBool(value));
+            break;
+        case INT2OID:
+            rapidhash_key_integer(argument->stream, DatumGetInt16(value));
+            break;
+        case INT4OID:
+            rapidhash_key_integer(argument->stream, DatumGetInt32(value));
+            break;
+        case INT8OID:
+            rapidhash_key_integer(argument->stream, DatumGetInt64(value));
+            break;
+        case DATEOID:
+            require(!DATE_NOT_FINITE(DatumGetDateADT(value)), argument, "is infinite");
+            add_since_2000(argument, DatumGetDateADT(value), 1);
+            break;
+        case TIMESTAMPTZOID:
+            require(!TIMESTAMP_NOT_FINITE(DatumGetTimestampTz(value)), argument, "is infinite");
+            add_since_2000(argument, DatumGetTimestampTz(value), USECS_PER_DAY);
+            break;
+        case UUIDOID:
+            rapidhash_key_bytes(argument->stream, DatumGetUUIDP(value)->data, UUID_LEN);
+            break;
+        case NUMERICOID:
+            add_numeric(argument, value);
+            break;
+        case UNKNOWNOID:
+            add_text(DatumGetCString(value), strlen(DatumGetCString(value)), argument->stream);
+            break;
+        default:
+            add_bytes(argument, value, type != BYTEAOID);
+    }
+}
+
+/* Appends the number of items of an array and then each item, from its lower bound on. */
+static void add_list(const struct argument *argument, Oid type, Datum value)
+{
+    ArrayType *const list = DatumGetArrayTypeP(value);
+    ArrayIterator items;
+    Datum item;
+    bool is_null;
+    if (ARR_NDIM(list) > 1)
+        refuse(argument, psprintf("is an array of %d dimensions", ARR_NDIM(list)),
+               "Pass each list as an argument of its own, or its items as one list: array(SELECT unnest(l)).");
+    rapidhash_key_integer(argument->stream, ArrayGetNItems(ARR_NDIM(list), ARR_DIMS(list)));
+    items = array_create_iterator(list, 0, NULL);
+    while (array_iterate(items, &item, &is_null)) {
+        if (is_null)
+            rapidhash_key_nothing(argument->stream);
+        else
+            add_value(argument, type, item);
+    }
+    array_free_iterator(items);
+    if ((Pointer)list != DatumGetPointer(value))
+        pfree(list);
+}
+
+/* Appends an argument to a key, or raises an error if it is no field. */
 static void add_field(FunctionCallInfo fcinfo, int at, const char *name, struct rapidhash_stream *stream)
 {
-    const Oid type = getBaseType(get_fn_expr_argtype(fcinfo->flinfo, at));
-    const bool is_integer = type == INT2OID || type == INT4OID || type == INT8OID;
-    const bool is_text = type == TEXTOID || type == VARCHAROID;
-    if (!is_integer && !is_text && type != UNKNOWNOID && type != BYTEAOID)
-        ereport(ERROR, (errcode(ERRCODE_DATATYPE_MISMATCH),
-                        errmsg("%s: argument %d is of type %s, and no field of a key", name, at + 1,
-                               format_type_be(type)),
-                        errhint("%s", hint_for(type))));
-    if (PG_ARGISNULL(at)) {
+    const struct argument argument = {name, at + 1, stream};
+    const Oid given = getBaseType(get_fn_expr_argtype(fcinfo->flinfo, at));
+    const Oid item = get_element_type(given);
+    const Oid type = field_type(OidIsValid(item) ? item : given);
+    if (!OidIsValid(type))
+        refuse(&argument, psprintf("is of type %s", format_type_be(given)),
+               hint_for(OidIsValid(item) ? getBaseType(item) : given));
+    if (PG_ARGISNULL(at))
         rapidhash_key_nothing(stream);
-    } else if (is_integer) {
-        rapidhash_key_integer(stream, type == INT2OID   ? PG_GETARG_INT16(at)
-                                      : type == INT4OID ? PG_GETARG_INT32(at)
-                                                        : PG_GETARG_INT64(at));
-    } else if (type == UNKNOWNOID) {
-        add_text(PG_GETARG_CSTRING(at), strlen(PG_GETARG_CSTRING(at)), stream);
-    } else {
-        struct varlena *const bytes = PG_DETOAST_DATUM_PACKED(PG_GETARG_DATUM(at));
-        if (is_text)
-            add_text(VARDATA_ANY(bytes), VARSIZE_ANY_EXHDR(bytes), stream);
-        else
-            rapidhash_key_bytes(stream, VARDATA_ANY(bytes), VARSIZE_ANY_EXHDR(bytes));
-        PG_FREE_IF_COPY(bytes, at);
-    }
+    else if (OidIsValid(item))
+        add_list(&argument, type, PG_GETARG_DATUM(at));
+    else
+        add_value(&argument, type, PG_GETARG_DATUM(at));
 }
 
 /* Returns the hash of a key of several fields, which follow the `first` arguments. */
@@ -105,3 +229,19 @@ static Datum hash_key(FunctionCallInfo fcinfo, int first, const char *name,
 KEY(v3_key, 0, rapidhash_seed_secrets)
 KEY(v3_key_with_seed, 1, rapidhash_seed_secrets)
 KEY(v3_key_with_secrets, 1, rapidhash_make_secrets)
+
+PG_FUNCTION_INFO_V1(sql_float_bits);
+
+/* Returns the 64 bits of a number, of which -0 has those of 0. */
+Datum sql_float_bits(PG_FUNCTION_ARGS)
+{
+    const float8 number = PG_GETARG_FLOAT8(0) == 0 ? 0 : PG_GETARG_FLOAT8(0);
+    int64 bits;
+    StaticAssertStmt(sizeof bits == sizeof number, "a float8 has 64 bits");
+    if (isnan(number))
+        ereport(ERROR, (errcode(ERRCODE_NUMERIC_VALUE_OUT_OF_RANGE),
+                        errmsg("rapidhash_float_bits: NaN is no field of a key"),
+                        errhint("Pass NULL in its place: nullif(x, 'NaN').")));
+    memcpy(&bits, &number, sizeof bits);
+    PG_RETURN_INT64(bits);
+}

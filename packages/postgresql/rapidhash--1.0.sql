@@ -14,6 +14,10 @@ CREATE FUNCTION rapidhash_v3_key_with_seed(seed bigint, VARIADIC fields "any") R
 CREATE FUNCTION rapidhash_v3_key_with_secrets(number bigint, VARIADIC fields "any") RETURNS bigint
     AS 'MODULE_PATHNAME', 'sql_v3_key_with_secrets' LANGUAGE C IMMUTABLE PARALLEL SAFE;
 
+-- A floating-point number is a field by its 64 bits.
+CREATE FUNCTION rapidhash_float_bits(x double precision) RETURNS bigint
+    AS 'MODULE_PATHNAME', 'sql_float_bits' LANGUAGE C IMMUTABLE STRICT PARALLEL SAFE;
+
 -- What a hash decides. A fingerprint skips NULL, and is 0 of no rows.
 CREATE FUNCTION rapidhash_shard(hash bigint, count bigint) RETURNS bigint
     AS 'MODULE_PATHNAME', 'sql_shard' LANGUAGE C IMMUTABLE STRICT PARALLEL SAFE;

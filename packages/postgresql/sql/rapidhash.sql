@@ -18,8 +18,16 @@ SELECT rapidhash_v3(1.5::real);
 SELECT rapidhash_v3_with_secrets('a');
 -- Fields of a key, and what is none.
 SELECT rapidhash_v3_key('user', 4711, NULL), rapidhash_v3_key_with_seed(7, 'user', 4711, NULL);
-SELECT rapidhash_v3_key('a', 1.5);
+SELECT rapidhash_v3_key(true) = rapidhash_v3_key(1) AS boolean, rapidhash_v3_key('2024-02-29'::date) = rapidhash_v3_key(19782) AS date,
+  rapidhash_v3_key('2024-02-29 12:34:56.789012+00'::timestamptz) = rapidhash_v3_key(1709210096789012) AS timestamptz,
+  rapidhash_v3_key('00112233-4455-6677-8899-aabbccddeeff'::uuid) = rapidhash_v3_key('\x00112233445566778899aabbccddeeff'::bytea) AS uuid,
+  rapidhash_v3_key(-1.50) = rapidhash_v3_key('-1.5') AS numeric, rapidhash_v3_key('[0:1]={7,NULL}'::int[]) = rapidhash_v3_key(2, 7, NULL) AS array,
+  rapidhash_float_bits(-0.0) AS zero, rapidhash_float_bits(1.5) AS bits;
+SELECT rapidhash_v3_key('a', 1.5::real);
 SELECT rapidhash_v3_key('a', 'b'::char(3));
+SELECT rapidhash_v3_key('a', '2024-02-29 12:34'::timestamp);
+SELECT rapidhash_v3_key('a', '{{1,2}}'::int[]);
+SELECT rapidhash_v3_key('a', 'infinity'::date);
 SELECT rapidhash_v3_key(VARIADIC ARRAY[1, 2]);
 -- NULL as any argument.
 SELECT rapidhash_v3(NULL::text), rapidhash_v3('a', NULL), rapidhash_v3(NULL::text, 1), rapidhash_v3_with_secrets(1, NULL),

@@ -1,5 +1,5 @@
 #!/usr/bin/env python3
-# reads: packages/postgresql packages/c/include tests/sql.py crates/test_replay/data docs/BINDINGS.md
+# reads: packages/postgresql packages/c/include tests/sql.py tests/fields.tsv scripts/fields.py crates/test_replay/data
 """Builds the PostgreSQL extension with the commands on its page and installs it into a copy of the server. Starts the
 copy as a user without rights and tests each function. The machine's own server is not affected. The values are those of
 the Rust crate."""
@@ -12,7 +12,7 @@ from pathlib import Path
 
 sys.path += [str(Path(__file__).parents[3] / "tests"), str(Path(__file__).parent)]
 from cases import ROOM, TOP, blocks, compare, finish, needs, shell, tell  # noqa: E402
-from fields import encodings, types  # noqa: E402
+from fields import columns, encodings, refused, replayed, same_keys  # noqa: E402
 from sql import (DATA, HELLO, SERVER, STREAMS, ask, case_queries, lines_with_results,  # noqa: E402
                  refused_calls, signed, start_server, unpack)
 
@@ -202,7 +202,7 @@ def hash_partitions():
 
 def rest():
     # The calls and rapidhash_hex, the aggregates, and the functions that these are made of.
-    compare("functions", ask(FUNCTIONS), ["a|f|19|9|t", "f|f|22|11|t", "f|t|82|50|t"])
+    compare("functions", ask(FUNCTIONS), ["a|f|19|9|t", "f|f|22|11|t", "f|t|83|50|t"])
     exports = shell("nm -D --defined-only build/postgresql/rapidhash.so | cut -d ' ' -f 3 | grep -v '^pg_finfo_'")[1]
     called = ask("SELECT DISTINCT prosrc FROM pg_proc WHERE probin LIKE '%rapidhash'")
     compare("exports", sorted(exports.split()), sorted(["Pg_magic_func", *called]))
@@ -224,8 +224,8 @@ def rest():
 needs("cc", *SERVER)
 stop = start_server()
 try:
-    for step in (newer_server, install, installcheck, unpacked_archive, cases, keys, shards, encodings, types, storages,
-                 aggregates, parallel_workers, hash_partitions, rest):
+    for step in (newer_server, install, installcheck, unpacked_archive, cases, keys, shards, encodings, replayed,
+                 columns, same_keys, refused, storages, aggregates, parallel_workers, hash_partitions, rest):
         step()
 finally:
     shell(stop, "/")
