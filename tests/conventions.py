@@ -32,7 +32,7 @@ VALUES = (
 # Values that a language's type, or the expression for two items, cannot have.
 NANOSECONDS, MICROSECONDS, TYPED = r"t .*\.\d{9}", r"t .*[1-9]", r"n (1E.*|-0\.0)"
 OTHER_LISTS = r"l \((|3, 2.*|'',|\(.*)\)"
-LACKS = {"Python": (NANOSECONDS,), "JavaScript": (MICROSECONDS, TYPED), "SQLite": (NANOSECONDS, TYPED, OTHER_LISTS),
+LACKS = {"Python": (NANOSECONDS,), "JavaScript": (MICROSECONDS, TYPED),
          "C++": (TYPED, OTHER_LISTS), "Rust": (TYPED,)}
 QUOTE = '"'
 PAGE = (TOP / "docs/BINDINGS.md").read_text()
@@ -93,16 +93,11 @@ VALUES}""", '{ let mut h = RapidStreamHasherV3::new(&DEFAULT_RAPID_SECRETS); PAR
              "key::write(&IT, &mut h); ", "{ DECLARE; let it = FIELDS; key::write(&it, &mut h); }", {
         "boolean b": "let b = IT", "date d": "let d = UNIX_EPOCH IT", "time t": "let t = UNIX_EPOCH IT",
         "UUID u": "let u: [u8; 16] = [IT]", "decimal n": 'let n = "IT"', "list l": "let l = [IT]"}),
-    "SQLite": ("a.sql", "sqlite3 -cmd '.load TOP/build/rapidhash' :memory: <a.sql", "VALUES", "PARTS\n", "",
-        "SELECT rapidhash_v3_key(FIELDS) FROM (SELECT DECLARE);", {
-        "boolean b": "IT AS b", "date d": "'IT' AS d", "time t": "'IT' AS t", "UUID u": "x'IT' AS u",
-        "decimal n": "IT AS n", "list l": "'[IT]' AS l"}),
 }
 TOOLS = {"Python": ("cc", "/usr/lib/python3/dist-packages/setuptools", "/usr/include/python3*/Python.h"),
-         "JavaScript": ("node", "esbuild", "clang", "wasm-ld", "npm"), "C++": ("g++",), "Rust": ("cargo",),
-         "SQLite": ("sqlite3", "cc", "/usr/include/sqlite3.h")}
+         "JavaScript": ("node", "esbuild", "clang", "wasm-ld", "npm"), "C++": ("g++",), "Rust": ("cargo",)}
 BUILDS = {"Python": 'make -s wheel && /usr/bin/python3 -m zipfile -e build/wheels/*.whl "$ROOM/wheel"',
-          "JavaScript": "make -s npm", "SQLite": "make -s sqlite"}
+          "JavaScript": "make -s npm"}
 
 
 def source(language, column, value, field):
@@ -112,14 +107,10 @@ def source(language, column, value, field):
         if language == "Rust" and not value:
             return "0; 0"
         return ", ".join(texts)
-    if column == "UUID u" and language in ("C++", "Rust", "SQLite"):
-        return field.hex() if language == "SQLite" else ", ".join(map(str, field))
+    if column == "UUID u" and language in ("C++", "Rust"):
+        return ", ".join(map(str, field))
     if column == "time t" and language == "JavaScript":
         return value[:-3]
-    if column == "time t" and language == "SQLite":  # has milliseconds of its own, and no fraction of whole seconds
-        return value.rstrip("0").rstrip(".")
-    if column == "decimal n" and language == "SQLite":  # keeps digits as an INTEGER in a column of type DECIMAL
-        return value if value.lstrip("-").isdigit() else f"'{value}'"
     if column == "date d" and language == "C++":
         return str(field)
     if column in ("date d", "time t") and language in ("C++", "Rust"):

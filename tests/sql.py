@@ -23,8 +23,6 @@ DIGITS = {HELLO: "2e2d7651b45f7946", 0: "0" * 16, 2**32: "0000000100000000", -1:
 SERVER = "pg_config psql setpriv /usr/lib/postgresql/*/bin/initdb /usr/include/postgresql/*/server/postgres.h".split()
 DATA = ROOM / "data"
 NOBODY = "setpriv --reuid=65534 --regid=65534 --clear-groups " if os.geteuid() == 0 else ""
-# The page with the expressions by which other values become fields of a key.
-BINDINGS = (TOP / "docs/BINDINGS.md").read_text()
 # The encoding of a value of a type, as hexadecimal digits or `refused`, by the rule for all languages.
 ENCODING = runpy.run_path(str(TOP / "scripts/fields.py"))["encoding"]
 

@@ -4,11 +4,25 @@
 
 SQLITE_EXTENSION_INIT1
 
+#include "values.h"
+#include "fields.h"
+#include "decimal.h"
+#include "list.h"
+#include "key.h"
+#include "shards.h"
+
 /* SQLite 3.25 introduced sqlite3_create_window_function. */
 #define OLDEST_SQLITE 3025000
 /* The headers have this flag from SQLite 3.31 on, and an older SQLite ignores it. */
 #ifndef SQLITE_INNOCUOUS
 #define SQLITE_INNOCUOUS 0x200000
+#endif
+/* From SQLite 3.45 on, and ignored before. */
+#ifndef SQLITE_RESULT_SUBTYPE
+#define SQLITE_RESULT_SUBTYPE 0x1000000
+#endif
+#ifndef SQLITE_SUBTYPE
+#define SQLITE_SUBTYPE 0x100000
 #endif
 #define FLAGS (SQLITE_UTF8 | SQLITE_DETERMINISTIC | SQLITE_INNOCUOUS)
 
@@ -33,77 +47,16 @@ struct running {
     struct rapidhash_stream stream;
 };
 
-/* The bytes of a value. If it is an integer, they are in `integer`. */
-struct message {
-    const void *bytes;
-    size_t len;
-    unsigned char integer[8];
-};
-
-static void refuse(sqlite3_context *context, const char *name, const char *why)
-{
-    char *text = sqlite3_mprintf("%s: %s", name, why);
-    if (text == NULL) {
-        sqlite3_result_error_nomem(context);
-        return;
-    }
-    sqlite3_result_error(context, text, -1);
-    sqlite3_free(text);
-}
-
-/* Reads an integer as the word with the same 64 bits. Returns 0 if there is none: without a result for NULL, or with an
- * error set. */
-static int read_word(sqlite3_context *context, const char *name, const char *what, sqlite3_value *value, uint64_t *word)
-{
-    char why[64];
-    if (sqlite3_value_type(value) == SQLITE_NULL)
-        return 0;
-    if (sqlite3_value_type(value) != SQLITE_INTEGER) {
-        sqlite3_snprintf(sizeof why, why, "the %s must be an INTEGER", what);
-        refuse(context, name, why);
-        return 0;
-    }
-    *word = (uint64_t)sqlite3_value_int64(value);
-    return 1;
-}
-
-/* Reads the 8 bytes of an integer, least significant first. */
-static void read_integer(sqlite3_value *value, struct message *message)
-{
-    uint64_t word = (uint64_t)sqlite3_value_int64(value);
-    int at;
-    for (at = 0; at < 8; at++)
-        message->integer[at] = (unsigned char)(word >> 8 * at);
-    message->bytes = message->integer;
-    message->len = sizeof message->integer;
-}
-
-/* Reads the bytes of a value. Returns 0 if there are none: without a result, which means NULL, or with an error set. */
+/* Reads the bytes of a value that is no list. */
 static int read_message(sqlite3_context *context, const char *name, sqlite3_value *value, struct message *message)
 {
-    int type = sqlite3_value_type(value);
-    if (type == SQLITE_NULL)
+    if (!read_bytes(context, name, value, message))
         return 0;
-    if (type == SQLITE_FLOAT) {
-        refuse(context, name, "a REAL cannot be hashed: cast it to TEXT, BLOB or INTEGER");
+    if (sqlite3_value_type(value) == SQLITE_BLOB && has_list_mark(message->bytes, message->len)) {
+        refuse(context, name, "a list can be hashed as a field of a key only");
         return 0;
     }
-    if (type == SQLITE_INTEGER) {
-        read_integer(value, message);
-        return 1;
-    }
-    if (type == SQLITE_TEXT) {
-        message->bytes = sqlite3_value_text(value);
-        message->len = (size_t)sqlite3_value_bytes(value);
-    } else {
-        /* The length comes first, because a zeroblob becomes NULL if there is no memory for it. */
-        message->len = (size_t)sqlite3_value_bytes(value);
-        message->bytes = sqlite3_value_blob(value);
-    }
-    if (message->bytes != NULL || (type == SQLITE_BLOB && message->len == 0))
-        return 1;
-    sqlite3_result_error_nomem(context);
-    return 0;
+    return 1;
 }
 
 /* The scalar functions. */
@@ -118,67 +71,6 @@ static void call(sqlite3_context *context, int count, sqlite3_value **values)
         sqlite3_result_int64(context, (sqlite3_int64)function->hash(message.bytes, message.len, word));
 }
 
-/* A call for a key, and its first argument, from which `make` makes the secrets. */
-struct key {
-    const char *name;
-    const char *word;
-    void (*make)(uint64_t word, struct rapidhash_secrets *secrets);
-};
-
-static const struct key keys[] = {
-    {"rapidhash_v3_key", NULL, rapidhash_seed_secrets},
-    {"rapidhash_v3_key_with_seed", "seed", rapidhash_seed_secrets},
-    {"rapidhash_v3_key_with_secrets", "number", rapidhash_make_secrets},
-};
-
-/* Appends a value to a key. Returns 0 with an error set if it is no field. */
-static int add_field(sqlite3_context *context, const char *name, int at, sqlite3_value *value,
-                     struct rapidhash_stream *stream)
-{
-    struct message message;
-    char refused[160];
-    switch (sqlite3_value_type(value)) {
-    case SQLITE_NULL:
-        rapidhash_key_nothing(stream);
-        return 1;
-    case SQLITE_INTEGER:
-        rapidhash_key_integer(stream, sqlite3_value_int64(value));
-        return 1;
-    case SQLITE_FLOAT:
-        sqlite3_snprintf(sizeof refused, refused, "argument %d is a REAL, and no field of a key: cast it to TEXT, BLOB "
-                         "or INTEGER; docs/BINDINGS.md lists conversions", at);
-        refuse(context, name, refused);
-        return 0;
-    default:
-        if (!read_message(context, name, value, &message))
-            return 0;
-        rapidhash_key_bytes(stream, message.bytes, message.len);
-        return 1;
-    }
-}
-
-/* Returns the hash of a key of several fields. SQLite passes no argument for an asterisk, as in `count(*)`. */
-static void call_key(sqlite3_context *context, int count, sqlite3_value **values)
-{
-    const struct key *const key = sqlite3_user_data(context);
-    struct rapidhash_secrets secrets;
-    struct rapidhash_stream stream;
-    uint64_t word = 0;
-    int at = key->word != NULL;
-    if (count <= at) {
-        refuse(context, key->name, "a key has fields: list the columns, because * passes none");
-        return;
-    }
-    if (at == 1 && !read_word(context, key->name, key->word, values[0], &word))
-        return;
-    key->make(word, &secrets);
-    rapidhash_v3_start(&stream, &secrets);
-    for (; at < count; at++)
-        if (!add_field(context, key->name, at + 1, values[at], &stream))
-            return;
-    sqlite3_result_int64(context, (sqlite3_int64)rapidhash_stream_finish(&stream));
-}
-
 /* Returns a hash as 16 hexadecimal digits. */
 static void digits_of(sqlite3_context *context, int count, sqlite3_value **values)
 {
@@ -189,74 +81,6 @@ static void digits_of(sqlite3_context *context, int count, sqlite3_value **value
         return;
     sqlite3_snprintf(sizeof digits, digits, "%016llx", hash);
     sqlite3_result_text(context, digits, 16, SQLITE_TRANSIENT);
-}
-
-/* What a hash and a count decide, and the greatest count. */
-struct decision {
-    const char *name;
-    const char *word;
-    uint64_t (*decide)(uint64_t word, uint64_t count);
-    sqlite3_int64 most;
-};
-
-static uint64_t bucket_of(uint64_t hash, uint64_t count)
-{ return rapidhash_bucket(hash, (uint32_t)count); }
-
-static const struct decision decisions[] = {
-    {"rapidhash_shard", "hash", rapidhash_shard, INT64_MAX},
-    {"rapidhash_first_hash", "shard", rapidhash_first_hash, INT64_MAX},
-    {"rapidhash_bucket", "hash", bucket_of, UINT32_MAX},
-};
-
-static void decide(sqlite3_context *context, int count, sqlite3_value **values)
-{
-    const struct decision *const decision = sqlite3_user_data(context);
-    uint64_t word, all;
-    char why[80];
-    (void)count;
-    if (!read_word(context, decision->name, decision->word, values[0], &word) ||
-        !read_word(context, decision->name, "count", values[1], &all))
-        return;
-    if (all < 1 || all > (uint64_t)decision->most) {
-        sqlite3_snprintf(sizeof why, why, "the count must be from 1 to %lld, not %lld", decision->most, all);
-        refuse(context, decision->name, why);
-    } else if (*decision->word == 's' && word >= all) {
-        sqlite3_snprintf(sizeof why, why, "the shard must be from 0 to the count less 1, not %lld", word);
-        refuse(context, decision->name, why);
-    } else {
-        sqlite3_result_int64(context, (sqlite3_int64)decision->decide(word, all));
-    }
-}
-
-/* Adds a hash to a fingerprint, which skips NULL, or removes it. */
-static void change_fingerprint(sqlite3_context *context, sqlite3_value *value, uint64_t factor)
-{
-    uint64_t hash, *sum;
-    if (!read_word(context, "rapidhash_fingerprint", "hash", value, &hash))
-        return;
-    sum = sqlite3_aggregate_context(context, sizeof *sum);
-    if (sum == NULL)
-        sqlite3_result_error_nomem(context);
-    else
-        *sum += factor * hash;
-}
-
-static void add_hash(sqlite3_context *context, int count, sqlite3_value **values)
-{
-    (void)count;
-    change_fingerprint(context, values[0], 1);
-}
-
-static void remove_hash(sqlite3_context *context, int count, sqlite3_value **values)
-{
-    (void)count;
-    change_fingerprint(context, values[0], UINT64_MAX);
-}
-
-static void fingerprint_so_far(sqlite3_context *context)
-{
-    const uint64_t *const sum = sqlite3_aggregate_context(context, 0);
-    sqlite3_result_int64(context, sum == NULL ? 0 : (sqlite3_int64)*sum);
 }
 
 /* Adds a row to an aggregate. */
@@ -349,8 +173,11 @@ int sqlite3_rapidhash_init(sqlite3 *database, char **error, const sqlite3_api_ro
         status = sqlite3_create_function_v2(database, functions[at].name, functions[at].word == NULL ? 1 : 2, FLAGS,
             (void *)&functions[at], call, NULL, NULL, NULL);
     for (at = 0; at < COUNT(keys) && status == SQLITE_OK; at++)
-        status = sqlite3_create_function_v2(database, keys[at].name, -1, FLAGS, (void *)&keys[at], call_key, NULL, NULL,
-            NULL);
+        status = sqlite3_create_function_v2(database, keys[at].name, -1, FLAGS | SQLITE_SUBTYPE, (void *)&keys[at],
+            call_key, NULL, NULL, NULL);
+    for (at = 0; at < COUNT(fields) && status == SQLITE_OK; at++)
+        status = sqlite3_create_function_v2(database, fields[at].name, 1, FLAGS | SQLITE_RESULT_SUBTYPE,
+            (void *)&fields[at], make_field, NULL, NULL, NULL);
     for (at = 0; at < COUNT(decisions) && status == SQLITE_OK; at++)
         status = sqlite3_create_function_v2(database, decisions[at].name, 2, FLAGS, (void *)&decisions[at], decide,
             NULL, NULL, NULL);

@@ -1,5 +1,5 @@
 #!/usr/bin/python3
-# reads: packages/sqlite packages/c/include tests/sql.py crates/test_replay/data docs/BINDINGS.md
+# reads: packages/sqlite packages/c/include tests/sql.py tests/fields.tsv scripts/fields.py crates/test_replay/data
 """Builds the SQLite extension with the commands on its page, loads it, and tests each function. Replays the cases of
 every language. Others cover types, errors, aggregates, the examples on the page, and each failing allocation."""
 
@@ -7,14 +7,13 @@ import sqlite3
 import sys
 from pathlib import Path
 
-sys.path.append(str(Path(__file__).parents[3] / "tests"))
+sys.path += [str(Path(__file__).parents[3] / "tests"), str(Path(__file__).parent)]
 from cases import ROOM, TOP, blocks, compare, finish, needs, shell, skip_all, tell  # noqa: E402
-from sql import BINDINGS, DIGITS, HELLO, NOTHING, TEXT, TEXT_HASH  # noqa: E402
+from fields import ask, columns, lists, refused, replayed  # noqa: E402
+from sql import DIGITS, HELLO, NOTHING, TEXT, TEXT_HASH  # noqa: E402
 from sql import case_queries, lines_with_results, refused_calls, signed, unpack  # noqa: E402
 
 PAGE = "packages/sqlite/README.md"
-# The expression for a decimal, whose text has an exponent if SQLite keeps it as such a REAL.
-DECIMAL = next(text for text in BINDINGS.split("`") if text.startswith("CASE WHEN n "))
 REAL = "a REAL cannot be hashed: cast it to TEXT, BLOB or INTEGER"
 ERRORS = {
     "rapidhash_v3(1.5)": f"rapidhash_v3: {REAL}",
@@ -31,11 +30,8 @@ ERRORS = {
     "rapidhash_v3_with_secrets(1)": "wrong number of arguments to function rapidhash_v3_with_secrets()",
     "rapidhash_v3_agg(1, 2, 3)": "wrong number of arguments to function rapidhash_v3_agg()",
     "rapidhash_v3_key('a', 2.0)":
-        "rapidhash_v3_key: argument 2 is a REAL, and no field of a key: cast it to TEXT, BLOB or INTEGER; "
-        "docs/BINDINGS.md lists conversions",
-    f"rapidhash_v3_key({DECIMAL}) FROM (SELECT 1e20 AS n)":
-        "rapidhash_v3_key: argument 1 is a REAL, and no field of a key: cast it to TEXT, BLOB or INTEGER; "
-        "docs/BINDINGS.md lists conversions",
+        "rapidhash_v3_key: argument 2 is a REAL, and no field of a key: pass rapidhash_float_bits(x), or "
+        "rapidhash_decimal of TEXT",
     # An asterisk passes no arguments, so all rows would have the same key.
     "rapidhash_v3_key(*) FROM (VALUES (1))":
         "rapidhash_v3_key: a key has fields: list the columns, because * passes none",
@@ -77,10 +73,6 @@ def opened(encoding="UTF-8"):
     database.enable_load_extension(True)
     database.load_extension(str(TOP / "build/rapidhash"))
     return database
-
-
-def ask(database, query, *values):
-    return database.execute(query, values).fetchall()
 
 
 def is_refused(database, call):
@@ -194,6 +186,11 @@ shards(loaded)
 types(loaded, "types")
 types(opened("UTF-16le"), "types_in_utf_16le")
 types(opened("UTF-16be"), "types_in_utf_16be")
+replayed(loaded)
+replayed(opened("UTF-16le"))
+columns(loaded)
+lists(loaded)
+refused(loaded)
 aggregates(loaded)
 errors(loaded)
 schema(loaded)
@@ -209,6 +206,6 @@ query = "SELECT rapidhash_v3_agg(value) = rapidhash_v3(value) FROM (SELECT CAST(
 compare("long_rows", ask(loaded, query.format("TEXT")) + ask(loaded, query.format("BLOB")), [(1,), (1,)])
 compare("names", (ask(loaded, "SELECT count(*) FROM pragma_function_list WHERE name LIKE 'rapidhash%'"),
                   shell("nm -D --defined-only build/rapidhash.so | cut -d ' ' -f 3")[1]),
-        ([(38,)], "sqlite3_rapidhash_init\n"))
+        ([(44,)], "sqlite3_rapidhash_init\n"))
 compare("failing_memory", shell(MEMORY), (0, "every failed allocation ended in SQLITE_NOMEM\n"))
 finish()

@@ -18,6 +18,10 @@ static const char *const queries[] = {
     "SELECT rapidhash_v3(1.5)",
     "SELECT rapidhash_v3_key('a', zeroblob(column1), column1) FROM (VALUES (3000), (4000))",
     "SELECT rapidhash_v3_key('a', 1.5)",
+    "SELECT rapidhash_v3_key(rapidhash_list(column1)) FROM (VALUES ('[1,\"a\"]'), ('[1.5]'))",
+    "SELECT rapidhash_v3_key(rapidhash_decimal(column1), rapidhash_decimal(7)) FROM (VALUES ('1e99'), ('1e'))",
+    "SELECT rapidhash_v3_key(rapidhash_date('2024-02-29'), rapidhash_time('2024-02-29 00:00:00Z'))",
+    "SELECT rapidhash_v3_key(rapidhash_uuid(column1)) FROM (VALUES ('00112233-4455-6677-8899-aabbccddeeff'))",
     "SELECT rapidhash_hex(rapidhash_v3(column1)) FROM (VALUES ('hello'), (NULL))",
 };
 
