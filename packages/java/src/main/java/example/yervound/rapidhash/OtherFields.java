@@ -101,7 +101,10 @@ final class OtherFields {
         return number.longValue();
     }
 
-    /** Returns the text of a number. None that is much too long is computed, so that an exponent costs no memory. */
+    /**
+     * Returns the text of a number. None that is much too long is computed, so that an exponent costs no memory. Nor is
+     * that of a number with twice as many digits, which the text could only have as zeros behind the point.
+     */
     private static String textOf(BigDecimal number, KeyEncoding key, int at) {
         BigInteger unscaled = number.unscaledValue().abs();
         if (unscaled.signum() == 0) {
@@ -109,7 +112,7 @@ final class OtherFields {
         }
         long scale = number.scale();
         double leastDigits = (unscaled.bitLength() - 1) * 0.30102999;
-        if (leastDigits - scale > MOST || scale - unscaled.getLowestSetBit() > MOST) {
+        if (Math.max(leastDigits / 2, leastDigits - scale) > MOST || scale - unscaled.getLowestSetBit() > MOST) {
             throw key.refusal(at, TOO_LONG);
         }
         String digits = unscaled.toString();

@@ -197,6 +197,7 @@ public class FieldsTest {
         BigInteger great = BigInteger.ONE.shiftLeft(1 << 28);
         refused(tooLong, new BigDecimal(great));
         refused(tooLong, new BigDecimal(great.setBit(0), 80_807_124));
+        refused(tooLong, new BigDecimal(great, 80_807_124));
         for (BigDecimal number : new BigDecimal[] {BigDecimal.TEN.pow(149_999), BigDecimal.ONE.movePointLeft(149_998),
             BigDecimal.ONE.movePointLeft(149_997).negate(), BigDecimal.valueOf(-25, 2).add(BigDecimal.TEN.pow(149_996)),
             BigDecimal.valueOf(2).pow(435_411), BigDecimal.ONE.movePointLeft(100_001)}) {
@@ -207,7 +208,7 @@ public class FieldsTest {
             assertEquals(RapidhashKey.hash("1"), RapidhashKey.hash(zeros));
         }
         assertEquals(RapidhashKey.hash("0"), RapidhashKey.hash(new BigDecimal("0E+2147483647")));
-        assertEquals(RapidhashKey.hash("-1"), RapidhashKey.hash(BigDecimal.ONE.setScale(400_000).negate()));
+        assertEquals(RapidhashKey.hash("-1"), RapidhashKey.hash(BigDecimal.ONE.setScale(299_000).negate()));
     }
 
     @Test
