@@ -55,7 +55,9 @@ def decimal(text):
     found = re.fullmatch(r"([+-]?)(?=\.?\d)(\d*)(?:\.(\d*))?(?:[eE]([+-]?\d+))?", text)
     if not found:
         return None
-    digits, places = found[2] + (found[3] or ""), len(found[3] or "") - int(found[4] or 0)
+    whole, part = found[2], found[3] or ""
+    digits = (whole + part).rstrip("0")
+    places = len(digits) - len(whole) - int(found[4] or 0)
     if not digits.strip("0"):
         return "0"
     if abs(places) > 2 * MOST:

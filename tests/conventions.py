@@ -30,11 +30,9 @@ VALUES = (
     ("list l", ((1, 2), (), (3,)), [3, 2, 1, 2, 0, 1, 3]),
 )
 # Values that a language's type, or the expression for two items, cannot have.
-NANOSECONDS, MICROSECONDS, TYPED = r"t .*\.\d{9}", r"t .*[1-9]", r"n (1E.*|-0\.0)"
+TYPED = r"n (1E.*|-0\.0)"
 OTHER_LISTS = r"l \((|3, 2.*|'',|\(.*)\)"
-LACKS = {"Python": (NANOSECONDS,), "JavaScript": (MICROSECONDS, TYPED),
-         "C++": (TYPED, OTHER_LISTS), "Rust": (TYPED,)}
-QUOTE = '"'
+LACKS = {"C++": (TYPED, OTHER_LISTS), "Rust": (TYPED,)}
 PAGE = (TOP / "docs/BINDINGS.md").read_text()
 
 
@@ -59,18 +57,6 @@ def known(fields):
 # the block of a value, which has its parts at PARTS, a part of so many items, a part that declares a value and has its
 # expression at FIELDS, and the declarations, with the value at IT.
 PROGRAMS = {
-    "Python": ("a.py", "/usr/bin/python3 a.py", """from datetime import date, datetime, timedelta, timezone
-from decimal import MAX_PREC, Context, Decimal
-from uuid import UUID
-from rapidhash import v3_key
-VALUES""", "f = []\nPARTSprint(v3_key(*f))\n", "f += [IT]\n", "DECLARE; f += [FIELDS]\n", {
-        "boolean b": "b = 'IT' == 'true'", "date d": "d = date.fromisoformat('IT')", "UUID u": "u = UUID('IT')",
-        "time t": "t = datetime.fromisoformat('IT+00:00')", "decimal n": "n = Decimal('IT')", "list l": "l = [IT]"}),
-    "JavaScript": ("a.mjs", "node a.mjs",
-        "import { v3Key, ready } from 'TOP/build/npm/rapidhash.mjs';\nawait ready;\nVALUES",
-        "{ const f = []; PARTS console.log(String(v3Key(...f))); }\n", "f.push(IT); ", "{ DECLARE; f.push(FIELDS); }", {
-        "boolean b": "const b = IT", "date d": "const d = new Date('IT')", "time t": "const t = new Date('ITZ')",
-        "UUID u": "const u = 'IT'", "decimal n": "const n = 'IT'", "list l": "const l = [IT]"}),
     "C++": ("a.cpp", "g++ -std=c++20 -ITOP/packages/c/include a.cpp -o a && ./a", """#include <array>
 #include <chrono>
 #include <iostream>
@@ -94,10 +80,7 @@ VALUES}""", '{ let mut h = RapidStreamHasherV3::new(&DEFAULT_RAPID_SECRETS); PAR
         "boolean b": "let b = IT", "date d": "let d = UNIX_EPOCH IT", "time t": "let t = UNIX_EPOCH IT",
         "UUID u": "let u: [u8; 16] = [IT]", "decimal n": 'let n = "IT"', "list l": "let l = [IT]"}),
 }
-TOOLS = {"Python": ("cc", "/usr/lib/python3/dist-packages/setuptools", "/usr/include/python3*/Python.h"),
-         "JavaScript": ("node", "esbuild", "clang", "wasm-ld", "npm"), "C++": ("g++",), "Rust": ("cargo",)}
-BUILDS = {"Python": 'make -s wheel && /usr/bin/python3 -m zipfile -e build/wheels/*.whl "$ROOM/wheel"',
-          "JavaScript": "make -s npm"}
+TOOLS = {"C++": ("g++",), "Rust": ("cargo",)}
 
 
 def source(language, column, value, field):
@@ -107,13 +90,11 @@ def source(language, column, value, field):
         if language == "Rust" and not value:
             return "0; 0"
         return ", ".join(texts)
-    if column == "UUID u" and language in ("C++", "Rust"):
+    if column == "UUID u":
         return ", ".join(map(str, field))
-    if column == "time t" and language == "JavaScript":
-        return value[:-3]
     if column == "date d" and language == "C++":
         return str(field)
-    if column in ("date d", "time t") and language in ("C++", "Rust"):
+    if column in ("date d", "time t"):
         return since_1970(column, value, field, language)
     return value
 
@@ -147,15 +128,7 @@ def keys_by(language, text):
     folder = ROOM / language
     (folder / file).parent.mkdir(parents=True)
     (folder / file).write_text(text.replace("TOP", str(TOP)))
-    return shell(command.replace("TOP", str(TOP)), folder, PYTHONPATH=str(ROOM / "wheel"))[1].splitlines()
-
-
-def taken_nulls(cells):
-    """Returns what the expressions of JavaScript, whose types do not exclude null, take it for."""
-    lines = (f"try {{ const {column[-1]} = null; console.log('{column}:', {cell}); }} catch {{}}\n"
-             for column, cell in cells.items())
-    (ROOM / "nulls.mjs").write_text("".join(lines))
-    return shell("node nulls.mjs", ROOM)[1].splitlines()
+    return shell(command.replace("TOP", str(TOP)), folder)[1].splitlines()
 
 
 def converts(language, cells):
@@ -168,9 +141,8 @@ def converts(language, cells):
     if len(found) != len(wanted):
         tell(language, *found[-20:], f"{len(found)} keys, not {len(wanted)}")
         return
-    nulls = taken_nulls(cells) if language == "JavaScript" else []
-    tell(language, *nulls, *(f"{column} {value}: {key}" for (column, value, _), key, right in zip(values, found, wanted)
-                             if not re.fullmatch(r"-?\d+", key) or int(key) % 2**64 != right))
+    tell(language, *(f"{column} {value}: {key}" for (column, value, _), key, right in zip(values, found, wanted)
+                     if not re.fullmatch(r"-?\d+", key) or int(key) % 2**64 != right))
 
 
 EXPRESSIONS = table()
@@ -179,9 +151,6 @@ for language, tools in TOOLS.items():
     if reason := lacks(*tools):
         skip(language, reason)
         continue
-    status, printed = shell(BUILDS.get(language, ":"))
-    if status != 0:
-        tell(f"build for {language}", *printed.splitlines()[-20:])
     converts(language, EXPRESSIONS[language])
 
 finish()
