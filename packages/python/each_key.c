@@ -135,12 +135,13 @@ static int hash_rows(const struct fields *fields, Py_ssize_t columns, Py_ssize_t
 }
 
 /* Hashes the rows, without the global lock if no column has items. Returns 0, or -1 with an error set. */
-static int run_rows(const struct fields *fields, Py_ssize_t columns, Py_ssize_t rows,
+static int run_rows(PyObject *module, const struct fields *fields, Py_ssize_t columns, Py_ssize_t rows,
                     const struct rapidhash_secrets *secrets, const Py_buffer *out)
 {
     struct key key;
     Py_ssize_t at, place[2];
     int status, has_items = 0;
+    key.module = module;
     key.secrets = secrets;
     key.integers = NULL;
     key.out = out;
@@ -191,7 +192,7 @@ PyObject *each_key(PyObject *module, PyObject *const *args, Py_ssize_t count)
     if (opened == columns && read_own(module, args[1], args[2], &own) == 0 &&
         open_out(args[3], (size_t)rows, &out) == 0) {
         if (!overwrites(&out, fields, columns))
-            status = run_rows(fields, columns, rows, &own, &out);
+            status = run_rows(module, fields, columns, rows, &own, &out);
         PyBuffer_Release(&out);
     }
     while (opened-- > 0)

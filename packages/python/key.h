@@ -7,6 +7,7 @@
 /* The encoding of a key. A long one is in the stream, but for its last bytes. `integers` is NULL, or a type that is
  * known to have integers, and `out` is NULL, or the buffer of the hashes of rows. */
 struct key {
+    PyObject *module;
     const struct rapidhash_secrets *secrets;
     void *integers;
     const void *out;

@@ -74,15 +74,15 @@ static int refuse_type(PyObject *field, Py_ssize_t at, Py_ssize_t row)
 /* Appends the fields of a value that is neither None, an integer, a str nor bytes. */
 static int add_converted(PyObject *field, Py_ssize_t at, Py_ssize_t row, struct key *key)
 {
-    PyObject *const module = PyImport_ImportModule("rapidhash._fields");
-    PyObject *const fields = module == NULL ? NULL : PyObject_CallMethod(module, "fields_of", "(O)", field);
+    PyObject *const fields_of = attribute_of(key->module, "fields_of"); /* __init__.py sets it. */
+    PyObject *const fields = fields_of == NULL ? NULL : PyObject_CallFunctionObjArgs(fields_of, field, NULL);
     Py_ssize_t item, size;
-    Py_XDECREF(module);
+    Py_XDECREF(fields_of);
     if (fields == NULL)
         return refuse_field(at, row);
-    size = fields == Py_None ? refuse_type(field, at, row) : PyTuple_Size(fields);
+    size = fields == Py_None ? refuse_type(field, at, row) : PyList_Size(fields);
     for (item = 0; item < size; item++)
-        if (add_field(PyTuple_GetItem(fields, item), at, row, key) < 0)
+        if (add_field(PyList_GetItem(fields, item), at, row, key) < 0)
             break;
     Py_DECREF(fields);
     return item == size ? 0 : -1;
@@ -194,6 +194,7 @@ PyObject *key_of(PyObject *module, PyObject *const *args, Py_ssize_t count)
     Py_ssize_t at, size = count == 3 ? PyTuple_Size(args[0]) : -1;
     if (size < 0 || read_own(module, args[1], args[2], &own) < 0)
         return NULL;
+    key.module = module;
     key.secrets = &own;
     key.integers = NULL;
     key.out = NULL;

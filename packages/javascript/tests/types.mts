@@ -1,6 +1,6 @@
 // Code that the types accept or refuse. tsc compiles it, and nothing runs it.
-import { hex, load, loadSync, ready, shard, v3, v3Hex, V3, V3Micro, V3Nano, type Hasher, type Message, type Options,
-  type Rapidhash } from "yervound-rapidhash";
+import { day, decimal, hex, load, loadSync, ready, shard, v3, v3Hex, V3, V3Micro, V3Nano, type Hasher, type Message,
+  type Options, type Rapidhash } from "yervound-rapidhash";
 
 const library: Rapidhash = loadSync();
 const later: Promise<Rapidhash> = load(new WebAssembly.Module(new Uint8Array(8)));
@@ -36,8 +36,9 @@ const seeded: bigint = library.v3KeyWith({ seed: 1 }, key, new DataView(data.buf
 
 // @ts-expect-error A misspelt property is not a field.
 library.v3Key(undefined);
-// @ts-expect-error A date is not a field.
-library.v3Key(new Date());
+const typed: bigint = library.v3Key(new Date(), true, [1, null], day("2024-02-29"), decimal("1.50"));
+// @ts-expect-error A list in a list is not a field.
+library.v3Key([[1]]);
 // @ts-expect-error A seed is not a string.
 library.v3(data, { seed: "7" });
 // @ts-expect-error A bare seed is not an options object.

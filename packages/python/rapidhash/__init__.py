@@ -26,7 +26,7 @@ from . import _extension
 from ._extension import v1, v2_0, v2_1, v2_2, v3, v3_micro, v3_nano, v3_protected
 from ._extension import v1_hexdigest, v2_0_hexdigest, v2_1_hexdigest, v2_2_hexdigest
 from ._extension import v3_hexdigest, v3_micro_hexdigest, v3_nano_hexdigest, v3_protected_hexdigest
-from ._fields import float_bits
+from ._fields import fields_of as _fields_of, float_bits
 from ._secrets import Secrets, SecretsV1
 
 __all__ = ["v1", "v2_0", "v2_1", "v2_2", "v3", "v3_micro", "v3_nano", "v3_protected",
@@ -37,6 +37,7 @@ __all__ = ["v1", "v2_0", "v2_1", "v2_2", "v3", "v3_micro", "v3_nano", "v3_protec
            "V3", "V3Micro", "V3Nano", "file_digest", "__version__"]
 
 __version__ = "1.0.0"
+_extension.fields_of = _fields_of  # the calls for keys ask it about a field of another type
 
 
 def make_secrets(number, version=3):

@@ -1,9 +1,12 @@
 """The fields of values that are neither None, an integer, a text nor bytes, by the rules of docs/ALGORITHM.md."""
 
+from __future__ import annotations
+
 import struct
 import sys
 from datetime import date, datetime, timedelta, timezone
 from decimal import MAX_EMAX, MAX_PREC, MIN_EMIN, Context, Decimal
+from typing import Any
 from uuid import UUID
 
 _EPOCH = datetime(1970, 1, 1, tzinfo=timezone.utc)
@@ -11,7 +14,7 @@ _EXACT = Context(prec=MAX_PREC, Emin=MIN_EMIN, Emax=MAX_EMAX)
 _LONGEST = 150_000
 
 
-def float_bits(number):
+def float_bits(number: float) -> int:
     """Returns the 64 bits of a float as an integer, which is a field of a key. Those of -0.0 are 0.
 
     Raises TypeError for another type, and ValueError for NaN."""
@@ -19,21 +22,22 @@ def float_bits(number):
         raise TypeError(f"number must be a float, not {type(number)!r}")
     if number != number:
         raise ValueError("number must not be NaN")
-    return struct.unpack("<Q", struct.pack("<d", number + 0.0))[0]
+    bits: int = struct.unpack("<Q", struct.pack("<d", number + 0.0))[0]
+    return bits
 
 
-def _class(package, name):
+def _class(package: str, name: str) -> Any:
     """Returns a class of a package that may be imported, or no class."""
     return getattr(sys.modules.get(package), name, ())
 
 
-def _is_missing(value):
+def _is_missing(value: Any) -> bool:
     """Returns whether a value is a missing one of pandas."""
     pandas = sys.modules.get("pandas")
     return any(value is getattr(pandas, name, _is_missing) for name in ("NA", "NaT"))
 
 
-def _of_time(time):
+def _of_time(time: Any) -> int:
     if time.utcoffset() is None:
         raise TypeError("a time must have an offset from UTC: .replace(tzinfo=timezone.utc) or .astimezone() gives one")
     if isinstance(time, _class("pandas", "Timestamp")) and time.nanosecond:
@@ -41,49 +45,50 @@ def _of_time(time):
     return int((time - _EPOCH) // timedelta(microseconds=1))
 
 
-def _of_decimal(number):
+def _of_decimal(number: Decimal) -> str:
     if not number.is_finite():
         raise ValueError("a decimal number must be finite")
     if not number:
         return "0"
     number = number.normalize(_EXACT)
     sign, digits, exponent = number.as_tuple()
+    assert isinstance(exponent, int)
     whole = max(len(digits) + exponent, 1)
     if sign + whole + (exponent < 0) - min(exponent, 0) > _LONGEST:
         raise ValueError(f"a decimal number must have at most {_LONGEST:,} characters without an exponent")
     return f"{number:f}"
 
 
-def _of_list(value):
+def _of_list(value: list[Any] | tuple[Any, ...]) -> list[Any]:
     items = tuple(value)  # Another thread may change a list.
     if any(isinstance(item, (list, tuple)) for item in items):
         raise TypeError("a list in a key must not contain a list")
-    return (len(items), *items)
+    return [len(items), *items]
 
 
-def _of_numpy(value):
+def _of_numpy(value: Any) -> list[int | None] | None:
     """Returns the fields of a day of NumPy, or None for a time, which has no offset."""
     numpy = sys.modules["numpy"]
     if numpy.datetime_data(value)[0] != "D":
         return None
-    return (None if numpy.isnat(value) else int(value.astype("int64")),)
+    return [None if numpy.isnat(value) else int(value.astype("int64"))]
 
 
-def fields_of(value):
-    """Returns the fields of a value as a tuple, in which the items of a list can be of any type of a field, or None for
-    another type."""
+def fields_of(value: Any) -> list[Any] | None:
+    """Returns the fields of a value, of which the items of a list can be of any type of a field, or None for another
+    type."""
     if _is_missing(value):
-        return (None,)
+        return [None]
     if isinstance(value, datetime):
-        return (_of_time(value),)
+        return [_of_time(value)]
     if isinstance(value, date):
-        return (value.toordinal() - 719163,)
+        return [value.toordinal() - 719163]
     if isinstance(value, Decimal):
-        return (_of_decimal(value),)
+        return [_of_decimal(value)]
     if isinstance(value, UUID):
-        return (value.bytes,)
+        return [value.bytes]
     if isinstance(value, (list, tuple)):
         return _of_list(value)
     if isinstance(value, _class("numpy", "bool_")):
-        return (int(value),)
+        return [int(value)]
     return _of_numpy(value) if isinstance(value, _class("numpy", "datetime64")) else None

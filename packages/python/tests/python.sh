@@ -26,7 +26,8 @@ has_its_files() {
     has_the_licences yervound_rapidhash-*.dist-info && [ "$(grep -cxE \
     'Name: yervound-rapidhash|License: MIT OR Apache-2\.0|Requires-Python: >=3\.8' ./*.dist-info/METADATA)" -eq 3 ] &&
     ls | diff - <(printf '%s\n' rapidhash yervound_rapidhash-1.0.0.dist-info) &&
-    LC_ALL=C ls rapidhash | diff - <(printf '%s\n' __init__.py __init__.pyi _extension.abi3.so _secrets.py py.typed) &&
+    LC_ALL=C ls rapidhash | diff - <(printf '%s\n' __init__.py __init__.pyi _extension.abi3.so _fields.py _secrets.py \
+      py.typed) &&
     ! tar -tzf "$top"/build/wheels/*.tar.gz | grep -v /test_ | grep /tests/.
 }
 
