@@ -32,7 +32,7 @@ VALUES = (
 # Values that a language's type, or the expression for two items, cannot have.
 TYPED = r"n (1E.*|-0\.0)"
 OTHER_LISTS = r"l \((|3, 2.*|'',|\(.*)\)"
-LACKS = {"C++": (TYPED, OTHER_LISTS), "Rust": (TYPED,)}
+LACKS = {"C++": (TYPED, OTHER_LISTS)}
 PAGE = (TOP / "docs/BINDINGS.md").read_text()
 
 
@@ -70,17 +70,8 @@ VALUES}""", "{ PARTS }\n", "", "DECLARE; std::cout << rapidhash::key(FIELDS) << 
         "boolean b": "bool b = IT", "date d": "sys_days d{days(IT)}", "time t": "auto t = sys_time<decltype(IT)>(IT)",
         "UUID u": "std::array<unsigned char, 16> u{IT}", "decimal n": 'std::string n = "IT"',
         "list l": "std::vector l{IT}"}),
-    "Rust": ("src/main.rs", "cargo init --quiet --name first --vcs none && "
-             "cargo add --quiet --offline --path TOP/packages/rust && cargo run --quiet --offline", """#![allow(unused)]
-use rapidhash::{key::{self, Field, KeyField}, v3::{RapidStreamHasherV3, DEFAULT_RAPID_SECRETS}};
-use std::time::{Duration, UNIX_EPOCH};
-fn main() {
-VALUES}""", '{ let mut h = RapidStreamHasherV3::new(&DEFAULT_RAPID_SECRETS); PARTS println!("{}", h.finish()); }\n',
-             "key::write(&IT, &mut h); ", "{ DECLARE; let it = FIELDS; key::write(&it, &mut h); }", {
-        "boolean b": "let b = IT", "date d": "let d = UNIX_EPOCH IT", "time t": "let t = UNIX_EPOCH IT",
-        "UUID u": "let u: [u8; 16] = [IT]", "decimal n": 'let n = "IT"', "list l": "let l = [IT]"}),
 }
-TOOLS = {"C++": ("g++",), "Rust": ("cargo",)}
+TOOLS = {"C++": ("g++",)}
 
 
 def source(language, column, value, field):

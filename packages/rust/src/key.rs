@@ -2,7 +2,8 @@
 //!
 //! A field is nothing (`None`, SQL's NULL), an integer of up to 64 bits, or bytes. The hash of a key is V3 of its
 //! fields' encodings. Different keys have different encodings: `("ab", "c")` is not `("a", "bc")`, and `None` is
-//! neither 0 nor an empty text. Floats are not fields: convert them first.
+//! neither 0 nor an empty text. A `char` is its text. For other values there are [`Day`], [`Time`], [`Uuid`],
+//! `Decimal` (with the feature `std`) and [`List`]. Floats are not fields, but their bits by [`float_bits`] are.
 //!
 //! ```
 //! use rapidhash::key;
@@ -12,6 +13,16 @@
 //! let shard = shard(key::hash(&("user", 4711, name)), 64);
 //! assert_eq!(key::hash(&("user", 4711, name)), 14742763072502883419);
 //! ```
+
+#[cfg(feature = "std")]
+mod decimal;
+mod items;
+mod types;
+
+#[cfg(feature = "std")]
+pub use decimal::Decimal;
+pub use items::{KeyElement, KeyItem, List};
+pub use types::{Day, FieldError, Time, Uuid, float_bits};
 
 pub use crate::proved::key::Field;
 #[doc(hidden)]
@@ -31,8 +42,9 @@ use std::{
     not(rapidhash_no_diagnostic),
     diagnostic::on_unimplemented(
         message = "`{Self}` cannot be a field of a key",
-        note = "a field is an integer of up to 64 bits, a `bool`, a text, bytes, or an `Option` of one, and a key is a \
-                field or a tuple of up to twelve; pass a `char` as a text, by `encode_utf8`"
+        note = "a field is an integer of up to 64 bits, a `bool`, a text, bytes, a type of `rapidhash::key`, or an \
+                `Option` of one, and a key is a field, a `char`, a `List` of these, or a tuple of up to twelve; pass a \
+                float by `key::float_bits(number)?`"
     )
 )]
 pub trait KeyField {
@@ -40,7 +52,7 @@ pub trait KeyField {
     fn field(&self) -> Field<'_>;
 }
 
-/// A value that is the fields of a key, in order: a [`KeyField`], a tuple of up to twelve, or a list of [`Field`].
+/// A value that is the fields of a key, in order: a [`KeyElement`], a tuple of up to twelve, or a slice of [`Field`].
 ///
 /// ```
 /// use rapidhash::key::{self, Field, Key, KeyField};
@@ -64,8 +76,9 @@ pub trait KeyField {
     not(rapidhash_no_diagnostic),
     diagnostic::on_unimplemented(
         message = "`{Self}` cannot be a key",
-        note = "a field is an integer of up to 64 bits, a `bool`, a text, bytes, or an `Option` of one, and a key is a \
-                field or a tuple of up to twelve; pass a `char` as a text, by `encode_utf8`"
+        note = "a field is an integer of up to 64 bits, a `bool`, a text, bytes, a type of `rapidhash::key`, or an \
+                `Option` of one, and a key is a field, a `char`, a `List` of these, or a tuple of up to twelve; pass a \
+                float by `key::float_bits(number)?`"
     )
 )]
 pub trait Key {
@@ -229,48 +242,3 @@ impl<F: KeyField + ?Sized> Key for F {
         each(self.field());
     }
 }
-
-macro_rules! lists {
-    ($($(#[$when:meta])* ($($generics:tt)*) $type:ty)*) => { $(
-        $(#[$when])*
-        impl<$($generics)*> Key for $type {
-            #[inline]
-            fn fields(&self, each: &mut dyn FnMut(Field<'_>)) {
-                for field in self.iter() {
-                    each(*field);
-                }
-            }
-        }
-    )* };
-}
-
-lists! {
-    () [Field<'_>]
-    () &[Field<'_>]
-    (const COUNT: usize) [Field<'_>; COUNT]
-    #[cfg(feature = "std")]
-    () Vec<Field<'_>>
-}
-
-macro_rules! tuples {
-    ($($name:ident)*) => {
-        tuples!(@ $($name)*);
-    };
-    (@ $($name:ident)+) => {
-        #[allow(non_snake_case)]
-        impl<$($name: KeyField),+> Key for ($($name,)+) {
-            #[inline]
-            fn fields(&self, each: &mut dyn FnMut(Field<'_>)) {
-                let ($($name,)+) = self;
-                $(each($name.field());)+
-            }
-        }
-        tuples!(@@ $($name)+);
-    };
-    (@@ $first:ident $($name:ident)*) => {
-        tuples!(@ $($name)*);
-    };
-    (@) => {};
-}
-
-tuples!(A B C D E F G H I J K L);

@@ -1,5 +1,5 @@
 #!/usr/bin/env bash
-# reads: packages/rust packages/tools crates scripts docs
+# reads: packages/rust packages/tools crates scripts docs tests/fields.tsv
 # Checks that the sources of the Rust crate in packages/rust/ are current. Tests its layout and lints, the package that
 # cargo builds, the README's program in its own directory, and its commands. Runs its tests and
 # examples with the machine's compiler and with Debian's, which is the oldest.
@@ -114,7 +114,7 @@ builds_without_script() {
       --extern proved="$room/libproved.rlib" -o "$room/libcompat.rlib"
 }
 
-# Checks that the compiler refuses calls with invalid constants, and a char in a key, and names the reason.
+# Checks that the compiler refuses calls with invalid constants, and keys of floats and nested lists, and says why.
 refuses_constants() {
   local call reason
   create constants '[dependencies]' "yervound-rapidhash = { path = \"$top/packages/rust\" }" || return
@@ -126,10 +126,18 @@ RapidStreamHasherLanes::<4, true, false>::new(&DEFAULT_RAPID_SECRETS)|LANES must
 rapidhash_v3_file_lanes::<&[u8], 6, 1, false>(b"", &DEFAULT_RAPID_SECRETS)|LANES must be 7, 5 or 3
 rapidhash_v3_file_sized::<&[u8], 0, false>(b"", &DEFAULT_RAPID_SECRETS)|SIZE must be at least 1
 CALLS
-  [ "$(rustc --version | cut -d . -f 2)" -lt 78 ] ||
-    echo "rapidhash::key::hash(&('a', 1))|pass a .char. as a text" >>"$room/calls"
+  [ "$(rustc --version | cut -d . -f 2)" -lt 78 ] || cat >>"$room/calls" <<'CALLS'
+key::hash(&(1.5, 1))|float by .key::float_bits
+key::hash(&List(&[1.5]))|float by .key::float_bits
+key::hash(&List(&[List(&[1])]))|a .List. of these
+key::hash(&List(&[Some(List(&[1]))]))|a .List. of these
+key::hash(&List(&[(1, 2)]))|a .List. of these
+key::hash(&(1, (2, 3)))|a tuple of up to twelve
+key::hash(&(1, [Field::Nothing]))|a tuple of up to twelve
+key::hash(&(1, List(&['a']), 'a', Some('b')))|
+CALLS
   while IFS='|' read -r call reason; do
-    echo "fn main() { use rapidhash::{v2::*, v3::{*, DEFAULT_RAPID_SECRETS}}; let _ = $call; }" >"$project/src/main.rs"
+    echo "use rapidhash::{key::{self, *}, v2::*, v3::*}; fn main() { let _ = $call; }" >"$project/src/main.rs"
     if [ -z "$reason" ]; then
       (cd "$project" && cargo build --quiet) || return
     elif (cd "$project" && cargo build --quiet) 2>"$room/refused" || ! grep -q "$reason" "$room/refused"; then
