@@ -1,5 +1,5 @@
 #!/usr/bin/env bash
-# reads: packages/c packages/rust crates docs/C.md docs/CPP.md Makefile
+# reads: packages/c packages/rust crates tests/fields.tsv docs/C.md docs/CPP.md Makefile
 # Tests the header by each compiler, standard and option with all vectors; the libraries that the kit and cc build, and
 # their names; the manual; and the hashes beside those of the Rust crate. Without the kit, the library is cc's alone.
 . "$(dirname "$0")/../../../tests/cases.sh"
@@ -37,6 +37,11 @@ has_the_values() {
 replays() {
   "${@:2}" "-I$include" "$tests/$1" ${linked:+-x none "$linked"} -o "$room/replay" &&
     ${under-} "$room/replay" <"$cases_of_all"
+}
+
+# Compiles a program that replays the values of types, and runs it in the same way: SOURCE COMPILER ARGUMENT..
+has_the_fields() {
+  "${@:2}" "-I$include" "$tests/$1" -o "$room/fields" && ${under-} "$room/fields" <"$top/tests/fields.tsv"
 }
 
 # Prints the names that the header declares but does not define if a program links the library.
@@ -120,6 +125,8 @@ exports_match_visibility() {
 has_no_warning() {
   local allowed=(-Wno-comma -Wno-padded -Wno-used-but-marked-unused)
   clang -std=c99 -Weverything -Werror "${allowed[@]}" "-I$include" -c "$top/packages/c/rapidhash_c.c" -o /dev/null &&
+    clang -std=c99 -Weverything -Werror "${allowed[@]}" "-I$include" -x c -fsyntax-only - \
+      <<<'#include <rapidhash_fields.h>' &&
     includes_the_headers clang++ -Weverything "${allowed[@]}" -Wno-c++98-compat-pedantic -Wno-pre-c++17-compat
 }
 
@@ -269,9 +276,9 @@ signatures() {
     grep -oE '(void|bool|uint64_t|uint32_t) rapidhash_[a-z0-9_]*[a-z0-9]\([^()]*\)' | sed 's/( /(/' | sort
 }
 
-# Checks that the manual page has each function of the header with the same signature, and no other.
+# Checks that the manual page has each function of the headers of C with the same signature, and no other.
 manual_has_the_header() {
-  cc -E -P -DRAPIDHASH_LINK "$header" | signatures >"$room/signatures" &&
+  cc -E -P -DRAPIDHASH_LINK "$include/rapidhash_fields.h" | signatures >"$room/signatures" &&
     [ "$(wc -l <"$room/signatures")" -gt "$(declared | wc -l)" ] &&
     mandoc -Tascii "$top/packages/c/rapidhash_c.3" | sed 's|.\x08||g' | signatures | diff "$room/signatures" -
 }
@@ -555,6 +562,9 @@ for compiler in gcc clang; do
     try_with "header_${standard}_$compiler" "$compiler$([[ $standard != c++* ]] || echo ' c++')" \
       has_the_values "$compiler" "-std=$standard" -x "${standard//[0-9]*/}" -DIS_FAST=$all -O2 -pedantic \
       -Wall -Wextra -Wconversion -Wshadow -Werror
+    try_with "fields_${standard}_$compiler" "$compiler$([[ $standard != c++* ]] || echo ' c++')" \
+      has_the_fields fields.c "$compiler" "-std=$standard" -x "${standard//[0-9]*/}" -O2 -pedantic \
+      -Wall -Wextra -Wconversion -Wshadow -Werror
     all=0
   done
 done
@@ -567,6 +577,11 @@ try header_stops_at_bounds stops_at_its_bounds
 try_with header_with_sanitizers "clang $fuzzer" ended sanitizers
 try_with header_tcc tcc has_the_values tcc
 try_with header_32_bits "gcc $multilib/libgcc.a" has_the_values gcc -m32 -O2
+try_with fields_with_sanitizers clang has_the_fields fields.c clang -O1 -fsanitize=address,undefined \
+  -fno-sanitize-recover=all
+try_with fields_tcc tcc has_the_fields fields.c tcc
+try_with fields_32_bits "gcc $multilib/libgcc.a" has_the_fields fields.c gcc -m32 -O2
+try fields_of_fast_mathematics has_the_fields fields.c cc -O2 -ffast-math
 for standard in c++11 c++17 c++20; do
   try_with "cpp_header_$standard" g++ calls_from_cpp g++ "$standard"
   try_with "cpp_header_${standard}_clang" clang++ calls_from_cpp clang++ "$standard"
@@ -604,12 +619,16 @@ for machine in _M_X64 _M_ARM64; do
     "-D$machine" "-I$tests/msvc"
   try_with "replay_msvc$machine" gcc replays cases.c gcc -O2 -DIS_FAST=0 -U__SIZEOF_INT128__ -D_MSC_VER=1930 \
     "-D$machine" "-I$tests/msvc"
+  try_with "fields_msvc$machine" gcc has_the_fields fields.c gcc -O2 -U__SIZEOF_INT128__ -D_MSC_VER=1930 \
+    "-D$machine" "-I$tests/msvc"
 done
 s390x='clang s390x-linux-gnu-ld /usr/lib/gcc-cross/s390x-linux-gnu/*/libgcc.a /usr/s390x-linux-gnu/include/stdio.h'
 under=qemu-s390x try_with properties_s390x "$s390x qemu-s390x" \
   has_the_properties "$both" clang --target=s390x-linux-gnu -static -O2
 under=qemu-s390x try_with replay_s390x "$s390x qemu-s390x" \
   replays cases.c clang --target=s390x-linux-gnu -static -O2 -DIS_FAST=0
+under=qemu-s390x try_with fields_s390x "$s390x qemu-s390x" \
+  has_the_fields fields.c clang --target=s390x-linux-gnu -static -O2
 under='valgrind -q --error-exitcode=9' try_with content 'valgrind /usr/include/valgrind/memcheck.h' \
   has_the_properties content cc -O2 -DTEST_CONTENT
 # Without optimization each branch of the source is one, also where the compiler would have found code without it.
