@@ -298,5 +298,6 @@ inline bool from_hex(bytes digits, std::uint64_t &hash) noexcept
 } /* namespace rapidhash */
 
 #include "rapidhash_keys.hpp"
+#include "rapidhash_types.hpp"
 
 #endif

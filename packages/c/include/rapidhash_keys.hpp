@@ -49,16 +49,15 @@ struct has_own_traits<Value, decltype(static_cast<void>(sizeof(typename Value::t
     : std::integral_constant<bool, !std::is_same<typename Value::traits_type,
                                                  std::char_traits<typename Value::value_type>>::value> {};
 
-/* Appends a value to a V3 stream of C, as the fields of a key. But for a time, different values of a type are different
- * messages:
+/* Appends a value to a V3 stream of C, as the fields of a key. Different values of a type are different messages:
  *
  * - nullptr is nothing (as SQL's NULL), an integer or an enumerator an integer, and a text or bytes are bytes;
  * - a pair or a tuple has the fields of its elements, one after another;
  * - a vector, an array or a span is a list, if it is not bytes: the number of its items, and then their fields;
  * - an optional is nothing or its value, which is itself no optional, pair or tuple;
  * - a path has the number of its elements, and then each of them as bytes;
- * - a time of the system clock has the whole microseconds since 1970-01-01 in UTC, but a date of it, such as
- *   std::chrono::sys_days, the days since then;
+ * - a time of the system clock has the microseconds since 1970-01-01 in UTC, and its type no part of one, but a date of
+ *   it, such as std::chrono::sys_days, the days since then;
  * - a duration, also of days, is its microseconds.
  *
  * A program can specialize it for its own types. */
@@ -175,19 +174,14 @@ struct field<std::span<Item, Size>, if_list<std::span<Item, Size>>> {
 };
 #endif
 
-/* Returns the microseconds of a duration, rounded down. Above 64 bits they are its two's complement. */
+/* Returns the microseconds of a duration that has whole ones. Above 64 bits they are its two's complement. */
 template <class Number, class Period>
 std::int64_t to_microseconds(const std::chrono::duration<Number, Period> &value) noexcept
 {
-    using unit = std::ratio_divide<Period, std::micro>;
     static_assert(std::is_integral<Number>::value && std::is_signed<Number>::value && sizeof(Number) <= 8,
                   "a time or duration of a key has a signed integer of at most 64 bits: convert it by duration_cast");
-    static_assert(unit::num <= INT64_MAX / unit::den,
-                  "the period of a time of a key is too fine for 64 bits: convert it to nanoseconds");
-    const std::int64_t count = value.count(), rest = count % unit::den, below = rest < 0 ? unit::den : 0;
-    const std::int64_t whole = count / unit::den - (rest < 0 ? 1 : 0);
-    return static_cast<std::int64_t>(static_cast<std::uint64_t>(whole) * static_cast<std::uint64_t>(unit::num)
-                                     + static_cast<std::uint64_t>((rest + below) * unit::num / unit::den));
+    return static_cast<std::int64_t>(static_cast<std::uint64_t>(value.count())
+                                     * static_cast<std::uint64_t>(std::ratio_divide<Period, std::micro>::num));
 }
 
 template <class Number, class Period> struct field<std::chrono::duration<Number, Period>> {
@@ -202,6 +196,9 @@ template <class Number, class Period> struct field<std::chrono::duration<Number,
 template <class Clock, class Duration> struct field<std::chrono::time_point<Clock, Duration>> {
     static_assert(std::is_same<Clock, std::chrono::system_clock>::value,
                   "a time of a key is of the system clock, which counts from 1970-01-01 in UTC: convert it");
+    static_assert(std::ratio_divide<typename Duration::period, std::micro>::den == 1,
+                  "a time of a key has whole microseconds, because other programs round it: cut it by "
+                  "time_point_cast<microseconds>, or since C++17 by floor<microseconds>");
     static constexpr bool is_date = std::ratio_equal<typename Duration::period, std::ratio<86400>>::value;
 
     static void add(::rapidhash_stream *state, const std::chrono::time_point<Clock, Duration> &value) noexcept

@@ -101,7 +101,7 @@ calls_from_c() {
 calls_from_cpp() {
   local build=("$1" "-std=$2" "${@:3}" -O2 -Wall -Wextra -Wpedantic -Wconversion -Werror -fno-exceptions)
   "${build[@]}" "-I$include" "$tests"/cpp_*.cpp -o "$room/cpp_header" && "$room/cpp_header" &&
-    replays cases.cpp "${build[@]}"
+    replays cases.cpp "${build[@]}" && has_the_fields fields.cpp "${build[@]}" -fexceptions
 }
 
 # Checks the names that a shared library of the header exports: all with -fvisibility=hidden, and none of them with a
@@ -139,7 +139,7 @@ int main()
     const rapidhash::hasher hasher;
     const rapidhash::seeded_hasher seeded(rapidhash::seed(7));
     const auto value = std::make_tuple(1, std::make_pair("a", 2), std::optional<long>(), std::filesystem::path("a/b"),
-                                       std::vector<bool>(), std::array<long, 1>(), std::chrono::system_clock::now());
+                                       std::vector<bool>(), std::array<long, 1>(), std::chrono::hours(1));
     return hasher(value) == seeded(value) && rapidhash::micro_stream().update("a").finish() == rapidhash::hash("a");
 }
 CPP
@@ -229,8 +229,12 @@ std::chrono::nanoseconds(1)|a duration of a key has whole microseconds: round it
 std::chrono::duration<double>(1)|a time or duration of a key has a signed integer of at most 64 bits: convert it by
 std::chrono::duration<std::uint64_t>(1)|a time or duration of a key has a signed integer of at most 64 bits:
 std::chrono::duration<__int128>(1)|a time or duration of a key has a signed integer of at most 64 bits:
-std::chrono::time_point<std::chrono::system_clock, std::chrono::duration<long, std::ratio<1, 1L << 62>>>()|the \
-period of a time of a key is too fine for 64 bits: convert it to nanoseconds
+std::chrono::system_clock::now()|a time of a key has whole microseconds, because other programs round it: cut it by \
+.*time_point_cast<microseconds>, or since C++17 by .*floor<microseconds>
+std::chrono::time_point<std::chrono::system_clock, std::chrono::duration<int, std::ratio<1, 3>>>()|a time of a key has \
+whole microseconds
+rapidhash::float_bits(1L)|error: no matching function for call to .float_bits
+rapidhash::float_bits(1.5L)|error: no matching function for call to .float_bits
 std::chrono::steady_clock::now()|a time of a key is of the system clock, which counts from 1970-01-01 in UTC: convert it
 rapidhash::hash(std::array<bool, 2>())|error: no matching function for call to .hash
 rapidhash::fingerprint(std::array<int, 2>())|a hash of a fingerprint is an unsigned integer of 64 bits

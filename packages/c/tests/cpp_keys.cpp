@@ -160,23 +160,17 @@ static void check_times()
 {
     using namespace std::chrono;
     using time = std::chrono::system_clock;
-    using frames = duration<int, std::ratio<1, 3>>;
     using days_of_c11 = duration<int, std::ratio<86400>>;
     using weeks_of_c11 = duration<int, std::ratio<604800>>;
     const microseconds now(1795921445678901);
-    const auto of = [](nanoseconds since) { return time_point<time, nanoseconds>(since); };
 
     compare_hashers("a time", time_point<time, microseconds>(now), 12441909187889453402U, 2776045618874950061U);
-    compare_hashers("a time in nanoseconds", of(now + nanoseconds(999)), 12441909187889453402U, 2776045618874950061U);
-    compare_hashers("a time before 1970", of(nanoseconds(-1)), 8262727485331911684U, 13414414892000826377U);
-    compare_hashers("a microsecond before 1970", of(nanoseconds(-1000)), 8262727485331911684U, 13414414892000826377U);
-    compare_hashers("a time before that", of(nanoseconds(-1001)), 6299518586499656803U, 290012365531764315U);
+    compare_hashers("a microsecond before 1970", time_point<time, microseconds>(microseconds(-1)),
+                    8262727485331911684U, 13414414892000826377U);
+    compare_hashers("a time before that", time_point<time, microseconds>(microseconds(-2)), 6299518586499656803U,
+                    290012365531764315U);
     compare_hashers("a time in seconds", time_point<time, seconds>(seconds(5400)), 1140894827498793034U,
                     5122025725715897668U);
-    compare_hashers("a time in thirds of a second", time_point<time, frames>(frames(1)), 5791196716402987087U,
-                    11213285517736121593U);
-    compare_hashers("such a time before 1970", time_point<time, frames>(frames(-1)), 785980754753479697U,
-                    3888829872361580583U);
     compare_hashers("a date", time_point<time, days_of_c11>(days_of_c11(20786)), 5326882408246747049U,
                     1226254199588022146U);
     compare_hashers("a date before 1970", time_point<time, days_of_c11>(days_of_c11(-1)), 8262727485331911684U,
@@ -191,7 +185,8 @@ static void check_times()
     compare_hashers("a duration in microseconds", microseconds(-1), 8262727485331911684U, 13414414892000826377U);
     compare_hashers("a duration in days", days_of_c11(3), 13367503737575725187U, 14921215492117392322U);
     compare_hashers("the same in hours", hours(72), 13367503737575725187U, 14921215492117392322U);
-    compare("the time of the clock", rapidhash::key(time::time_point(seconds(5400))), 1140894827498793034U);
+    compare("the time of the clock", rapidhash::key(time_point_cast<microseconds>(time::time_point(seconds(5400)))),
+            1140894827498793034U);
 #if __cplusplus >= 202002L && defined(__cpp_lib_chrono) && __cpp_lib_chrono >= 201907L
     compare_hashers("a calendar date", sys_days(year(2026) / 11 / 29), 5326882408246747049U, 1226254199588022146U);
 #endif
