@@ -80,9 +80,8 @@ def limits():
 def names():
     """Checks that each name on a page is that of a file, or in the code: not only in tests, benches, edits or compat.
     On pages that name what the tests have, or what programs call, it may be in any file. Names of other libraries are
-    in none. tests/conventions.py runs the expressions of a table."""
+    in none."""
     code, everywhere = set(), set()
-    run = (TOP / "docs/BINDINGS.md").read_text().partition("| boolean b ")[2].partition("\n\n")[0]
     for name in shell("git ls-files")[1].splitlines():
         if not name.endswith((".md", ".tsv")):
             text = re.findall(r"\w+", f"{name} {(TOP / name).read_text(errors='replace')}")
@@ -92,7 +91,7 @@ def names():
     pages = dict.fromkeys(("PROVED", "ARCHITECTURE", "C", "CPP", "DECISIONS", "PERFORMANCE"), code) | dict.fromkeys(
         ("BINDINGS", "CHOOSING", "COMMANDS", "COMPATIBILITY", "EXAMPLES", "MIGRATING", "RATTLE", "TABLES"), everywhere)
     for page, place, line in prose(TOP / "docs" / f"{name}.md" for name in pages):
-        for name in NAME.findall(line) if line not in run else []:
+        for name in NAME.findall(line):
             yield from (f"{place}: no {part} of {name} in the code" for part in re.split(r"::|\.", name)
                         if part not in pages[page.stem] and not OTHERS.fullmatch(name))
 
