@@ -107,7 +107,7 @@ loads_into_sqlite() {
 has_manuals_and_completions() {
   cd "$root/usr/share" && ls man/man1/rapid{hash,sum}.1.gz bash-completion/completions/rapid{hash,sum} \
     zsh/vendor-completions/_rapid{hash,sum} fish/vendor_completions.d/rapid{hash,sum}.fish &&
-    cc -E -P -DRAPIDHASH_LINK "$root/usr/include/rapidhash_c.h" | grep -oE '\brapidhash_[a-z0-9_]*[a-z0-9]\(' |
+    cc -E -P -DRAPIDHASH_LINK "$root/usr/include/rapidhash_fields.h" | grep -oE '\brapidhash_[a-z0-9_]*[a-z0-9]\(' |
     tr -d '(' | cat - <(echo rapidhash_c) | sort -u >"$room/functions" && [ "$(wc -l <"$room/functions")" -gt 40 ] &&
     diff "$room/functions" <(printf '%s\n' man/man3/* | sed 's/.*\///; s/\.3\.gz$//' | sort) &&
     while read -r function; do
