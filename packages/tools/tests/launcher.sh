@@ -150,8 +150,8 @@ build/rapidhash.wasm packages/javascript/*.c packages/javascript/*.h packages/ja
 build/npm/rapidhash.cjs packages/javascript/*.mjs packages/javascript/*.d.ts
 build/npm/rapidhash.cjs packages/javascript/*.json packages/javascript/*.md
 build/yervound-rapidhash-1.0.0.jar packages/java/src/main packages/java/pom.xml packages/java/make.mk
-build/rapidhash.so packages/sqlite/*.c packages/sqlite/make.mk
-build/header/rapidhash_c.o packages/c/*.c packages/c/include/*.h packages/c/make.mk
+build/rapidhash.so packages/sqlite/*.c packages/sqlite/*.h packages/sqlite/make.mk
+build/header/rapidhash_c.o packages/c/*.c packages/c/include/rapidhash_c.h packages/c/make.mk
 build/header/librapidhash_c.so.1 packages/c/*.map packages/c/make.mk
 build/cargo/release/rapid% packages/rust/src packages/rust/tools/src packages/rust/build.rs
 build/cargo/release/rapid% packages/rust/Cargo.toml packages/rust/tools/Cargo.toml
