@@ -71,7 +71,7 @@ RAPIDHASH_INLINE_ bool rapidhash_key_time(struct rapidhash_stream *stream, int64
 RAPIDHASH_INLINE_ void rapidhash_key_uuid(struct rapidhash_stream *stream, const uint8_t bytes[16])
 { rapidhash_key_bytes(stream, bytes, 16); }
 
-/* Reads the bits of a number, and returns false for NaN. Its name is private. */
+/* Gets the bits of a number. Returns false for NaN. Its name is private. */
 RAPIDHASH_INLINE_ bool rapidhash_float_bits_(double number, uint64_t *bits)
 {
     enum { needs_a_double_of_64_bits = 1 / (sizeof(double) == 8 ? 1 : 0) };
@@ -130,7 +130,7 @@ RAPIDHASH_INLINE_ void rapidhash_add_digits_(
     rapidhash_add_piece_(decimal, digits->first + from + (from >= digits->split ? 1 : 0), (uint64_t)(to - from));
 }
 
-/* Reads digits and a point, and returns how many characters they are, or 0 without a digit. */
+/* Reads digits and a point. Returns the number of characters, or 0 if there is no digit. */
 RAPIDHASH_INLINE_ size_t rapidhash_read_digits_(const char *text, size_t len, struct rapidhash_digits_ *digits)
 {
     int64_t all = 0, first = 0, point = -1;
@@ -178,7 +178,7 @@ RAPIDHASH_INLINE_ bool rapidhash_read_exponent_(const char *text, size_t len, in
     return true;
 }
 
-/* Reads a decimal number, and returns false if the text is none, or its field would be too long. */
+/* Reads a decimal number. Returns false if the text is not one, or if its field would be too long. */
 RAPIDHASH_INLINE_ bool rapidhash_read_decimal_(const char *text, size_t len, struct rapidhash_decimal_ *decimal)
 {
     const bool is_negative = len > 0 && text[0] == '-';
