@@ -5,53 +5,9 @@ use rapidhash::{fast, inner, quality};
 use rapidhash_portable::v3::RapidSecrets;
 use std::hash::{BuildHasher, Hasher};
 
-/// The hasher with a sponge, and with no other option but an avalanche.
+/// The hasher with a sponge, and with no other option but an avalanche. Only such a hasher has an
+/// answer, so the short names name no other.
 type Sponge<'s, const AVALANCHE: bool> = inner::RapidHasher<'s, AVALANCHE, true, false, false>;
-
-// Each of these functions accepts a value by its short name and returns it by its full one, so it
-// compiles only if the two are the same type.
-
-fn fast_hasher(hasher: fast::RapidHasher<'_>) -> inner::RapidHasher<'_, false, true, false, false> {
-    hasher
-}
-
-fn fast_global(state: fast::GlobalState<'_>) -> inner::GlobalState<'_, false, true, false, false> {
-    state
-}
-
-fn fast_random(state: fast::RandomState<'_>) -> inner::RandomState<'_, false, true, false, false> {
-    state
-}
-
-fn fast_seedable(
-    state: fast::SeedableState<'_>,
-) -> inner::SeedableState<'_, false, true, false, false> {
-    state
-}
-
-fn quality_hasher(
-    hasher: quality::RapidHasher<'_>,
-) -> inner::RapidHasher<'_, true, true, false, false> {
-    hasher
-}
-
-fn quality_global(
-    state: quality::GlobalState<'_>,
-) -> inner::GlobalState<'_, true, true, false, false> {
-    state
-}
-
-fn quality_random(
-    state: quality::RandomState<'_>,
-) -> inner::RandomState<'_, true, true, false, false> {
-    state
-}
-
-fn quality_seedable(
-    state: quality::SeedableState<'_>,
-) -> inner::SeedableState<'_, true, true, false, false> {
-    state
-}
 
 /// The hash of an integer, which waits in the sponge, and four bytes.
 fn answer<const AVALANCHE: bool>(hasher: Sponge<'_, AVALANCHE>) -> u64 {
@@ -68,14 +24,14 @@ fn answer<const AVALANCHE: bool>(hasher: Sponge<'_, AVALANCHE>) -> u64 {
 fn fast_states_of_known_seeds(rt: HostRuntime) {
     let secrets = GlobalSecrets::new(1);
     let mut source = SeedSource::new(&secrets, 11233534814198372660);
-    let hasher = fast_hasher(fast::RapidHasher::default());
+    let hasher = fast::RapidHasher::default();
     assert!(rt; answer::<false>(hasher) == 6021588442437052047);
-    let global = fast_global(fast::GlobalState::new(&secrets));
+    let global = fast::GlobalState::new(&secrets);
     assert!(rt; answer::<false>(global.build_hasher()) == 1604029122039678008);
-    let random = fast_random(fast::RandomState::new(&secrets, &mut source));
+    let random = fast::RandomState::new(&secrets, &mut source);
     assert!(rt; answer::<false>(random.build_hasher()) == 16952220623277801737);
     let own = RapidSecrets::seed(0x1234_5678);
-    let seedable = fast_seedable(fast::SeedableState::custom(own.seed, &own.secrets));
+    let seedable = fast::SeedableState::custom(own.seed, &own.secrets);
     assert!(rt; answer::<false>(seedable.build_hasher()) == 10106110107239218242);
 }
 
@@ -84,13 +40,13 @@ fn fast_states_of_known_seeds(rt: HostRuntime) {
 fn quality_states_of_known_seeds(rt: HostRuntime) {
     let secrets = GlobalSecrets::new(1);
     let mut source = SeedSource::new(&secrets, 11233534814198372660);
-    let hasher = quality_hasher(quality::RapidHasher::default());
+    let hasher = quality::RapidHasher::default();
     assert!(rt; answer::<true>(hasher) == 829435165229610713);
-    let global = quality_global(quality::GlobalState::new(&secrets));
+    let global = quality::GlobalState::new(&secrets);
     assert!(rt; answer::<true>(global.build_hasher()) == 9139235253658562816);
-    let random = quality_random(quality::RandomState::new(&secrets, &mut source));
+    let random = quality::RandomState::new(&secrets, &mut source);
     assert!(rt; answer::<true>(random.build_hasher()) == 6209511124463679340);
     let own = RapidSecrets::seed(0x1234_5678);
-    let seedable = quality_seedable(quality::SeedableState::custom(own.seed, &own.secrets));
+    let seedable = quality::SeedableState::custom(own.seed, &own.secrets);
     assert!(rt; answer::<true>(seedable.build_hasher()) == 10622765197646220428);
 }

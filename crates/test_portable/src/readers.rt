@@ -1,10 +1,7 @@
 //! The hashes over a reader: known values, ends and errors, and that a reader's hash is that of its
 //! bytes.
 
-pub(crate) mod asked;
-mod ends;
 mod faults;
 mod known_length;
 mod outcome;
-mod sizes;
 mod to_the_end;

@@ -59,17 +59,6 @@ fn all_versions(rt: HostRuntime) -> Result<(), Fail> {
     all_print(&rt, SOMETHING, true, OF_SOMETHING_PROTECTED)
 }
 
-// The hashes in these lines.
-#[test]
-fn hashes_by_themselves(rt: HostRuntime) {
-    let all = versions(false);
-    for i in 0..7usize {
-        let of_stdin = all[i].hash_stdin(rt.alloc(), whole(SOMETHING));
-        assert!(rt; of_stdin == Ok(OF_SOMETHING[i]));
-        assert!(rt; all[i].hash_file(whole(SOMETHING), 10) == Ok(OF_SOMETHING[i]));
-    }
-}
-
 #[test]
 fn short_inputs(rt: HostRuntime) {
     let lines: [(&[u8], &[u8]); 3] = [
@@ -106,27 +95,6 @@ fn lengths_of_files(rt: HostRuntime) {
     let out = writer(Vec::new(rt.alloc()), 0);
     let first = of_file(V1, whole(b"something\nmore"), 10, out);
     assert!(rt; first.written.as_slice() == SOMETHING_LINE);
-}
-
-// V3, micro and nano hash and print all bytes, whatever the length is.
-#[test]
-fn lengths_that_are_not_looked_at(rt: HostRuntime) {
-    let all = versions(false);
-    for i in 4..7usize {
-        let version = all[i];
-        for len in [0, 5, 10, 11, u64::MAX] {
-            let hash = version.hash_file(whole(SOMETHING), len);
-            assert!(rt; hash == Ok(OF_SOMETHING[4]), "at {len}");
-            let ended = of_file(
-                version,
-                whole(SOMETHING),
-                len,
-                writer(Vec::new(rt.alloc()), 0),
-            );
-            assert!(rt; ended.result == Ok(()), "at {len}");
-            assert!(rt; ended.written.as_slice() == V3_LINE, "at {len}");
-        }
-    }
 }
 
 #[test]

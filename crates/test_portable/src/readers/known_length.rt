@@ -143,3 +143,13 @@ fn every_length_up_to_1024(rt: HostRuntime) {
         lengths_agree(&rt, form, &bytes);
     }
 }
+
+/// A length beyond that of every reader is an early end.
+#[test]
+fn a_length_of_64_bits(rt: HostRuntime) {
+    for form in FORMS {
+        let reader = CountingReader::new(b"abc", usize::MAX);
+        let returned = form.outcome(reader, u64::MAX).returned;
+        assert!(rt; returned == Err(ErrorKind::UnexpectedEof), "{form:?}");
+    }
+}

@@ -2,7 +2,19 @@
 
 use crate::fakes::CountingReader;
 use std::io;
-use std::io::ErrorKind;
+use std::io::{Error, ErrorKind};
+
+/// The result of a call of a source. It is the error `Other` if the source's error flag, after the
+/// call, does not show whether a read failed.
+pub(crate) fn with_flag(returned: io::Result<u64>, flag: bool) -> io::Result<u64> {
+    let kind = returned.map_err(|error| error.kind());
+    let failed = kind.is_err() && kind != Err(ErrorKind::UnexpectedEof);
+    if flag == failed {
+        kind.map_err(Error::from)
+    } else {
+        Err(Error::from(ErrorKind::Other))
+    }
+}
 
 /// The result of a call, the number of its reads, the largest request, and the number of bytes
 /// left.

@@ -123,3 +123,13 @@ fn every_length_up_to_1024() {
         lengths_agree(form, &bytes);
     }
 }
+
+/// A length beyond that of every reader is an early end.
+#[test]
+fn a_length_of_64_bits() {
+    for form in FORMS {
+        let reader = CountingReader::new(b"abc", usize::MAX);
+        let returned = form.outcome(reader, u64::MAX).returned;
+        assert!(returned == Err(ErrorKind::UnexpectedEof), "{form:?}");
+    }
+}

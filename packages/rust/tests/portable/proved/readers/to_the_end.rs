@@ -105,6 +105,19 @@ fn compare_rapidhash_file() -> Result<(), Fail> {
     Ok(())
 }
 
+/// Short reads gather in the buffer, and no read requests less than half of it: 300 bytes, three
+/// per read, into 8.
+#[test]
+fn gathered_reads_are_not_cut_short() -> Result<(), Fail> {
+    let bytes = [7; 300];
+    let secrets = v3::RapidSecrets::seed(3);
+    let mut reader = CountingReader::new(&bytes, 3);
+    let hash = v3::rapidhash_v3_file_sized::<&mut CountingReader, 8, false>(&mut reader, &secrets)?;
+    assert!(hash == v3::rapidhash_v3_seeded(&bytes, &secrets));
+    assert!((reader.reads, reader.longest, reader.left.len()) == (101, 8, 0));
+    Ok(())
+}
+
 /// With a seed and secrets of 0 the hash of zeros depends on the length alone: the two halves of
 /// the length times 0xaaaa_aaaa_aaaa_aaaa, by `^`.
 #[test]

@@ -3,7 +3,7 @@
 //! The calls that hash a number of bytes of a reader.
 
 use crate::fakes::CountingReader;
-use crate::readers::outcome::Outcome;
+use crate::readers::outcome::{Outcome, with_flag};
 use rapidhash::reader::Source;
 use rapidhash::{v1, v2};
 use std::io;
@@ -55,19 +55,21 @@ impl Form {
             Form::V20FileInline => v2::rapidhash_v2_file_inline::<_, 0, true>(reader, len, two),
             Form::V21FileInline => v2::rapidhash_v2_file_inline::<_, 1, false>(reader, len, two),
             Form::V22FileInline => v2::rapidhash_v2_file_inline::<_, 2, true>(reader, len, two),
-            _ => self.hash_source(&mut Source::new(reader), len),
+            _ => self.hash_source(Source::new(reader), len),
         }
     }
 
     /// The call of a source.
-    fn hash_source(self, source: &mut Source<&mut CountingReader<'_>>, len: u64) -> io::Result<u64> {
+    fn hash_source(self, mut source: Source<&mut CountingReader<'_>>, len: u64) -> io::Result<u64> {
+        let at = &mut source;
         let (one, two) = (&v1::RapidSecrets::seed(3), &v2::RapidSecrets::seed(3));
-        match self {
-            Form::V1Source => v1::rapidhash_v1_source::<_, true>(source, len, one),
-            Form::V20Source => v2::rapidhash_v2_source::<_, 0, false>(source, len, two),
-            Form::V21Source => v2::rapidhash_v2_source::<_, 1, true>(source, len, two),
-            _ => v2::rapidhash_v2_source::<_, 2, false>(source, len, two),
-        }
+        let returned = match self {
+            Form::V1Source => v1::rapidhash_v1_source::<_, true>(at, len, one),
+            Form::V20Source => v2::rapidhash_v2_source::<_, 0, false>(at, len, two),
+            Form::V21Source => v2::rapidhash_v2_source::<_, 1, true>(at, len, two),
+            _ => v2::rapidhash_v2_source::<_, 2, false>(at, len, two),
+        };
+        with_flag(returned, source.failed())
     }
 
     /// The same hash of bytes in memory.

@@ -3,7 +3,7 @@
 //! The calls that hash all that a reader has.
 
 use crate::fakes::CountingReader;
-use crate::readers::outcome::Outcome;
+use crate::readers::outcome::{Outcome, with_flag};
 use rapidhash::reader::Source;
 use rapidhash::v3;
 use rapidhash::v3::RapidSecrets;
@@ -53,19 +53,20 @@ impl Form {
             Form::FileSizedLarge => v3::rapidhash_v3_file_sized::<_, 10000, true>(reader, secrets),
             Form::FileMicro => v3::rapidhash_v3_file_lanes::<_, 5, 100, true>(reader, secrets),
             Form::FileNano => v3::rapidhash_v3_file_lanes::<_, 3, 9000, false>(reader, secrets),
-            _ => self.hash_source(&mut Source::new(reader)),
+            _ => self.hash_source(Source::new(reader)),
         }
     }
 
     /// The call of a source.
-    fn hash_source(self, source: &mut Source<&mut CountingReader<'_>>) -> io::Result<u64> {
-        let secrets = &RapidSecrets::seed(3);
-        match self {
-            Form::SourceSized => v3::rapidhash_v3_source_sized::<_, 113, true>(source, secrets),
-            Form::SourceMicro => v3::rapidhash_v3_source_lanes::<_, 5, 7, false>(source, secrets),
-            Form::SourceNano => v3::rapidhash_v3_source_lanes::<_, 3, 9000, true>(source, secrets),
-            _ => v3::rapidhash_v3_source::<_, false>(source, secrets),
-        }
+    fn hash_source(self, mut source: Source<&mut CountingReader<'_>>) -> io::Result<u64> {
+        let (at, secrets) = (&mut source, &RapidSecrets::seed(3));
+        let returned = match self {
+            Form::SourceSized => v3::rapidhash_v3_source_sized::<_, 113, true>(at, secrets),
+            Form::SourceMicro => v3::rapidhash_v3_source_lanes::<_, 5, 7, false>(at, secrets),
+            Form::SourceNano => v3::rapidhash_v3_source_lanes::<_, 3, 9000, true>(at, secrets),
+            _ => v3::rapidhash_v3_source::<_, false>(at, secrets),
+        };
+        with_flag(returned, source.failed())
     }
 
     /// The same hash of bytes in memory.
