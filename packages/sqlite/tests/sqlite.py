@@ -1,5 +1,5 @@
 #!/usr/bin/python3
-# reads: packages/sqlite packages/c/include tests/sql.py tests/fields.tsv scripts/fields.py crates/test_replay/data
+# reads: packages/sqlite packages/c/include tests/sql.py tests/fields.tsv scripts/fields.py crates/test_replay/data docs
 """Builds the SQLite extension with the commands on its page, loads it, and tests each function. Replays the cases of
 every language. Others cover types, errors, aggregates, the examples on the page, and each failing allocation."""
 
@@ -172,6 +172,11 @@ def page(database):
     database.executemany("INSERT INTO lines VALUES (?)", zip((crate / "stdin").read_text().splitlines()))
     found = {"\t".join(map(str, row)) for row in ask(database, blocks(PAGE, "sql")[1])}
     compare("moves", found, set((crate / "stdout").read_text().splitlines()))
+    database.execute("CREATE TABLE pages (url)")
+    database.executemany("INSERT INTO pages VALUES (?)", [("https://example.org/",), ("https://example.org",)])
+    *steps, question = blocks("docs/MIGRATING.md", "sql")[0].strip().splitlines()
+    database.executescript("".join(steps))
+    compare("a_column_that_moves", ask(database, question), [("https://example.org/",)])
 
 
 needs("cc", "sqlite3", "/usr/include/sqlite3.h")
