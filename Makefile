@@ -1,7 +1,8 @@
 # make             proves and builds the tools and the C library, if they are missing or out of date. Without the
 #                  toolchain, cc builds the C library from its header, and cargo the tools
-# make check       proves everything and runs all tests: must pass before a push
-# make check-source runs the tests that need no proof, without the toolchain
+# make check       proves everything and runs all tests: must pass before a push. Without the toolchain, it runs the
+#                  tests that need no proof. As root on Debian it first installs what it lacks
+# make check-source runs the tests that need no proof, also where the toolchain is, and installs nothing
 # make quick       formats the sources, writes the Rust crate, checks the pages, and proves the changed code
 # make test        proves and runs the tests of all crates, and runs the programs end to end
 # make fmt         formats the sources
@@ -10,6 +11,8 @@
 # make wasm        builds the C header for WebAssembly
 # make npm, wheel, sqlite, and postgresql build the packages, including the library: see their README.md
 # make jar         builds the package for Java, which needs a JDK alone
+# make docs        builds the references of the calls in each language, with a page that links them, in build/docs
+# make javadoc, crate, gomodule, and sources pack what registries want of Java, Rust, Go and the whole repository
 # make page        copies packages/javascript/page and the npm package to build/browser, for any file server
 # make install     installs the built files, manual pages, and completions under PREFIX; uninstall removes them
 # make dist        packs everything that a user without the toolchain needs into a single archive in build/. It needs
@@ -58,8 +61,8 @@ endif
 name = yervound-1.0.0-x86_64-linux
 release = 1.0.0
 
-.PHONY: help installcheck sources crate javadoc gomodule all built tool sums library wasm npm page wheel jar sqlite \
-  postgresql deb check check-source quick test fmt bench install uninstall clean dist vendor release products \
+.PHONY: help installcheck docs sources crate javadoc gomodule all built tool sums library wasm npm page wheel jar \
+  sqlite postgresql deb check check-source quick test fmt bench install uninstall clean dist vendor release products \
   javadoc-alone page-alone postgresql-alone deb-alone dist-alone \
   test-edits test-machines test-windows test-debian test-dieharder test-source test-vendor test-machine-code \
   rapidhash_c rapidhash_cli rapidsum example_bloom example_perfect example_shards example_dedupe
@@ -140,9 +143,10 @@ include packages/*/make.mk
 # Everything that the tests of the packages and examples use, so that none of them builds what another is building.
 products: example_bloom example_perfect example_shards example_dedupe npm page wheel jar sqlite
 
+docs: wheel javadoc
+	@scripts/references
+
 check:
-	@command -v rt >/dev/null || { echo 'make: make check proves everything with rt, the command of the Rattle kit,' \
-	  'which is not on PATH; make check-source tests all that needs no proof' >&2; exit 2; }
 	@bash .ci/run
 
 check-source:

@@ -26,16 +26,17 @@ ends() {
 # fails. Its line of results must be this: RESULT SCRIPT [FILE]
 gate_ends() {
   local copy=$room/gate file
-  rm -rf "$copy" && mkdir -p "$copy"/{.ci,bin,kit,tests,packages/one/tests} && cd "$copy" && git init -q &&
-    cp "$top"/.ci/{run,skips} .ci && cp "$top/tests/tools.sh" tests &&
+  rm -rf "$copy" && mkdir -p "$copy"/{.ci,bin,kit,tests,packages/one/tests,scripts} && cd "$copy" && git init -q &&
+    cp "$top"/.ci/{run,skips} .ci && cp "$top/tests/tools.sh" tests && cp "$top/scripts/aloud" scripts &&
     echo tests/two.sh >.ci/slowest &&
     printf '%s\n' '# a' '*kit rt' 'sh sh' 'golang-go /no/go' >.ci/packages &&
     for file in .ci/setup kit/rt bin/make packages/one/tests/one.py; do
       printf '#!/bin/sh\n%s\necho 3 passed, 0 failed\necho ok - a\necho 1..1\n' \
         "$([ "$file" != kit/rt ] || echo '[ "$*" = ci ] || exit 1')" >"$file" && chmod +x "$file"
     done && printf '#!/bin/sh\n%s\n' "$2" >tests/two.sh && chmod +x tests/two.sh &&
-    { [ -z "${3-}" ] || echo 'exit 1' >>"$3"; } && PATH="$copy/kit:$copy/bin:$PATH" .ci/run ${mode-} >"$room/said" 2>&1
-  [ "$?:$(grep -xE '[0-9]+ passed, [0-9]+ failed(, [0-9]+ skipped)?' "$room/said" | tail -n 1)" = \
+    { [ -z "${3-}" ] || echo 'exit 1' >>"$3"; } &&
+    PATH="${gate_path-$copy/kit:$copy/bin:$PATH}" .ci/run ${mode-} >"$room/said" 2>&1
+  [ "$?:$(tail -n 1 "$room/said" | grep -oE '^[0-9]+ passed, [0-9]+ failed(, [0-9]+ skipped)?')" = \
     "$([[ $1 == *', 0 failed'* ]]; echo $?):$1" ]
 }
 
@@ -101,17 +102,24 @@ try a_gate_of_sources_without_a_tool gate_says 'missing: /no/go rt' '2 passed, 0
 try a_gate_of_sources_with_a_skip_for_a_tool_that_is_there gate_says 'skipped: ok - b # SKIP no sh (sh)' \
   '2 passed, 1 failed, 1 skipped' 'printf "ok - a\nok - b # SKIP no sh (sh)\n1..2\n"'
 mode=
+without_rt=$(tr : '\n' <<<"$PATH" | while read -r it; do [ -x "$it/rt" ] || echo "$it"; done | paste -sd :)
+gate_path=$room/gate/bin:$without_rt
+try a_gate_without_the_toolchain gate_says \
+  '3 passed, 0 failed, 0 skipped: without rt, the command of the Rattle toolchain, nothing was proved' \
+  '3 passed, 0 failed, 0 skipped' "$two_cases"
+unset gate_path without_rt
 
 # Runs .ci/setup where nothing is installed, over a substitute for apt-get: its last line and status must be these:
 # LINE STATUS SCRIPT-OF-APT-GET
 setup_ends() {
   local setup=$room/setup
-  rm -rf "$setup" && mkdir -p "$setup"/{.ci,bin,tests} && cp "$top/.ci/setup" "$setup/.ci" &&
-    cp "$top/tests/tools.sh" "$setup/tests" &&
+  rm -rf "$setup" && mkdir -p "$setup"/{.ci,bin,scripts,tests} && cp "$top/.ci/setup" "$setup/.ci" &&
+    cp "$top/tests/tools.sh" "$setup/tests" && cp "$top/scripts/aloud" "$setup/scripts" &&
     printf '%s\n' '# a' 'one one' '*other other' 'two two' >"$setup/.ci/packages" &&
     cd "$setup" && printf '#!/bin/sh\ncd %s\n%s\n' "$setup" "$3" >bin/apt-get &&
     printf '#!/bin/sh\necho one\necho two\n' >bin/apt-cache &&
-    printf '#!/bin/sh\nexit 1\n' >bin/dpkg-query && printf '#!/bin/sh\n' >bin/sleep && chmod +x bin/* &&
+    printf '#!/bin/sh\nexit 1\n' >bin/dpkg-query &&
+    printf '#!/bin/sh\n[ $1 = 5 ] || exec /bin/sleep $1\n' >bin/sleep && chmod +x bin/* &&
     PATH=$setup/bin:/usr/bin:/bin bash .ci/setup >"$room/said" 2>&1
   [ "$?:$(tail -n 1 "$room/said")" = "$2:$1" ]
 }

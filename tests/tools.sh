@@ -16,14 +16,17 @@ lacks() {
   return 1
 }
 
-# Prints each tool that is missing, after its package. Debian's webpack requires Debian's Node.
+# Prints each tool that is missing, of all or of these, after its package. Debian's webpack requires Debian's Node:
+# [TOOL..]
 missing() {
   local package tools tool
   while read -r package tools; do
     [ -n "$package" ] && [[ $package != \#* ]] || continue
     [ "$package" != webpack ] || ! dpkg-query --show nodejs 2>/dev/null | grep -q nodesource || continue
     read -ra tools <<<"$tools"
-    for tool in "${tools[@]}"; do has "$tool" || echo "$package $tool"; done
+    for tool in "${tools[@]}"; do
+      [[ $# -gt 0 && " $* " != *" $tool "* ]] || has "$tool" || echo "$package $tool"
+    done
   done <"$listed_tools"
 }
 

@@ -20,7 +20,7 @@ in_the_root() {
 # Checks that cases passed and that none failed, and that no file is left: ROOT
 passes() {
   in_the_root "$1" 'cd ~/source && make check-source && [ -z "$(git status --porcelain)" ]' | tee /dev/stderr |
-    grep -E '^[1-9][0-9]+ passed, 0 failed, [0-9]+ skipped$'
+    grep -E '^[1-9][0-9]+ passed, 0 failed, [0-9]+ skipped: '
 }
 
 needs debootstrap setpriv

@@ -28,7 +28,8 @@ chmod +x kit/rt
 new_repository() {
   chmod -R u+w . && rm -rf repo starts && echo "$1" >during
   mkdir -p repo/crates/rapidhash_{portable,cli}/src repo/crates/rapidhash_tool
-  (cd "$top" && cp --parents bin/rapidhash Makefile crates.txt packages/*/make.mk "$place/repo")
+  (cd "$top" && cp --parents bin/rapidhash Makefile crates.txt packages/*/make.mk .ci/{setup,packages} tests/tools.sh \
+    scripts/aloud "$place/repo")
   echo first >repo/crates/rapidhash_portable/src/lib.rt
   find repo -exec touch -d 2020-01-01 {} +
 }
@@ -160,26 +161,28 @@ PRODUCTS
 try files_of_packages each_file_counts
 new_repository ''
 mkdir few && ln -s "$(command -v make)" "$(command -v sh)" \
-  /usr/bin/{dirname,readlink,find,mkdir,touch,cat,chmod,rm,mv} few
+  /usr/bin/{bash,env,dirname,readlink,find,mkdir,touch,cat,chmod,rm,mv,mktemp,sed,awk,uniq,id,sleep,grep,dpkg-query} few
 PATH=$place/few repo/bin/rapidhash >out 2>"$room/log"
 [ $? -eq 2 ] && [ ! -s out ] && [ ! -e starts ] &&
-  grep -qx 'make: neither rt, of the Rattle kit, nor cargo is on PATH' "$room/log"
+  diff "$room/log" - <<<'setup: missing: gcc cargo. On Debian type: sudo apt-get install gcc cargo'
 tell no_rt_and_no_cargo $?
 
-# Without rt, a substitute for cargo builds, until the kit has built.
+# Root on Debian gets what is missing. Without rt, a substitute for cargo builds, until the kit has built.
 mkdir -p repo/packages/rust/{src,tools/src} && echo one >repo/packages/rust/src/lib.rs &&
   touch -d 2020-01-01 repo/packages/rust/src/lib.rs
-cat >few/cargo <<'CARGO'
+cat >few/cargo_of_apt <<'CARGO'
 #!/bin/sh
 echo run >>../../../../starts
 mkdir -p "$CARGO_TARGET_DIR/release"
 printf '#!/bin/sh\necho cargo %s "$@"\n' "$(cat ../src/lib.rs)" >"$CARGO_TARGET_DIR/release/rapidhash"
 chmod +x "$CARGO_TARGET_DIR/release/rapidhash"
 CARGO
-chmod +x few/cargo
+printf '#!/bin/sh\n[ "$3" = update ] || mv "${0%%/*}/cargo_of_apt" "${0%%/*}/cargo"\n' >few/apt-get
+printf '#!/bin/sh\necho cargo\n' >few/apt-cache
+chmod +x few/{apt-*,cargo_of_apt} && ln -s "$(command -v true)" few/cc && ln -s /usr/bin/{xargs,tail} few
 of_cargo='make: rt is not on PATH: building with cc and cargo, which is not the proved build'
 programs=$place/few
-calls first_call_by_cargo 0 'cargo one a' 1 "$of_cargo" a
+calls first_call_by_cargo 0 'cargo one a' 1 $'setup: installing cargo\n'"$of_cargo" a
 calls second_call_by_cargo 0 'cargo one' 1 ''
 echo two >repo/packages/rust/src/lib.rs
 calls edited_source_by_cargo 0 'cargo two' 2 "$of_cargo"
