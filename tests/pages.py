@@ -48,6 +48,15 @@ def links():
                     if not target.exists() or anchor and anchor not in anchors(target))
 
 
+def ways_back():
+    """Checks that the first line of each page below the top is the way back to README.md, but not on docs.rs."""
+    for page in PAGES:
+        way, _, title, *_ = page.read_text().splitlines()
+        wanted = f"[Yervound]({os.path.relpath(TOP / 'README.md', page.parent)}) › {title[2:].replace('`', '')}"
+        if page.parent != TOP and page.parent.name not in ("archive", "rust") and way != wanted:
+            yield f"{page.relative_to(TOP)}: the first line must be {wanted}"
+
+
 def paths():
     for _, place, line in prose(page for page in PAGES if page.parent.name != "archive" and page.parent.name != "rust"):
         for path in PATH.findall(line):
@@ -76,7 +85,6 @@ def limits():
                     re.findall(r"\n\n(\|.*)\n(?!\|[-:| ]+\|\n)", page.read_text()))
 
 
-
 def names():
     """Checks that each name on a page is that of a file, or in the code: not only in tests, benches, edits or compat.
     On pages that name what the tests have, or what programs call, it may be in any file. Names of other libraries are
@@ -94,7 +102,6 @@ def names():
         for name in NAME.findall(line):
             yield from (f"{place}: no {part} of {name} in the code" for part in re.split(r"::|\.", name)
                         if part not in pages[page.stem] and not OTHERS.fullmatch(name))
-
 
 
 def layers():
@@ -157,17 +164,13 @@ def statements():
             yield f"{page} shows {len(shown)} blocks"
 
 
-
 def made_by(script):
     """Returns the output of a script that generates a page from the sources, if the page is not current."""
     status, said = shell(f"{script} --check")
     return said.splitlines() or [f"{script} ended with status {status}"] if status else []
 
 
-
-
-
-for check in (links, paths, variables, limits, names, layers, edits, cases, statements):
+for check in (links, ways_back, paths, variables, limits, names, layers, edits, cases, statements):
     tell(check.__name__, *check())
 for made, maker in (("public", "scripts/public"), ("version", "scripts/version"), ("figures", "bench/figures")):
     tell(made, *made_by(maker))

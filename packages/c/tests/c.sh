@@ -534,7 +534,8 @@ first_program_runs() {
     [ "$(bash -e "$room/commands")" = 3327445792987248966 ] &&
     c++ -O2 -Ipackages/c/include hello.cpp -o hello_cpp && [ "$(./hello_cpp)" = 3327445792987248966 ] &&
     blocks "$top/docs/C.md" c assert >seeds.c && cc -std=c99 -Ipackages/c/include seeds.c -o seeds && ./seeds &&
-    
+    blocks "$top/docs/C.md" c key_nothing >key.c && cc -std=c99 -Ipackages/c/include key.c -o key &&
+    ./key | grep -x 14742763072502883419 &&
     blocks "$top/docs/CPP.md" cpp '<cassert>' >seeds.cpp && c++ -std=c++11 -Ipackages/c/include seeds.cpp -o seeds &&
     ./seeds && blocks "$top/docs/CPP.md" cpp 'field<point>' >point.cpp &&
     c++ -std=c++11 -Wall -Werror -Ipackages/c/include point.cpp -o point && ./point &&

@@ -26,7 +26,7 @@ lay_out() {
 
 # Runs the page's program over a file. A comment that begins with a hash is its wanted value.
 runs_the_page() {
-  cd "$room/first" && { echo 'import { equal } from "node:assert"; const file = new Blob(["hello"]);' &&
+  cd "$room/first" && { echo 'import { equal } from "node:assert";' &&
     blocks "$top/packages/javascript/README.md" js ready; } |
     sed -E 's,^([a-z].*\)); *// ([0-9]+n|"[0-9a-f]+").*,equal(\1\, \2);,' >page.mjs &&
     [ "$(grep -c '^equal' page.mjs)" = 4 ] && node page.mjs

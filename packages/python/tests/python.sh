@@ -14,9 +14,10 @@ export PIP_NO_INDEX=1 PIP_DISABLE_PIP_VERSION_CHECK=1 CFLAGS='-Wall -Wextra -Wer
 installs_as_the_page_says() {
   local page=$top/packages/python/README.md
   "$python" -m venv "$room/fresh" && PATH=$room/fresh/bin:$PATH works_as_its_page_says "$page" &&
-    echo hello >data.bin && blocks "$page" python import | sed -E '1s/^/from array import array; /
+    blocks "$page" python import | sed -E '1s/^/from array import array; /
       s/^(rapidhash.*\)) +# ([0-9]{16,}|".*"|array.*)/assert \1 == \2/' >page.py &&
-    [ "$(grep -c '^assert' page.py)" = 5 ] && "$room/fresh/bin/python" page.py
+    [ "$(grep -c '^assert' page.py)" = 5 ] && "$room/fresh/bin/python" page.py |
+    grep -x 3327445792987248966
 }
 
 # Checks that the wheel has its files, the licences of the repository, and no other files, and that the source

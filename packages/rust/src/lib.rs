@@ -22,7 +22,8 @@
 //! | for | use |
 //! |---|---|
 //! | values that are stored or sent | [`v3::rapidhash_v3`]; [`v3::RapidStreamHasherV3`] in pieces, `v3::rapidhash_v3_file` for a reader |
-//! | the same with less code | [`v3::rapidhash_v3_nano_inline`], or V3 with `COMPACT`: [`v3::rapidhash_v3_inline`] |
+//! | less code, with other values above 48 bytes | [`v3::rapidhash_v3_nano_inline`] |
+//! | less code, with the values of V3 | V3 with `COMPACT`: [`v3::rapidhash_v3_inline`] |
 //! | a key of several fields, the same in every language | [`key::hash`] |
 //! | values that older programs stored | [`v1`], [`v2`] |
 //! | maps and sets | `RapidHashMap`, `RapidHashSet`, or those of other crates with [`fast::RandomState`] |
