@@ -161,7 +161,8 @@ PRODUCTS
 try files_of_packages each_file_counts
 new_repository ''
 mkdir few && ln -s "$(command -v make)" "$(command -v sh)" \
-  /usr/bin/{bash,env,dirname,readlink,find,mkdir,touch,cat,chmod,rm,mv,mktemp,sed,awk,uniq,id,sleep,grep,dpkg-query} few
+  /usr/bin/{bash,env,dirname,readlink,find,mkdir,touch,cat,chmod,rm,mv,mktemp,sed,awk,uniq,id,sleep,grep,date} few &&
+  ln -s /usr/bin/dpkg-query few
 PATH=$place/few repo/bin/rapidhash >out 2>"$room/log"
 [ $? -eq 2 ] && [ ! -s out ] && [ ! -e starts ] &&
   diff "$room/log" - <<<'setup: missing: gcc cargo. On Debian type: sudo apt-get install gcc cargo'
@@ -179,7 +180,7 @@ chmod +x "$CARGO_TARGET_DIR/release/rapidhash"
 CARGO
 printf '#!/bin/sh\n[ "$3" = update ] || mv "${0%%/*}/cargo_of_apt" "${0%%/*}/cargo"\n' >few/apt-get
 printf '#!/bin/sh\necho cargo\n' >few/apt-cache
-chmod +x few/{apt-*,cargo_of_apt} && ln -s "$(command -v true)" few/cc && ln -s /usr/bin/{xargs,tail} few
+chmod +x few/{apt-*,cargo_of_apt} && ln -s /usr/bin/true few/cc && ln -s /usr/bin/{xargs,tail,echo} few
 of_cargo='make: rt is not on PATH: building with cc and cargo, which is not the proved build'
 programs=$place/few
 calls first_call_by_cargo 0 'cargo one a' 1 $'setup: installing cargo\n'"$of_cargo" a
@@ -196,7 +197,7 @@ calls the_kit_instead_of_cargo 7 $'first\ninput' 5 "$told"
 
 # Checks what make quick and make test run, by programs that say their directory, name and arguments.
 runs_its_rules() {
-  mkdir logged repo/scripts repo/tests &&
+  mkdir -p logged repo/scripts repo/tests &&
     printf '#!/bin/sh\necho "${PWD##*/} ${0##*/}${*:+ $*}" >>"%s/log"\n' "$place" |
     tee logged/{rt,prove} repo/scripts/rust_crate >repo/tests/pages.py &&
     chmod +x logged/* repo/scripts/* repo/tests/* && PATH=$place/logged:$PATH make -s -C repo quick test &&
