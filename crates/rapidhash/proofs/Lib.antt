@@ -1,5 +1,6 @@
 pub mod AgreementLemmas
 pub mod BucketLemmas
+pub mod DecimalLemmas
 pub mod FingerprintLemmas
 pub mod GeneratorLemmas
 pub mod HasherLemmas

@@ -16,6 +16,7 @@ pub use Rattle.rapidhash_portable.specs.Stream
 pub use Rattle.rapidhash_portable.specs.Tail
 pub use Rattle.rapidhash_portable.specs.Version
 pub use Rattle.rapidhash_portable.specs.Words
+pub mod Decimal
 pub mod Fingerprints
 pub mod Generator
 pub mod Hasher

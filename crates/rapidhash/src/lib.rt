@@ -5,6 +5,7 @@
 //! - [`reader`]: the reader with an error flag that the hashes of a reader need.
 //! - [`RapidHashMap`] and [`RapidHashSet`]: maps and sets over the fast hasher.
 //! - [`ByteKey`]: a key of bytes, which they hash in one write.
+//! - [`decimal`]: the shortest text of a decimal number, as a field of a key.
 //! - [`key`]: one hash for a key of several fields, the same in every language.
 //! - [`fast`], [`quality`]: the hasher and the states of maps, without and with an avalanche.
 //! - [`shards`]: the shard or the bucket of a hash, the same in every language.
@@ -23,6 +24,7 @@
 #![tactic(auto)]
 
 mod collections;
+pub mod decimal;
 pub mod fast;
 pub mod fingerprints;
 pub mod inner;
