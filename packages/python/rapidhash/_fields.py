@@ -71,7 +71,7 @@ def _of_numpy(value: Any) -> list[int | None] | None:
     numpy = sys.modules["numpy"]
     if numpy.datetime_data(value)[0] != "D":
         return None
-    return [None if numpy.isnat(value) else int(value.astype("int64"))]
+    return [None if numpy.isnat(value) else int(value.astype("M8[D]").astype("int64"))]  # of a unit such as 7 days
 
 
 def fields_of(value: Any) -> list[Any] | None:
