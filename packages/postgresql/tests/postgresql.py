@@ -69,7 +69,8 @@ def cases():
     found = ask("\n".join(queries))
     tell("cases", *[query[:200] for query, line in zip_longest(queries, found, fillvalue="") if line != "t"])
     calls = refused_calls("'{}'::bigint".format)
-    tell("refused_cases", *[call for call in calls if "ERROR:  the " not in "".join(ask(f"SELECT {call}"))])
+    tell("refused_cases", *[call for call in calls if f"ERROR:  {call.partition('(')[0]}: the " not in "".join(
+        ask(f"SELECT {call}"))])
 
 
 def keys():
@@ -103,7 +104,7 @@ def shards():
                          ("bucket(7, 4294967296)", "the count must be from 1 to 4294967295, not 4294967296"),
                          ("first_hash(10, 10)", "the shard must be from 0 to the count less 1, not 10")):
         tell(f"no {call}", *[line for line in ask(f"SELECT rapidhash_{call}")[:1]
-                             if not line.endswith(f"ERROR:  {reason}")])
+                             if not line.endswith(f"ERROR:  rapidhash_{call.partition('(')[0]}: {reason}")])
 
 
 def installcheck():
