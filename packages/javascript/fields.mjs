@@ -48,7 +48,8 @@ export function time(value) {
   const numbers = parts.slice(1).map((digits) => Number(digits ?? 0));
   const [year, month, date, hours, minutes, seconds, , , zoneHours, zoneMinutes] = numbers;
   const days = daysTo(year, month, date);
-  if (days === undefined || hours > 23 || Math.max(minutes, seconds, zoneMinutes) > 59) refuse("time", wanted, value);
+  if (days === undefined || Math.max(hours, zoneHours) > 23 || Math.max(minutes, seconds, zoneMinutes) > 59)
+    refuse("time", wanted, value);
   const ahead = (parts[8] === "-" ? -60 : 60) * (60 * zoneHours + zoneMinutes);
   const whole = ((days * 24 + hours) * 60 + minutes) * 60 + seconds - ahead;
   return BigInt(whole) * 1_000_000n + BigInt((parts[7] ?? "").padEnd(6, "0"));

@@ -62,8 +62,9 @@ test("decimals of many digits", () => {
 test("what is refused", () => {
   const invalid = new Date(NaN);
   for (const call of [() => day(invalid), () => day(new Date(1)), () => day(19782), () => time(invalid), () => time(5),
-    () => time("2024-02-29T12:34:56"), () => uuid("1-1-1-1-1"), () => uuid(undefined), () => decimal(1.5),
-    () => decimal(undefined), () => floatBits("1"), () => floatBits(NaN), () => day("2024-02-29\n")])
+    () => time("2024-02-29T12:34:56"), () => time("2024-02-29T12:34:56+24:00"), () => uuid("1-1-1-1-1"),
+    () => uuid(undefined), () => decimal(1.5), () => decimal(undefined), () => floatBits("1"), () => floatBits(NaN),
+    () => day("2024-02-29\n")])
     assert.throws(call, /^(Type|Range)Error: (day|time|uuid|decimal|floatBits): /);
   assert.equal(time("2024-02-29 12:34:56.789012+00"), 1709210096789012n);
 });
