@@ -5,12 +5,13 @@ import csv
 import os
 import random
 from concurrent.futures import ThreadPoolExecutor
+from contextlib import suppress
 
 import go
 from argument import Hash, prove
 from cases import ROOM, TOP, shell
+from elf import Elf
 from linear import Refusal, assume, linear, name
-from operands import Elf
 from streams import show_streams
 from x86 import Machine
 
@@ -43,8 +44,10 @@ def built(command, folder=HEADER.parent, target="library"):
 
 
 def linked(objects, target):
-    """Links objects to a file without relocations. The only symbol that may be undefined is memmove."""
-    status, said = shell(f"ld -e 0 --defsym memmove={MEMMOVE} -o $ROOM/{target} --whole-archive {objects}")
+    """Links objects so that each section of theirs stays one, and its relocations are kept. The only functions that may
+    be undefined are memmove, and one that nothing may call."""
+    status, said = shell(f"ld -q -e 0 --unique='*' --defsym memmove={MEMMOVE} --defsym __stack_chk_fail=0"
+                         f" -o $ROOM/{target} --whole-archive {objects}")
     assert status == 0, said
     return Elf(ROOM / target, MEMMOVE)
 
@@ -115,22 +118,27 @@ def in_snippets():
     """Runs code that does what a hash must not. Yields what is not refused for its reason."""
     table = [*csv.DictReader(open(FOLDER / "refused.tsv"), delimiter="\t", quoting=csv.QUOTE_NONE)]
     (ROOM / "refused.s").write_text(".intel_syntax noprefix\n" + "".join(
-        f".globl code{index}\ncode{index}: {row['code']}; ret\n" for index, row in enumerate(table)))
-    status, said = shell(f"gcc -c $ROOM/refused.s -o $ROOM/snippets.o && gcc -Os -c {FOLDER}/refused.c -o $ROOM/v1.o")
+        f".text; .globl SELF; .type SELF, @function; SELF: {row['code']}; ret\n".replace("SELF", f"code{index}")
+        for index, row in enumerate(table)))
+    status, said = shell(
+        f"cd $ROOM && gcc -c refused.s -o snippets.o && gcc -Os -c {FOLDER}/refused.c -o v1.o"
+        " && ld -shared -z notext --defsym memmove=0 -o changed.so snippets.o")
     assert status == 0, said
-    file, length = linked("$ROOM/snippets.o", "snippets"), linear(2000, {"turns": 112})
+    file, length = linked("$ROOM/snippets.o $ROOM/v1.o", "snippets"), linear(2000, {"turns": 112})
     for index, row in enumerate(table):
         assume(length, 0, 1 << 56)
         machine, function = (go.Machine(file), "V1.Sum64WithSecrets") if row["by"] == "Go" else (
             Machine(file), f"code{index}")
-        file.symbols[f"{go.PACKAGE}Version{function}"] = file.symbols[f"code{index}"]
-        machine.begin(function, [name("message"), length, name("secrets")], length, {"secrets": 64})
+        file.symbols[f"{go.PACKAGE}Version{function}"] = file.symbols.get(f"code{index}")
         try:
+            machine.begin(function, [name("message"), length, name("secrets")], length, {"secrets": 64})
             reason = f"accepted: {machine.run()}, {machine.result()}"
         except Refusal as refusal:
             reason = str(refusal)
         yield from judge(row["what"], None, reason, [row["reason"]], None)
-    yield from judge("V1 with its bug", *shown(linked("$ROOM/v1.o", "v1"), "v1"), ["length 48"], None)
+    yield from judge("V1 with its bug", *shown(file, "v1"), ["length 48"], None)
+    with suppress(Refusal):
+        yield f"code that the loader changes: {Elf(ROOM / 'changed.so')}"
 
 
 def in_bits(count, counts, seed=1):
@@ -139,11 +147,13 @@ def in_bits(count, counts, seed=1):
     status, said = shell(f"gcc -O2 -fPIC -shared -Wl,-Bsymbolic -I{HEADER.parent} packages/c/rapidhash_c.c -o {path}")
     assert status == 0, said
     data, file = bytearray(path.read_bytes()), Elf(path)
-    (code, at_in_file), = ((start, at) for start, at, _, flags in file.segments if "E" in flags)
+    code = file.sections[next(label for label in file.sections if label.endswith(" .text"))]
+    at_in_file = data.index(code.data)
     wanted = shell(f"python3 -c '{NATIVE}' {path}")
     for _ in range(count):
         start = file.symbols[draw.choice(FUNCTIONS)]
-        at = draw.randrange(start, min(other for other in file.symbols.values() if other > start)) - code + at_in_file
+        end = min(other for other in file.symbols.values() if other > start)
+        at = draw.randrange(start, end) - code.start + at_in_file
         bit = 1 << draw.randrange(8)
         data[at] ^= bit
         copy.write_bytes(data)

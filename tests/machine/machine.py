@@ -19,21 +19,22 @@ import go  # noqa: E402
 import tool  # noqa: E402
 import webassembly  # noqa: E402
 from argument import FORMS  # noqa: E402
+from elf import Elf  # noqa: E402
 from model import VERSIONS  # noqa: E402
-from operands import Elf  # noqa: E402
 from streams import LANES, show_streams  # noqa: E402
-from x86 import Machine  # noqa: E402
+from x86 import EXTENSIONS, Machine  # noqa: E402
 
 MODE = sys.argv[1] if len(sys.argv) > 1 else "gate"
 KIT, UNBUILT = TOP / "crates/rapidhash_c/out/librapidhash_c.a", "make has not built the library"
 SETTINGS = ("clang -O2", "gcc -O1", "gcc -O3", "gcc -Os", "gcc -O2 -march=x86-64-v3", "clang -O1", "clang -O3",
             "clang -Os")
-# Modules with the C header: what builds them, and the calls that are functions with the arguments of C.
+# Modules with the C header: what builds them, and the names of their functions with the arguments of C.
+OWN = {"_with_seed": "rapidhash_{version}_with_seed", "": "default_{version}"}
 MODULES = {
-    "SQLite's module": ("make -s sqlite", TOP / "build/rapidhash.so", FORMS[1:]),
-    "PostgreSQL's module": ("make -s postgresql", TOP / "build/postgresql/rapidhash.so", FORMS[1:]),
+    "SQLite's module": ("make -s sqlite", TOP / "build/rapidhash.so", OWN),
+    "PostgreSQL's module": ("make -s postgresql", TOP / "build/postgresql/rapidhash.so", OWN),
     "Python's module": ("make -s wheel && python3 -m zipfile -e build/wheels/*.whl $ROOM",
-                        ROOM / "rapidhash/_extension.abi3.so", FORMS),
+                        ROOM / "rapidhash/_extension.abi3.so", dict.fromkeys(FORMS, "rapidhash_{version}{form}")),
 }
 detail = print if "-v" in sys.argv else None
 
@@ -78,6 +79,7 @@ def check_library():
             skip(command, reason)
         else:
             files.append(faults.built(command))
+            files[-1].extensions = EXTENSIONS if "x86-64-v3" in command else ()
             check(command, files[-1], forms=FORMS if command == "clang -O2" else FORMS[:1])
     case("instructions of all of these", *tool.processor_agrees(files, 5))
 
@@ -90,10 +92,12 @@ def check_packages():
         shell("make -s wasm")
         module = webassembly.Module(TOP / "build/rapidhash.wasm")
         check("WebAssembly", module, forms=FORMS[:1], machine=webassembly.Machine)
-    for by, (command, path, forms) in MODULES.items():
+    for by, (command, path, names) in MODULES.items():
         status, said = shell(command)
         case(f"build of {by}", *[said] * (status != 0))
-        check(by, Elf(path), forms=forms)
+        file = Elf(path)
+        file.names = names
+        check(by, file, forms=names)
     if program:
         check("Go", program, go.VALUES, machine=go.Machine)
         check("Go, of a string", program, go.VALUES, machine=go.TextMachine)

@@ -12,7 +12,7 @@ from linear import (MASK, POOL, Assumed, Refusal, add, apart, assume, bounds, eq
 from operands import NAMES, Place
 from terms import bit_and, bit_or, byte, join, low_bits, message, multiply, shift_left, shift_right, sign, split, xor
 from webassembly import schoolbook, summed
-from x86 import RSP, RULES, Machine, holds
+from x86 import EXTENSIONS, RSP, RULES, Machine, holds
 
 # What terms are for numbers. `get` returns the number of a word.
 MEANING = {
@@ -111,7 +111,8 @@ def orders_hold():
     """Checks that the vertices of each order are addresses of a message and a stream that do not overlap."""
     for Assumed.order in (None, "before", "after"):
         assume(linear(2000, {"turns": 112}), 0, most_turns(2000, 112))
-        for turns, _, place, stream in map(dict.values, Assumed.corners):
+        for turns, place, stream in ([corner.get(text, Assumed.low) for text in ("turns", "message", "stream")]
+                                     for corner in Assumed.corners):
             end, room = place + 2000 + 112 * turns, 256
             between = {None: 0, "before": stream - end, "after": place - stream - room}[Assumed.order]
             if min(between, Assumed.top - end, Assumed.top - stream - room) < 0:
@@ -145,11 +146,11 @@ FLAGS = {"b": lambda f: f & 1, "e": lambda f: f >> 6 & 1, "s": lambda f: f >> 7 
 
 class Plain(Machine):
     """Runs a snippet, which begins at the address 16, with the room as its memory."""
-    base, memmove = 0, None
+    memmove, extensions, relocated = None, EXTENSIONS, frozenset()
 
     def __init__(self, snippet, room):
         super().__init__(self)
-        self.read, self.room = lambda at, size, flag: snippet[at - 16:at - 16 + size], room
+        self.read, self.room = lambda at, size: snippet[at - 16:at - 16 + size], room
 
     def is_aligned(self, address):
         return address % 16 == 0
@@ -163,8 +164,9 @@ class Plain(Machine):
 def assemble(files):
     """Builds the functions for the instructions of files that have rules, but for those that go elsewhere. Returns the
     library and the instructions."""
-    found = {bytes(one.bytes) for file in files for start, _, data, flags in file.segments if "E" in flags
-             for one in Machine.reader.disasm(data, start) if one.mnemonic in RULES and one.mnemonic[0] != "j"
+    found = {bytes(one.bytes) for file in files for section in file.sections.values() if "X" in section.flags
+             for one in Machine.reader.disasm(section.data, section.start) if one.mnemonic in RULES
+             and one.mnemonic[0] != "j"
              and one.mnemonic not in ("call", "ret") and "rip" not in one.op_str}
     loads, stores = ("\n".join(f"{move} {pair[order]}, {pair[1 - order]}" for *pair, move in MOVES) for order in (0, 1))
     text = COMMON.format(loads=loads, stores=stores) + "".join(

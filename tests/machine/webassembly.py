@@ -122,7 +122,7 @@ class Machine(Memory):
     low, top = 1 << 14, HALF
 
     def __init__(self, module):
-        self.file, self.count, self.used, self.shapes = module, 0, set(), {}
+        self.file, self.count, self.shapes = module, 0, {}
 
     @staticmethod
     def symbol(version, _):
@@ -161,7 +161,6 @@ class Machine(Memory):
             if frame.at < len(frame.code):
                 text, arguments = frame.code[frame.at]
                 frame.at += 1
-                self.used.add(text)
                 try:
                     self.step(frame, frame.stack, text, arguments)
                 except Refusal as refusal:
