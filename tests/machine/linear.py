@@ -49,7 +49,7 @@ def ordered(*words):
 class Assumed:
     low, top = 1 << 20, MASK  # addresses: the message ends at `top` or before
     order = None  # of the message and a stream: "before" if the message is before the stream, "after", or unknown
-    corners = []  # the values of names at the vertices of what is known; all others are addresses, of any value
+    corners = [{}]  # the values of names at the vertices of what is known; all others are addresses, of any value
 
 
 def assume(length, least=0, most=0, is_turning=False):

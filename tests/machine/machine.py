@@ -16,6 +16,7 @@ from cases import ROOM, finish, lacks, needs, results, shell, skip, tell  # noqa
 needs("gcc", "readelf", "/usr/lib/python3/dist-packages/capstone")
 import faults  # noqa: E402
 import go  # noqa: E402
+import instructions  # noqa: E402
 import tool  # noqa: E402
 import webassembly  # noqa: E402
 from argument import FORMS  # noqa: E402
@@ -71,17 +72,15 @@ def check_some_streams(by, file, is_apart=False):
 def check_library():
     """Checks all versions and calls by each compiler and setting."""
     check("gcc", gcc)
-    files = list(filter(None, [gcc, kit]))
     if kit:
         check("the kit", kit)
     for command in SETTINGS:
         if reason := lacks(command.split()[0]):
             skip(command, reason)
         else:
-            files.append(faults.built(command))
-            files[-1].extensions = EXTENSIONS if "x86-64-v3" in command else ()
-            check(command, files[-1], forms=FORMS if command == "clang -O2" else FORMS[:1])
-    case("instructions of all of these", *tool.processor_agrees(files, 5))
+            file = faults.built(command)
+            file.extensions = EXTENSIONS if "x86-64-v3" in command else ()
+            check(command, file, forms=FORMS if command == "clang -O2" else FORMS[:1])
 
 
 def check_packages():
@@ -104,19 +103,21 @@ def check_packages():
 
 
 def plant():
-    """Plants faults in Go's package, in the code and in the tool."""
+    """Plants faults in Go's package, in the code and in the tool, and compares more instructions."""
     counts = {}
     if program:
         case("faults in Go's package", *faults.in_the_package(detail))
     case("flipped bits of the code", *faults.in_bits(300, counts, 2), what=f"accepted or not: {counts}")
     case("faults in the tool", *faults.in_the_tool(detail))
+    case("more instructions on this processor", *instructions.processor_agrees(each=400, seed=2, counts=counts))
+    print(f"# compared: {counts}")
 
 
 def check_gate():
     """Tests the tool, and checks V3."""
     counts, only_tool = {}, MODE == "tool"
     case("rules for terms", *tool.rules_hold(), *tool.orders_hold())
-    case("instructions on this processor", *tool.processor_agrees(filter(None, [gcc, kit, program])))
+    case("instructions on this processor", *instructions.processor_agrees())
     case("code that must be refused", *faults.in_snippets())
     check("gcc", gcc, ["v3"], FORMS[:1] if only_tool else FORMS)
     check_some_streams("gcc", gcc)
