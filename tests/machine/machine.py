@@ -14,6 +14,7 @@ sys.path.insert(0, str(TOP / "tests"))
 from cases import ROOM, finish, lacks, needs, results, shell, skip, tell  # noqa: E402
 
 needs("gcc", "readelf", "/usr/lib/python3/dist-packages/capstone")
+import engine  # noqa: E402
 import faults  # noqa: E402
 import go  # noqa: E402
 import instructions  # noqa: E402
@@ -118,6 +119,10 @@ def check_gate():
     counts, only_tool = {}, MODE == "tool"
     case("rules for terms", *tool.rules_hold(), *tool.orders_hold())
     case("instructions on this processor", *instructions.processor_agrees())
+    if reason := lacks("wasm-validate", "node"):
+        skip("WebAssembly's instructions by node", reason)
+    else:
+        case("WebAssembly's instructions by node", *engine.engine_agrees())
     case("code that must be refused", *faults.in_snippets())
     check("gcc", gcc, ["v3"], FORMS[:1] if only_tool else FORMS)
     check_some_streams("gcc", gcc)

@@ -193,7 +193,7 @@ class Machine(Memory):
             stack.append(frame.locals[arguments[0]])
         elif text in ("local.set", "local.tee"):
             frame.locals[arguments[0]] = stack[-1] if action == "tee" else stack.pop()
-        elif action in SIZES:
+        elif action in SIZES and bits in ("i32", "i64"):
             value, size = stack.pop() if "store" in text else None, min(SIZES[action], 8 if bits == "i64" else 4)
             address = whole(add(whole(stack.pop()), sum(arguments)))
             self.store_bytes(address, split(value, size)) if "store" in text else stack.append(self.load(address, size))
