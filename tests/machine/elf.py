@@ -8,7 +8,7 @@ from cases import shell
 from linear import Refusal, add, name, parts
 
 # Relocations by which an instruction names a place. All other relocated bytes have no value.
-RELATIVE = "R_X86_64_PC32", "R_X86_64_PLT32"
+RELATIVE = re.compile("R_X86_64_(PC32|PLT32)|R_AARCH64_(CALL26|JUMP26|CONDBR19|ADR_PREL_PG_HI21|.*_ABS_LO12_NC)")
 Section = namedtuple("Section", "start data flags alignment")
 
 
@@ -29,9 +29,10 @@ class Elf:
             if "A" in flags and kind != "NOBITS"}
         self.symbols, self.memmove = dict(self.functions(text)), memmove
         self.anchors, self.relocated = {}, set()
-        for at, kind, anchor in re.findall(r"^(\w{16})  \w{16} (R_\w+) +(\w{16})?", text, re.M):
-            if kind in RELATIVE and "X" in self.section_at(int(at, 16))[1].flags:
-                self.anchors[int(at, 16)] = int(anchor, 16)
+        for at, kind, anchor, addend in re.findall(
+                r"^(\w{16})  \w{16} (R_\w+) +(?:(\w{16}) \S+ ([+-] \w+))?", text, re.M):
+            if anchor and RELATIVE.fullmatch(kind) and "X" in self.section_at(int(at, 16))[1].flags:
+                self.anchors[int(at, 16)] = int(anchor, 16), int(addend.replace(" ", ""), 16), kind
             else:
                 self.relocated.update(range(int(at, 16), int(at, 16) + 8))
 
@@ -56,10 +57,22 @@ class Elf:
         if address == self.memmove:
             return name("memmove")
         rest = address if self.memmove is None else code[0]
-        label, section = self.section_at(next((self.anchors[at] for at in code if at in self.anchors), rest))
+        return self.relative(next((self.anchors[at][0] for at in code if at in self.anchors), rest), address)
+
+    def relative(self, anchor, address):
+        label, section = self.section_at(anchor)
         if not label:
             raise Refusal(f"an address outside of all sections: {address:#x}")
         return add(name(label), address - section.start)
+
+    def is_low_part(self, at):
+        """Returns whether the instruction at an address has the part of another address in its page."""
+        return "LO12" in self.anchors.get(at, " ")[-1]
+
+    def named(self, at):
+        """Returns the word of the address of which an instruction has a part."""
+        anchor, addend, _ = self.anchors[at]
+        return self.relative(anchor, anchor + addend)
 
     def address(self, word):
         """Returns the address of the link to which a jump goes."""

@@ -14,6 +14,7 @@ sys.path.insert(0, str(TOP / "tests"))
 from cases import ROOM, finish, lacks, needs, results, shell, skip, tell  # noqa: E402
 
 needs("gcc", "readelf", "/usr/lib/python3/dist-packages/capstone")
+import arm64  # noqa: E402
 import engine  # noqa: E402
 import faults  # noqa: E402
 import go  # noqa: E402
@@ -30,6 +31,8 @@ MODE = sys.argv[1] if len(sys.argv) > 1 else "gate"
 KIT, UNBUILT = TOP / "crates/rapidhash_c/out/librapidhash_c.a", "make has not built the library"
 SETTINGS = ("clang -O2", "gcc -O1", "gcc -O3", "gcc -Os", "gcc -O2 -march=x86-64-v3", "clang -O1", "clang -O3",
             "clang -Os")
+ARM64_TOOLS = "aarch64-linux-gnu-gcc", "/usr/aarch64-linux-gnu/include/stdio.h", "qemu-aarch64"
+ARM64 = ["aarch64-linux-gnu-gcc -O2"] + ["clang --target=aarch64-linux-gnu -O2"] * (not lacks("clang"))
 # Modules with the C header: what builds them, and the names of their functions with the arguments of C.
 OWN = {"_with_seed": "rapidhash_{version}_with_seed", "": "default_{version}"}
 MODULES = {
@@ -84,6 +87,19 @@ def check_library():
             check(command, file, forms=FORMS if command == "clang -O2" else FORMS[:1])
 
 
+def check_arm64():
+    """Checks all versions and calls by each compiler for AArch64, plants faults, and compares more instructions."""
+    counts = {}
+    for command in ARM64 if arm else ():
+        check(command, faults.built(command), machine=arm64.Machine)
+    if not arm:
+        skip("AArch64", lacks(*ARM64_TOOLS))
+        return
+    case("faults in the header for AArch64", *faults.in_the_header(detail, ARM64[0], arm64.Machine, counts))
+    case("more instructions on AArch64", *instructions.processor_agrees(instructions.Arm64, 400, 2, counts))
+    print(f"# {counts}")
+
+
 def check_packages():
     """Checks what is shipped for other languages."""
     if reason := lacks("clang", "wasm-ld", "wasm-validate"):
@@ -124,6 +140,13 @@ def check_gate():
     else:
         case("WebAssembly's instructions by node", *engine.engine_agrees())
     case("code that must be refused", *faults.in_snippets())
+    if arm:
+        case("code for AArch64 that must be refused", *faults.in_snippets(
+            "aarch64-linux-gnu-", {"AArch64": arm64.Machine}))
+        case("instructions on AArch64", *instructions.processor_agrees(instructions.Arm64))
+        check("gcc for AArch64", arm, ["v3"], FORMS[:1], machine=arm64.Machine)
+    else:
+        skip("AArch64", lacks(*ARM64_TOOLS))
     check("gcc", gcc, ["v3"], FORMS[:1] if only_tool else FORMS)
     check_some_streams("gcc", gcc)
     case("faults in the header", *faults.in_the_header(detail))
@@ -146,11 +169,13 @@ PARTS = {
     "streams-gcc": lambda: check_streams("gcc", gcc),
     "streams-kit": lambda: check_streams("the kit", kit, True),
     "streams-clang": lambda: check_streams("clang -O2", faults.built("clang -O2")),
+    "arm64": check_arm64,
     "packages": check_packages,
     "faults": plant,
 }
 gcc = faults.built("gcc -O2")
 kit = faults.linked(KIT, "kit") if KIT.exists() else None
 program = None if lacks("go") else go.Program()
+arm = None if lacks(*ARM64_TOOLS) else faults.built(ARM64[0], target="arm64")
 PARTS.get(MODE, check_gate)()
 finish()
