@@ -51,7 +51,7 @@ class Place:
         address = add(base, self.more.read())
         if self.before:
             self.base.write(address)
-        return address if self.after is None else base
+        return address
 
     def finish(self):
         if self.after is not None:

@@ -1,8 +1,8 @@
 #!/usr/bin/python3
-# reads: tests/machine packages/c packages/go crates docs/ALGORITHM.md tests/model.py
+# reads: tests/machine packages/c packages/go packages/archive crates docs/ALGORITHM.md docs/MACHINE.md tests/model.py
 """Shows that compiled hashes are the definition for every length (docs/MACHINE.md), and tests the tool that shows it.
 The gate checks V3 by gcc, Go and the kit. An argument names what a release needs besides: a part of PARTS. With `tool`,
-only the tool is tested, up to the first failure. -v shows why a fault is refused."""
+only the tool is tested, up to the first failure. `write` writes the page's table. -v shows why a fault is refused."""
 
 import os
 import sys
@@ -19,6 +19,7 @@ import engine  # noqa: E402
 import faults  # noqa: E402
 import go  # noqa: E402
 import instructions  # noqa: E402
+import shipped  # noqa: E402
 import tool  # noqa: E402
 import webassembly  # noqa: E402
 from argument import FORMS  # noqa: E402
@@ -33,6 +34,7 @@ SETTINGS = ("clang -O2", "gcc -O1", "gcc -O3", "gcc -Os", "gcc -O2 -march=x86-64
             "clang -Os")
 ARM64_TOOLS = "aarch64-linux-gnu-gcc", "/usr/aarch64-linux-gnu/include/stdio.h", "qemu-aarch64"
 ARM64 = ["aarch64-linux-gnu-gcc -O2"] + ["clang --target=aarch64-linux-gnu -O2"] * (not lacks("clang"))
+DEBIAN = "gcc -std=c99 -fPIC $(dpkg-buildflags --get CPPFLAGS) $(dpkg-buildflags --get CFLAGS)"
 # Modules with the C header: what builds them, and the names of their functions with the arguments of C.
 OWN = {"_with_seed": "rapidhash_{version}_with_seed", "": "default_{version}"}
 MODULES = {
@@ -78,6 +80,10 @@ def check_library():
     check("gcc", gcc)
     if kit:
         check("the kit", kit)
+    if reason := lacks("dpkg-buildflags"):
+        skip("Debian's flags", reason)
+    else:
+        check("gcc with Debian's flags", faults.built(DEBIAN))
     for command in SETTINGS:
         if reason := lacks(command.split()[0]):
             skip(command, reason)
@@ -113,6 +119,7 @@ def check_packages():
         case(f"build of {by}", *[said] * (status != 0))
         file = Elf(path)
         file.names = names
+        case(f"{by} with and without symbols", *shipped.differs_when_stripped(path))
         check(by, file, forms=names)
     if program:
         check("Go", program, go.VALUES, machine=go.Machine)
@@ -133,6 +140,8 @@ def plant():
 def check_gate():
     """Tests the tool, and checks V3."""
     counts, only_tool = {}, MODE == "tool"
+    if not only_tool:
+        case("the table of what is published", *shipped.disagreements(PARTS))
     case("rules for terms", *tool.rules_hold(), *tool.orders_hold())
     case("instructions on this processor", *instructions.processor_agrees())
     if reason := lacks("wasm-validate", "node"):
@@ -172,6 +181,7 @@ PARTS = {
     "arm64": check_arm64,
     "packages": check_packages,
     "faults": plant,
+    "write": shipped.write,
 }
 gcc = faults.built("gcc -O2")
 kit = faults.linked(KIT, "kit") if KIT.exists() else None
