@@ -13,6 +13,11 @@ LINK, SP = 30, 31
 KEYS = [("word", index) for index in range(32)]
 CONDITIONS = {"eq": "e", "ne": "ne", "lo": "b", "hs": "ae", "ls": "be", "hi": "a", "lt": "l", "ge": "ge", "le": "le",
               "gt": "g"}
+# The instructions of which a relocation is a field: a mask, and the bits there. The linker sets no other bits of them.
+FIELDS = {"CALL26": [(0xFC000000, 0x94000000)], "JUMP26": [(0xFC000000, 0x14000000)],
+          "CONDBR19": [(0xFF000010, 0x54000000), (0x7E000000, 0x34000000)],
+          "ADR_PREL_PG_HI21": [(0x9F000000, 0x90000000)], "ADD_ABS_LO12_NC": [(0xFFC00000, 0x91000000)],
+          **{f"LDST{8 << size}_ABS_LO12_NC": [(0xFFC00000, size << 30 | 0x39400000)] for size in (0, 2, 3)}}
 NUMBERS = {"sp": SP, "wsp": SP, "xzr": None, "wzr": None, "fp": 29, "lr": LINK} | {
     f"{kind}{index}": index for kind in "xw" for index in range(31)}
 
@@ -178,15 +183,18 @@ class Machine(Runner):
         these, after = list(found.operands), None
         if found.writeback and these[-1].type == ARM64_OP_IMM:
             after = these.pop().imm
-        target = self.file.named(at) if found.mnemonic == "adrp" or self.file.is_low_part(at) else None
+        kind, word = self.file.kind(at), int.from_bytes(found.bytes, "little")
+        is_field = any(word & mask == bits for mask, bits in FIELDS.get(kind, ()))
+        if not is_field and (kind or found.mnemonic == "adrp"):
+            raise Refusal(f"relocated bytes in {text}")
+        target = self.file.named(at) if kind[-2:] in ("21", "NC") else None
         operands = [self.operand(found, one, at, after, target) for one in these]
         *registers, last = [getattr(getattr(one, "base", one), "index", None) for one in operands] or [None]
         if found.writeback and last in registers:
             raise Refusal(f"{text} is unpredictable")
-        rule = RULES[found.mnemonic]
-        if self.file.is_low_part(at) and these[-1].type != ARM64_OP_MEM:
-            rule = {"add": lambda _, to, base, __: to.write(within(base.read(), target))}[found.mnemonic]
-        return rule, operands, at + 4, text
+        if found.mnemonic == "add" and target:
+            return lambda _, to, base, __: to.write(within(base.read(), target)), operands, at + 4, text
+        return RULES[found.mnemonic], operands, at + 4, text
 
     def operand(self, found, one, at, after, target):
         if one.type == ARM64_OP_REG and not one.ext and not one.vas:

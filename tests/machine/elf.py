@@ -65,9 +65,9 @@ class Elf:
             raise Refusal(f"an address outside of all sections: {address:#x}")
         return add(name(label), address - section.start)
 
-    def is_low_part(self, at):
-        """Returns whether the instruction at an address has the part of another address in its page."""
-        return "LO12" in self.anchors.get(at, " ")[-1]
+    def kind(self, at):
+        """Returns the name of the relocation of an instruction of AArch64, or nothing."""
+        return self.anchors.get(at, (0, 0, ""))[2].removeprefix("R_AARCH64_")
 
     def named(self, at):
         """Returns the word of the address of which an instruction has a part."""
@@ -80,7 +80,7 @@ class Elf:
         (label, factor), *others = [*factors.items()] or [("", 0)]
         if label == "memmove" and word == name(label):
             return self.memmove
-        if others or factor != 1 or label not in self.sections:
+        if others or factor != 1 or label not in self.sections or not 0 <= constant < len(self.sections[label].data):
             raise Refusal(f"a jump to {word}")
         return self.sections[label].start + constant
 

@@ -29,7 +29,7 @@ int main(void)
 
 class Alone:
     """Is mixed with a machine, which runs code at the address 16 alone, with the space of a state as its memory."""
-    memmove, extensions, relocated, place = None, x86.EXTENSIONS, frozenset(), None
+    memmove, extensions, relocated, anchors, place = None, x86.EXTENSIONS, frozenset(), {}, None
 
     def __init__(self, code):
         super().__init__(self)
@@ -38,8 +38,13 @@ class Alone:
     def is_aligned(self, address):
         return address % 16 == 0
 
-    def is_low_part(self, _):
-        return False
+    @staticmethod
+    def section_at(_):
+        return ("",)
+
+    @staticmethod
+    def kind(_):
+        return ""
 
     def locate(self, address, size, is_write=False):
         if not SPACE <= address - STATE <= SPACE + SIZE - size:
@@ -183,7 +188,7 @@ def prepared(kind, code, draw):
 def chosen(kind, each, draw):
     """Returns so many prepared encodings of each rule, and the rules of which there is none."""
     found = {text: [] for text in kind.rules if text not in kind.leaving and text[0] != "j" and text[:2] != "b."}
-    for code in itertools.islice(kind.encodings(draw), 3000 * each):
+    for code in itertools.islice(kind.encodings(draw), 50_000 + 2000 * each):
         one = next(kind.reader.disasm(code, 16), None)
         these = found.get(one.mnemonic if one else None, range(each))
         if len(these) < each and (ready := prepared(kind, bytes(one.bytes), draw)):

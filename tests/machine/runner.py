@@ -13,6 +13,7 @@ class Runner(Memory):
 
     def __init__(self, file):
         self.file, self.decoded, self.count = file, {}, 0
+        self.last = set()  # the instructions that nothing follows in their section
 
     def symbol(self, version, form):
         """Returns the name of a function in C."""
@@ -58,6 +59,8 @@ class Runner(Memory):
                 rule, operands, self.after, text = self.decoded[self.at]
                 self.count += 1
                 target = rule(self, *operands)
+                if target is None and self.at in self.last:
+                    raise Refusal("code that goes on past its section")
                 if self.words[self.pointer] != before:
                     self.forget_below(self.height() - self.red)
                 self.at = target if target == self.home else \
@@ -81,4 +84,6 @@ class Runner(Memory):
             raise Refusal(f"no rule for {text}")
         if not self.file.relocated.isdisjoint(range(at, at + found.size)):
             raise Refusal(f"relocated bytes in {text}")
+        if self.file.section_at(at)[0] != self.file.section_at(at + found.size)[0]:
+            self.last.add(at)
         return found, text

@@ -208,4 +208,8 @@ class Machine(Runner):
         if found.mnemonic in set(EXTENSIONS).difference(self.file.extensions):
             raise Refusal(f"{text} is not on every processor")
         code = range(at, at + found.size)
+        is_place = found.mnemonic[0] == "j" or found.mnemonic == "call"
+        field = at + (found.disp_offset if "[rip" in found.op_str else found.imm_offset if is_place else 0)
+        if not {field} >= self.file.anchors.keys() & code:
+            raise Refusal(f"relocated bytes in {text}")
         return RULES[found.mnemonic], [operand_of(self, found, one, code) for one in found.operands], code.stop, text
