@@ -11,7 +11,7 @@ import go
 from argument import Hash, prove
 from cases import ROOM, TOP, shell
 from elf import Elf
-from linear import Refusal, assume, linear, name
+from linear import Assumed, Refusal, assume, linear, name
 from streams import show_streams
 from x86 import Machine
 
@@ -134,8 +134,9 @@ def in_snippets(tools="", kinds={"C": Machine, "Go": go.Machine}):
     assert status == 0, said
     file, length = linked("$ROOM/snippets.o $ROOM/v1.o", "snippets", f"{tools}ld"), linear(2000, {"turns": 112})
     for index, row in enumerate(table):
-        assume(length, 0, 1 << 56)
         machine, function = kinds[row["by"]](file), "V1.Sum64WithSecrets" if row["by"] == "Go" else f"code{index}"
+        Assumed.low, Assumed.top = machine.low, machine.top
+        assume(length, 0, 1 << 56)
         file.symbols[f"{go.PACKAGE}Version{function}"] = file.symbols.get(f"code{index}")
         try:
             machine.begin(function, [name("message"), length, name("secrets")], length, {"secrets": 64})

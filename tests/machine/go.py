@@ -38,6 +38,11 @@ class Program(Elf):
                      for text, size in (("defaults", 56), ("defaultsV1", 24))]
         self.sections = {label: self.own(section) for label, section in self.sections.items()}
 
+    def constant(self, label, place):
+        """Returns a byte of the default secrets: all else that is constant may have addresses of one link."""
+        is_own = any(self.sections[label].start + place in places for places in self.unwritten)
+        return super().constant(label, place) if is_own else None
+
     def own(self, section):
         """Returns a section, of code only that of the package."""
         start, data = section.start, section.data

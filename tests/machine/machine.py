@@ -149,6 +149,9 @@ def check_gate():
     else:
         case("WebAssembly's instructions by node", *engine.engine_agrees())
     case("code that must be refused", *faults.in_snippets())
+    if program:
+        read = [label for label in program.sections if program.constant(label, 0) is not None]
+        case("constants of a Go program", *read)
     if arm:
         case("code for AArch64 that must be refused", *faults.in_snippets(
             "aarch64-linux-gnu-", {"AArch64": arm64.Machine}))
