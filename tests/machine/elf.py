@@ -3,6 +3,7 @@ where it is nor how far a constant is from it, and what it computes holds wherev
 
 import re
 from collections import namedtuple
+from math import gcd
 
 from cases import shell
 from linear import Refusal, add, name, parts
@@ -12,6 +13,14 @@ RELATIVE = re.compile("R_X86_64_(PC32|PLT32)|R_AARCH64_(CALL26|JUMP26|CONDBR19|A
 Section = namedtuple("Section", "start data flags alignment")
 
 
+def pieces(label, start, data, flags, entry, alignment):
+    """Yields a section, or its entries if the linker may merge each with one of another file. It has no strings."""
+    size = entry if "M" in flags else max(len(data), 1)
+    for at in range(0, len(data) if "S" not in flags else 0, size):
+        yield label + f", entry {at // size}" * ("M" in flags), \
+            Section(start + at, data[at:at + size], flags, gcd(alignment, size) if "M" in flags else alignment)
+
+
 class Elf:
     """Reads the sections, symbols and relocations of a linked file, as readelf prints them."""
     unwritten = ()  # the ranges that can be written, but that nobody writes
@@ -19,22 +28,38 @@ class Elf:
     names = {}  # what the functions are called, if not as in the header: a pattern for each call
 
     def __init__(self, path, memmove=None):
-        text, data = shell(f"readelf -SsdrW {path}")[1], path.read_bytes()
+        text, data = shell(f"readelf -SlsdrW {path}")[1], path.read_bytes()
         if "TEXTREL" in text:
             raise Refusal(f"{path} has code that the loader changes")
-        rows = re.findall(r"\] (\S+) +(\w+) +(\w{16}) (\w+) (\w+) \w+ +(\w*) +\d+ +\d+ +(\d+)$", text, re.M)
-        self.sections = {
-            f"section {index} {label}": Section(int(start, 16), data[int(at, 16):][:int(size, 16)], flags, int(align))
-            for index, (label, kind, start, at, size, flags, align) in enumerate(rows)
-            if "A" in flags and kind != "NOBITS"}
+        rows = re.findall(r"\] (\S+) +(\w+) +(\w{16}) (\w+) (\w+) (\w+) +(\w*) +\d+ +\d+ +(\d+)$", text, re.M)
+        numbers = [(int(start, 16), int(at, 16), int(size, 16), int(entry, 16), int(align))
+                   for *_, start, at, size, entry, _, align in rows]
+        loads = re.findall(r"LOAD +0x(\w+) 0x(\w+) 0x\w+ 0x(\w+) 0x\w+ (...)", text)
+        self.sections = {}
+        for index, ((label, kind, *_, flags, _), (start, at, size, entry, align)) in enumerate(zip(rows, numbers)):
+            if "A" in flags and kind != "NOBITS":
+                if not any(int(to, 16) - int(of, 16) == start - at and int(of, 16) <= at and
+                           at + size <= int(of, 16) + int(length, 16) and ("W" in flags or "W" not in may)
+                           for of, to, length, may in loads):
+                    raise Refusal(f"{path} has the section {label}, which is not loaded")
+                self.sections.update(pieces(f"section {index} {label}", start, data[at:at + size], flags, entry, align))
         self.symbols, self.memmove = dict(self.functions(text)), memmove
         self.anchors, self.relocated = {}, set()
-        for at, kind, anchor, addend in re.findall(
-                r"^(\w{16})  \w{16} (R_\w+) +(?:(\w{16}) \S+ ([+-] \w+))?", text, re.M):
-            if anchor and RELATIVE.fullmatch(kind) and "X" in self.section_at(int(at, 16))[1].flags:
-                self.anchors[int(at, 16)] = int(anchor, 16), int(addend.replace(" ", ""), 16), kind
+        self.read_relocations(text, {label for label, *_ in rows}, [start + size for start, _, size, *_ in numbers])
+
+    def read_relocations(self, text, labels, ends):
+        """Reads which bytes name a place: by a section, or by a symbol in one that no other file may replace."""
+        replaced = {(int(at, 16), label) for at, bind, index, label in re.findall(
+            r": (\w+) +\w+ +\w+ +(\w+) +\w+ +(\d+) (\S+)$", text, re.M)
+            if bind == "WEAK" or int(at, 16) >= ends[int(index) - 1]}
+        for at, kind, anchor, label, addend in re.findall(
+                r"^(\w{16})  \w{16} (R_\w+) +(?:(\w{16}) (\S+) ([+-] \w+))?", text, re.M):
+            place, is_place = int(at, 16), RELATIVE.fullmatch(kind)
+            is_code = anchor and "X" in self.section_at(place)[1].flags and (int(anchor, 16), label) not in replaced
+            if is_place and is_code:
+                self.anchors[place] = int(anchor, 16), int(addend.replace(" ", ""), 16), kind, label in labels
             else:
-                self.relocated.update(range(int(at, 16), int(at, 16) + 8))
+                self.relocated.update(range(place, place + (4 if is_place else 8)))
 
     @staticmethod
     def functions(text):
@@ -57,22 +82,26 @@ class Elf:
         if address == self.memmove:
             return name("memmove")
         rest = address if self.memmove is None else code[0]
-        return self.relative(next((self.anchors[at][0] for at in code if at in self.anchors), rest), address)
+        anchor, *_, is_whole = next((self.anchors[at] for at in code if at in self.anchors), (rest, False))
+        return self.relative(anchor, address, is_whole)
 
-    def relative(self, anchor, address):
-        label, section = self.section_at(anchor)
+    def relative(self, anchor, address, is_whole):
+        """Returns the word of an address by a symbol at an anchor, which may be that of a whole section."""
+        (label, section), (other, entry) = self.section_at(anchor), self.section_at(address)
+        if is_whole and label.partition(", entry")[0] == other.partition(", entry")[0]:
+            label, section = other, entry
         if not label:
             raise Refusal(f"an address outside of all sections: {address:#x}")
         return add(name(label), address - section.start)
 
     def kind(self, at):
         """Returns the name of the relocation of an instruction of AArch64, or nothing."""
-        return self.anchors.get(at, (0, 0, ""))[2].removeprefix("R_AARCH64_")
+        return self.anchors.get(at, (0, 0, "", False))[2].removeprefix("R_AARCH64_")
 
     def named(self, at):
         """Returns the word of the address of which an instruction has a part."""
-        anchor, addend, _ = self.anchors[at]
-        return self.relative(anchor, anchor + addend)
+        anchor, addend, _, is_whole = self.anchors[at]
+        return self.relative(anchor, anchor + addend, is_whole)
 
     def address(self, word):
         """Returns the address of the link to which a jump goes."""

@@ -145,8 +145,12 @@ def in_snippets(tools="", kinds={"C": Machine, "Go": go.Machine}):
             reason = str(refusal)
         yield from judge(row["what"], None, reason, [row["reason"]], None)
     yield from judge("V1 with its bug", *shown(file, "v1", machine=[*kinds.values()][0]), ["length 48"], None)
-    with suppress(Refusal):
-        yield f"code that the loader changes: {Elf(ROOM / 'changed.so')}"
+    data = bytearray((ROOM / "snippets").read_bytes())
+    data[int.from_bytes(data[40:48], "little") + 64 + 24] ^= 16  # where the first section is in the file
+    (ROOM / "moved").write_bytes(data)
+    for what, path in ("code that the loader changes", "changed.so"), ("a section that is not loaded", "moved"):
+        with suppress(Refusal):
+            yield f"{what}: {Elf(ROOM / path)}"
 
 
 def in_bits(count, counts, seed=1):
