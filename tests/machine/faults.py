@@ -5,12 +5,13 @@ import csv
 import os
 import random
 from concurrent.futures import ThreadPoolExecutor
+from contextlib import suppress
 
 import go
 from argument import Hash, prove
 from cases import ROOM, TOP, shell
-from linear import Refusal, assume, linear, name
-from operands import Elf
+from elf import Elf
+from linear import Assumed, Refusal, assume, linear, name
 from streams import show_streams
 from x86 import Machine
 
@@ -39,12 +40,14 @@ def built(command, folder=HEADER.parent, target="library"):
     """Builds the C library by a command, and returns the file that the linker makes of the object."""
     status, said = shell(f"{command} -I{folder} -c packages/c/rapidhash_c.c -o $ROOM/{target}.o")
     assert status == 0, said
-    return linked(f"$ROOM/{target}.o", target)
+    return linked(f"$ROOM/{target}.o", target, "aarch64-linux-gnu-ld" if "aarch64" in command else "ld")
 
 
-def linked(objects, target):
-    """Links objects to a file without relocations. The only symbol that may be undefined is memmove."""
-    status, said = shell(f"ld -e 0 --defsym memmove={MEMMOVE} -o $ROOM/{target} --whole-archive {objects}")
+def linked(objects, target, linker="ld"):
+    """Links objects so that each section of theirs stays one, and its relocations are kept. The only functions that may
+    be undefined are memmove, and one that nothing may call."""
+    status, said = shell(f"{linker} -q -e 0 --unique='*' --defsym memmove={MEMMOVE} --defsym __stack_chk_fail=0"
+                         f" -o $ROOM/{target} --whole-archive {objects}")
     assert status == 0, said
     return Elf(ROOM / target, MEMMOVE)
 
@@ -79,18 +82,25 @@ def plant(source, target, old, new):
     target.write_text(text.replace(old, new, 1))
 
 
-def in_the_header(tell=None):
+def in_the_header(tell=None, command="gcc -O2", machine=Machine, counts=None):
     """Builds the header with each fault. Yields those that are not refused with the function, the length and the
-    term."""
+    term. Another processor than x86-64 has neither those in assembly nor the streams."""
+    is_other = machine != Machine
     for file, fault, old, new in rows(".h"):
+        if is_other and ("asm" in new or fault.startswith("a stream")):
+            continue
+        if counts is not None:
+            counts["planted"] = counts.get("planted", 0) + 1
         plant(HEADER, ROOM / file, old, new)
         plant(ROOM / file, ROOM / file, FLAG, "int rapidhash_flag_ = 3;\n" + FLAG)
-        code = built("gcc -O2 -w", ROOM, "planted")
+        code = built(f"{command} -w", ROOM, "planted")
         if fault.startswith("a stream"):
             yield from judge(fault, *shown_streams(code), ["v3_nano"], tell)
         else:
-            how, reason = shown(code) if fault != "a changed secret" else shown(code, form="")
-            yield from judge(fault, how, reason, ["rapidhash_v3", ", length", *REASONS.get(fault, ())], tell)
+            form = "" if fault == "a changed secret" else "_with_secrets"
+            how, reason = shown(code, form=form, machine=machine)
+            wanted = () if is_other else REASONS.get(fault, ())
+            yield from judge(fault, how, reason, ["rapidhash_v3", ", length", *wanted], tell)
 
 
 def in_the_package(tell=None):
@@ -111,26 +121,36 @@ def judge(fault, how, reason, wanted, tell):
         tell(f"# {fault}: {reason}")
 
 
-def in_snippets():
+def in_snippets(tools="", kinds={"C": Machine, "Go": go.Machine}):
     """Runs code that does what a hash must not. Yields what is not refused for its reason."""
-    table = [*csv.DictReader(open(FOLDER / "refused.tsv"), delimiter="\t", quoting=csv.QUOTE_NONE)]
-    (ROOM / "refused.s").write_text(".intel_syntax noprefix\n" + "".join(
-        f".globl code{index}\ncode{index}: {row['code']}; ret\n" for index, row in enumerate(table)))
-    status, said = shell(f"gcc -c $ROOM/refused.s -o $ROOM/snippets.o && gcc -Os -c {FOLDER}/refused.c -o $ROOM/v1.o")
+    table = [row for row in csv.DictReader(open(FOLDER / "refused.tsv"), delimiter="\t", quoting=csv.QUOTE_NONE)
+             if row["by"] in kinds]
+    (ROOM / "refused.s").write_text(".intel_syntax noprefix\n" * (not tools) + "".join(
+        f".text; .globl SELF; .type SELF, %function; SELF: {row['code']}; ret\n".replace("SELF", f"code{index}")
+        for index, row in enumerate(table)))
+    status, said = shell(
+        f"cd $ROOM && {tools}gcc -c refused.s -o snippets.o && {tools}gcc -Os -c {FOLDER}/refused.c -o v1.o"
+        f" && {tools}ld -shared -Bsymbolic -z notext --defsym memmove=0 -o changed.so snippets.o")
     assert status == 0, said
-    file, length = linked("$ROOM/snippets.o", "snippets"), linear(2000, {"turns": 112})
+    file, length = linked("$ROOM/snippets.o $ROOM/v1.o", "snippets", f"{tools}ld"), linear(2000, {"turns": 112})
     for index, row in enumerate(table):
+        machine, function = kinds[row["by"]](file), "V1.Sum64WithSecrets" if row["by"] == "Go" else f"code{index}"
+        Assumed.low, Assumed.top = machine.low, machine.top
         assume(length, 0, 1 << 56)
-        machine, function = (go.Machine(file), "V1.Sum64WithSecrets") if row["by"] == "Go" else (
-            Machine(file), f"code{index}")
-        file.symbols[f"{go.PACKAGE}Version{function}"] = file.symbols[f"code{index}"]
-        machine.begin(function, [name("message"), length, name("secrets")], length, {"secrets": 64})
+        file.symbols[f"{go.PACKAGE}Version{function}"] = file.symbols.get(f"code{index}")
         try:
+            machine.begin(function, [name("message"), length, name("secrets")], length, {"secrets": 64})
             reason = f"accepted: {machine.run()}, {machine.result()}"
         except Refusal as refusal:
             reason = str(refusal)
         yield from judge(row["what"], None, reason, [row["reason"]], None)
-    yield from judge("V1 with its bug", *shown(linked("$ROOM/v1.o", "v1"), "v1"), ["length 48"], None)
+    yield from judge("V1 with its bug", *shown(file, "v1", machine=[*kinds.values()][0]), ["length 48"], None)
+    data = bytearray((ROOM / "snippets").read_bytes())
+    data[int.from_bytes(data[40:48], "little") + 64 + 24] ^= 16  # where the first section is in the file
+    (ROOM / "moved").write_bytes(data)
+    for what, path in ("code that the loader changes", "changed.so"), ("a section that is not loaded", "moved"):
+        with suppress(Refusal):
+            yield f"{what}: {Elf(ROOM / path)}"
 
 
 def in_bits(count, counts, seed=1):
@@ -139,11 +159,13 @@ def in_bits(count, counts, seed=1):
     status, said = shell(f"gcc -O2 -fPIC -shared -Wl,-Bsymbolic -I{HEADER.parent} packages/c/rapidhash_c.c -o {path}")
     assert status == 0, said
     data, file = bytearray(path.read_bytes()), Elf(path)
-    (code, at_in_file), = ((start, at) for start, at, _, flags in file.segments if "E" in flags)
+    code = file.sections[next(label for label in file.sections if label.endswith(" .text"))]
+    at_in_file = data.index(code.data)
     wanted = shell(f"python3 -c '{NATIVE}' {path}")
     for _ in range(count):
         start = file.symbols[draw.choice(FUNCTIONS)]
-        at = draw.randrange(start, min(other for other in file.symbols.values() if other > start)) - code + at_in_file
+        end = min(other for other in file.symbols.values() if other > start)
+        at = draw.randrange(start, end) - code.start + at_in_file
         bit = 1 << draw.randrange(8)
         data[at] ^= bit
         copy.write_bytes(data)

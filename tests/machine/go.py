@@ -5,7 +5,7 @@ the stack, which here is 0. Bytes below rsp are lost at any time, and rsp is a m
 import x86
 from cases import ROOM, TOP, shell
 from linear import MASK, Refusal, make, name
-from operands import Elf
+from elf import Elf
 
 RAX, RCX, RBX, RBP, RSI, RDI, GOROUTINE = 0, 1, 3, 5, 6, 7, 14
 FOLDER, PACKAGE = TOP / "packages/go", "yervound.example/rapidhash."
@@ -36,25 +36,31 @@ class Program(Elf):
         super().__init__(target / "program")
         self.unwritten = [range(self.symbols[PACKAGE + text], self.symbols[PACKAGE + text] + size)
                      for text, size in (("defaults", 56), ("defaultsV1", 24))]
-        self.segments = [self.own(*segment) for segment in self.segments]
+        self.sections = {label: self.own(section) for label, section in self.sections.items()}
 
-    def own(self, start, at, data, flags):
-        """Returns a segment, of code only that of the package."""
-        if "E" not in flags:
-            return start, at, data, flags
+    def constant(self, label, place):
+        """Returns a byte of the default secrets: all else that is constant may have addresses of one link."""
+        is_own = any(self.sections[label].start + place in places for places in self.unwritten)
+        return super().constant(label, place) if is_own else None
+
+    def own(self, section):
+        """Returns a section, of code only that of the package."""
+        start, data = section.start, section.data
+        if "X" not in section.flags:
+            return section
         places = {place: text for text, place in self.symbols.items() if start <= place < start + len(data)}
         own = [place for place, text in places.items() if text.startswith(PACKAGE)]
         first, end = min(own), min(place for place in places if place > max(own))
-        return first, at + first - start, data[first - start:end - start], flags
+        return section._replace(start=first, data=data[first - start:end - start])
 
 
 class Machine(x86.Machine):
     top, arguments, saved = MASK >> 1, (RAX, RBX, RCX, RDI, RSI), (RBP, GOROUTINE)
     limit = 64 + 224  # below, V2 may have no rows, and the rest after two rows may be empty, which changes a pointer
-    text, red = "", 0
+    text, red, depth = "", 0, 800  # without a look at the goroutine's limit a function may use 800 bytes
 
     def is_aligned(self, address):
-        return self.locate(address, 16)[0] == "file" and super().is_aligned(address)
+        return self.locate(address, 16)[0] != "stack" and super().is_aligned(address)
 
     def result(self):
         if self.vectors[15] != [0] * 16:

@@ -49,25 +49,27 @@ def ordered(*words):
 class Assumed:
     low, top = 1 << 20, MASK  # addresses: the message ends at `top` or before
     order = None  # of the message and a stream: "before" if the message is before the stream, "after", or unknown
-    fixed = {}  # the bounds of addresses of memory, but for those in the corners
-    corners = []  # the values of the other names at the vertices of what is known of them
+    corners = [{}]  # the values of names at the vertices of what is known; all others are addresses, of any value
 
 
 def assume(length, least=0, most=0, is_turning=False):
     """Sets what is known: `turns` is from `least` to `most`, and `done` from 0 to turns - least if the loop is turning.
     The conditions are linear, so a linear word is least and greatest at vertices of the values that they allow."""
-    names = ["stack", "secrets", "goroutine", "file"] + ["stream"] * (Assumed.order is None)
-    Assumed.fixed, Assumed.corners = dict.fromkeys(names, (Assumed.low, Assumed.top - (1 << 16))), []
+    Assumed.corners = []
     for turns, done in [(least, 0), (most, 0)] + [(most, most - least)] * is_turning:
         corner = {"turns": turns, "done": done}
         size = value_at(length, corner)
-        Assumed.corners += [{**corner, "message": message, "stream": stream} for message, stream in places(size)]
+        Assumed.corners += [{**corner, "message": message, **({"stream": stream} if Assumed.order else {})}
+                            for message, stream in places(size)]
 
 
 def places(size):
-    """Yields the addresses of a message of a size and of a stream at the vertices of those that do not overlap."""
+    """Yields the addresses of a message of a size and of a stream at the vertices of those that do not overlap. Without
+    bytes a message may be anywhere."""
     first, low, end, room = 1 << 12, Assumed.low, Assumed.top, 1 << 8
-    if Assumed.order == "before":
+    if size == 0:
+        yield from ((message, stream) for message in (0, end) for stream in (low, end - room))
+    elif Assumed.order == "before":
         yield from ((first, first + size), (first, end - room), (end - room - size, end - room))
     elif Assumed.order == "after":
         yield from ((low + room, low), (end - size, low), (end - size, end - size - room))
@@ -110,11 +112,11 @@ def ends(constant, factors):
     """Returns the least and the greatest value of constant + factor * name + .. as an integer, not cut to 64 bits."""
     low, high, others = constant, constant, []
     for text, factor in factors.items():
-        if text in Assumed.fixed:
-            both = [factor * end for end in Assumed.fixed[text]]
-            low, high = low + min(both), high + max(both)
-        else:
+        if text in Assumed.corners[0]:
             others.append((text, factor))
+        else:
+            both = factor * Assumed.low, factor * (Assumed.top - (1 << 16))
+            low, high = low + min(both), high + max(both)
     values = [sum(factor * corner[text] for text, factor in others) for corner in Assumed.corners]
     return low + min(values), high + max(values)
 

@@ -4,10 +4,9 @@ the file. Each has an address of which nothing is known but that they do not ove
 from linear import Refusal, add, apart, bounds, linear, make, parts
 from terms import byte, join, message, split
 
-STACK = 1 << 16  # the bytes that a function may use
-
 
 class Memory:
+    depth = 1 << 16  # the bytes of stack that a function may use
     argument_room = 0  # the bytes above the return address that a function may use
     limit = 0  # up to this length, messages are run to the end even if they reach the loop
 
@@ -15,14 +14,11 @@ class Memory:
         """Begins a call with a message of `length` bytes, and with so many bytes of `secrets` and `stream`."""
         self.length, self.sizes, self.memory = length, sizes, {}
 
-    def constant(self, address):
-        """Returns a byte of the file at a fixed address, or nothing."""
-
     def locate(self, address, size, is_write=False):
         """Returns the region of an address, and the place in it. Refuses bytes that the call may not use."""
         constant, factors = parts(address) or (0, {"contents": 1})
         regions = [text for text in factors if text not in ("turns", "done")]
-        region = regions[0] if regions else "file"
+        region = regions[0] if regions else "contents"
         if len(regions) > 1 or factors.pop(region, 1) != 1 or region == "contents":
             raise Refusal(f"an address depends on contents: {address}")
         place = linear(constant, factors)
@@ -37,9 +33,9 @@ class Memory:
         if region == "message":
             return not is_write and low >= 0 and apart(self.length, add(place, size))[0] >= 0
         if region == "stack" and low == high:
-            return -STACK <= low and high + size <= 8 * (not is_write) or \
+            return -self.depth <= low and high + size <= 8 * (not is_write) or \
                 8 <= low and high + size <= 8 + self.argument_room
-        if region == "file":
+        if region.startswith("section"):
             return low == high and not is_write
         return 0 <= low == high <= self.sizes.get(region, 0) - size and (region == "stream" or not is_write)
 
@@ -49,7 +45,7 @@ class Memory:
             self.stored(region, place + index) for index in range(size)]
 
     def stored(self, region, place):
-        found = self.constant(place) if region == "file" else self.memory.get((region, place))
+        found = self.file.constant(region, place) if region.startswith("section") else self.memory.get((region, place))
         if found is None and region != "secrets":
             raise Refusal(f"a read of what was not written, at {region} + {place}")
         return byte(make("secret", 64, place // 8), place % 8) if found is None else found

@@ -1,12 +1,9 @@
-"""Has the file that is run, the operands of its instructions, and the conditions of its branches. An instruction that
-sets flags keeps its operation, operands, result and bits, and a condition asks for their bounds."""
-
-import re
+"""Has the operands of instructions, and the conditions of branches. An instruction that sets flags keeps its operation,
+operands, result and bits, and a condition asks for their bounds."""
 
 from capstone.x86 import X86_OP_IMM, X86_OP_REG
 
-from cases import shell
-from linear import MASK, Refusal, add, below, equal, known, less, name
+from linear import MASK, Refusal, add, below, equal, known, less
 from terms import join, low_bits, split
 
 NAMES = ["rax eax ax al", "rcx ecx cx cl", "rdx edx dx dl", "rbx ebx bx bl", "rsp esp sp spl", "rbp ebp bp bpl",
@@ -18,31 +15,10 @@ UNALIGNED = "movdqu", "movups"  # all other instructions need an address of 128 
 OPPOSITES = {"ne": "e", "ae": "b", "a": "be", "ge": "l", "g": "le", "ns": "s"}
 
 
-class Elf:
-    """Reads the segments and the symbols of a linked file, as readelf prints them. A shared object has any address."""
-    unwritten = ()  # the ranges that can be written, but that nobody writes
-
-    def __init__(self, path, memmove=None):
-        text, data = shell(f"readelf -lsW {path}")[1], path.read_bytes()
-        symbols = re.findall(r": (\w+) +\w+ +\w+ +\w+ +\w+ +\d+ (\S+)$", text, re.M)
-        self.symbols = {label: int(at, 16) for at, label in symbols}
-        loads = re.findall(r"LOAD +0x(\w+) 0x(\w+) 0x\w+ 0x(\w+) 0x\w+ (...)", text)
-        self.segments = [(int(address, 16), int(at, 16), data[int(at, 16):int(at, 16) + int(size, 16)], flags)
-                         for at, address, size, flags in loads]
-        self.base, self.memmove = 0 if self.segments[0][0] else name("file"), memmove
-
-    def read(self, address, size, flag="R"):
-        """Returns bytes at an address, of code (flag E) or of constants; none that may be written."""
-        is_unwritten = any(address in places for places in self.unwritten)
-        return next((data[address - start:address - start + size] for start, _, data, flags in self.segments
-                     if start <= address < start + len(data) and flag in flags and ("W" not in flags or is_unwritten)),
-                    b"")
-
-
 # Operands. Each has `bits`, and reads and writes a word, or in 128 bits a list of bytes.
 class Number:
     def __init__(self, value, bits):
-        self.value, self.bits = value & (1 << bits) - 1, bits
+        self.value, self.bits = value & (1 << bits) - 1 if known(value) else value, bits
 
     def read(self):
         return self.value
@@ -84,10 +60,11 @@ class Place:
         self.machine.store_bytes(self.address(), value if self.bits == 128 else split(value, self.bits // 8))
 
 
-def operand_of(machine, instruction, operand, after):
-    """Returns an operand of an instruction, which ends at an address."""
+def operand_of(machine, instruction, operand, code):
+    """Returns an operand of an instruction at the addresses `code`. The operand of a jump is a place in the file."""
     if operand.type == X86_OP_IMM:
-        return Number(operand.imm, 8 * operand.size)
+        is_jump = instruction.mnemonic[0] == "j" or instruction.mnemonic == "call"
+        return Number(machine.file.place(operand.imm, code) if is_jump else operand.imm, 8 * operand.size)
     if operand.type == X86_OP_REG:
         text = instruction.reg_name(operand.reg)
         if text[:3] != "xmm" and text not in REGISTERS:
@@ -98,7 +75,7 @@ def operand_of(machine, instruction, operand, after):
     for register, scale in (memory.base, 1), (memory.index, memory.scale):
         text = instruction.reg_name(register) if register else "none"
         if text == "rip":
-            start = add(machine.file.base, after + operand.mem.disp)
+            start = machine.file.place(code.stop + operand.mem.disp, code)
         elif register and REGISTERS.get(text, (0, 0))[1] != 64:
             raise Refusal(f"an address of other registers than 64 bits: {instruction.op_str}")
         elif register:

@@ -122,7 +122,7 @@ class Machine(Memory):
     low, top = 1 << 14, HALF
 
     def __init__(self, module):
-        self.file, self.count, self.used, self.shapes = module, 0, set(), {}
+        self.file, self.count, self.shapes = module, 0, {}
 
     @staticmethod
     def symbol(version, _):
@@ -161,7 +161,6 @@ class Machine(Memory):
             if frame.at < len(frame.code):
                 text, arguments = frame.code[frame.at]
                 frame.at += 1
-                self.used.add(text)
                 try:
                     self.step(frame, frame.stack, text, arguments)
                 except Refusal as refusal:
@@ -194,7 +193,7 @@ class Machine(Memory):
             stack.append(frame.locals[arguments[0]])
         elif text in ("local.set", "local.tee"):
             frame.locals[arguments[0]] = stack[-1] if action == "tee" else stack.pop()
-        elif action in SIZES:
+        elif action in SIZES and bits in ("i32", "i64"):
             value, size = stack.pop() if "store" in text else None, min(SIZES[action], 8 if bits == "i64" else 4)
             address = whole(add(whole(stack.pop()), sum(arguments)))
             self.store_bytes(address, split(value, size)) if "store" in text else stack.append(self.load(address, size))

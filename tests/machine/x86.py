@@ -2,9 +2,9 @@
 
 import capstone
 
-from linear import MASK, Refusal, add, is_kind, known, make, name, parts, subtract
-from memory import Memory
-from operands import NAMES, OPPOSITES, Number, holds, operand_of
+from linear import Refusal, add, known, make, parts, subtract
+from operands import OPPOSITES, Number, holds, operand_of
+from runner import Runner
 from terms import bit_and, bit_or, join, low_bits, multiply, shift_left, shift_right, sign, split, xor
 
 RAX, RDX, RSP, RBP, RSI, RDI, SAVED = 0, 2, 4, 5, 6, 7, (3, 5, 12, 13, 14, 15)
@@ -66,7 +66,7 @@ def leave(machine):
 
 def call(machine, target):
     place = target.read()
-    push(machine, Number(machine.after, 64))
+    push(machine, Number(machine.file.place(machine.after, [machine.at]), 64))
     return place
 
 
@@ -110,25 +110,39 @@ def shuffle(machine, to, by, order):
 
 
 def memmove(machine):
-    """Runs the C library's function, the only one that a library calls. It may change what the caller must save."""
+    """Runs the C library's function, the only one that a library calls. It may change what the caller must save, and
+    what is below the stack's pointer, which it thus may not read."""
     to = machine.words[RDI]
+    if machine.height() % 16:
+        raise Refusal("the stack is not aligned in a call")
+    machine.forget_below(machine.height())
+    region, place = machine.locate(to, machine.words[RDX], True)
+    if region == "stack" and place < machine.height():
+        raise Refusal("memmove to its own stack")
     machine.store_bytes(to, machine.load_bytes(machine.words[RSI], machine.words[RDX]))
     state = {**machine.state(), **{key: make("changed", 64, key, machine.count) for key in KEYS}}
     state.update({("word", index): machine.words[index] for index in (RSP, *SAVED)})
-    top = parts(machine.words[RSP])[0]
-    state = {key: one for key, one in state.items() if key[0] != "stack" or key[1] >= top}
     machine.resume({**state, ("word", RAX): to}, machine.at)
-    return pop(machine)
+    place = pop(machine)
+    machine.forget_below(machine.height())
+    return place
 
 
 def has_another_meaning(instruction):
-    """Returns whether an instruction has a prefix that its rule does not know."""
-    repeat, segment, size, address = instruction.prefix
-    word = instruction.mnemonic
-    return bool(address or segment and word != "nop" or size and (word[0] == "j" or word in ("call", "ret", "leave"))
-                or repeat and word not in ("endbr64", "movdqu", "movq"))
+    """Returns whether an instruction has prefixes that its rule does not know: it may have one of two. Capstone ignores
+    some, so that the bytes are asked. A nop may have any that does not make it another instruction."""
+    word, code = instruction.mnemonic, bytes(instruction.bytes)
+    rest = code.lstrip(PREFIXES)
+    before = code[:-len(rest)]
+    is_known = before in (b"", b"\x66"[word[0] == "j" or word in NARROW:], b"\xf3"[word not in REPEATED:]) or \
+        word == "nop" and not set(before) & {0xF0, 0xF2, 0xF3}
+    return not is_known or rest[0] >> 4 == 4 and rest[1] in PREFIXES
 
 
+PREFIXES = bytes.fromhex("f0f2f3262e363e64656667")
+NARROW = "call", "ret", "leave", "push", "pop", "mulx"  # do something else after 66
+REPEATED = "endbr64", "movdqu", "movq"  # have f3
+EXTENSIONS = "mulx", "pextrq"  # are not on every x86-64 processor
 MOVES = "mov", "movabs", "movzx", "movdqu", "movups", "movdqa", "movaps"
 RULES = dict.fromkeys(MOVES, lambda machine, to, by: to.write(by.read()))
 RULES.update({
@@ -155,41 +169,20 @@ for _one in ("e", "b", "be", "l", "le", "s", *OPPOSITES):
         f"cmov{_one}": lambda machine, to, by, one=_one: to.write((to.read(), by.read())[bool(holds(machine, one))])})
 
 
-class Machine(Memory):
-    low, top, reader = 1 << 20, MASK, capstone.Cs(capstone.CS_ARCH_X86, capstone.CS_MODE_64)
-    reader.detail, arguments, saved, red = True, (RDI, RSI, RDX), SAVED, 128
+class Machine(Runner):
+    reader, rules, keys = capstone.Cs(capstone.CS_ARCH_X86, capstone.CS_MODE_64), RULES, KEYS
+    reader.detail, pointer, arguments, saved, red, popped = True, RSP, (RDI, RSI, RDX), SAVED, 128, 8
 
-    def __init__(self, file):
-        self.file, self.decoded, self.count, self.used = file, {}, 0, set()
-
-    def constant(self, address):
-        return next(iter(self.file.read(address, 1)), None)
-
-    def symbol(self, version, form):
-        """Returns the name of a function in C. Modules of other languages have functions of their own in its place."""
-        own = f"{form[1:] or 'default'}_{version}"
-        return own if own in self.file.symbols else f"rapidhash_{version}{form}"
-
-    def begin(self, function, arguments, length, sizes):
-        """Begins a call: all registers are unknown words but for the arguments and the stack's pointer."""
-        self.clear(length, sizes)
-        self.resume({key: make("register", 64, key) for key in KEYS}, self.file.symbols[function])
-        for index, word in zip(self.arguments, arguments):
-            self.words[index] = word
-        self.words[RSP], self.home = name("stack"), make("home", 64)
-        self.entry = list(self.words)
+    def enter(self):
+        """Puts the return address on the stack."""
         self.memory = {("stack", index): one for index, one in enumerate(split(self.home))}
 
-    def locate(self, address, size, is_write=False):
-        region, place = super().locate(address, size, is_write)
-        if region == "stack" and place < parts(self.words[RSP])[0] - self.red:
-            raise Refusal("bytes below the stack's pointer, which signals overwrite")
-        return region, place
-
     def is_aligned(self, address):
-        """Returns whether an address is a multiple of 16. The stack's is 8 more than one when a function begins."""
+        """Returns whether an address is a multiple of 16. The stack's is 8 more than one when a function begins. Of a
+        constant only the alignment of its section is known."""
         region, place = self.locate(address, 16)
-        return region == "stack" and place % 16 == 8 or region == "file" and place % 16 == 0
+        return place % 16 == (8 if region == "stack" else 0) and (
+            region == "stack" or region in self.file.sections and self.file.sections[region].alignment % 16 == 0)
 
     def state(self):
         halves = [join(vector[at:at + 8]) for vector in self.vectors for at in (0, 8)]
@@ -202,31 +195,6 @@ class Machine(Memory):
         self.vectors = [split(state[low]) + split(state[high]) for low, high in zip(VECTORS[::2], VECTORS[1::2])]
         self.flags, self.at = None, at
 
-    def run(self, stops=(), limit=100_000):
-        """Runs at least one instruction, until one of the stops, and returns whether the call has not returned."""
-        for _ in range(limit):
-            if self.at not in self.decoded:
-                self.decoded[self.at] = self.decode(self.at)
-            rule, operands, self.after, text = self.decoded[self.at]
-            self.count += 1
-            try:
-                target = rule(self, *operands)
-            except (Refusal, AttributeError, TypeError) as refusal:  # the last two: a rule does not have such operands
-                raise Refusal(f"at {self.at:#x}, {text}: {refusal}") from None
-            self.at = self.after if target is None else target
-            if is_kind(self.at, "linear"):
-                self.at = subtract(self.at, self.file.base)
-            if self.at == self.home:
-                wrong = [NAMES[index].split()[0] for index in self.saved if self.words[index] != self.entry[index]]
-                if wrong or self.words[RSP] != add(name("stack"), 8):
-                    raise Refusal(f"registers are not restored: {wrong or 'rsp'}")
-                return False
-            if not known(self.at):
-                raise Refusal(f"a jump to {self.at}")
-            if self.at in stops:
-                return True
-        raise Refusal(f"no end after {limit} instructions")
-
     def result(self):
         return self.words[RAX]
 
@@ -234,10 +202,14 @@ class Machine(Memory):
         """Returns the rule of an instruction, its operands, the next address, and its text."""
         if at == self.file.memmove:
             return memmove, [], None, "memmove"
-        found = next(self.reader.disasm(self.file.read(at, 16, "E"), at), None)
-        text = f"{found.mnemonic} {found.op_str}" if found else "bytes that are no instruction"
-        if not found or found.mnemonic not in RULES or has_another_meaning(found):
-            raise Refusal(f"no rule for {text} at {at:#x}")
-        self.used.add(found.mnemonic)
-        return RULES[found.mnemonic], [operand_of(self, found, one, at + found.size) for one in found.operands], \
-            at + found.size, text
+        found, text = self.find(at, 16)
+        if has_another_meaning(found):
+            raise Refusal(f"no rule for {text} with prefixes")
+        if found.mnemonic in set(EXTENSIONS).difference(self.file.extensions):
+            raise Refusal(f"{text} is not on every processor")
+        code = range(at, at + found.size)
+        is_place = found.mnemonic[0] == "j" or found.mnemonic == "call"
+        field = at + (found.disp_offset if "[rip" in found.op_str else found.imm_offset if is_place else 0)
+        if not {field} >= self.file.anchors.keys() & code:
+            raise Refusal(f"relocated bytes in {text}")
+        return RULES[found.mnemonic], [operand_of(self, found, one, code) for one in found.operands], code.stop, text
