@@ -89,14 +89,15 @@ def find_loop(call):
 
 def check_short_lengths(call, head):
     """Takes step 1. Returns the least length that reaches the loop and is above two limits: the machine's, and the
-    version's, up to which a message has no row."""
+    version's, up to which a message has no row. A null pointer to no bytes is tried by itself."""
     for length in range(FIRST):
         call.lengths = f"length {length}"
         assume(length)
-        call.begin(length, name("message"))
-        if call.machine.run([head] * (length > max(call.machine.limit, call.definition.limit))):
-            return length
-        call.check(length, *call.start(length))
+        for pointer in (name("message"), 0)[:1 + (length == 0)]:
+            call.begin(length, pointer)
+            if call.machine.run([head] * (length > max(call.machine.limit, call.definition.limit))):
+                return length
+            call.check(length, *call.start(length))
     raise Refusal("no length reaches the loop")
 
 

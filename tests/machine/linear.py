@@ -65,10 +65,10 @@ def assume(length, least=0, most=0, is_turning=False):
 
 def places(size):
     """Yields the addresses of a message of a size and of a stream at the vertices of those that do not overlap. Without
-    bytes a message may be anywhere."""
+    bytes a message may be anywhere but at 0, which is tried by itself."""
     first, low, end, room = 1 << 12, Assumed.low, Assumed.top, 1 << 8
     if size == 0:
-        yield from ((message, stream) for message in (0, end) for stream in (low, end - room))
+        yield from ((message, stream) for message in (1, end) for stream in (low, end - room))
     elif Assumed.order == "before":
         yield from ((first, first + size), (first, end - room), (end - room - size, end - room))
     elif Assumed.order == "after":
