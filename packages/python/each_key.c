@@ -5,7 +5,16 @@
 static int add_row(struct source *source, Py_ssize_t at, Py_ssize_t row, struct key *key)
 {
     struct row field;
-    int status = read_row(source, row, &field);
+    int status;
+    if (source->is_plain && source->letter != 0)
+        return append_number(key, 1, number_at(place_of(&source->values, row), source->letter)), READ;
+    if (source->is_plain && source->items != NULL) {
+        field.object = item_of(source->items, PyList_Check(source->items), row);
+        field.sort = OBJECT;
+        status = field.object == NULL ? REFUSED : READ;
+    } else {
+        status = read_row(source, row, &field);
+    }
     if (status != READ)
         return status;
     if (field.sort == OBJECT) {
@@ -22,22 +31,28 @@ static int add_row(struct source *source, Py_ssize_t at, Py_ssize_t row, struct 
     return READ;
 }
 
-/* Hashes the rows of a single column of integers, whose keys have one length each. */
+/* Hashes the rows of a single column of integers, whose keys have one length each. Some are written before the first
+ * is hashed, since a processor waits for bytes that it has just written in another size. */
 static void hash_integers(const struct source *source, const struct rapidhash_secrets *secrets, char *out)
 {
-    const char *place = source->values.buf, *mask = source->mask.buf;
+    enum { BLOCK = 64 };
+    unsigned char keys[BLOCK][16];
     const uint64_t none = rapidhash_v3_with_secrets("", 1, secrets);
-    const Py_ssize_t stride = source->values.strides[0], step = mask == NULL ? 0 : source->mask.strides[0];
-    Py_ssize_t row;
-    for (row = 0; row < source->rows; row++, place += stride, mask += step) {
-        uint64_t number = number_at(place, source->letter), hash = none;
-        unsigned char key[9] = {1};
-        int at;
-        for (at = 1; at < 9; at++, number >>= 8)
-            key[at] = (unsigned char)(number & 255);
-        if (mask == NULL || *mask == 0)
-            hash = rapidhash_v3_with_secrets(key, sizeof key, secrets);
-        memcpy(out + 8 * row, &hash, sizeof hash);
+    Py_ssize_t start, row;
+    for (start = 0; start < source->rows; start += BLOCK) {
+        const Py_ssize_t end = source->rows - start < BLOCK ? source->rows : start + BLOCK;
+        for (row = start; row < end; row++) {
+            uint64_t number = number_at(place_of(&source->values, row), source->letter);
+            int at;
+            keys[row - start][0] = 1;
+            for (at = 1; at < 9; at++, number >>= 8)
+                keys[row - start][at] = (unsigned char)(number & 255);
+        }
+        for (row = start; row < end; row++) {
+            const int is_missing = source->mask.obj != NULL && *place_of(&source->mask, row) != 0;
+            const uint64_t hash = is_missing ? none : rapidhash_v3_with_secrets(keys[row - start], 9, secrets);
+            memcpy(out + 8 * row, &hash, sizeof hash);
+        }
     }
 }
 

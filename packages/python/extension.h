@@ -220,15 +220,19 @@ int overlaps_arrow(const Py_buffer *out, const struct arrow *arrow, const char *
 
 /* A column that rapidhash/_columns.py has described: a list or tuple, the pointers of an array of objects, a buffer of
  * integers, or Arrow's. It may have a mask with a byte of 1 for each missing row, or codes, the places of its values.
- * `isna` is NULL, or a function of pandas that knows a missing object. */
+ * `isna` is NULL, or a function of pandas that knows a missing object. A plain one has only values. */
 struct source {
     PyObject *items, *isna;
     const struct arrow *arrow;
     Py_buffer values, mask, codes;
     Py_ssize_t rows, size, chunk, before;
     char letter;
-    int has_objects;
+    int has_objects, is_plain;
 };
+
+/* Returns the place of a row in a buffer of one dimension. */
+static inline const char *place_of(const Py_buffer *buffer, Py_ssize_t at)
+{ return (const char *)buffer->buf + at * buffer->strides[0]; }
 
 /* Opens a tuple of values, mask, codes and isna. Returns 0, or -1 with an error set. */
 int open_source(PyObject *described, const char *place, struct source *source);

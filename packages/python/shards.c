@@ -32,12 +32,19 @@ static int read_number(struct source *source, const char *name, Py_ssize_t at, u
 {
     char place[64];
     struct row row;
-    int status = read_row(source, at, &row);
+    int status;
+    if (source->is_plain && source->letter == 'Q')
+        return *number = number_at(place_of(&source->values, at), 'Q'), READ;
+    status = read_row(source, at, &row);
     *number = row.number;
     if (status != READ || row.sort != OBJECT)
         return status != READ ? status : row.sort != NUMBER ? NO_FIELD : row.is_negative ? NO_WORD : READ;
-    PyOS_snprintf(place, sizeof place, "%s[%zd]", name, at);
-    status = read_word(row.object, place, number) < 0 ? REFUSED : READ;
+    *number = PyLong_CheckExact(row.object) ? PyLong_AsUnsignedLongLong(row.object) : UINT64_MAX;
+    if (*number == UINT64_MAX) {
+        PyErr_Clear();
+        PyOS_snprintf(place, sizeof place, "%s[%zd]", name, at);
+        status = read_word(row.object, place, number) < 0 ? REFUSED : READ;
+    }
     Py_DECREF(row.object);
     return status == READ && pause_at(at) < 0 ? REFUSED : status;
 }

@@ -57,6 +57,7 @@ int open_source(PyObject *described, const char *place, struct source *source)
     } else if (open_values(values, place, source) < 0) {
         return -1;
     }
+    source->is_plain = isna == Py_None && mask == Py_None && codes == Py_None;
     if (open_places(mask, codes, place, source) == 0)
         return 0;
     close_source(source);
@@ -72,9 +73,6 @@ void close_source(struct source *source)
             PyBuffer_Release(buffers[at]);
 }
 
-static const char *place_of(const Py_buffer *buffer, Py_ssize_t at)
-{ return (const char *)buffer->buf + at * buffer->strides[0]; }
-
 /* Holds the object of a row, which may be missing to pandas. Other code may change a list meanwhile. */
 static int read_object(const struct source *source, Py_ssize_t at, struct row *row)
 {
@@ -87,7 +85,8 @@ static int read_object(const struct source *source, Py_ssize_t at, struct row *r
     row->sort = item == NULL && source->items == NULL ? NOTHING : OBJECT;
     if (item == NULL)
         return row->sort == NOTHING ? READ : REFUSED;
-    if (source->isna == NULL || PyUnicode_Check(item) || PyBytes_Check(item) || PyLong_Check(item))
+    if (source->isna == NULL || PyUnicode_CheckExact(item) || PyUnicode_Check(item) || PyBytes_Check(item) ||
+        PyLong_Check(item))
         return READ;
     is = PyObject_CallFunctionObjArgs(source->isna, item, NULL);
     if (is == Py_True)

@@ -386,10 +386,11 @@ class Arrow(unittest.TestCase):
             self.assertEqual([column.released.count("Array") for column in stream.columns],
                              [2 * (fails is None or fails < 3 - at) for at in range(3)])
         gone = Stream("u", [[]])
-        capsule = gone.__arrow_c_stream__()
+        lent = [gone.__arrow_c_stream__()]
         gone.kept[0].release = RELEASES[Streamed]()
         with self.assertRaisesRegex(TypeError, "^items must be an Arrow stream, not a released one$"):
-            rapidhash.each(type("Lent", (), {"__arrow_c_stream__": lambda self: capsule})())
+            rapidhash.each(type("Lent", (), {"__arrow_c_stream__": lambda self: lent[0]})())
+        lent.clear()  # Before the stream is collected.
 
     def test_other_threads_run_meanwhile(self):
         column = Column("u", ["a" * 65_537])
