@@ -60,8 +60,7 @@ static int hash(const struct form *form, PyObject *module, PyObject *const *args
     return 0;
 }
 
-/* Returns a hash as 16 hexadecimal digits. */
-static PyObject *digits_of(uint64_t hash)
+PyObject *digits_of(uint64_t hash)
 {
     char digits[16];
     int at;

@@ -85,6 +85,9 @@ void name_error(const char *place);
 /* Returns the form of a version's name, or NULL with an error set. */
 const struct form *form_of(PyObject *version);
 
+/* Returns a hash as 16 hexadecimal digits. */
+PyObject *digits_of(uint64_t hash);
+
 /* V3. */
 extern const struct form *const form_v3;
 

@@ -19,6 +19,7 @@ import codecs
 import copyreg
 import functools
 import operator
+import os
 from array import array
 
 from . import _columns, _extension
@@ -38,6 +39,14 @@ __all__ = ["v1", "v2_0", "v2_1", "v2_2", "v3", "v3_micro", "v3_nano", "v3_protec
 __version__ = "1.0.0"
 _extension.fields_of = _fields_of  # the calls for keys ask it about a field of another type
 _columns.of_arrow = _extension.arrow
+
+
+def __getattr__(name):
+    """Tells who knows hashlib's or xxhash's names what to write."""
+    version = name[:-len("_digest")]
+    if name.endswith("_digest") and f"{version}_hexdigest" in __all__:
+        raise AttributeError(f"module 'rapidhash' has no {name}: {version}(data).to_bytes(8, 'big') has the bytes")
+    raise AttributeError(f"module 'rapidhash' has no attribute {name!r}")
 
 
 def make_secrets(number, version=3):
@@ -219,32 +228,23 @@ class _Hasher(_extension.Stream):
     digest_size = 8
     _seed = None
 
-    def __init__(self, data=b"", seed=None, secrets=None):
-        word = None
+    def __init__(self, data=b"", seed=None, secrets=None, *, usedforsecurity=True):
         if secrets is None:
-            word = 0 if seed is None else _integer("seed", seed)
-            secrets = _extension.seed_secrets(word)
+            self._seed = self._begin(self._lanes, seed)
         elif seed is not None:
             raise TypeError("pass either seed or secrets, not both")
         elif not isinstance(secrets, Secrets):
             raise TypeError(f"secrets of {type(self).__name__} must come from make_secrets(number), "
                             f"and these are {type(secrets)!r}")
-        self._start(self._lanes, secrets)
-        self._seed = word
+        else:
+            self._start(self._lanes, secrets)
+            self._seed = None
         self.update(data)
 
     @property
     def seed(self):
         """The seed word, or None if the hasher was made with secrets."""
         return self._seed
-
-    def digest(self):
-        """Returns the hash of the message so far as 8 bytes, most significant first."""
-        return self.intdigest().to_bytes(8, "big")
-
-    def hexdigest(self):
-        """Returns the same hash as 16 hexadecimal digits."""
-        return self.digest().hex()
 
     def copy(self):
         """Returns a hasher of the same message, with the same attributes."""
@@ -287,7 +287,7 @@ class V3(_Hasher):
     """Hashes a message in pieces, with the methods of hashlib's objects. Threads can share a hasher.
 
     A pickle of a hasher contains its secrets, and what `save` returns does not. Raises TypeError if both `seed` and
-    `secrets` are passed."""
+    `secrets` are passed. Takes hashlib's `usedforsecurity`, and ignores it."""
 
     name = "rapidhash_v3"
     block_size = 112
@@ -359,10 +359,19 @@ def fingerprint(hashes):
 def file_digest(fileobj, digest=V3, /):
     """Hashes the rest of a binary file and returns the hasher, as hashlib.file_digest does.
 
-    `digest` creates the hasher: V3, V3Micro, V3Nano, or, with a seed, `lambda: V3(seed=7)`. Raises ValueError
-    for a text file, and BlockingIOError for a non-blocking file that has no data yet."""
+    `digest` creates the hasher: V3, V3Micro, V3Nano, or, with a seed, `lambda: V3(seed=7)`. It may also be the name
+    "v3", "v3_micro" or "v3_nano". Raises ValueError for a text file, and BlockingIOError for a non-blocking file that
+    has no data yet."""
+    if isinstance(digest, str):
+        named = {kind.name[10:]: kind for kind in (V3, V3Micro, V3Nano)}.get(digest)
+        if named is None:
+            raise ValueError(f"digest must be V3, or 'v3', 'v3_micro' or 'v3_nano', not {digest!r}: others "
+                             "have no streams")
+        digest = named
     if not callable(digest):
         raise TypeError(f"digest must create a hasher, as V3 does, and it is {type(digest)!r}")
+    if isinstance(fileobj, (str, bytes, os.PathLike)):
+        raise TypeError(f"the file must be open: with open({fileobj!r}, \"rb\") as file: file_digest(file)")
     read = getattr(fileobj, "readinto", None)
     decodes = isinstance(fileobj, (codecs.StreamReader, codecs.StreamRecoder))  # They lend readinto of their file.
     if read is None or decodes or isinstance(getattr(fileobj, "encoding", None), str):
