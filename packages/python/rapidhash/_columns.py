@@ -140,6 +140,8 @@ def _of_buffer(kind: str, column: Any) -> Column | None:
         raise Refused(str(error), ValueError) from None
     if view.ndim == 0 and kind is not FIELDS:
         return None
+    if isinstance(column, memoryview) and view.ndim > 1 and kind is MESSAGES:
+        raise Refused(f"it has {view.ndim} dimensions, not 1")
     letter = view.format.strip("@=<>")
     is_known = isinstance(column, (array, memoryview)) and view.ndim == 1 and letter in "bhilqBHILQ?"
     if kind is MESSAGES and not is_known:

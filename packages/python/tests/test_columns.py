@@ -80,7 +80,7 @@ class Columns(unittest.TestCase):
         class Frame(dict):
             columns = ["a"]
 
-        for items in ("text", b"bytes", bytearray(3), Frame()):
+        for items in ("text", b"bytes", bytearray(3), memoryview(bytes(4)).cast("B", (2, 2)), Frame()):
             with self.assertRaisesRegex(TypeError, "^items must be an iterable of messages, not <class '"):
                 rapidhash.each(items)
 
