@@ -180,7 +180,7 @@ static int overlaps_part(const Py_buffer *out, const struct part *part, const ch
         return 0;
     from = (int64_t)number_at(offsets, letter);
     to = (int64_t)number_at(offsets + array->length * part->layout.width, letter);
-    return from < to && array->buffers[2] != NULL &&
+    return from >= 0 && from < to && array->buffers[2] != NULL &&
            overlaps_range(out, (const char *)array->buffers[2] + from, to - from, name);
 }
 

@@ -143,7 +143,7 @@ static int read_view(const struct part *part, Py_ssize_t at, struct row *row)
     if (len >= 0 && len <= 12)
         return READ;
     if (len < 0 || which < 0 || which >= array->n_buffers - 3 || from < 0 || lengths == NULL ||
-        (int64_t)number_at(lengths + 8 * which, 'q') - from < len || array->buffers[2 + which] == NULL)
+        (int64_t)number_at(lengths + 8 * which, 'q') < from + len || array->buffers[2 + which] == NULL)
         return OUTSIDE;
     row->bytes = (const char *)array->buffers[2 + which] + from;
     return READ;
@@ -233,9 +233,13 @@ static int read_part_row(const struct part *part, Py_ssize_t at, struct row *row
     if (layout->kind == 'w')
         return READ;
     from = offset_of(part, at), to = offset_of(part, at + 1);
+    if (from < 0 || to < from)
+        return NOT_ASCENDING;
+    if (from < to && part->array->buffers[2] == NULL)
+        return OUTSIDE;
     row->bytes = from == to ? "" : (const char *)part->array->buffers[2] + from;
     row->len = (size_t)(to - from);
-    return from < 0 || to < from ? NOT_ASCENDING : from < to && part->array->buffers[2] == NULL ? OUTSIDE : READ;
+    return READ;
 }
 
 int read_chunk(const struct chunk *chunk, Py_ssize_t at, struct row *row)
