@@ -57,12 +57,12 @@ def in_sqlite(database, query):
 def in_pandas(rows):
     """Returns the values of the page's expressions in Python."""
     program = f"""
-import json, numpy, sys
+import json, sys
 from pandas import DataFrame
 from rapidhash import each_key, fingerprint, shard
 frame = DataFrame(json.load(sys.stdin), columns={COLUMNS.split(", ")!r}, dtype=object)
 shards, sample, whole = {", ".join(f"({block})" for block in blocks(PAGE, "python"))}
-print(json.dumps([list(shards), sample, whole]))"""
+print(json.dumps([shards.tolist(), sample, whole]))"""
     environment = dict(os.environ, PYTHONPATH=str(ROOM / "wheel"))
     said = subprocess.run(["/usr/bin/python3", "-c", program], input=json.dumps(rows), capture_output=True, text=True,
                           env=environment)

@@ -1,36 +1,154 @@
-/* The columns of other packages, by Apache Arrow's C data interface: strings, bytes, integers and nulls. */
+/* The columns of other packages, by Apache Arrow's C data interface: an array, or the arrays of a stream. */
 #include "extension.h"
 
-/* Returns the bits of the rows, of which those that are 0 are null, or NULL without any. */
-static const unsigned char *bits_of(const struct arrow *arrow)
-{ return arrow->array.null_count == 0 || arrow->width == 0 ? NULL : arrow->array.buffers[0]; }
-
-int is_null(const struct arrow *arrow, Py_ssize_t row)
+static void release(PyObject *capsule)
 {
-    const unsigned char *const bits = bits_of(arrow);
-    const uint64_t at = (uint64_t)(arrow->array.offset + row);
-    return arrow->width == 0 || (bits != NULL && (bits[at / 8] >> at % 8 & 1) == 0);
+    struct arrow *const arrow = PyCapsule_GetPointer(capsule, ARROW);
+    PyObject *type, *error, *trace;
+    Py_ssize_t at;
+    PyErr_Fetch(&type, &error, &trace); /* What is released may be code in Python. */
+    for (at = 0; at < arrow->size; at++)
+        if (arrow->chunks[at].array.release != NULL)
+            arrow->chunks[at].array.release(&arrow->chunks[at].array);
+    if (arrow->schema.release != NULL)
+        arrow->schema.release(&arrow->schema);
+    PyMem_Free(arrow->chunks);
+    PyMem_Free(arrow);
+    PyErr_Restore(type, error, trace);
 }
 
-static int64_t offset_of(const struct arrow *arrow, Py_ssize_t at)
+/* Returns an empty column in a capsule, or NULL with an error set. */
+static PyObject *new_column(struct arrow **arrow)
 {
-    int64_t wide;
-    int32_t narrow;
-    if (arrow->width == 8)
-        return memcpy(&wide, arrow->first + 8 * at, sizeof wide), wide;
-    return memcpy(&narrow, arrow->first + 4 * at, sizeof narrow), narrow;
+    PyObject *capsule;
+    *arrow = PyMem_Calloc(1, sizeof **arrow);
+    if (*arrow == NULL)
+        return PyErr_NoMemory();
+    capsule = PyCapsule_New(*arrow, ARROW, release);
+    if (capsule == NULL)
+        PyMem_Free(*arrow);
+    return capsule;
 }
 
-int find_bytes(const struct arrow *arrow, Py_ssize_t row, struct message *message)
+/* Moves an array into a column, which releases it. Returns 0, or -1 with an error set. */
+static int add_chunk(struct arrow *arrow, struct ArrowArray *array)
 {
-    const int64_t from = offset_of(arrow, row), to = offset_of(arrow, row + 1);
-    message->bytes = from == to ? "" : (const char *)arrow->array.buffers[2] + from;
-    message->len = (size_t)(to - from);
-    return from >= 0 && to >= from ? 0 : -1;
+    struct chunk *const chunks = PyMem_Realloc(arrow->chunks, ((size_t)arrow->size + 1) * sizeof *chunks);
+    if (chunks == NULL)
+        return PyErr_NoMemory(), -1;
+    arrow->chunks = chunks;
+    memset(&chunks[arrow->size], 0, sizeof *chunks);
+    chunks[arrow->size++].array = *array;
+    array->release = NULL;
+    return 0;
 }
 
-/* As overlaps_arrow, of a part that may be missing. */
-static int overlaps_part(const Py_buffer *out, const void *start, int64_t len, const char *name)
+/* Moves a column out of the two capsules of an array. Returns 0, or -1 with an error set. */
+static int take_array(PyObject *pair, PyObject *place, struct arrow *arrow)
+{
+    PyObject *schemas, *arrays;
+    struct ArrowSchema *schema;
+    struct ArrowArray *array;
+    /* Another sequence could create its items anew, which nothing holds. */
+    if (!PyTuple_Check(pair))
+        PyErr_Format(PyExc_TypeError, "%S: __arrow_c_array__ must return a tuple, not %R", place, Py_TYPE(pair));
+    if (!PyTuple_Check(pair) || !PyArg_ParseTuple(pair, "OO", &schemas, &arrays))
+        return -1;
+    schema = PyCapsule_GetPointer(schemas, "arrow_schema");
+    array = schema == NULL ? NULL : PyCapsule_GetPointer(arrays, "arrow_array");
+    if (array == NULL || add_chunk(arrow, array) < 0)
+        return -1;
+    arrow->schema = *schema;
+    schema->release = NULL;
+    return 0;
+}
+
+/* Moves a column out of the capsule of a stream, which is read to its end. Returns 0, or -1 with an error set. */
+static int take_stream(PyObject *capsule, PyObject *place, struct arrow *arrow)
+{
+    struct ArrowStream *const stream = PyCapsule_GetPointer(capsule, "arrow_array_stream");
+    struct ArrowArray array;
+    int failed;
+    if (stream == NULL)
+        return -1;
+    if (stream->release == NULL)
+        return PyErr_Format(PyExc_TypeError, "%S must be an Arrow stream, not a released one", place), -1;
+    failed = stream->get_schema(stream, &arrow->schema);
+    while (!failed) {
+        memset(&array, 0, sizeof array);
+        failed = stream->get_next(stream, &array);
+        if (failed || array.release == NULL)
+            break;
+        if (add_chunk(arrow, &array) < 0 || PyErr_CheckSignals() < 0) {
+            if (array.release != NULL)
+                array.release(&array);
+            return -1;
+        }
+    }
+    if (failed) {
+        const char *const why = stream->get_last_error(stream);
+        PyErr_Clear();
+        PyErr_Format(PyExc_ValueError, "%S: the Arrow stream failed: %s", place, why == NULL ? "it says no more" : why);
+    }
+    return failed ? -1 : 0;
+}
+
+/* Reads the layout of the chunks, and adds up their rows. If one cannot be hashed, writes why not to a text. */
+static void lay_out(struct arrow *arrow, char *why, size_t size)
+{
+    Py_ssize_t at;
+    if (arrow->schema.release == NULL)
+        PyOS_snprintf(why, size, "not a released one");
+    else
+        read_format(&arrow->schema, &arrow->layout, why, size);
+    for (at = 0; at < arrow->size && *why == 0; at++) {
+        struct chunk *const chunk = &arrow->chunks[at];
+        if (chunk->array.release == NULL)
+            PyOS_snprintf(why, size, "not a released one");
+        else
+            read_array(&arrow->schema, chunk, why, size);
+        /* More rows have no room for their hashes. */
+        if (*why == 0 && chunk->array.length > PY_SSIZE_T_MAX / 8 - arrow->rows)
+            PyOS_snprintf(why, size, "not one of %lld rows", (long long)chunk->array.length);
+        else if (*why == 0)
+            arrow->rows += (Py_ssize_t)chunk->array.length;
+    }
+}
+
+/* arrow(object, place, is_stream): a capsule with the column of the object, its number of rows, and the sort of its
+ * fields: b for texts and bytes, i for integers, f for others, and n if all are null. */
+PyObject *arrow(PyObject *module, PyObject *const *args, Py_ssize_t count)
+{
+    const int is_stream = count == 3 && args[2] == Py_True;
+    PyObject *const lend = attribute_of(args[0], is_stream ? "__arrow_c_stream__" : "__arrow_c_array__");
+    PyObject *const lent = lend == NULL ? NULL : PyObject_CallObject(lend, NULL);
+    PyObject *capsule, *result = NULL;
+    struct arrow *arrow;
+    char why[96] = "";
+    (void)module;
+    Py_XDECREF(lend);
+    capsule = lent == NULL ? NULL : new_column(&arrow);
+    if (capsule != NULL && (is_stream ? take_stream(lent, args[1], arrow) : take_array(lent, args[1], arrow)) == 0) {
+        lay_out(arrow, why, sizeof why);
+        if (*why == 0)
+            result = Py_BuildValue("(OnC)", capsule, arrow->rows, (int)arrow->layout.sort);
+        else
+            PyErr_Format(PyExc_TypeError, "%S must be an Arrow array of fields, %s",
+                         args[1], why);
+    }
+    /* Foreign code may release the rest, and must not see an error. */
+    if (capsule != NULL || lent != NULL) {
+        PyObject *type, *error, *trace;
+        PyErr_Fetch(&type, &error, &trace);
+        Py_XDECREF(lent);
+        Py_XDECREF(capsule);
+        PyErr_Restore(type, error, trace);
+    }
+    return result;
+}
+
+/* As overlaps_arrow, of a range that may be missing. */
+static int overlaps_range(const Py_buffer *out, const void *start, int64_t len, const char *name)
 {
     Py_buffer range = *out;
     range.buf = (void *)start;
@@ -38,133 +156,40 @@ static int overlaps_part(const Py_buffer *out, const void *start, int64_t len, c
     return start != NULL && len > 0 && overlaps(out, &range, name);
 }
 
+/* Does so for an array. Of views, all bytes count. */
+static int overlaps_part(const Py_buffer *out, const struct part *part, const char *name)
+{
+    const struct ArrowArray *const array = part->array;
+    const char kind = part->layout.kind;
+    const int64_t start = array->offset / 8, bits = (array->offset + array->length + 7) / 8 - start;
+    const char *const validity = kind == 'n' || array->null_count == 0 ? NULL : array->buffers[0];
+    const char *const offsets = part->first;
+    const char letter = part->layout.width == 8 ? 'q' : 'i';
+    int64_t at, from, to;
+    if ((validity != NULL && overlaps_range(out, validity + start, bits, name)) ||
+        (kind == 'b' && array->length > 0 &&
+         overlaps_range(out, (const char *)array->buffers[1] + start, bits, name)) ||
+        overlaps_range(out, offsets, (array->length + (kind == 'u')) * part->layout.width, name))
+        return 1;
+    for (at = 2; kind == 'v' && at < array->n_buffers - 1 && array->buffers[array->n_buffers - 1] != NULL; at++) {
+        to = (int64_t)number_at((const char *)array->buffers[array->n_buffers - 1] + 8 * (at - 2), 'q');
+        if (overlaps_range(out, array->buffers[at], to, name))
+            return 1;
+    }
+    if (kind != 'u' || offsets == NULL)
+        return 0;
+    from = (int64_t)number_at(offsets, letter);
+    to = (int64_t)number_at(offsets + array->length * part->layout.width, letter);
+    return from >= 0 && from < to && array->buffers[2] != NULL &&
+           overlaps_range(out, (const char *)array->buffers[2] + from, to - from, name);
+}
+
 int overlaps_arrow(const Py_buffer *out, const struct arrow *arrow, const char *name)
 {
-    const struct ArrowArray *const array = &arrow->array;
-    const int has_bytes = arrow->letter == 0 && arrow->first != NULL;
-    const int64_t rows = array->length, skipped = array->offset / 8, bits = (array->offset + rows + 7) / 8 - skipped;
-    const int64_t from = has_bytes ? offset_of(arrow, 0) : 0, to = has_bytes ? offset_of(arrow, rows) : 0;
-    return (bits_of(arrow) != NULL && overlaps_part(out, bits_of(arrow) + skipped, bits, name)) ||
-           overlaps_part(out, arrow->first, (rows + has_bytes) * arrow->width, name) ||
-           (from < to && overlaps_part(out, (const char *)array->buffers[2] + from, to - from, name));
-}
-
-static void release(PyObject *capsule)
-{
-    struct arrow *const arrow = PyCapsule_GetPointer(capsule, ARROW);
-    if (arrow->array.release != NULL)
-        arrow->array.release(&arrow->array);
-    if (arrow->schema.release != NULL)
-        arrow->schema.release(&arrow->schema);
-    PyMem_Free(arrow);
-}
-
-/* Moves a column out of its capsules, which then release nothing. Returns its capsule, or NULL with an error set. */
-static PyObject *take(PyObject *schemas, PyObject *arrays)
-{
-    struct ArrowSchema *const schema = PyCapsule_GetPointer(schemas, "arrow_schema");
-    struct ArrowArray *const array = schema == NULL ? NULL : PyCapsule_GetPointer(arrays, "arrow_array");
-    struct arrow *const arrow = array == NULL ? NULL : PyMem_Calloc(1, sizeof *arrow);
-    PyObject *const capsule = arrow == NULL ? NULL : PyCapsule_New(arrow, ARROW, release);
-    if (capsule == NULL) {
-        PyMem_Free(arrow);
-        return array == NULL || PyErr_Occurred() ? NULL : PyErr_NoMemory();
-    }
-    arrow->schema = *schema;
-    arrow->array = *array;
-    schema->release = NULL;
-    array->release = NULL;
-    return capsule;
-}
-
-/* Reads the format of a column. If it cannot be hashed, writes why not to a text. */
-static void read_format(struct arrow *arrow, char *why, size_t size)
-{
-    static const char formats[] = "uzUZcCsSiIlLn", letters[] = "\0\0\0\0bBhHiIqQ", widths[] = "4488112244880";
-    const int is_released = arrow->schema.release == NULL || arrow->array.release == NULL;
-    const int is_coded = !is_released && arrow->schema.dictionary != NULL;
-    const char *const format = is_released ? "" : arrow->schema.format;
-    const char *const at = strlen(format) == 1 && !is_coded ? strchr(formats, *format) : NULL;
-    if (at == NULL) {
-        PyOS_snprintf(why, size, is_released ? "not a released one" : "not of the format '%s'%s", format,
-                      is_coded ? " with a dictionary" : "");
-        return;
-    }
-    /* More rows have no room for their hashes. */
-    if (arrow->array.length < 0 || arrow->array.length > PY_SSIZE_T_MAX / 8)
-        PyOS_snprintf(why, size, "not one of %lld rows", (long long)arrow->array.length);
-    arrow->letter = letters[at - formats];
-    arrow->width = widths[at - formats] - '0';
-    if (arrow->array.length > 0 && arrow->width > 0)
-        arrow->first = (const char *)arrow->array.buffers[1] + arrow->array.offset * arrow->width;
-}
-
-/* arrow(object, place): a capsule with the column of the object, and its number of rows. No error is set while the
- * column is released. */
-PyObject *arrow(PyObject *module, PyObject *const *args, Py_ssize_t count)
-{
-    PyObject *const lend = count == 2 ? attribute_of(args[0], "__arrow_c_array__") : NULL;
-    PyObject *const pair = lend == NULL ? NULL : PyObject_CallObject(lend, NULL);
-    PyObject *schema, *array, *capsule = NULL, *result = NULL;
-    char why[80] = "";
-    (void)module;
-    /* Another sequence could create its items anew, which nothing holds. */
-    if (pair != NULL && !PyTuple_Check(pair))
-        PyErr_Format(PyExc_TypeError, "%S: __arrow_c_array__ must return a tuple, not %R", args[1], Py_TYPE(pair));
-    else if (pair != NULL && PyArg_ParseTuple(pair, "OO", &schema, &array))
-        capsule = take(schema, array);
-    Py_XDECREF(pair);
-    Py_XDECREF(lend);
-    if (capsule != NULL) {
-        struct arrow *const arrow = PyCapsule_GetPointer(capsule, ARROW);
-        read_format(arrow, why, sizeof why);
-        result = *why == 0 ? Py_BuildValue("(OL)", capsule, (long long)arrow->array.length) : NULL;
-        Py_DECREF(capsule);
-    }
-    if (*why != 0)
-        PyErr_Format(PyExc_TypeError, "%S must be an Arrow array of strings, bytes or integers, %s", args[1], why);
-    return result;
-}
-
-/* Hashes rows until one has no hash. Returns their number. */
-static Py_ssize_t hash_rows(const struct column *column, const struct arrow *arrow)
-{
-    struct message message;
-    Py_ssize_t row;
-    for (row = 0; row < arrow->array.length; row++)
-        if (is_null(arrow, row) && column->has_missing)
-            put_hash(column, row, column->missing);
-        else if (!is_null(arrow, row) && find_bytes(arrow, row, &message) == 0)
-            put(column, row, message.bytes, message.len);
-        else
-            break;
-    return row;
-}
-
-/* each_arrow(capsule, version, seed, secrets, out, missing) */
-PyObject *each_arrow(PyObject *module, PyObject *const *args, Py_ssize_t count)
-{
-    const struct arrow *const arrow = count == 6 ? PyCapsule_GetPointer(args[0], ARROW) : NULL;
-    struct column column;
-    Py_ssize_t row;
-    if (arrow == NULL)
-        return NULL;
-    if (arrow->letter != 0)
-        return PyErr_Format(PyExc_TypeError, "items must be strings or bytes, not an Arrow array of the format '%s': "
-                            "each_key hashes integers", arrow->schema.format);
-    if (open_column(module, args + 1, (size_t)arrow->array.length, &column) < 0)
-        return NULL;
-    if (overlaps_arrow(&column.out, arrow, "items")) {
-        PyBuffer_Release(&column.out);
-        return NULL;
-    }
-    Py_BEGIN_ALLOW_THREADS
-    row = hash_rows(&column, arrow);
-    Py_END_ALLOW_THREADS
-    PyBuffer_Release(&column.out);
-    if (row == arrow->array.length)
-        return PyLong_FromSsize_t(row);
-    if (is_null(arrow, row))
-        return PyErr_Format(PyExc_TypeError, "items[%zd] is None: pass `missing`, the hash of a missing item", row);
-    return PyErr_Format(PyExc_ValueError, "items[%zd] has offsets that do not ascend from 0", row);
+    Py_ssize_t at;
+    for (at = 0; at < arrow->size; at++)
+        if (overlaps_part(out, &arrow->chunks[at].codes, name) ||
+            (arrow->schema.dictionary != NULL && overlaps_part(out, &arrow->chunks[at].values, name)))
+            return 1;
+    return 0;
 }

@@ -19,9 +19,11 @@ char letter_of(const Py_buffer *buffer)
     const char *format = format_of(buffer), *letters;
     if (*format == '@' || *format == '=' || *format == (PY_LITTLE_ENDIAN ? '<' : '>'))
         format++;
-    if (*format == 0 || format[1] != 0 || strchr("bhilqBHILQ", *format) == NULL || buffer->itemsize > 8 ||
-        (strchr("bB", *format) == NULL) == (buffer->itemsize == 1))
+    if (*format == 0 || format[1] != 0 || strchr("bhilqBHILQ?", *format) == NULL || buffer->itemsize > 8 ||
+        (strchr("bB?", *format) == NULL) == (buffer->itemsize == 1))
         return 0;
+    if (*format == '?')
+        return '?';
     letters = strchr("bhilq", *format) != NULL ? "\0bh\0i\0\0\0q" : "\0BH\0I\0\0\0Q";
     return letters[buffer->itemsize];
 }
@@ -138,8 +140,7 @@ PyObject *item_of(PyObject *items, int is_list, Py_ssize_t at)
 #endif
 }
 
-/* Hashes an item into its element. Returns 0, or -1 with an error set. */
-static int hash_item(const struct column *column, Py_ssize_t at, PyObject *item)
+int hash_item(const struct column *column, Py_ssize_t at, PyObject *item)
 {
     struct message message;
     if (item == NULL)
@@ -176,8 +177,8 @@ PyObject *each(PyObject *module, PyObject *const *args, Py_ssize_t count)
         PyObject *item = item_of(args[0], is_list, at);
         status = hash_item(&column, at, item);
         Py_XDECREF(item);
-        if (status == 0 && at % ITEMS == ITEMS - 1)
-            status = PyErr_CheckSignals();
+        if (status == 0)
+            status = pause_at(at);
     }
     PyBuffer_Release(&column.out);
     return status == 0 ? PyLong_FromSsize_t(size) : NULL;
@@ -196,8 +197,8 @@ static Py_ssize_t hash_next(struct column *column, PyObject *items, PyObject *ro
         if (status == 0)
             status = hash_item(column, at++, item);
         Py_DECREF(item);
-        if (status == 0 && at % ITEMS == 0)
-            status = PyErr_CheckSignals();
+        if (status == 0)
+            status = pause_at(at - 1);
     }
     return status == 0 && !PyErr_Occurred() && PyByteArray_Resize(room, 8 * at) == 0 ? at : -1;
 }

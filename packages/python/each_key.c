@@ -1,203 +1,167 @@
 /* The hashes of the rows of columns of fields. */
 #include "key.h"
 
-/* A column of fields: the items of a list or a tuple, the integers of a buffer, or a column of Arrow, whose integers
- * are in a buffer without an object. The integers begin `stride` bytes apart, which can be negative. */
-struct fields {
-    PyObject *items;
-    const struct arrow *arrow;
-    Py_buffer buffer;
-    Py_ssize_t stride;
-    char letter;
-};
-
-/* Why a row has no key: an error is set, or offsets of Arrow do not ascend. */
-enum { HASHED, REFUSED, NOT_ASCENDING };
-
-/* Opens a column of integers in a buffer. A single time of NumPy has one of its bytes. Returns their number, or -1 with
- * an error set. */
-static Py_ssize_t open_buffer(PyObject *column, Py_ssize_t at, struct fields *fields)
+/* Appends the field of a row. It needs the global lock only for an object. Returns READ or why there is none. */
+static int add_row(struct source *source, Py_ssize_t at, Py_ssize_t row, struct key *key)
 {
-    Py_buffer *const buffer = &fields->buffer;
-    char place[64], kind;
-    PyOS_snprintf(place, sizeof place, "columns[%zd]", at);
-    if (open_argument(column, place, PyBUF_FORMAT | PyBUF_STRIDES, buffer) < 0)
-        return -1;
-    kind = kind_of(column);
-    fields->letter = kind == 'm' || kind == 'M' ? 0 : letter_of(buffer);
-    if (fields->letter != 0 && buffer->ndim == 1) {
-        fields->stride = buffer->strides[0];
-        return buffer->shape[0];
-    }
-    PyErr_Format(PyExc_TypeError, "columns[%zd] must be a list, a tuple, or a buffer of integers in a row, and "
-                 "it is %R of the format '%s'%s", at, Py_TYPE(column), format_of(buffer),
-                 strpbrk(format_of(buffer), "Osw") == NULL ? "" : "; .tolist() makes a list");
-    PyBuffer_Release(buffer);
-    return -1;
-}
-
-/* Opens a column of `rows` fields. Returns 0, or -1 with an error set. */
-static int open_fields(PyObject *column, Py_ssize_t at, Py_ssize_t rows, struct fields *fields)
-{
-    Py_ssize_t size;
-    fields->items = NULL;
-    fields->arrow = NULL;
-    fields->buffer.obj = NULL;
-    if (PyList_Check(column) || PyTuple_Check(column)) {
-        fields->items = column;
-        size = PySequence_Size(column);
-    } else if (PyCapsule_IsValid(column, ARROW)) {
-        fields->arrow = PyCapsule_GetPointer(column, ARROW);
-        fields->buffer.buf = (void *)fields->arrow->first;
-        fields->stride = fields->arrow->width;
-        fields->letter = fields->arrow->letter;
-        size = (Py_ssize_t)fields->arrow->array.length;
-    } else {
-        size = open_buffer(column, at, fields);
-        if (size < 0)
-            return -1;
-    }
-    if (size == rows)
-        return 0;
-    PyErr_Format(PyExc_ValueError, "columns[%zd] has %zd rows, and columns[0] has %zd", at, size, rows);
-    if (fields->buffer.obj != NULL)
-        PyBuffer_Release(&fields->buffer);
-    return -1;
-}
-
-#define INTEGER(letter, type, wide) \
-    case letter: { \
-        type number; \
-        memcpy(&number, place, sizeof number); \
-        append_number(key, 1, (uint64_t)(wide)number); \
-        break; \
-    }
-
-/* Appends an integer of a buffer. */
-static void add_number(const char *place, char letter, struct key *key)
-{
-    switch (letter) {
-        INTEGER('b', int8_t, int64_t)
-        INTEGER('h', int16_t, int64_t)
-        INTEGER('i', int32_t, int64_t)
-        INTEGER('B', uint8_t, uint64_t)
-        INTEGER('H', uint16_t, uint64_t)
-        INTEGER('I', uint32_t, uint64_t)
-        default: /* q or Q */
-        INTEGER('q', uint64_t, uint64_t)
-    }
-}
-
-/* Appends the field of a row. It needs the global lock only for a column of items. */
-static int add_row(const struct fields *fields, Py_ssize_t at, Py_ssize_t row, struct key *key)
-{
-    struct message message;
-    PyObject *item;
+    struct row field;
     int status;
-    if (fields->items != NULL) {
-        if (row % ITEMS == ITEMS - 1 && PyErr_CheckSignals() < 0)
-            return REFUSED;
-        item = item_of(fields->items, PyList_Check(fields->items), row);
-        status = item == NULL ? -1 : add_field(item, at, row, key);
-        Py_XDECREF(item);
-        return status < 0 ? REFUSED : HASHED;
+    if (source->is_plain && source->letter != 0)
+        return append_number(key, 1, number_at(place_of(&source->values, row), source->letter)), READ;
+    if (source->is_plain && source->items != NULL) {
+        field.object = item_of(source->items, PyList_Check(source->items), row);
+        field.sort = OBJECT;
+        status = field.object == NULL ? REFUSED : READ;
+    } else {
+        status = read_row(source, row, &field);
     }
-    if (fields->arrow != NULL && is_null(fields->arrow, row))
-        return append(key, "", 1), HASHED;
-    if (fields->arrow == NULL || fields->letter != 0)
-        return add_number((const char *)fields->buffer.buf + row * fields->stride, fields->letter, key), HASHED;
-    if (find_bytes(fields->arrow, row, &message) < 0)
-        return NOT_ASCENDING;
-    append_number(key, 2, message.len);
-    return append(key, message.bytes, message.len), HASHED;
+    if (status != READ)
+        return status;
+    if (field.sort == OBJECT) {
+        status = add_field(field.object, at, row, key);
+        Py_DECREF(field.object);
+        return status < 0 || pause_at(row) < 0 ? REFUSED : READ;
+    }
+    if (field.sort == NOTHING)
+        append(key, "", 1);
+    else
+        append_number(key, (unsigned char)field.sort, field.sort == NUMBER ? field.number : field.len);
+    if (field.sort == BYTES)
+        append(key, field.bytes, field.len);
+    return READ;
+}
+
+/* Hashes the rows of a single column of integers, whose keys have one length each. Some are written before the first
+ * is hashed, since a processor waits for bytes that it has just written in another size. */
+static void hash_integers(const struct source *source, const struct rapidhash_secrets *secrets, char *out)
+{
+    enum { BLOCK = 64 };
+    unsigned char keys[BLOCK][16];
+    const uint64_t none = rapidhash_v3_with_secrets("", 1, secrets);
+    Py_ssize_t start, row;
+    for (start = 0; start < source->rows; start += BLOCK) {
+        const Py_ssize_t end = source->rows - start < BLOCK ? source->rows : start + BLOCK;
+        for (row = start; row < end; row++) {
+            uint64_t number = number_at(place_of(&source->values, row), source->letter);
+            int at;
+            keys[row - start][0] = 1;
+            for (at = 1; at < 9; at++, number >>= 8)
+                keys[row - start][at] = (unsigned char)(number & 255);
+        }
+        for (row = start; row < end; row++) {
+            const int is_missing = source->mask.obj != NULL && *place_of(&source->mask, row) != 0;
+            const uint64_t hash = is_missing ? none : rapidhash_v3_with_secrets(keys[row - start], 9, secrets);
+            memcpy(out + 8 * row, &hash, sizeof hash);
+        }
+    }
 }
 
 /* Hashes each row into `out`. If one has no hash, returns why not, and its column and row. */
-static int hash_rows(const struct fields *fields, Py_ssize_t columns, Py_ssize_t rows, struct key *key, char *out,
+static int hash_rows(struct source *sources, Py_ssize_t columns, Py_ssize_t rows, struct key *key, char *out,
                      Py_ssize_t place[2])
 {
     Py_ssize_t at, row;
+    if (columns == 1 && sources->letter != 0 && sources->codes.obj == NULL)
+        return hash_integers(sources, key->secrets, out), READ;
     for (row = 0; row < rows; row++) {
         uint64_t hash;
         key->is_long = 0;
         key->len = 0;
         for (at = 0; at < columns; at++) {
-            const int status = add_row(&fields[at], at, row, key);
+            const int status = add_row(&sources[at], at, row, key);
             place[0] = at;
             place[1] = row;
-            if (status != HASHED)
+            if (status != READ)
                 return status;
         }
         hash = finish(key);
         memcpy(out + 8 * row, &hash, sizeof hash);
     }
-    return HASHED;
+    return READ;
 }
 
-/* Hashes the rows, without the global lock if no column has items. Returns 0, or -1 with an error set. */
-static int run_rows(PyObject *module, const struct fields *fields, Py_ssize_t columns, Py_ssize_t rows,
+/* Hashes the rows, without the global lock if no column has objects. Returns 0, or -1 with an error set. */
+static int run_rows(PyObject *module, struct source *sources, Py_ssize_t columns, Py_ssize_t rows,
                     const struct rapidhash_secrets *secrets, const Py_buffer *out)
 {
     struct key key;
     Py_ssize_t at, place[2];
-    int status, has_items = 0;
+    int status, has_objects = 0;
+    char name[64];
     key.module = module;
     key.secrets = secrets;
     key.integers = NULL;
     key.out = out;
     for (at = 0; at < columns; at++)
-        has_items |= fields[at].items != NULL;
-    if (has_items) {
-        status = hash_rows(fields, columns, rows, &key, out->buf, place);
+        has_objects |= sources[at].has_objects;
+    if (has_objects) {
+        status = hash_rows(sources, columns, rows, &key, out->buf, place);
         release_key(&key);
     } else {
         Py_BEGIN_ALLOW_THREADS
-        status = hash_rows(fields, columns, rows, &key, out->buf, place);
+        status = hash_rows(sources, columns, rows, &key, out->buf, place);
         Py_END_ALLOW_THREADS
     }
-    if (status == NOT_ASCENDING)
-        PyErr_Format(PyExc_ValueError, "columns[%zd][%zd] has offsets that do not ascend from 0", place[0], place[1]);
-    return status == HASHED ? 0 : -1;
+    if (status == READ)
+        return 0;
+    PyOS_snprintf(name, sizeof name, "columns[%zd]", place[0]);
+    refuse_row(status, name, place[1]);
+    return -1;
+}
+
+/* Opens the columns, and checks their rows. Returns how many were opened, all unless an error is set. */
+static Py_ssize_t open_sources(PyObject *columns, struct source *sources, Py_ssize_t count)
+{
+    char name[64];
+    Py_ssize_t at;
+    for (at = 0; at < count; at++) {
+        PyOS_snprintf(name, sizeof name, "columns[%zd]", at);
+        if (open_source(PyTuple_GetItem(columns, at), name, &sources[at]) < 0)
+            return at;
+        if (sources[at].rows != sources->rows) {
+            PyErr_Format(PyExc_ValueError, "%s has %zd rows, and columns[0] has %zd", name, sources[at].rows,
+                         sources->rows);
+            return at + 1;
+        }
+    }
+    return at;
 }
 
 /* Returns whether the hashes would overwrite the fields of a column. If so, sets an error. */
-static int overwrites(const Py_buffer *out, const struct fields *fields, Py_ssize_t columns)
+static int overwrites(const Py_buffer *out, const struct source *sources, Py_ssize_t columns)
 {
     char name[64];
     Py_ssize_t at;
     for (at = 0; at < columns; at++) {
-        const Py_buffer *const buffer = &fields[at].buffer;
         PyOS_snprintf(name, sizeof name, "columns[%zd]", at);
-        if (fields[at].arrow != NULL ? overlaps_arrow(out, fields[at].arrow, name)
-                                     : buffer->obj != NULL && overlaps_items(out, buffer, fields[at].stride, name))
+        if (overlaps_source(out, &sources[at], name))
             return 1;
     }
     return 0;
 }
 
-/* each_key(columns, seed, secrets, out, rows), of a tuple of columns */
+/* each_key(columns, seed, secrets, out), of a tuple of described columns */
 PyObject *each_key(PyObject *module, PyObject *const *args, Py_ssize_t count)
 {
     struct rapidhash_secrets own;
     Py_buffer out;
-    Py_ssize_t opened, columns = count == 5 ? PyTuple_Size(args[0]) : -1;
-    const Py_ssize_t rows = count == 5 ? PyLong_AsSsize_t(args[4]) : -1;
-    struct fields *const fields = PyMem_Calloc((size_t)columns + 1, sizeof *fields);
+    const Py_ssize_t columns = count == 4 ? PyTuple_Size(args[0]) : -1;
+    struct source *const sources = PyMem_Calloc((size_t)columns + 1, sizeof *sources);
+    Py_ssize_t opened;
     int status = -1;
-    if (fields == NULL)
+    if (sources == NULL)
         return PyErr_NoMemory();
-    for (opened = 0; opened < columns; opened++)
-        if (open_fields(PyTuple_GetItem(args[0], opened), opened, rows, &fields[opened]) < 0)
-            break;
-    if (opened == columns && read_own(module, args[1], args[2], &own) == 0 &&
-        open_out(args[3], (size_t)rows, &out) == 0) {
-        if (!overwrites(&out, fields, columns))
-            status = run_rows(module, fields, columns, rows, &own, &out);
+    opened = open_sources(args[0], sources, columns);
+    if (!PyErr_Occurred() && read_own(module, args[1], args[2], &own) == 0 &&
+        open_out(args[3], (size_t)sources->rows, &out) == 0) {
+        if (!overwrites(&out, sources, columns))
+            status = run_rows(module, sources, columns, sources->rows, &own, &out);
         PyBuffer_Release(&out);
     }
     while (opened-- > 0)
-        if (fields[opened].buffer.obj != NULL)
-            PyBuffer_Release(&fields[opened].buffer);
-    PyMem_Free(fields);
-    return status == 0 ? PyLong_FromSsize_t(rows) : NULL;
+        close_source(&sources[opened]);
+    PyMem_Free(sources);
+    if (status < 0)
+        return NULL;
+    Py_RETURN_NONE;
 }

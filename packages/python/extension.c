@@ -60,8 +60,7 @@ static int hash(const struct form *form, PyObject *module, PyObject *const *args
     return 0;
 }
 
-/* Returns a hash as 16 hexadecimal digits. */
-static PyObject *digits_of(uint64_t hash)
+PyObject *digits_of(uint64_t hash)
 {
     char digits[16];
     int at;
@@ -143,7 +142,7 @@ static PyMethodDef calls[] = {
     {"each_next", FAST(each_next), METH_FASTCALL, NULL}, {"kept", kept, METH_O, NULL},
     {"each_slice", FAST(each_slice), METH_FASTCALL, NULL}, {"key", FAST(key_of), METH_FASTCALL, NULL},
     {"each_key", FAST(each_key), METH_FASTCALL, NULL}, {"arrow", FAST(arrow), METH_FASTCALL, NULL},
-    {"each_arrow", FAST(each_arrow), METH_FASTCALL, NULL}, {"shard", FAST(shard), METH_FASTCALL, NULL},
+    {"each_source", FAST(each_source), METH_FASTCALL, NULL}, {"shard", FAST(shard), METH_FASTCALL, NULL},
     {"first_hash", FAST(first_hash), METH_FASTCALL, NULL}, {"bucket", FAST(bucket), METH_FASTCALL, NULL},
     {"fingerprint", fingerprint, METH_O, NULL}, {"is_masked", masked, METH_O, NULL}, {NULL, NULL, 0, NULL}};
 

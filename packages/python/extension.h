@@ -85,6 +85,9 @@ void name_error(const char *place);
 /* Returns the form of a version's name, or NULL with an error set. */
 const struct form *form_of(PyObject *version);
 
+/* Returns a hash as 16 hexadecimal digits. */
+PyObject *digits_of(uint64_t hash);
+
 /* V3. */
 extern const struct form *const form_v3;
 
@@ -134,6 +137,9 @@ static inline void put_hash(const struct column *column, Py_ssize_t at, uint64_t
 static inline void put(const struct column *column, Py_ssize_t at, const void *bytes, size_t len)
 { put_hash(column, at, column->hash(bytes, len, column->secrets)); }
 
+/* Hashes an item into its element. Returns 0, or -1 with an error set. */
+int hash_item(const struct column *column, Py_ssize_t at, PyObject *item);
+
 /* The structures of Arrow's C data interface, which an object with __arrow_c_array__ lends in two capsules. */
 struct ArrowSchema {
     const char *format, *name, *metadata;
@@ -151,28 +157,134 @@ struct ArrowArray {
     void *private_data;
 };
 
-/* A column, in a capsule of the name ARROW. `letter` is that of its integers in a buffer's format, or 0 for strings and
- * bytes, and `first` is its first integer or offset, of `width` bytes, or NULL. Without a width, all rows are null. */
+struct ArrowStream {
+    int (*get_schema)(struct ArrowStream *stream, struct ArrowSchema *schema);
+    int (*get_next)(struct ArrowStream *stream, struct ArrowArray *array);
+    const char *(*get_last_error)(struct ArrowStream *stream);
+    void (*release)(struct ArrowStream *stream);
+    void *private_data;
+};
+
+/* What a format says: i for integers, u for offsets, v for views, w for bytes of one width, b for bits, d for decimals,
+ * t for times, and n for nulls; the sort of the fields, as of the function arrow; the letter of a buffer's format; the
+ * width of an item. A time is times / per microseconds or days, and a decimal has so many digits after its point. */
+struct layout {
+    char kind, sort, letter;
+    int is_cut, digits;
+    int64_t times, per;
+    Py_ssize_t width;
+};
+
+/* An array, and its first integer, offset or view. */
+struct part {
+    const struct ArrowArray *array;
+    struct layout layout;
+    const char *first;
+};
+
+/* An array of a column. With a dictionary, `codes` are the places of its values. */
+struct chunk {
+    struct ArrowArray array;
+    struct part codes, values;
+};
+
+/* A column, in a capsule of the name ARROW. */
 #define ARROW "rapidhash.arrow"
 struct arrow {
     struct ArrowSchema schema;
-    struct ArrowArray array;
-    const char *first;
-    Py_ssize_t width;
-    char letter;
+    struct layout layout;
+    struct chunk *chunks;
+    Py_ssize_t size, rows;
 };
 
-/* Returns whether a row is null. */
-int is_null(const struct arrow *arrow, Py_ssize_t row);
+/* Read the layout of a format, or of an array. If it cannot be hashed, they write why not to a text. */
+void read_format(const struct ArrowSchema *schema, struct layout *layout, char *why, size_t size);
+void read_array(const struct ArrowSchema *schema, struct chunk *chunk, char *why, size_t size);
 
-/* Finds the bytes of a row. Returns 0, or -1 without an error set if its offsets do not ascend. */
-int find_bytes(const struct arrow *arrow, Py_ssize_t row, struct message *message);
+/* The field of a row, whose sort is the tag of a key's field, or OBJECT for one that is held. */
+enum { NOTHING, NUMBER, BYTES, OBJECT };
+struct row {
+    int sort, is_negative;
+    uint64_t number;
+    const char *bytes;
+    size_t len;
+    PyObject *object;
+    char text[96];
+};
+
+/* Why a row has no field. If it is REFUSED, an error is set. */
+enum { READ, REFUSED, NOT_ASCENDING, OUTSIDE, NOT_WHOLE, TOO_FAR, NO_FIELD, NO_WORD, NO_SHARD };
+
+/* Reads a row of an array. */
+int read_chunk(const struct chunk *chunk, Py_ssize_t at, struct row *row);
 
 /* Returns whether the hashes would overwrite a part of a column. If so, sets an error. */
 int overlaps_arrow(const Py_buffer *out, const struct arrow *arrow, const char *name);
 
+/* A column that rapidhash/_columns.py has described: a list or tuple, the pointers of an array of objects, a buffer of
+ * integers, or Arrow's. It may have a mask with a byte of 1 for each missing row, or codes, the places of its values.
+ * `isna` is NULL, or a function of pandas that knows a missing object. A plain one has only values. */
+struct source {
+    PyObject *items, *isna;
+    const struct arrow *arrow;
+    Py_buffer values, mask, codes;
+    Py_ssize_t rows, size, chunk, before;
+    char letter;
+    int has_objects, is_plain;
+};
+
+/* Returns the place of a row in a buffer of one dimension. */
+static inline const char *place_of(const Py_buffer *buffer, Py_ssize_t at)
+{ return (const char *)buffer->buf + at * buffer->strides[0]; }
+
+/* Opens a tuple of values, mask, codes and isna. Returns 0, or -1 with an error set. */
+int open_source(PyObject *described, const char *place, struct source *source);
+void close_source(struct source *source);
+
+/* Reads a row. The rows are read in ascending order. Returns READ or why it has no field. */
+int read_row(struct source *source, Py_ssize_t at, struct row *row);
+
+/* Sets the error of a row that was not read, if none is set. */
+void refuse_row(int why, const char *place, Py_ssize_t at);
+
+/* Returns whether the hashes would overwrite a part of a column. If so, sets an error. */
+int overlaps_source(const Py_buffer *out, const struct source *source, const char *name);
+
+/* Lets other threads run and signals be handled after each ITEMS rows. Returns 0, or -1 with an error set. */
+static inline int pause_at(Py_ssize_t at)
+{
+    if (at % ITEMS != ITEMS - 1)
+        return 0;
+    Py_BEGIN_ALLOW_THREADS
+    Py_END_ALLOW_THREADS
+    return PyErr_CheckSignals();
+}
+
+/* Returns the integer of a buffer at a place, whose letter letter_of returns. A bool is not 0. */
+static inline uint64_t number_at(const char *place, char letter)
+{
+#define NUMBER_OF(letter, type, wide) \
+    case letter: { \
+        type number; \
+        memcpy(&number, place, sizeof number); \
+        return (uint64_t)(wide)number; \
+    }
+    switch (letter) {
+        NUMBER_OF('b', int8_t, int64_t)
+        NUMBER_OF('h', int16_t, int64_t)
+        NUMBER_OF('i', int32_t, int64_t)
+        NUMBER_OF('B', uint8_t, uint64_t)
+        NUMBER_OF('H', uint16_t, uint64_t)
+        NUMBER_OF('I', uint32_t, uint64_t)
+        case '?':
+            return *place != 0;
+        default: /* q or Q */
+        NUMBER_OF('q', uint64_t, uint64_t)
+    }
+}
+
 PyObject *arrow(PyObject *module, PyObject *const *args, Py_ssize_t count);
-PyObject *each_arrow(PyObject *module, PyObject *const *args, Py_ssize_t count);
+PyObject *each_source(PyObject *module, PyObject *const *args, Py_ssize_t count);
 PyObject *key_of(PyObject *module, PyObject *const *args, Py_ssize_t count);
 PyObject *each_key(PyObject *module, PyObject *const *args, Py_ssize_t count);
 PyObject *each(PyObject *module, PyObject *const *args, Py_ssize_t count);
@@ -183,7 +295,7 @@ PyObject *each_slice(PyObject *module, PyObject *const *args, Py_ssize_t count);
 PyObject *shard(PyObject *module, PyObject *const *args, Py_ssize_t count);
 PyObject *first_hash(PyObject *module, PyObject *const *args, Py_ssize_t count);
 PyObject *bucket(PyObject *module, PyObject *const *args, Py_ssize_t count);
-PyObject *fingerprint(PyObject *module, PyObject *hashes);
+PyObject *fingerprint(PyObject *module, PyObject *described);
 
 /* The base class of the hashers. */
 extern PyType_Spec rapidhash_stream_spec;

@@ -1,12 +1,20 @@
-/* What a hash decides: a shard or a bucket of one hash or of a column, and the fingerprint of a column. A column is a
- * buffer of unsigned 64-bit integers. */
+/* What a hash decides: a shard or a bucket, the first hash of a shard, each of one or of a column, and the fingerprint
+ * of a column. */
 #include "extension.h"
 
-/* What a hash and a count decide. */
-typedef uint64_t decide(uint64_t hash, uint64_t count);
+/* What a hash, or a shard, and a count decide. */
+struct decision {
+    uint64_t (*call)(uint64_t hash, uint64_t count);
+    const char *one, *many;
+    uint64_t most;
+};
 
 static uint64_t bucket_of(uint64_t hash, uint64_t count)
 { return rapidhash_bucket(hash, (uint32_t)count); }
+
+static const struct decision by_shard = {rapidhash_shard, "hash", "hashes", UINT64_MAX},
+                             by_bucket = {bucket_of, "hash", "hashes", UINT32_MAX},
+                             by_first = {rapidhash_first_hash, "shard", "shards", UINT64_MAX};
 
 /* Reads a count from 1 to `most`. Returns 0, or -1 with an error set. */
 static int read_count(PyObject *number, uint64_t most, uint64_t *count)
@@ -19,106 +27,127 @@ static int read_count(PyObject *number, uint64_t most, uint64_t *count)
     return -1;
 }
 
-/* Opens a column of hashes. Returns 0, or -1 with an error set. */
-static int open_hashes(PyObject *hashes, Py_buffer *buffer)
+/* Reads the integer of a row. Returns READ or why it has none. */
+static int read_number(struct source *source, const char *name, Py_ssize_t at, uint64_t *number)
 {
-    if (open_argument(hashes, "hashes", PyBUF_FORMAT | PyBUF_STRIDES, buffer) < 0)
-        return -1;
-    if (buffer->ndim == 1 && letter_of(buffer) == 'Q')
-        return 0;
-    PyErr_Format(PyExc_TypeError, "hashes must be unsigned 64-bit integers in one dimension, such as array('Q'), "
-                 "not %R of the format '%s'; .astype(\"uint64\") converts integers of pandas and NumPy",
-                 Py_TYPE(hashes), format_of(buffer));
-    PyBuffer_Release(buffer);
-    return -1;
+    char place[64];
+    struct row row;
+    int status;
+    if (source->is_plain && source->letter == 'Q')
+        return *number = number_at(place_of(&source->values, at), 'Q'), READ;
+    status = read_row(source, at, &row);
+    *number = row.number;
+    if (status != READ || row.sort != OBJECT)
+        return status != READ ? status : row.sort != NUMBER ? NO_FIELD : row.is_negative ? NO_WORD : READ;
+    *number = PyLong_CheckExact(row.object) ? PyLong_AsUnsignedLongLong(row.object) : UINT64_MAX;
+    if (*number == UINT64_MAX) {
+        PyErr_Clear();
+        PyOS_snprintf(place, sizeof place, "%s[%zd]", name, at);
+        status = read_word(row.object, place, number) < 0 ? REFUSED : READ;
+    }
+    Py_DECREF(row.object);
+    return status == READ && pause_at(at) < 0 ? REFUSED : status;
 }
 
-/* Returns the hash in a row of a column, which need not be aligned. */
-static uint64_t hash_at(const Py_buffer *hashes, Py_ssize_t at)
+/* Decides for each row, or adds up the rows without a decision. Returns READ or why a row has no hash. */
+static int decide_rows(struct source *source, const struct decision *by, uint64_t count, char *out, uint64_t *sum,
+                       Py_ssize_t *at)
 {
-    uint64_t hash;
-    memcpy(&hash, (const char *)hashes->buf + at * hashes->strides[0], sizeof hash);
-    return hash;
+    for (*at = 0; *at < source->rows; (*at)++) {
+        uint64_t number, result;
+        const int status = read_number(source, by == NULL ? "hashes" : by->many, *at, &number);
+        if (status != READ)
+            return status;
+        if (by == NULL) {
+            *sum += number;
+            continue;
+        }
+        if (by == &by_first && number >= count)
+            return NO_SHARD;
+        result = by->call(number, count);
+        memcpy(out + 8 * *at, &result, sizeof result);
+    }
+    return READ;
 }
 
-/* Opens the room for the results of a column, which may be the column itself: each is written after its hash is read.
- * Returns 0, or -1 with an error set. */
-static int open_results(PyObject *room, const Py_buffer *hashes, Py_buffer *out)
+/* Does so without the global lock, if no row is an object. Returns 0, or -1 with an error set. */
+static int run_rows(struct source *source, const struct decision *by, uint64_t count, char *out, uint64_t *sum)
 {
-    if (open_out(room, (size_t)hashes->shape[0], out) < 0)
-        return -1;
-    if ((out->buf == hashes->buf && hashes->strides[0] == 8) ||
-        !overlaps_items(out, hashes, hashes->strides[0], "hashes"))
-        return 0;
-    PyBuffer_Release(out);
-    return -1;
-}
-
-/* Decides for each row of a column. The arguments are the column, the count, and the room for the results. */
-static PyObject *decide_each(PyObject *const *args, decide *call, uint64_t count)
-{
-    Py_buffer hashes, out;
+    const char *const name = by == NULL ? "hashes" : by->many;
     Py_ssize_t at;
-    if (open_hashes(args[0], &hashes) < 0)
-        return NULL;
-    if (open_results(args[2], &hashes, &out) < 0) {
-        PyBuffer_Release(&hashes);
-        return NULL;
+    int status;
+    if (source->has_objects) {
+        status = decide_rows(source, by, count, out, sum, &at);
+    } else {
+        Py_BEGIN_ALLOW_THREADS
+        status = decide_rows(source, by, count, out, sum, &at);
+        Py_END_ALLOW_THREADS
     }
-    Py_BEGIN_ALLOW_THREADS
-    for (at = 0; at < hashes.shape[0]; at++) {
-        const uint64_t result = call(hash_at(&hashes, at), count);
-        memcpy((char *)out.buf + 8 * at, &result, sizeof result);
-    }
-    Py_END_ALLOW_THREADS
-    PyBuffer_Release(&out);
-    PyBuffer_Release(&hashes);
-    Py_RETURN_NONE;
+    if (status == NO_WORD)
+        PyErr_Format(PyExc_OverflowError, "%s[%zd] must be from 0 to 2**64 - 1", name, at);
+    else if (status == NO_FIELD)
+        PyErr_Format(PyExc_TypeError, "%s[%zd] is missing: .dropna() leaves out those of a Series", name, at);
+    else if (status == NO_SHARD)
+        PyErr_Format(PyExc_ValueError, "shards[%zd] must be below count, %llu", at,
+                     (unsigned long long)count);
+    else
+        refuse_row(status, name, at);
+    return status == READ ? 0 : -1;
 }
 
-static PyObject *decide_by(PyObject *const *args, decide *call, uint64_t most)
+/* Decides for each row of a column. The results may be the column itself: each is written after its hash is read. */
+static int decide_each(PyObject *const *args, const struct decision *by, uint64_t count)
 {
-    uint64_t hash, count;
-    if (read_count(args[1], most, &count) < 0)
+    struct source source;
+    Py_buffer out;
+    int status = -1, is_own;
+    if (open_source(args[0], by->many, &source) < 0)
+        return -1;
+    if (open_out(args[2], (size_t)source.rows, &out) == 0) {
+        is_own = source.values.obj != NULL && source.values.buf == out.buf && source.values.strides[0] == 8 &&
+                 source.letter == 'Q' && source.mask.obj == NULL && source.codes.obj == NULL;
+        if (is_own || !overlaps_source(&out, &source, by->many))
+            status = run_rows(&source, by, count, out.buf, NULL);
+        PyBuffer_Release(&out);
+    }
+    close_source(&source);
+    return status;
+}
+
+static PyObject *decide(PyObject *const *args, const struct decision *by)
+{
+    uint64_t number, count;
+    if (read_count(args[1], by->most, &count) < 0)
         return NULL;
     if (args[2] != Py_None)
-        return decide_each(args, call, count);
-    if (!PyIndex_Check(args[0]))
-        return PyErr_Format(PyExc_TypeError, "hash must be an integer, not %R: a column is a buffer, such as "
-                            "array('Q', hashes)", Py_TYPE(args[0]));
-    return read_word(args[0], "hash", &hash) < 0 ? NULL : PyLong_FromUnsignedLongLong(call(hash, count));
+        return decide_each(args, by, count) < 0 ? NULL : (Py_INCREF(args[2]), args[2]);
+    if (read_word(args[0], by->one, &number) < 0)
+        return NULL;
+    if (by == &by_first && number >= count)
+        return PyErr_Format(PyExc_ValueError, "shard must be below count, %S, not %S", args[1], args[0]);
+    return PyLong_FromUnsignedLongLong(by->call(number, count));
 }
 
+/* Each has the arguments hashes, count, out: an integer and None, or a described column and a buffer. */
 PyObject *shard(PyObject *module, PyObject *const *args, Py_ssize_t count)
-{ return (void)module, (void)count, decide_by(args, rapidhash_shard, UINT64_MAX); }
+{ return (void)module, (void)count, decide(args, &by_shard); }
 
 PyObject *bucket(PyObject *module, PyObject *const *args, Py_ssize_t count)
-{ return (void)module, (void)count, decide_by(args, bucket_of, UINT32_MAX); }
+{ return (void)module, (void)count, decide(args, &by_bucket); }
 
-PyObject *first_hash(PyObject *module, PyObject *const *args, Py_ssize_t size)
-{
-    uint64_t shard, count;
-    (void)module, (void)size;
-    if (read_word(args[0], "shard", &shard) < 0 || read_count(args[1], UINT64_MAX, &count) < 0)
-        return NULL;
-    if (shard >= count)
-        return PyErr_Format(PyExc_ValueError, "shard must be below count, %S, not %S", args[1], args[0]);
-    return PyLong_FromUnsignedLongLong(rapidhash_first_hash(shard, count));
-}
+PyObject *first_hash(PyObject *module, PyObject *const *args, Py_ssize_t count)
+{ return (void)module, (void)count, decide(args, &by_first); }
 
-/* Returns the sum of a column modulo 2^64. */
-PyObject *fingerprint(PyObject *module, PyObject *hashes)
+/* fingerprint(described): the sum of a column modulo 2^64. */
+PyObject *fingerprint(PyObject *module, PyObject *described)
 {
-    Py_buffer buffer;
+    struct source source;
     uint64_t sum = 0;
-    Py_ssize_t at;
+    int status;
     (void)module;
-    if (open_hashes(hashes, &buffer) < 0)
+    if (open_source(described, "hashes", &source) < 0)
         return NULL;
-    Py_BEGIN_ALLOW_THREADS
-    for (at = 0; at < buffer.shape[0]; at++)
-        sum += hash_at(&buffer, at);
-    Py_END_ALLOW_THREADS
-    PyBuffer_Release(&buffer);
-    return PyLong_FromUnsignedLongLong(sum);
+    status = run_rows(&source, NULL, 0, NULL, &sum);
+    close_source(&source);
+    return status < 0 ? NULL : PyLong_FromUnsignedLongLong(sum);
 }

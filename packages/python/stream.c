@@ -63,6 +63,20 @@ static void end_hasher(PyObject *object)
     Py_DECREF(type);
 }
 
+/* Starts a hasher with secrets, which need not be aligned. Returns 0, or -1 with an error set. */
+static int start_with(struct hasher *self, Py_ssize_t lanes, const void *secrets)
+{
+    if (lanes != 3 && lanes != 5 && lanes != 7) {
+        PyErr_SetString(PyExc_ValueError, "a hasher must have 3, 5 or 7 lanes and secrets of 64 bytes");
+        return -1;
+    }
+    take_lock(self);
+    memcpy(&self->secrets, secrets, sizeof self->secrets);
+    rapidhash_stream_start_(&self->stream, (size_t)lanes, &self->secrets);
+    leave(self);
+    return 0;
+}
+
 static PyObject *start(PyObject *object, PyObject *args)
 {
     struct hasher *self = (struct hasher *)object;
@@ -70,14 +84,8 @@ static PyObject *start(PyObject *object, PyObject *args)
     Py_ssize_t lanes, size;
     if (!PyArg_ParseTuple(args, "ny#", &lanes, &words, &size))
         return NULL;
-    if ((lanes != 3 && lanes != 5 && lanes != 7) || size != sizeof self->secrets) {
-        PyErr_SetString(PyExc_ValueError, "a hasher must have 3, 5 or 7 lanes and secrets of 64 bytes");
+    if (start_with(self, size == sizeof self->secrets ? lanes : 0, words) < 0)
         return NULL;
-    }
-    take_lock(self);
-    memcpy(&self->secrets, words, sizeof self->secrets);
-    rapidhash_stream_start_(&self->stream, (size_t)lanes, &self->secrets);
-    leave(self);
     Py_RETURN_NONE;
 }
 
@@ -104,16 +112,54 @@ static PyObject *update(PyObject *object, PyObject *data)
     return object;
 }
 
-static PyObject *intdigest(PyObject *object, PyObject *none)
+/* _begin(lanes, seed): starts a hasher with a seed word. */
+static PyObject *begin(PyObject *object, PyObject *args)
 {
     struct hasher *self = (struct hasher *)object;
+    struct rapidhash_secrets secrets;
+    Py_ssize_t lanes;
+    PyObject *seed;
+    uint64_t word = 0;
+    if (!PyArg_ParseTuple(args, "nO", &lanes, &seed) || (seed != Py_None && read_word(seed, "seed", &word) < 0))
+        return NULL;
+    rapidhash_seed_secrets(word, &secrets);
+    return start_with(self, lanes, &secrets) < 0 ? NULL : PyLong_FromUnsignedLongLong(word);
+}
+
+/* Reads the hash of the message so far. Returns 0, or -1 with an error set. */
+static int finish(PyObject *object, uint64_t *value)
+{
+    struct hasher *self = (struct hasher *)object;
+    if (enter(self) < 0)
+        return -1;
+    *value = rapidhash_stream_finish(&self->stream);
+    leave(self);
+    return 0;
+}
+
+static PyObject *intdigest(PyObject *object, PyObject *none)
+{
     uint64_t value;
     (void)none;
-    if (enter(self) < 0)
+    return finish(object, &value) < 0 ? NULL : PyLong_FromUnsignedLongLong(value);
+}
+
+static PyObject *digest(PyObject *object, PyObject *none)
+{
+    unsigned char bytes[8];
+    uint64_t value;
+    (void)none;
+    if (finish(object, &value) < 0)
         return NULL;
-    value = rapidhash_stream_finish(&self->stream);
-    leave(self);
-    return PyLong_FromUnsignedLongLong(value);
+    rapidhash_to_canonical(value, bytes);
+    return PyBytes_FromStringAndSize((const char *)bytes, sizeof bytes);
+}
+
+static PyObject *hexdigest(PyObject *object, PyObject *none)
+{
+    uint64_t value;
+    (void)none;
+    return finish(object, &value) < 0 ? NULL : digits_of(value);
 }
 
 static PyObject *reset(PyObject *object, PyObject *none)
@@ -210,10 +256,15 @@ static PyObject *words(PyObject *object, PyObject *none)
 
 static PyMethodDef methods[] = {
     {"_start", start, METH_VARARGS, NULL},
+    {"_begin", begin, METH_VARARGS, NULL},
     {"update", update, METH_O,
      PyDoc_STR("update($self, data, /)\n--\n\nAppends a piece to the message. Returns the hasher, unlike hashlib.")},
     {"intdigest", intdigest, METH_NOARGS,
      PyDoc_STR("intdigest($self)\n--\n\nReturns the hash of the message so far as an integer.")},
+    {"digest", digest, METH_NOARGS,
+     PyDoc_STR("digest($self)\n--\n\nReturns the hash of the message so far as 8 bytes, most significant first.")},
+    {"hexdigest", hexdigest, METH_NOARGS,
+     PyDoc_STR("hexdigest($self)\n--\n\nReturns the same hash as 16 hexadecimal digits.")},
     {"reset", reset, METH_NOARGS, PyDoc_STR("reset($self)\n--\n\nEmpties the message but keeps the secrets.")},
     {"save", save, METH_NOARGS,
      PyDoc_STR("save($self)\n--\n\n"

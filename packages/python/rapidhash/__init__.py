@@ -18,11 +18,11 @@ Other threads run while a message of more than 64 KiB is hashed, or columns with
 import codecs
 import copyreg
 import functools
-import itertools
 import operator
+import os
 from array import array
 
-from . import _extension
+from . import _columns, _extension
 from ._extension import v1, v2_0, v2_1, v2_2, v3, v3_micro, v3_nano, v3_protected
 from ._extension import v1_hexdigest, v2_0_hexdigest, v2_1_hexdigest, v2_2_hexdigest
 from ._extension import v3_hexdigest, v3_micro_hexdigest, v3_nano_hexdigest, v3_protected_hexdigest
@@ -38,6 +38,15 @@ __all__ = ["v1", "v2_0", "v2_1", "v2_2", "v3", "v3_micro", "v3_nano", "v3_protec
 
 __version__ = "1.0.0"
 _extension.fields_of = _fields_of  # the calls for keys ask it about a field of another type
+_columns.of_arrow = _extension.arrow
+
+
+def __getattr__(name):
+    """Tells who knows hashlib's or xxhash's names what to write."""
+    version = name[:-len("_digest")]
+    if name.endswith("_digest") and f"{version}_hexdigest" in __all__:
+        raise AttributeError(f"module 'rapidhash' has no {name}: {version}(data).to_bytes(8, 'big') has the bytes")
+    raise AttributeError(f"module 'rapidhash' has no attribute {name!r}")
 
 
 def make_secrets(number, version=3):
@@ -62,12 +71,6 @@ def _integer(name, number):
 
 def _room(count):
     return array("Q", (0,)) * count
-
-
-def _has(value, name):
-    """Returns whether the class of a value has an attribute. A value can have one that its user named, such as a label
-    of a Series, and so can the class of a named tuple."""
-    return not isinstance(value, tuple) and hasattr(type(value), name)
 
 
 def _sort(kind):
@@ -109,58 +112,20 @@ def _iterator(name, kind, items):
         raise TypeError(f"{name} must be {kind}, not {type(items)!r}: {error}") from None
 
 
-def _is_whole(dtype):
-    """Returns whether a type of NumPy, and none of pandas, is of integers."""
-    return getattr(dtype, "kind", "O") in "iu" and not hasattr(dtype, "na_value")
+def _opened(name, kind, column):
+    """Returns a column. An iterator is read to its end."""
+    opened = _columns.column_of(name, kind, column)
+    if opened is None:
+        items = _iterator(name, kind, column)
+        items = tuple(map(_kept, items) if kind is _columns.FIELDS else items)
+        opened = _columns.Column(items, len(items))
+    return opened
 
 
-def _listed(column):
-    """Returns a Series or an Index of pandas, or a masked array of NumPy, as a list with None for its missing
-    values."""
-    dtype = getattr(column, "dtype", None)
-    if type(getattr(dtype, "na_value", None)).__name__ == "NAType":
-        return column.to_numpy(dtype=object, na_value=None).tolist()  # Its own tolist() is slow.
-    if getattr(dtype, "kind", "O") in "mM" and not _has(column, "isna"):
-        raise TypeError("NumPy lists some times as numbers: pass a list of dates or times")
-    items = column.tolist()
-    if not isinstance(items, list):  # of a masked array without a dimension
-        raise TypeError("it has no rows")
-    if getattr(dtype, "kind", "O") == "V":
-        raise TypeError("it has records")
-    if _has(column, "isna"):
-        missing = column.isna()
-        for at in itertools.compress(itertools.count(), missing.tolist() if _has(missing, "tolist") else missing):
-            items[at] = None
-    return items
-
-
-def _rows(column):
-    """Returns the number of rows of a buffer, or None for another object."""
-    try:
-        view = memoryview(column)
-    except TypeError:
-        return None
-    return len(view) if view.ndim else 1
-
-
-def _column(name, kind, column, of_fields=False):
-    """Returns an Arrow array as a capsule and its number of rows, and a Series, an Index or a masked array as a list
-    or, of fields, a buffer of integers. Returns any other column as it is, of fields with the rows of a buffer."""
-    refused = f"{name} must be {kind}, not {type(column)!r}"
-    if isinstance(column, (str, bytes, bytearray)) or _has(column, "columns"):
-        raise TypeError(refused)
-    if _has(column, "__arrow_c_array__"):
-        return _extension.arrow(column, name)
-    errors = AttributeError, NotImplementedError, TypeError  # of Dask, or of a MultiIndex
-    try:
-        is_series = _has(column, "isna")
-        if of_fields and is_series and _is_whole(column.dtype):
-            column = column.to_numpy()
-        elif is_series or _extension.is_masked(column):
-            column = _listed(column)
-        return column, _rows(column) if of_fields else None
-    except (*errors, BufferError, ValueError) if of_fields else errors as error:
-        raise TypeError(f"{refused}: {error}") from None
+def _each_column(column, out, *words):
+    out = _room(column.rows) if out is None else out
+    _extension.each_source(column.described(), *words[:3], out, *words[3:])
+    return out
 
 
 def each(items, version="v3", seed=None, secrets=None, out=None, missing=None):
@@ -172,19 +137,19 @@ def each(items, version="v3", seed=None, secrets=None, out=None, missing=None):
     an item that is None, null in Arrow, masked in NumPy, or missing in a Series of pandas. Without it, such an item
     raises TypeError. So does a number: `each_key` hashes integers. Raises ValueError if `out` overlaps an Arrow
     array, or a later item."""
-    column, rows = _column("items", "an iterable of messages", items)
-    if rows is not None:
-        out = _room(rows) if out is None else out
-        _extension.each_arrow(column, version, seed, secrets, out, missing)
+    if type(items) in (list, tuple):
+        out = _room(len(items)) if out is None else out
+        _extension.each(items, version, seed, secrets, out, missing)
         return out
-    items = column
-    if type(items) not in (list, tuple):
-        items = _iterator("items", "an iterable of messages", items)
-        hashes = _extension.each_next(items, version, seed, secrets, out, missing)
+    column, words = _columns.column_of("items", _columns.MESSAGES, items), (version, seed, secrets, missing)
+    if column is None:
+        iterator = _iterator("items", _columns.MESSAGES, items)
+        hashes = _extension.each_next(iterator, version, seed, secrets, out, missing)
         return array("Q", hashes) if out is None else out
-    out = _room(len(items)) if out is None else out
-    _extension.each(items, version, seed, secrets, out, missing)
-    return out
+    picked = _columns.pick(column, missing, lambda part: _each_column(part, None, *words)) if out is None else None
+    if picked is None:
+        picked = _each_column(column, out, *words)
+    return _columns.like([items], picked) if out is None else out
 
 
 def each_row(data, width, version="v3", seed=None, secrets=None, out=None):
@@ -234,14 +199,6 @@ def _kept(field):
     return tuple(map(_extension.kept, field)) if isinstance(field, (list, tuple)) else _extension.kept(field)
 
 
-def _fields(at, column):
-    """Returns a column as a list, a tuple, a buffer of integers, or a capsule of Arrow's, and the number of rows."""
-    column, rows = _column(f"columns[{at}]", "a column of fields", column, True)
-    if rows is None and type(column) not in (list, tuple):
-        column = tuple(map(_kept, _iterator(f"columns[{at}]", "a column of fields", column)))
-    return column, len(column) if rows is None else rows
-
-
 def each_key(*columns, seed=None, secrets=None, out=None):
     """Returns the hash of each row of one or more columns, as v3_key returns it, in the same way as `each`.
 
@@ -252,12 +209,18 @@ def each_key(*columns, seed=None, secrets=None, out=None):
     rows or `out` overlaps one."""
     if not columns:
         raise TypeError("each_key() needs at least one column")
-    opened = []
-    for at, column in enumerate(columns):  # A generator would release columns of Arrow while an error is set.
-        opened.append(_fields(at, column))
-    columns, rows = zip(*opened)
-    out = _room(rows[0]) if out is None else out
-    _extension.each_key(columns, seed, secrets, out, rows[0])
+    opened = [_opened(f"columns[{at}]", _columns.FIELDS, column) for at, column in enumerate(columns)]
+    keys = None
+    if out is None and len(opened) == 1:
+        keys = _columns.pick(opened[0], v3_key(None, seed=seed, secrets=secrets),
+                             lambda part: _each_key([part], seed, secrets, None))
+    keys = _each_key(opened, seed, secrets, out) if keys is None else keys
+    return _columns.like(columns, keys) if out is None else out
+
+
+def _each_key(opened, seed, secrets, out):
+    out = _room(opened[0].rows) if out is None else out
+    _extension.each_key(tuple(column.described() for column in opened), seed, secrets, out)
     return out
 
 
@@ -265,32 +228,23 @@ class _Hasher(_extension.Stream):
     digest_size = 8
     _seed = None
 
-    def __init__(self, data=b"", seed=None, secrets=None):
-        word = None
+    def __init__(self, data=b"", seed=None, secrets=None, *, usedforsecurity=True):
         if secrets is None:
-            word = 0 if seed is None else _integer("seed", seed)
-            secrets = _extension.seed_secrets(word)
+            self._seed = self._begin(self._lanes, seed)
         elif seed is not None:
             raise TypeError("pass either seed or secrets, not both")
         elif not isinstance(secrets, Secrets):
             raise TypeError(f"secrets of {type(self).__name__} must come from make_secrets(number), "
                             f"and these are {type(secrets)!r}")
-        self._start(self._lanes, secrets)
-        self._seed = word
+        else:
+            self._start(self._lanes, secrets)
+            self._seed = None
         self.update(data)
 
     @property
     def seed(self):
         """The seed word, or None if the hasher was made with secrets."""
         return self._seed
-
-    def digest(self):
-        """Returns the hash of the message so far as 8 bytes, most significant first."""
-        return self.intdigest().to_bytes(8, "big")
-
-    def hexdigest(self):
-        """Returns the same hash as 16 hexadecimal digits."""
-        return self.digest().hex()
 
     def copy(self):
         """Returns a hasher of the same message, with the same attributes."""
@@ -333,7 +287,7 @@ class V3(_Hasher):
     """Hashes a message in pieces, with the methods of hashlib's objects. Threads can share a hasher.
 
     A pickle of a hasher contains its secrets, and what `save` returns does not. Raises TypeError if both `seed` and
-    `secrets` are passed."""
+    `secrets` are passed. Takes hashlib's `usedforsecurity`, and ignores it."""
 
     name = "rapidhash_v3"
     block_size = 112
@@ -356,36 +310,18 @@ class V3Nano(_Hasher):
     _lanes = 3
 
 
-def _hashes(column):
-    """Returns a column of hashes and their number, or None for a single hash and for other items."""
-    column = column.to_numpy() if _has(column, "to_numpy") else column
-    try:
-        view = _view("hashes", column)
-    except TypeError:
-        return None
-    return (column, len(view)) if view.ndim else None
-
-
-def _hash(number):
-    """Returns a number that may be a hash."""
-    number = _integer("a hash", number)
-    if not 0 <= number < 2**64:
-        raise OverflowError("a hash must be from 0 to 2**64 - 1")
-    return number
-
-
-def _decided(call, hashes, count, out):
+def _decided(call, name, hashes, count, out):
     """Returns what a hash decides, or what each hash of a column does."""
-    opened = None if isinstance(hashes, int) else _hashes(hashes)
-    if opened is None:
+    column = None if isinstance(hashes, int) else _columns.column_of(name, _columns.HASHES, hashes)
+    if column is None and (hasattr(type(hashes), "__index__") or not hasattr(type(hashes), "__iter__")):
         decided = call(hashes, count, None)
         if out is not None:
             raise TypeError("out needs a column of hashes, and this is one hash")
         return decided
-    column, rows = opened
-    out = _room(rows) if out is None else out
-    call(column, count, out)
-    return out
+    column = column or _opened(name, _columns.HASHES, hashes)
+    room = _room(column.rows) if out is None else out
+    call(column.described(), count, room)
+    return _columns.like([hashes], room) if out is None else out
 
 
 def shard(hashes, count, out=None):
@@ -394,21 +330,22 @@ def shard(hashes, count, out=None):
     The hashes may also be a column of unsigned 64-bit integers, such as that of `each_key`. Then the shards are written
     to `out`, a new `array('Q')` by default, which is returned. Raises ValueError for a count of 0, and if `out`
     overlaps the column without being the column."""
-    return _decided(_extension.shard, hashes, count, out)
+    return _decided(_extension.shard, "hashes", hashes, count, out)
 
 
-def first_hash(shard, count):
-    """Returns the first hash of a shard, which has the hashes from it to before the first of the next shard.
+def first_hash(shard, count, out=None):
+    """Returns the first hash of a shard, which has the hashes from it to before the first of the next shard, or those
+    of a column of shards, as `shard` does.
 
-    Raises ValueError if `shard` is not below `count`."""
-    return _extension.first_hash(shard, count)
+    Raises ValueError if a shard is not below `count`."""
+    return _decided(_extension.first_hash, "shards", shard, count, out)
 
 
 def bucket(hashes, count, out=None):
     """Returns the bucket of a hash, below `count`, or those of a column, as `shard` does. `count` is below 2**32.
 
     Among more buckets a hash keeps its bucket, or has a new one (jump consistent hashing)."""
-    return _decided(_extension.bucket, hashes, count, out)
+    return _decided(_extension.bucket, "hashes", hashes, count, out)
 
 
 def fingerprint(hashes):
@@ -416,19 +353,25 @@ def fingerprint(hashes):
 
     Two tables with equally many rows and one fingerprint of their `each_key` have the same rows, but for a chance of
     one in 2**64. That does not hold against someone who chooses the rows."""
-    opened = _hashes(hashes)
-    if opened is not None:
-        return _extension.fingerprint(opened[0])
-    return sum(map(_hash, _iterator("hashes", "a column or an iterable of integers", hashes))) % 2**64
+    return _extension.fingerprint(_opened("hashes", _columns.HASHES, hashes).described())
 
 
 def file_digest(fileobj, digest=V3, /):
     """Hashes the rest of a binary file and returns the hasher, as hashlib.file_digest does.
 
-    `digest` creates the hasher: V3, V3Micro, V3Nano, or, with a seed, `lambda: V3(seed=7)`. Raises ValueError
-    for a text file, and BlockingIOError for a non-blocking file that has no data yet."""
+    `digest` creates the hasher: V3, V3Micro, V3Nano, or, with a seed, `lambda: V3(seed=7)`. It may also be the name
+    "v3", "v3_micro" or "v3_nano". Raises ValueError for a text file, and BlockingIOError for a non-blocking file that
+    has no data yet."""
+    if isinstance(digest, str):
+        named = {kind.name[10:]: kind for kind in (V3, V3Micro, V3Nano)}.get(digest)
+        if named is None:
+            raise ValueError(f"digest must be V3, or 'v3', 'v3_micro' or 'v3_nano', not {digest!r}: others "
+                             "have no streams")
+        digest = named
     if not callable(digest):
         raise TypeError(f"digest must create a hasher, as V3 does, and it is {type(digest)!r}")
+    if isinstance(fileobj, (str, bytes, os.PathLike)):
+        raise TypeError(f"the file must be open: with open({fileobj!r}, \"rb\") as file: file_digest(file)")
     read = getattr(fileobj, "readinto", None)
     decodes = isinstance(fileobj, (codecs.StreamReader, codecs.StreamRecoder))  # They lend readinto of their file.
     if read is None or decodes or isinstance(getattr(fileobj, "encoding", None), str):

@@ -1,6 +1,8 @@
 """Lines that mypy must accept, except those with a comment that names an error, which it must refuse. An unneeded
 comment is an error too. packages/python/tests/python.sh runs mypy; nothing runs this file."""
 
+from __future__ import annotations
+
 import mmap
 from array import array
 
@@ -37,6 +39,23 @@ class Lent:
 
 column = rapidhash.each(Lent(), missing=0)
 column = rapidhash.each_key(Lent(), [1])
+column = rapidhash.shard([1, 2], 16)
+column = rapidhash.first_hash(rapidhash.bucket(column, 7, out=column), 7)
+total += rapidhash.shard(7, 16) + rapidhash.first_hash(3, 7) + rapidhash.fingerprint([7])
+
+
+class Typed:
+    dtype = "uint64"
+
+    def __len__(self) -> int:
+        return 0
+
+    def __eq__(self, other: object) -> Typed:  # type: ignore[override]
+        return self
+
+
+mask: Typed = rapidhash.shard(rapidhash.each_key(Typed(), [1]), 100) == 0
+rapidhash.shard("7", 10)  # type: ignore[arg-type]
 rapidhash.each([7])  # type: ignore[list-item]
 rapidhash.v3_key(1.5)  # type: ignore[arg-type]
 rapidhash.each([], "v99")  # type: ignore[call-overload]

@@ -1,12 +1,12 @@
 #!/usr/bin/env bash
-# reads: packages/python packages/c/include crates/test_replay/data tests/fields.tsv
+# reads: packages/python packages/c/include crates/test_replay/data tests/fields.tsv tests/model.py docs/ALGORITHM.md
 # Builds the Python package from source, installs it in fresh environments without a network, and tests the installed
 # copy. The interpreters that RAPIDHASH_TEST_PYTHONS names, with setuptools and wheel, also build and test the source
 # distribution. Missing programs are named, and their cases are not counted.
 . "$(dirname "$0")/../../../tests/cases.sh"
 # The Python for which Debian has the packages that build wheels.
 python=/usr/bin/python3
-names=(rapidhash package buffers columns keys shards missing arrow saved cases)
+names=(rapidhash package buffers columns keys shards missing arrow kinds saved cases)
 unset PYTHONPATH
 export PIP_NO_INDEX=1 PIP_DISABLE_PIP_VERSION_CHECK=1 CFLAGS='-Wall -Wextra -Werror'
 
@@ -27,8 +27,8 @@ has_its_files() {
     has_the_licences yervound_rapidhash-*.dist-info && [ "$(grep -cxE \
     'Name: yervound-rapidhash|License: MIT OR Apache-2\.0|Requires-Python: >=3\.8' ./*.dist-info/METADATA)" -eq 3 ] &&
     ls | diff - <(printf '%s\n' rapidhash yervound_rapidhash-1.0.0.dist-info) &&
-    LC_ALL=C ls rapidhash | diff - <(printf '%s\n' __init__.py __init__.pyi _extension.abi3.so _fields.py _secrets.py \
-      py.typed) &&
+    LC_ALL=C ls rapidhash | diff - <(printf '%s\n' __init__.py __init__.pyi _columns.py _extension.abi3.so _fields.py \
+      _secrets.py py.typed) &&
     ! tar -tzf "$top"/build/wheels/*.tar.gz | grep -v /test_ | grep /tests/.
 }
 
@@ -111,9 +111,11 @@ leaves_no_memory() {
   cd "$room/tests" && PYTHONMALLOC=malloc "$room/fresh/bin/python" -B test_arrow.py
 }
 
-# Runs the tests with NumPy and pandas, which are Debian's, and the installed wheel.
+# Runs the tests with NumPy and pandas, which are Debian's, the definition of the hashes, and the installed wheel.
 works_with_pandas() {
-  cd "$room/tests" && PYTHONPATH=$(echo "$room"/fresh/lib/python3*/site-packages) "$python" -B test_pandas.py
+  local paths
+  paths=$(echo "$room"/fresh/lib/python3*/site-packages):$top/tests
+  cd "$room/tests" && PYTHONPATH=$paths "$python" -B test_pandas.py && PYTHONPATH=$paths "$python" -B test_kinds.py
 }
 
 accepts_the_types() {

@@ -6,9 +6,12 @@ import contextlib
 import ctypes
 import gc
 import operator
+import re
 import tracemalloc
 import unittest
 from ctypes import POINTER, Structure, c_char_p, c_int64, c_void_p
+from datetime import date, datetime, timedelta, timezone
+from uuid import UUID
 
 import rapidhash
 from test_buffers import lets_others_run
@@ -22,17 +25,25 @@ class Schema(Structure):
     pass
 
 
+class Streamed(Structure):
+    pass
+
+
 class Array(Structure):
     pass
 
 
-RELEASES = {kind: ctypes.CFUNCTYPE(None, POINTER(kind)) for kind in (Schema, Array)}
+RELEASES = {kind: ctypes.CFUNCTYPE(None, POINTER(kind)) for kind in (Schema, Array, Streamed)}
 Schema._fields_ = [("format", c_char_p), ("name", c_char_p), ("metadata", c_char_p), ("flags", c_int64),
                    ("n_children", c_int64), ("children", c_void_p), ("dictionary", c_void_p),
                    ("release", RELEASES[Schema]), ("private_data", c_void_p)]
 Array._fields_ = [("length", c_int64), ("null_count", c_int64), ("offset", c_int64), ("n_buffers", c_int64),
                   ("n_children", c_int64), ("buffers", POINTER(c_void_p)), ("children", c_void_p),
                   ("dictionary", c_void_p), ("release", RELEASES[Array]), ("private_data", c_void_p)]
+GIVES = {kind: ctypes.CFUNCTYPE(ctypes.c_int, POINTER(Streamed), POINTER(kind)) for kind in (Schema, Array)}
+LAST = ctypes.CFUNCTYPE(c_void_p, POINTER(Streamed))
+Streamed._fields_ = [("get_schema", GIVES[Schema]), ("get_next", GIVES[Array]), ("get_last_error", LAST),
+                     ("release", RELEASES[Streamed]), ("private_data", c_void_p)]
 new_capsule = ctypes.PYFUNCTYPE(ctypes.py_object, c_void_p, c_char_p, c_void_p)(("PyCapsule_New", ctypes.pythonapi))
 pointer_in = ctypes.PYFUNCTYPE(c_void_p, c_void_p, c_char_p)(("PyCapsule_GetPointer", ctypes.pythonapi))
 
@@ -46,7 +57,48 @@ def destructor(kind, name):
     return ctypes.PYFUNCTYPE(None, c_void_p)(destroy)
 
 
-DESTROY = {kind: destructor(kind, name) for kind, name in ((Schema, b"arrow_schema"), (Array, b"arrow_array"))}
+DESTROY = {kind: destructor(kind, name) for kind, name in (
+    (Schema, b"arrow_schema"), (Array, b"arrow_array"), (Streamed, b"arrow_array_stream"))}
+EPOCH = datetime(1970, 1, 1, tzinfo=timezone.utc)
+
+
+def number_of(form, value):
+    """Returns the integer of a field in a format that is not of strings."""
+    if isinstance(value, datetime):
+        micros = (value - EPOCH) // timedelta(microseconds=1)
+        return {"s": micros // 10**6, "m": micros // 1000, "u": micros, "n": micros * 1000}[form[2]]
+    if isinstance(value, date):
+        return (value.toordinal() - 719163) * (86_400_000 if form == "tdm" else 1)
+    return value
+
+
+def buffers_of(form, rows):
+    """Returns the buffers after the bits of a column."""
+    parts = [b"null" if row is None else row.bytes if isinstance(row, UUID) else row.encode()
+             if isinstance(row, str) else row for row in rows] if form[0] in "uUzZvw" else []
+    if form in ("vu", "vz"):
+        views, data, lent = b"", [b"", b""], 0
+        for part in parts:
+            lent += len(part) > 12
+            if len(part) > 12:
+                data[lent % 2] += b"?" + part
+            place = [lent % 2, len(data[lent % 2]) - len(part)]
+            rest = part.ljust(12, b"\0") if len(part) <= 12 else part[:4] + array.array("i", place).tobytes()
+            views += len(part).to_bytes(4, "little") + rest
+        return [views, *data, array.array("q", map(len, data)).tobytes()]
+    if form[0] == "w":
+        return [b"".join(part.ljust(int(form[2:]), b"\0")[:int(form[2:])] for part in parts)]
+    if form in ("u", "U", "z", "Z"):
+        places = [sum(map(len, parts[:at])) for at in range(len(parts) + 1)]
+        return [array.array(LAYOUT[form], places).tobytes(), b"".join(parts)]
+    if form == "b":
+        return [sum(bool(row) << at for at, row in enumerate(rows)).to_bytes(len(rows) // 8 + 1, "little")]
+    if form[0] == "d":
+        scale = int(form.split(",")[1])
+        numbers = [9 if row is None else int(row.scaleb(scale)) for row in rows]
+        return [b"".join(number.to_bytes(16, "little", signed=True) for number in numbers)]
+    kind = LAYOUT.get(form, "i" if form == "tdD" else "q")
+    return [array.array(kind, [9 if row is None else number_of(form, row) for row in rows]).tobytes()]
 
 
 class Column:
@@ -56,26 +108,26 @@ class Column:
         rows = [*values[:1], None] * offset
         rows = rows[:offset] + values  # Rows before the offset are not of the column.
         bits = sum(1 << at for at, value in enumerate(rows) if value is not None)
-        self.buffers = [bits.to_bytes(len(rows) // 8 + 1, "little")]
-        if form in ("u", "U", "z", "Z"):
-            parts = [b"null" if row is None else row.encode() for row in rows]
-            places = [sum(map(len, parts[:at])) for at in range(len(parts) + 1)]
-            self.buffers += [array.array(LAYOUT[form], places).tobytes(), b"".join(parts)]
-        else:
-            kind = LAYOUT.get(form, "q")
-            self.buffers += [array.array(kind, [9 if row is None else row for row in rows]).tobytes()]
-        self.buffers = changed.pop("buffers", self.buffers)
+        self.buffers = changed.pop("buffers") if "buffers" in changed else [] if form == "n" else [
+            bits.to_bytes(len(rows) // 8 + 1, "little"), *buffers_of(form, rows)]
         self.released, self.is_owner, self.form, self.changed, self.kept = [], is_owner, form.encode(), changed, []
         nulls = sum(value is None for value in values) if nulls is None else nulls
         self.shape = changed.get("rows", len(values)), nulls, offset
 
-    def __arrow_c_array__(self, requested_schema=None):
+    def lend(self):
+        """Returns the structures of the schema and of the array."""
         pointers = (c_void_p * len(self.buffers))(*(ctypes.cast(c_char_p(buffer), c_void_p) for buffer in self.buffers))
         pointers = pointers if self.buffers else None
-        schema = Schema(self.form, b"", None, 2, 0, None, self.changed.get("dictionary"),
-                        RELEASES[Schema](self.release))
-        column = Array(*self.shape, len(self.buffers), 0, pointers, None, None, RELEASES[Array](self.release))
-        self.kept += [schema, column, pointers]
+        dictionary = self.changed["lookup"].lend() if "lookup" in self.changed else (None, None)
+        places = [self.changed.get("dictionary") if held is None else ctypes.addressof(held) for held in dictionary]
+        schema = Schema(self.form, b"", None, 2, 0, None, places[0], RELEASES[Schema](self.release))
+        column = Array(*self.shape, self.changed.get("count", len(self.buffers)), 0, pointers, None, places[1],
+                       RELEASES[Array](self.release))
+        self.kept += [schema, column, pointers, dictionary]
+        return schema, column
+
+    def __arrow_c_array__(self, requested_schema=None):
+        schema, column = self.lend()
         pairs = (schema, Schema, b"arrow_schema"), (column, Array, b"arrow_array")
         return tuple(new_capsule(ctypes.addressof(held), self.changed.get("name", name),
                                  ctypes.cast(DESTROY[kind], c_void_p) if self.is_owner else None)
@@ -84,6 +136,37 @@ class Column:
     def release(self, held):
         self.released.append(type(held.contents).__name__)
         held.contents.release = RELEASES[type(held.contents)]()
+
+
+class Stream:
+    """An object with the arrays of a column, of which the stream fails at the place `fails`."""
+
+    def __init__(self, form, parts, offset=0, fails=None):
+        self.columns = [Column(form, part, offset) for part in parts]
+        self.fails, self.kept, self.released = fails, [], 0
+
+    def __arrow_c_stream__(self, requested_schema=None):
+        left = [column.lend()[1] for column in self.columns]
+
+        def give_schema(stream, place):
+            place[0] = self.columns[0].lend()[0]
+            return 0
+
+        def give_next(stream, place):
+            if self.fails == len(left):
+                return 5
+            place[0] = left.pop(0) if left else Array()
+            return 0
+
+        def release(stream):
+            self.released += 1
+            stream.contents.release = RELEASES[Streamed]()
+
+        self.why = ctypes.create_string_buffer(b"no more disk")
+        held = Streamed(GIVES[Schema](give_schema), GIVES[Array](give_next),
+                        LAST(lambda stream: ctypes.addressof(self.why)), RELEASES[Streamed](release))
+        self.kept.append(held)
+        return new_capsule(ctypes.addressof(held), b"arrow_array_stream", ctypes.cast(DESTROY[Streamed], c_void_p))
 
 
 class Arrow(unittest.TestCase):
@@ -154,7 +237,7 @@ class Arrow(unittest.TestCase):
     def test_refused_columns(self):
         """Each column is released once, also if another one or an argument is refused."""
         other = Schema()
-        kinds = "must be an Arrow array of strings, bytes or integers, "
+        kinds = "must be an Arrow array of fields, "
         short, below = ([None, array.array("i", places).tobytes(), b"ab"] for places in ([0, 2, 1], [-1, 1]))
         ones = array.array("i", range(9)).tobytes()
         held = array.array("Q", [0] * 6)
@@ -163,19 +246,38 @@ class Arrow(unittest.TestCase):
         for call, kind, error in (
                 (lambda: each(self.column("u", TEXTS)), TypeError,
                  r"^items\[1\] is None: pass `missing`, the hash of a"),
-                (lambda: each(self.column("l", [1])), TypeError,
-                 "^items must be strings or bytes, not an Arrow array of the format 'l': each_key hashes integers$"),
-                (lambda: each(self.column("g", [1])), TypeError, f"^items {kinds}not of the format 'g'$"),
-                (lambda: each(self.column("vu", [1])), TypeError, f"^items {kinds}not of the format 'vu'$"),
-                (lambda: each(self.column("", [1])), TypeError, f"^items {kinds}not of the format ''$"),
+                (lambda: each(self.column("l", [1])), TypeError, "^items must be an iterable of messages, not <class "
+                 "'.*Column'>: each_key hashes integers and other fields$"),
+                (lambda: rapidhash.shard(self.column("u", ["a"]), 2), TypeError, "^hashes must be an integer, .*, not "
+                 "<class '.*Column'>: each_key and each hash such columns$"),
+                *((lambda form=form: key(self.column(form, [1], buffers=[None, b"", b""])), TypeError,
+                   rf"^columns\[0\] {kinds}not of the format '{re.escape(form)}'$")
+                  for form in ("", "g", "v", "+s", "+l", "tsu:", "tsx:UTC", "ts", "td", "ttu", "tDs", "d:5", "d:5,",
+                               "d:5,2,256", "d:5,99", "d:5,-99", "w:0", "w:", "w:-1", "uu")),
                 (lambda: each(self.column("n", [], buffers=[], rows=2**61), missing=0, out=room[:0]), TypeError,
                  f"^items {kinds}not one of 2305843009213693952 rows$"),
                 (lambda: key(self.column("n", [], buffers=[], rows=-1), out=room[:0]), TypeError,
                  rf"^columns\[0\] {kinds}not one of -1 rows$"),
-                (lambda: key([1], self.column("tdD", [1])), TypeError,
-                 rf"^columns\[1\] {kinds}not of the format 'tdD'$"),
+                (lambda: key([1], self.column("tdD", [1], buffers=[None])), TypeError,
+                 rf"^columns\[1\] {kinds}not one with 1 buffers$"),
+                (lambda: key(self.column("i", [1], -1)), TypeError, f"{kinds}not one with the offset -1$"),
+                (lambda: key(self.column("i", [1], buffers=[None, None])), TypeError, "1 rows without their buffer$"),
                 (lambda: key(self.column("i", [1], dictionary=ctypes.addressof(other))), TypeError,
-                 rf"^columns\[0\] {kinds}not of the format 'i' with a dictionary$"),
+                 rf"^columns\[0\] {kinds}not one without a format$"),
+                (lambda: key(self.column("u", ["a"], lookup=Column("u", ["a"]))), TypeError,
+                 f"{kinds}not of the format 'u' with a dictionary$"),
+                (lambda: key(self.column("i", [1], lookup=Column("g", [1]))), TypeError,
+                 f"{kinds}not of the format 'g' with a dictionary$"),
+                *((lambda place=place: key(self.column("i", [0, place], lookup=Column("u", ["a"]))), ValueError,
+                   r"^columns\[0\]\[1\] has a place outside of its data$") for place in (1, -1, 2**31 - 1)),
+                *((lambda view=view: each(self.column("vu", [1], buffers=[
+                    None, array.array("i", view).tobytes(), bytes(20), array.array("q", [20]).tobytes()])),
+                   ValueError, r"^items\[0\] has a place outside of its data$")
+                  for view in ([13, 0, 0, 8], [20, 0, 1, 0], [20, 0, -1, 0], [20, 0, 0, -1], [-1, 0, 0, 0])),
+                (lambda: key(self.column("tsn:UTC", [0], buffers=[None, array.array("q", [1]).tobytes()])), ValueError,
+                 r"^columns\[0\]\[0\] has no whole number of microseconds"),
+                *((lambda far=far: key(self.column("tss:UTC", [0], buffers=[None, array.array("q", [far]).tobytes()])),
+                   ValueError, r"^columns\[0\]\[0\] has a time outside") for far in (2**63 // 10**6 + 1, -2**63)),
                 (lambda: key(self.column("l", [1]), self.column("g", [1])), TypeError, r"^columns\[1\] must be"),
                 (lambda: key(self.column("l", [1]), self.column("u", ["a", "b"])), ValueError,
                  r"^columns\[1\] has 2 rows, and columns\[0\] has 1$"),
@@ -270,6 +372,25 @@ class Arrow(unittest.TestCase):
             finally:
                 tracemalloc.stop()
             self.assertLess(min(map(operator.sub, held[1:], held)), 1 << 12, call.__code__.co_consts)
+
+    def test_streams(self):
+        for fails in (None, 0, 1, 2, 3):
+            stream = Stream("u", [["a"], [None, "b"], []], 1, fails)
+            for call in (lambda: rapidhash.each(stream, missing=0), lambda: rapidhash.each_key(stream, [1, 2, 3])):
+                if fails is None:
+                    self.assertEqual(len(call()), 3)
+                else:
+                    with self.assertRaisesRegex(ValueError, "^(items|columns.0.): the Arrow stream failed: no more"):
+                        call()
+            self.assertEqual(stream.released, 2)
+            self.assertEqual([column.released.count("Array") for column in stream.columns],
+                             [2 * (fails is None or fails < 3 - at) for at in range(3)])
+        gone = Stream("u", [[]])
+        lent = [gone.__arrow_c_stream__()]
+        gone.kept[0].release = RELEASES[Streamed]()
+        with self.assertRaisesRegex(TypeError, "^items must be an Arrow stream, not a released one$"):
+            rapidhash.each(type("Lent", (), {"__arrow_c_stream__": lambda self: lent[0]})())
+        lent.clear()  # Before the stream is collected.
 
     def test_other_threads_run_meanwhile(self):
         column = Column("u", ["a" * 65_537])

@@ -8,6 +8,7 @@ import hashlib
 import io
 import mmap
 import os
+import pathlib
 import sys
 import tempfile
 import threading
@@ -193,11 +194,27 @@ class Files(unittest.TestCase):
         spooled = tempfile.SpooledTemporaryFile(mode="w+")
         self.addCleanup(spooled.close)
         reads = type("Reads", (), {"read": lambda self, size: b""})()
-        for file in ("path", io.StringIO("text"), reads, *coded, spooled):
+        for file in (io.StringIO("text"), reads, *coded, spooled):
             with self.assertRaisesRegex(ValueError, "^the file must be open in binary mode and have readinto, not <cl"):
                 rapidhash.file_digest(file)
-        with self.assertRaisesRegex(TypeError, "^digest must create a hasher, as V3 does, and it is <class 'str'>$"):
-            rapidhash.file_digest(io.BytesIO(), "v3")
+        for path in "path", b"path", pathlib.Path("path"):
+            with self.assertRaisesRegex(TypeError, r"^the file must be open: with open\(.*path.*, \"rb\"\) as"):
+                rapidhash.file_digest(path)
+        with self.assertRaisesRegex(TypeError, "^digest must create a hasher, as V3 does, and it is <class 'int'>$"):
+            rapidhash.file_digest(io.BytesIO(), 3)
+        with self.assertRaisesRegex(ValueError, "^digest must be V3, or 'v3', 'v3_micro' or 'v3_nano', not 'v1'"):
+            rapidhash.file_digest(io.BytesIO(), "v1")
+
+    def test_names_of_hashlib(self):
+        for name, kind in ("v3", rapidhash.V3), ("v3_micro", rapidhash.V3Micro), ("v3_nano", rapidhash.V3Nano):
+            found = rapidhash.file_digest(io.BytesIO(DATA), name)
+            self.assertEqual((type(found), found.digest()), (kind, kind(DATA, usedforsecurity=False).digest()))
+        self.assertRaises(TypeError, rapidhash.V3, b"", None, None, False)
+        with self.assertRaisesRegex(AttributeError, r"has no v2_1_digest: v2_1\(data\)\.to_bytes\(8, 'big'\) has the"):
+            rapidhash.v2_1_digest
+        for name in "v4_digest", "_digest", "v3_diges":
+            with self.assertRaisesRegex(AttributeError, f"^module 'rapidhash' has no attribute '{name}'$"):
+                getattr(rapidhash, name)
 
     def test_hashers(self):
         made = rapidhash.file_digest(io.BytesIO(DATA), lambda: rapidhash.V3Micro(seed=1))

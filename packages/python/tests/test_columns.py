@@ -11,6 +11,7 @@ import sys
 import unittest
 
 import rapidhash
+from test_buffers import lets_others_run
 from test_rapidhash import VERSIONS
 
 SEEDS = 0, 1, 2**32, 2**63, 2**64 - 1
@@ -79,7 +80,7 @@ class Columns(unittest.TestCase):
         class Frame(dict):
             columns = ["a"]
 
-        for items in ("text", b"bytes", bytearray(3), Frame()):
+        for items in ("text", b"bytes", bytearray(3), memoryview(bytes(4)).cast("B", (2, 2)), Frame()):
             with self.assertRaisesRegex(TypeError, "^items must be an iterable of messages, not <class '"):
                 rapidhash.each(items)
 
@@ -221,6 +222,12 @@ class Signals(unittest.TestCase):
                 self.assertEqual(room[-1], 0)
         finally:
             signal.signal(signal.SIGALRM, before)
+
+    def test_other_threads_run_meanwhile(self):
+        items, numbers = [b""] * 200_000, [7] * 200_000
+        for call in (lambda: rapidhash.each(items), lambda: rapidhash.each(iter(items)),
+                     lambda: rapidhash.each_key(numbers), lambda: rapidhash.shard(numbers, 9)):
+            self.assertTrue(lets_others_run(call, 1000))
 
 
 class Iterators(unittest.TestCase):

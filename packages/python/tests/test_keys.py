@@ -152,13 +152,6 @@ class Keys(unittest.TestCase):
         for column in (array.array("d", [1.5]), memoryview(bytes(4)).cast("B", (2, 2)), (Nothing * 2)()):
             with self.assertRaisesRegex(TypeError, r"^columns\[0\] must be a list, a tuple, or a buffer of integers"):
                 rapidhash.each_key(column)
-        class Lazy(list):  # as a Series of Dask, which has no items before it computes them
-            dtype, isna = None, list.copy
-
-        with self.assertRaisesRegex(TypeError, r"^columns\[1\] must be a column of fields, not <class '.*Lazy'>: "):
-            rapidhash.each_key([1], Lazy([1]))
-        with self.assertRaisesRegex(TypeError, "^items must be an iterable of messages, not <class '.*Lazy'>: "):
-            rapidhash.each(Lazy(["a"]))
         for call in (rapidhash.each, rapidhash.each_key):
             with self.assertRaisesRegex(ValueError, "^invalid literal"):
                 call(int(word) for word in ["own"])
@@ -168,25 +161,6 @@ class Keys(unittest.TestCase):
             rapidhash.each_key([1, 2], [1])
         with self.assertRaisesRegex(TypeError, "at least one column"):
             rapidhash.each_key()
-
-    def test_series_of_pandas(self):
-        class Series(list):  # as pandas has it, for a machine without pandas
-            dtype, tolist = None, list.copy
-
-            def isna(self):
-                return [value is None or value != value for value in self]
-
-        try:
-            import pandas
-            columns = pandas.Series(["a", None, float("nan"), "b"]), pandas.array([1, None, -3, 2**62], "Int64")
-            whole = pandas.Series([1, 2**40, -3, 4]), pandas.Series([1, 2, 3, 2**63], dtype="uint64")
-        except ImportError:
-            columns, whole = (Series(["a", None, float("nan"), "b"]), Series([1, None, -3, 2**62])), None
-        rows = zip(["a", None, None, "b"], [1, None, -3, 2**62])
-        self.assertEqual(list(rapidhash.each_key(*columns)), [rapidhash.v3_key(*row) for row in rows])
-        if whole:
-            self.assertEqual(list(rapidhash.each_key(whole[0])), [rapidhash.v3_key(n) for n in (1, 2**40, -3, 4)])
-            self.assertEqual(list(rapidhash.each_key(whole[1])), [rapidhash.v3_key(n) for n in (1, 2, 3, 2**63)])
 
     def test_a_class_over_list(self):
         class Other(list):

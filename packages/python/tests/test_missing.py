@@ -43,23 +43,6 @@ class Missing(unittest.TestCase):
         self.assertEqual(rapidhash.each_slice(bytes(16), array.array("i", range(17)), validity=b"\xff\xff", missing=1),
                          rapidhash.each([b"\0"] * 16))
 
-    def test_series_of_pandas(self):
-        class Series(list):  # as pandas has it, for a machine without pandas
-            tolist = list.copy
-
-            def isna(self):
-                return [value is None or value != value for value in self]
-
-        values = [float("nan") if item is None else item for item in ITEMS]
-        series = [Series(values)]
-        try:
-            import pandas
-            series += [pandas.Series(values), pandas.Series([item for item in ITEMS if item != b"b"], dtype="string")]
-        except ImportError:
-            pass
-        for column, known in zip(series, (wanted(3), wanted(3), wanted(3)[:3] + wanted(3)[4:])):
-            self.assertEqual(rapidhash.each(column, missing=3), known)
-
     def test_refused_calls(self):
         data, offsets, bits = column()
         places, pair = array.array("i", offsets), array.array("Q", [0, 0])

@@ -65,7 +65,7 @@ class Pandas(unittest.TestCase):
         class Masked(numpy.ma.MaskedArray):
             pass
 
-        for kind in ("M8[ns]", "M8[as]", "M8[s]", "M8[D]", "m8[ns]", "m8[Y]", "m8[D]", "m8"):
+        for kind in ("M8[ns]", "M8[as]", "M8[s]", "M8[M]", "m8[ns]", "m8[Y]", "m8[D]", "m8"):
             times = numpy.array([2**40, 2**40], "i8").view(kind)
             for mask in (False, [0, 1], [1, 1]):
                 masked = numpy.ma.array(times, mask=mask)
@@ -73,12 +73,11 @@ class Pandas(unittest.TestCase):
                     self.refused(r"^columns\[1\]", TypeError, rapidhash.each_key, [1] * len(column), column)
                     self.refused("^items", TypeError, rapidhash.each, column, missing=0)
             for column in (list(times), numpy.ma.array(list(times), object, mask=[0, 1]),
-                           pandas.Series(list(times), dtype=object)) if kind != "M8[D]" else ():
+                           pandas.Series(list(times), dtype=object)):
                 self.refused(r"^columns\[0\]\[0\](: a time must have an offset| must be None)", TypeError,
                              rapidhash.each_key, column)
             self.refused(r"^columns\[0\] must be", TypeError, rapidhash.each_key, numpy.ma.array(times)[0])
-            if kind != "M8[D]":
-                self.refused(r"^fields\[0\]", TypeError, rapidhash.v3_key, numpy.ma.array(times)[0])
+            self.refused(r"^fields\[0\]", TypeError, rapidhash.v3_key, numpy.ma.array(times)[0])
         pairs = numpy.ma.array([(1, 2)], dtype=[("time", "m8[ns]"), ("number", "i8")])
         self.refused(r"^columns\[0\] must be a column of fields", TypeError, rapidhash.each_key, pairs)
         self.refused(r"^columns\[0\] must be", TypeError, rapidhash.each_key, numpy.ma.masked)
@@ -86,9 +85,9 @@ class Pandas(unittest.TestCase):
                       pandas.Index([1], dtype="m8[ns]"), pandas.array([1], "M8[ns]"),
                       pandas.period_range("2020", periods=1),
                       pandas.Series(pandas.arrays.SparseArray([1], dtype="M8[ns]"))):
-            self.refused(r"^columns\[0\]\[0\](: a time must have an offset| must be None)", TypeError,
-                         rapidhash.each_key, times)
-        self.refused("a time must be a whole number of microseconds", ValueError, rapidhash.each_key,
+            self.refused(r"^columns\[0\] must be a column of fields, .*(an offset.* gives one|makes (texts|integers of "
+                         "durations))$", TypeError, rapidhash.each_key, times)
+        self.refused(r"^columns\[0\]: a time must be a whole number of microseconds", ValueError, rapidhash.each_key,
                      pandas.Series([1]).astype("M8[ns, UTC]"))
 
     def test_labels_are_the_users(self):
@@ -127,7 +126,7 @@ class Pandas(unittest.TestCase):
         self.refused(error, TypeError, rapidhash.V3, masked)
         hashes = numpy.ma.array([1, 2], mask=[0, 1], dtype="uint64")
         for call, *count in (rapidhash.fingerprint,), (rapidhash.shard, 10), (rapidhash.bucket, 10):
-            self.refused(error.replace("data", "hashes"), TypeError, call, hashes, *count)
+            self.refused(r"^hashes\[1\] is missing: \.dropna\(\)", TypeError, call, hashes, *count)
         for name in ("data", "offsets", "validity", "out"):
             words = dict(data=b"a", offsets=numpy.array([0, 1]), validity=b"\1", out=numpy.zeros(1, "u8"), missing=0)
             words[name] = numpy.ma.array(words[name] if name[0] == "o" else numpy.frombuffer(words[name], "u1"))
@@ -173,13 +172,12 @@ class Pandas(unittest.TestCase):
         self.refused("^missing must be an integer", TypeError, rapidhash.each, [None], missing=number)
         self.refused("^seed: only integer scalar arrays", TypeError, rapidhash.v3, b"", numpy.arange(2))
         self.refused("^count: only integer scalar arrays", TypeError, rapidhash.shard, 7, numpy.arange(2))
-        self.refused("^a hash must be an integer", TypeError, rapidhash.fingerprint, [number])
+        self.refused(r"^hashes\[0\] must be an integer", TypeError, rapidhash.fingerprint, [number])
         self.refused("^width must be an integer", TypeError, rapidhash.each_row, b"", number)
         for value in (numpy.ma.array("abc"), numpy.ma.array(b"abc"), numpy.ma.array((1, 2), "i8,i8")):
-            self.refused(r"^columns\[0\] must be a column of fields, not <class '.*MaskedArray'>: it has no rows$",
-                         TypeError, rapidhash.each_key, value)
-            self.refused("^items must be an iterable of messages, not <class '.*MaskedArray'>: it has no rows$",
-                         TypeError, rapidhash.each, value)
+            error = " must be an? .*, not <class '.*MaskedArray'> of .*: it has 0 dimensions, not 1$"
+            self.refused(r"^columns\[0\]" + error, TypeError, rapidhash.each_key, value)
+            self.refused("^items" + error, TypeError, rapidhash.each, value)
 
     def test_bools(self):
         self.assertEqual(list(rapidhash.each_key([numpy.int64(1), numpy.bool_(True), True, numpy.bool_(False)])),
@@ -188,37 +186,21 @@ class Pandas(unittest.TestCase):
                               (pandas.Series([True, None], dtype="boolean"), [1, None]),
                               (pandas.array([True, None], dtype="boolean"), [1, None])):
             self.assertEqual(list(rapidhash.each_key(column)), keys(items))
-        self.refused(r"^columns\[0\] must be .* of the format '\?'$", TypeError,
-                     rapidhash.each_key, numpy.array([True]))
         for kind in "int8 uint8 int16 uint16 int32 uint32 int64 uint64".split():
             self.assertEqual(list(rapidhash.each_key(list(numpy.array([1, 0], kind)))), keys([1, 0]))
-
-    def test_columns_with_missing_values(self):
-        texts, numbers = ["a", None, "", "c"], [2**62 + 1, None, -2**63, 0]
-        objects = pandas.Series(["a", float("nan"), pandas.NA, pandas.NaT, None, "c"])
-        self.assertEqual(list(rapidhash.each_key(objects)), keys(["a", None, None, None, None, "c"]))
-        for column, items in ((pandas.Series(texts, dtype="string"), texts), (pandas.Index(texts), texts),
-                              (pandas.Series(texts, dtype="category"), texts),
-                              (pandas.Series(numbers, dtype="Int64"), numbers),
-                              (pandas.array(numbers, dtype="Int64"), numbers),
-                              (pandas.Index(numbers, dtype="Int64"), numbers),
-                              (pandas.Series(pandas.arrays.SparseArray([0, 7, 0, 5])), [0, 7, 0, 5])):
-            self.assertEqual(list(rapidhash.each_key(column)), keys(items), column)
-            if items is texts:
-                self.assertEqual(list(rapidhash.each(column, missing=1)), list(rapidhash.each(texts, missing=1)))
 
     def test_nullable_columns_are_not_slow(self):
         def cost(column):
             starts = [(time.perf_counter(), rapidhash.each_key(column), time.perf_counter()) for _ in range(20)]
             return min(end - start for start, _, end in starts)
 
-        texts, numbers = [f"user:{at}" for at in range(10_000)], list(range(2**40, 2**40 + 10_000))
-        for items, kind in ((texts, "string"), (numbers, "Int64")):
-            self.assertLess(cost(pandas.Series(items, dtype=kind)), 4.5 * cost(items), kind)
+        texts, numbers = [f"user:{at % 9}" for at in range(10_000)], list(range(2**40, 2**40 + 10_000))
+        for items, kind, times in ((texts, "string", 2.5), (texts, "category", 0.6), (numbers, "Int64", 0.8)):
+            self.assertLess(cost(pandas.Series(items, dtype=kind)), times * cost(items), kind)
 
     def test_numbers_are_no_messages(self):
-        error = (r"^items\[0\] must be bytes, another buffer, or a str, not <class '.*int\d*'>: "
-                 "each_key hashes integers$")
+        error = (r"^items(\[0\] must be bytes, another buffer, or a str| must be an iterable of messages), not <class "
+                 ".*: each_key hashes integers")
         for items in (*(pandas.Series([1], dtype=kind) for kind in "Int64 Int32 Int8 UInt8 int64 uint8".split()),
                       numpy.arange(3), [numpy.int16(1)], pandas.Index([1])):
             self.refused(error, TypeError, rapidhash.each, items)
@@ -231,28 +213,28 @@ class Pandas(unittest.TestCase):
         self.assertEqual(list(rapidhash.each(numpy.array(["a", "bc"]))), list(rapidhash.each(["a", "bc"])))
 
     def test_errors_name_the_place(self):
-        levels, dates = pandas.MultiIndex.from_arrays([[1], [2]]), numpy.array(["2020-01-01"], "M8[D]")
-        for column, reason in ((dates, "cannot include dtype 'M'"), (levels, "isna is not defined"),
-                               (7, "not iterable")):
-            self.refused(rf"^columns\[1\] must be a column of fields, not <class '.*'>: .*{reason}", TypeError,
-                         rapidhash.each_key, [1], column)
-        for column in (numpy.int64(5), numpy.array(5), numpy.array([[1]]),
-                       numpy.array(["a"], object), numpy.array([1.5])):
-            self.refused(r"^columns\[0\] must be a list, a tuple, or a buffer of integers", TypeError,
-                         rapidhash.each_key, column)
-        for column in (numpy.array(["a"]), numpy.array(["a"], object), numpy.array(["a"], "S1")):
-            self.refused(r"'; \.tolist\(\) makes a list$", TypeError, rapidhash.each_key, column)
-            self.assertEqual(list(rapidhash.each_key(column.tolist())), [rapidhash.v3_key("a")])
-        floats = pandas.Series([2**40, None])
-        self.refused(r"float'>; float_bits .*, and \.astype\(\"Int64\"\) ints of a Series", TypeError,
-                     rapidhash.each_key, floats)
+        levels, floats = pandas.MultiIndex.from_arrays([[1], [2]]), pandas.Series([2**40, None])
+        records, parts = numpy.zeros(1, "i4,i4"), type("Series", (list,), {"__module__": "dask.dataframe.core"})([1])
+        frame = pandas.DataFrame({"a": [1]})
+        calls = {"items": rapidhash.each, r"columns\[0\]": rapidhash.each_key,
+                 "hashes": lambda column: rapidhash.shard(column, 2)}
+        for column, reason in (
+                (levels, r"of object: pass its levels: \.get_level_values\(0\)"), (frame, "pass its columns"),
+                (floats, r'of float64: float_bits .*, and \.astype\("Int64"\) ints of a Series'),
+                (pandas.array([1.5], "Float64"), r"of Float64: float_bits .*"),
+                (numpy.array([1.5]), "of float64: float_bits .*"), (records, ".*: pass its fields as columns"),
+                (numpy.array([[[1]]])[0:0, 0], "of int64: it has 2 dimensions, not 1"),
+                (numpy.array([1j]), r"of complex128: it has no fields: \.tolist\(\) makes a list"),
+                (numpy.array(["2020-01-01"], "M8[s]"), r"of datetime64\[s\]: a time of NumPy has no offset: .*"),
+                (parts, r"call \.map_partitions .*, or \.compute\(\) it")):
+            for name, call in calls.items():
+                if not (call is rapidhash.each and "dimensions" in reason):
+                    self.refused(rf"^{name} must be an? .*, not <class '.*'>.*{reason}$", TypeError, call, column)
         self.assertEqual(list(rapidhash.each_key(floats.astype("Int64"))), keys([2**40, None]))
-        hashes = pandas.Series([1, 2], dtype="UInt64")
-        self.refused(r"numpy.ndarray'> of the format 'O'; \.astype\(\"uint64\"\) converts", TypeError,
-                     rapidhash.shard, hashes, 16)
-        self.assertEqual(rapidhash.fingerprint(hashes.astype("uint64")), 3)
-        self.refused("^items must be an iterable of messages, not .*isna is not defined", TypeError,
-                     rapidhash.each, levels)
+        self.refused(r"^columns\[1\] must be a column of fields, not <class '.*'>: .*not iterable", TypeError,
+                     rapidhash.each_key, [1], 7)
+        self.assertEqual(rapidhash.fingerprint(pandas.Series([1, 2], dtype="UInt64")), 3)
+        self.refused(r"^hashes\[0\] must be from 0 to", OverflowError, rapidhash.shard, numpy.array([-1]), 16)
         array = numpy.array(NUMBERS)
         self.refused(r"^fields\[1\]: only integer scalar arrays", TypeError, rapidhash.v3_key, 1, array)
         self.refused(r"^columns\[0\]\[1\]: only integer scalar arrays", TypeError, rapidhash.each_key, [1, array])

@@ -1,0 +1,113 @@
+"""Finds the rows that differ between a table in two databases, by DB-API connections to PostgreSQL with the extension
+rapidhash, or to SQLite, which needs none:
+
+    python3 differences.py FIRST.db SECOND.db TABLE KEY ..
+
+KEY names the columns of the table's key. It compares one fingerprint, then those of the shards of the key, and reads
+only rows of shards that differ. It prints a line for each row of the second table that the first one lacks, that it
+lacks itself, or that has another content: added, removed or changed, and the key."""
+
+import datetime
+import decimal
+import sqlite3
+import sys
+import uuid
+
+from rapidhash import fingerprint, shard, v3_key
+
+SHARDS = 1000
+# How a text of SQLite is read, by the declared type of its column.
+READERS = {"date": datetime.date.fromisoformat, "timestamptz": datetime.datetime.fromisoformat, "uuid": uuid.UUID,
+           "numeric": lambda number: decimal.Decimal(str(number)), "boolean": bool}
+
+
+def signed(word):
+    """Returns a hash as the integer that SQL has for it."""
+    return word - (word >> 63 << 64)
+
+
+class Fingerprint:
+    """The aggregate of SQLite."""
+
+    def __init__(self):
+        self.hashes = []
+
+    def step(self, word):
+        self.hashes.append(word % 2**64)
+
+    def finalize(self):
+        return signed(fingerprint(self.hashes))
+
+
+class Table:
+    """A table, with the calls for the hash of its rows and of their keys."""
+
+    def __init__(self, connection, table, key):
+        self.connection, self.table, self.key, self.moved = connection, table, ", ".join(key), 0
+        columns = [column[0] for column in self.described()]
+        self.row_hash, self.key_hash = self.call("row_hash", columns), self.call("key_hash", key)
+        if isinstance(connection, sqlite3.Connection):
+            connection.create_aggregate("rapidhash_fingerprint", 1, Fingerprint)
+            connection.create_function("rapidhash_shard", 2, lambda word, count: shard(word % 2**64, count))
+
+    def described(self):
+        cursor = self.connection.cursor()
+        cursor.execute(f"SELECT * FROM {self.table} LIMIT 0")
+        return cursor.description
+
+    def call(self, name, columns):
+        """Returns the call for the hash of some columns. That of SQLite is a function in Python."""
+        if not isinstance(self.connection, sqlite3.Connection):
+            return f"rapidhash_v3_key({', '.join(columns)})"
+        types = {row[1]: row[2].lower().partition("(")[0] for row in self.ask(f"PRAGMA table_info({self.table})")}
+        readers = [READERS.get(types.get(column)) for column in columns]
+
+        def hashed(*values):
+            fields = (value if value is None or reader is None else reader(value)
+                      for value, reader in zip(values, readers))
+            return signed(v3_key(*fields))
+
+        self.connection.create_function(name, len(columns), hashed)
+        return f"{name}({', '.join(columns)})"
+
+    def ask(self, query):
+        cursor = self.connection.cursor()
+        cursor.execute(query)
+        rows = cursor.fetchall()
+        self.moved += len(rows)
+        return rows
+
+    def whole(self):
+        return self.ask(f"SELECT count(*), rapidhash_fingerprint({self.row_hash}) FROM {self.table}")
+
+    def shards(self):
+        return self.ask(f"SELECT rapidhash_shard({self.key_hash}, {SHARDS}) AS shard, count(*), "
+                        f"rapidhash_fingerprint({self.row_hash}) FROM {self.table} GROUP BY 1")
+
+    def rows(self, shards):
+        """Returns the hashes of rows by the hash of their key, and the keys. A key may have several rows."""
+        found, keys = {}, {}
+        for one, other, *key in self.ask(f"SELECT {self.key_hash}, {self.row_hash}, {self.key} FROM {self.table} WHERE "
+                                         f"rapidhash_shard({self.key_hash}, {SHARDS}) IN ({shards})"):
+            found.setdefault(one, []).append(other)
+            keys[one] = key
+        return {one: sorted(hashes) for one, hashes in found.items()}, keys
+
+
+def differences(first, second, table, key):
+    """Yields added, removed or changed, and the values of the key, for each row that differs."""
+    left, right = Table(first, table, key), Table(second, table, key)
+    if left.whole() == right.whole():
+        return
+    shards = {row[0] for row in {*map(tuple, left.shards())} ^ {*map(tuple, right.shards())}}
+    (old, old_keys), (new, new_keys) = (side.rows(", ".join(map(str, shards))) for side in (left, right))
+    for one in sorted({*old, *new}, key=lambda one: str({**old_keys, **new_keys}[one])):
+        if old.get(one) != new.get(one):
+            yield ("changed" if one in old and one in new else "removed" if one in old else "added",
+                   *new_keys.get(one, old_keys.get(one)))
+    print(f"read {left.moved + right.moved} rows", file=sys.stderr)
+
+
+if __name__ == "__main__":
+    for difference in differences(*map(sqlite3.connect, sys.argv[1:3]), sys.argv[3], sys.argv[4:]):
+        print(*difference, sep="\t")

@@ -1,0 +1,101 @@
+#!/usr/bin/python3
+# reads: packages/python packages/c/include packages/postgresql
+"""Runs the example over a table of seven types in two files of SQLite, and in PostgreSQL and SQLite, with a row that is
+added, one that is removed and one that is changed. ROWS is the number of rows."""
+
+import os
+import random
+import sqlite3
+import sys
+import uuid
+from datetime import date, datetime, timedelta, timezone
+from pathlib import Path
+
+sys.path.append(str(Path(__file__).parents[3] / "tests"))
+from cases import ROOM, TOP, compare, finish, lacks, needs, shell, skip, tell  # noqa: E402
+from sql import SERVER, ask, start_server, unpack  # noqa: E402
+
+COUNT = int(os.environ.get("ROWS", 20_000))
+TYPES = ("id bigint, name text, active boolean, born date, seen timestamptz, token uuid, price numeric(12,2)")
+FOUND = ["added\t-1", "changed\t77", f"removed\t{COUNT - 1}"]
+
+
+def people():
+    """Yields rows as texts and integers of SQLite, with nulls, and texts beyond ASCII."""
+    draw = random.Random(1)
+    for number in range(COUNT):
+        seen = datetime(1900, 1, 1, tzinfo=timezone.utc) + timedelta(microseconds=draw.randrange(2**53))
+        yield (number, None if number % 17 == 0 else draw.choice(["Åsa", "李", "Bob", ""]) + str(number),
+               draw.randrange(2), str(date(1900, 1, 1) + timedelta(draw.randrange(40_000))),
+               None if number % 23 == 0 else str(seen), str(uuid.UUID(int=draw.getrandbits(128))),
+               f"{draw.randrange(10**7)}.{number % 100:02}")
+
+
+class Psql:
+    """A DB-API connection to the copy of the server, by psql."""
+
+    def cursor(self):
+        return self
+
+    def execute(self, query):
+        self.description = []
+        if "LIMIT 0" in query:
+            self.description = [(word.split()[0],) for word in TYPES.split(", ")]
+            return
+        self.lines = ask(query)
+
+    def fetchall(self):
+        return [tuple(map(int, line.split("|"))) for line in self.lines]
+
+
+def change(database):
+    database.execute(f"DELETE FROM people WHERE id = {COUNT - 1}")
+    database.execute("UPDATE people SET seen = '2024-02-29 12:34:56.789+00:00' WHERE id = 77")
+    database.execute("INSERT INTO people (id, price) VALUES (-1, '1.50')")
+    database.commit()
+
+
+def over_files(rows):
+    """Runs the example as its text says."""
+    for name in "first", "second":
+        with sqlite3.connect(ROOM / name) as database:
+            database.execute(f"CREATE TABLE people ({TYPES})")
+            database.executemany("INSERT INTO people VALUES (?, ?, ?, ?, ?, ?, ?)", rows)
+    run = f"python3 packages/python/examples/differences.py '{ROOM}/first' '{ROOM}/second' people id"
+    run = f"PYTHONPATH='{ROOM}/wheel' /usr/bin/{run}"
+    compare("equal_files", shell(run), (0, ""))
+    change(sqlite3.connect(ROOM / "second"))
+    status, said = shell(run)
+    *found, moved = said.splitlines()
+    compare("files", (status, sorted(found)), (0, FOUND))
+    compare("few_rows", int(moved.split()[1]) <= 2 * 1001 + 6 * max(COUNT / 500, 40), True)
+
+
+def over_databases(rows):
+    """Runs its function between PostgreSQL and SQLite."""
+    sys.path[:0] = [str(ROOM / "wheel"), str(TOP / "packages/python/examples")]
+    from differences import differences
+    stop = start_server()
+    try:
+        status, said = shell(unpack(ROOM / "source", "postgresql").replace("sudo ", ""), ROOM / "source",
+                             DESTDIR=str(ROOM))
+        tell("extension", *[said] * (status != 0))
+        with open(ROOM / "people.tsv", "w") as file:
+            file.writelines("\t".join("\\N" if field is None else str(field) for field in row) + "\n" for row in rows)
+        ask(f"CREATE EXTENSION rapidhash; CREATE TABLE people ({TYPES}); \\copy people FROM '{ROOM}/people.tsv'")
+        for name, wanted in (("first", []), ("second", FOUND)):
+            found = differences(Psql(), sqlite3.connect(ROOM / name), "people", ["id"])
+            compare(f"databases_{name}", sorted("\t".join(map(str, row)) for row in found), wanted)
+    finally:
+        shell(stop, "/")
+
+
+needs("cc")
+compare("wheel", shell("make -s wheel && /usr/bin/python3 -m zipfile -e build/wheels/*.whl \"$ROOM/wheel\""), (0, ""))
+PEOPLE = list(people())
+over_files(PEOPLE)
+if lacks(*SERVER):
+    skip("databases", lacks(*SERVER))
+else:
+    over_databases(PEOPLE)
+finish()
