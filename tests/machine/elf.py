@@ -107,7 +107,7 @@ class Elf:
         """Returns the address of the link to which a jump goes."""
         constant, factors = parts(word) or (0, {})
         (label, factor), *others = [*factors.items()] or [("", 0)]
-        if label == "memmove" and word == name(label):
+        if (label, factor, constant) == ("memmove", 1, 0) and not others:
             return self.memmove
         if others or factor != 1 or label not in self.sections or not 0 <= constant < len(self.sections[label].data):
             raise Refusal(f"a jump to {word}")

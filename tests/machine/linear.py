@@ -65,12 +65,13 @@ def assume(length, least=0, most=0, is_turning=False):
 
 def places(size):
     """Yields the addresses of a message of a size and of a stream at the vertices of those that do not overlap. Without
-    bytes a message may be anywhere but at 0, which is tried by itself."""
-    first, low, end, room = 1 << 12, Assumed.low, Assumed.top, 1 << 8
-    if size == 0:
+    bytes a message may be anywhere but at 0, which is tried by itself, and in a stream if its place is compared."""
+    first, low, end, room = 1 if size == 0 else 1 << 12, Assumed.low, Assumed.top, 1 << 8
+    if size == 0 and Assumed.order is None:
         yield from ((message, stream) for message in (1, end) for stream in (low, end - room))
     elif Assumed.order == "before":
-        yield from ((first, first + size), (first, end - room), (end - room - size, end - room))
+        least = first + size if size else low
+        yield from ((first, least), (least - size, least), (first, end - room), (end - room - size, end - room))
     elif Assumed.order == "after":
         yield from ((low + room, low), (end - size, low), (end - size, end - size - room))
     else:

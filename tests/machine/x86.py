@@ -116,10 +116,11 @@ def memmove(machine):
     if machine.height() % 16:
         raise Refusal("the stack is not aligned in a call")
     machine.forget_below(machine.height())
-    region, place = machine.locate(to, machine.words[RDX], True)
-    if region == "stack" and place < machine.height():
-        raise Refusal("memmove to its own stack")
-    machine.store_bytes(to, machine.load_bytes(machine.words[RSI], machine.words[RDX]))
+    if machine.words[RDX] != 0:  # of no bytes the addresses may be anything
+        region, place = machine.locate(to, machine.words[RDX], True)
+        if region == "stack" and place < machine.height():
+            raise Refusal("memmove to its own stack")
+        machine.store_bytes(to, machine.load_bytes(machine.words[RSI], machine.words[RDX]))
     state = {**machine.state(), **{key: make("changed", 64, key, machine.count) for key in KEYS}}
     state.update({("word", index): machine.words[index] for index in (RSP, *SAVED)})
     machine.resume({**state, ("word", RAX): to}, machine.at)
