@@ -146,7 +146,7 @@ fn main() {
             }
         }
     });
-    let is_over = reference.wait().is_ok_and(|it| it.success()) && subject.wait().is_ok_and(|it| it.success());
+    let is_over = [reference.wait(), subject.wait()].iter().all(|it| matches!(it, Ok(it) if it.success()));
     println!("{} formulas compared, {differ} differ", records.len());
     exit((differ > 0 || !is_over) as i32);
 }

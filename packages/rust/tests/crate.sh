@@ -236,7 +236,7 @@ makes_states_from_stored_words() {
   create states '[dependencies]' \
     "yervound-rapidhash = { path = \"$top/packages/rust\", default-features = false }" &&
     printf '%s\n' '#[inline(never)] #[no_mangle] pub extern "C" fn counted(times: usize) {' \
-    'for _ in 0..times { std::hint::black_box(rapidhash::fast::RandomState::new()); } }' \
+    'for _ in 0..times { unsafe { std::ptr::read_volatile(&rapidhash::fast::RandomState::new()) }; } }' \
     'fn main() { counted(999 + std::env::args().count()) }' >"$project/src/main.rs" &&
     (cd "$project" && cargo build --release && valgrind --tool=callgrind --callgrind-out-file=/dev/null \
       --toggle-collect=counted "$CARGO_TARGET_DIR/release/first" 2>&1) | tee /dev/stderr |
