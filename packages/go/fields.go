@@ -69,10 +69,12 @@ func FloatBits(number float64) (Field, error) {
 	if math.IsNaN(number) {
 		return Field{}, errNaN
 	}
-	if number == 0 {
-		number = 0 // not -0
+	// A small number would equal 0, where cgo loads a library that was linked with -ffast-math.
+	bits := int64(math.Float64bits(number))
+	if bits == math.MinInt64 {
+		bits = 0 // not -0
 	}
-	return Integer(int64(math.Float64bits(number))), nil
+	return Integer(bits), nil
 }
 
 // List returns a field that is the number of items, and then each item. It panics if an item is a list. It copies the

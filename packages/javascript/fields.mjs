@@ -87,12 +87,14 @@ export function decimal(number) {
   return (sign === "-" ? "-" : "") + padded.slice(0, point) + (fraction ? `.${padded.slice(point)}` : "");
 }
 
-/** Returns the 64 bits of a number as a BigInt. Those of -0 are 0. */
+/** Returns the 64 bits of a number as a BigInt. Those of -0 are 0. Nothing computes with the number: where a library
+ * that was linked with -ffast-math is loaded, a small one would become 0. */
 export function floatBits(number) {
   if (number === null) return null;
   if (typeof number !== "number") refuse("floatBits", "number must be a Number", number);
   if (Number.isNaN(number)) throw new RangeError("floatBits: number must not be NaN");
   const view = new DataView(new ArrayBuffer(8));
-  view.setFloat64(0, number + 0, true);
-  return view.getBigUint64(0, true);
+  view.setFloat64(0, number, true);
+  const bits = view.getBigUint64(0, true);
+  return bits === 1n << 63n ? 0n : bits;
 }

@@ -95,11 +95,15 @@ function putFields(fields, place, array, view, room, start) {
   return end;
 }
 
+/** Returns a copy of a list, and any other field unchanged. */
+function copyOf(field) {
+  return Array.isArray(field) ? Array.from({ length: field.length }, (_, at) => field[at]) : field;
+}
+
 /** Writes a list: the number of its items, and then each. Returns the same as putField. */
-function putList(list, place, array, view, room, start) {
-  const items = Array.from({ length: list.length }, (_, at) => list[at]); // a getter may change the list
+function putList(items, place, array, view, room, start) {
   if (items.some(Array.isArray)) throw new TypeError(`fields[${place}]: a list in a key must not contain a list`);
-  return putFields([items.length, ...items], place, array, view, room, start);
+  return putFields(items, place, array, view, room, putField(items.length, place, array, view, room, start));
 }
 
 /** Writes the field of another value than null, an integer or a string. Returns the same as putField. */
@@ -143,8 +147,9 @@ function putField(field, place, array, view, room, end) {
 
 /** Writes the encoding of a key to the library's memory and returns its length, or, if it is long, returns it as a
  * Uint8Array. */
-export function encodeKey(fields, library, room) {
-  const { views } = library;
+export function encodeKey(values, library, room) {
+  // A getter of a list may change it, and may hash, which writes to the memory.
+  const fields = values.some(Array.isArray) ? values.map(copyOf) : values, { views } = library;
   let size = putFields(fields, undefined, views.bytes, views.view, room, 0);
   if (size <= room) return size;
   for (;;) {

@@ -235,7 +235,7 @@ PG_FUNCTION_INFO_V1(sql_float_bits);
 /* Returns the 64 bits of a number, of which -0 has those of 0. */
 Datum sql_float_bits(PG_FUNCTION_ARGS)
 {
-    const float8 number = PG_GETARG_FLOAT8(0) == 0 ? 0 : PG_GETARG_FLOAT8(0);
+    const float8 number = PG_GETARG_FLOAT8(0);
     int64 bits;
     StaticAssertStmt(sizeof bits == sizeof number, "a float8 has 64 bits");
     if (isnan(number))
@@ -243,5 +243,6 @@ Datum sql_float_bits(PG_FUNCTION_ARGS)
                         errmsg("rapidhash_float_bits: NaN is no field of a key"),
                         errhint("Pass NULL in its place: nullif(x, 'NaN').")));
     memcpy(&bits, &number, sizeof bits);
-    PG_RETURN_INT64(bits);
+    /* A small number would equal 0, where a library that was linked with -ffast-math is loaded. */
+    PG_RETURN_INT64(bits == PG_INT64_MIN ? 0 : bits);
 }

@@ -192,14 +192,15 @@ static const char *make_uuid(sqlite3_context *context, sqlite3_value *value)
 /* Returns a REAL, or an INTEGER that is equal to one, as the integer with its bits. -0 has those of 0. */
 static const char *make_float_bits(sqlite3_context *context, sqlite3_value *value)
 {
-    const double number = sqlite3_value_double(value) == 0 ? 0 : sqlite3_value_double(value);
+    const double number = sqlite3_value_double(value);
     sqlite3_int64 bits;
     if (sqlite3_value_type(value) != SQLITE_FLOAT &&
         (sqlite3_value_type(value) != SQLITE_INTEGER || number >= 9223372036854775808.0 ||
          (sqlite3_int64)number != sqlite3_value_int64(value)))
         return "only a REAL, or an INTEGER that is equal to one, has such bits";
     memcpy(&bits, &number, sizeof bits);
-    sqlite3_result_int64(context, bits);
+    /* A small number would equal 0, where a library that was linked with -ffast-math is loaded. */
+    sqlite3_result_int64(context, bits == INT64_MIN ? 0 : bits);
     return NULL;
 }
 

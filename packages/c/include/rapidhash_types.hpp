@@ -6,6 +6,7 @@
 #include "rapidhash_keys.hpp"
 
 #include <array>
+#include <cstring>
 #include <stdexcept>
 #include <string>
 #include <type_traits>
@@ -95,13 +96,24 @@ template <class Number>
 using if_double = typename std::enable_if<std::is_same<Number, double>::value || std::is_same<Number, float>::value,
                                           int>::type;
 
+/* Returns the number as a double. With -ffast-math a processor takes a small float for 0, but not the integer in it. */
+inline double to_double(double number) noexcept { return number; }
+inline double to_double(float number) noexcept
+{
+    std::uint32_t bits;
+    static_assert(sizeof bits == sizeof number, "a float has 32 bits");
+    std::memcpy(&bits, &number, sizeof bits);
+    const double small = static_cast<double>(bits & 0x7fffff) * 1.40129846432481707092e-45;
+    return (bits & 0x7f800000) != 0 ? static_cast<double>(number) : bits >> 31 != 0 ? -small : small;
+}
+
 /* Reads the bits of a number, as an integer that is a field: those of 0 for -0. For NaN, which has many bits, returns
  * false and does not modify `bits`. */
 template <class Number, if_double<Number> = 0>
 bool float_bits(Number number, std::int64_t &bits) noexcept
 {
     std::uint64_t read;
-    if (!::rapidhash_float_bits_(static_cast<double>(number), &read))
+    if (!::rapidhash_float_bits_(to_double(number), &read))
         return false;
     bits = static_cast<std::int64_t>(read);
     return true;

@@ -587,6 +587,9 @@ try_with fields_with_sanitizers clang has_the_fields fields.c clang -O1 -fsaniti
 try_with fields_tcc tcc has_the_fields fields.c tcc
 try_with fields_32_bits "gcc $multilib/libgcc.a" has_the_fields fields.c gcc -m32 -O2
 try fields_of_fast_mathematics has_the_fields fields.c cc -O2 -ffast-math
+for compiler in g++ clang++; do
+  try_with "cpp_fields_of_fast_mathematics_$compiler" "$compiler" has_the_fields fields.cpp "$compiler" -O2 -ffast-math
+done
 for standard in c++11 c++17 c++20; do
   try_with "cpp_header_$standard" g++ calls_from_cpp g++ "$standard"
   try_with "cpp_header_${standard}_clang" clang++ calls_from_cpp clang++ "$standard"

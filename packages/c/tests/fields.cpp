@@ -139,6 +139,13 @@ static void check_types()
     expect("the text of a decimal", rapidhash::decimal("-1e3").text() == "-1000");
     expect("decimals that differ", rapidhash::decimal("1") != rapidhash::decimal("-1"));
     expect("bits of a float", rapidhash::float_bits(1.5F) == rapidhash::float_bits(1.5));
+    const std::uint32_t small[] = {1, 3, 0x7fffff, 0x80000001};
+    const std::uint64_t wanted[] = {0x36a0000000000000, 0x36b8000000000000, 0x380fffffc0000000, 0xb6a0000000000000};
+    for (std::size_t at = 0; at < 4; at++) {
+        float number;
+        std::memcpy(&number, &small[at], sizeof number);
+        expect("bits of a small float", rapidhash::float_bits(number) == static_cast<std::int64_t>(wanted[at]));
+    }
 #if defined(__cpp_exceptions) || defined(__EXCEPTIONS)
     try {
         rapidhash::decimal refused("1.5.");

@@ -62,6 +62,18 @@ test("long keys", () => {
   assert.equal(v3Key(...many), v3(Buffer.concat(many.map(encoded))));
 });
 
+test("a list whose items hash when they are read", () => {
+  const list = [4711, null];
+  const large = "x".repeat(1e6);
+  for (const nested of [() => v3Key("other", 1), () => v3(large), () => library.v2_2(large)]) {
+    let reads = 0;
+    const computed = new Proxy(list, { get: (target, name) => reads++ < 99 && nested() ? target[name] : undefined });
+    assert.equal(v3Key("user", computed), v3Key("user", list));
+    assert.equal(v3Key("x".repeat(200000), computed), v3Key("x".repeat(200000), list));
+    assert.equal(reads, 6); // each of two keys reads the length and the items once
+  }
+});
+
 test("what is no field", () => {
   const range = "fields[1] must be from -(2n ** 63n) to 2n ** 64n - 1n";
   for (const field of [1n << 64n, -(1n << 63n) - 1n])

@@ -22,8 +22,9 @@ def float_bits(number: float) -> int:
         raise TypeError(f"number must be a float, not {type(number)!r}")
     if number != number:
         raise ValueError("number must not be NaN")
-    bits: int = struct.unpack("<Q", struct.pack("<d", number + 0.0))[0]
-    return bits
+    # Arithmetic would take a small number for 0, where a library that was linked with -ffast-math is loaded.
+    bits: int = struct.unpack("<Q", struct.pack("<d", number))[0]
+    return bits if bits != 1 << 63 else 0
 
 
 def _class(package: str, name: str) -> Any:

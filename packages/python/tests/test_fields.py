@@ -3,7 +3,10 @@ package. scripts/fields.py says how."""
 
 import json
 import pathlib
+import shutil
+import subprocess
 import sys
+import tempfile
 import unittest
 import unittest.mock
 from array import array
@@ -80,6 +83,15 @@ class Fields(unittest.TestCase):
                 rapidhash.v3_key(1, value)
         for value in (1, "1.5", None):
             self.assertRaisesRegex(TypeError, "^number must be a float, not ", rapidhash.float_bits, value)
+
+    @unittest.skipUnless(shutil.which("gcc"), "no gcc")
+    def test_small_floats_where_mathematics_is_fast(self):
+        with tempfile.TemporaryDirectory() as room:
+            fast = f"{room}/fast.so"  # until GCC 13, it sets the processor to take small numbers for 0
+            subprocess.run(["gcc", "-shared", "-ffast-math", "-x", "c", "/dev/null", "-o", fast], check=True)
+            program = f"import ctypes, rapidhash; ctypes.CDLL({fast!r}); print(rapidhash.float_bits(-5e-324))"
+            printed = subprocess.run([sys.executable, "-c", program], capture_output=True, text=True, check=True)
+        self.assertEqual(int(printed.stdout), 2**63 + 1)
 
     def test_items_of_an_iterator_that_fills_one_list_again(self):
         def rows():

@@ -232,5 +232,7 @@ pub fn float_bits(number: f64) -> Result<u64, FieldError> {
     if number.is_nan() {
         return Err(FieldError::NaN);
     }
-    Ok(if number == 0.0 { 0 } else { number.to_bits() })
+    // A small number would equal 0, where a library that was linked with -ffast-math is loaded.
+    let bits = number.to_bits();
+    Ok(if bits == 1 << 63 { 0 } else { bits })
 }

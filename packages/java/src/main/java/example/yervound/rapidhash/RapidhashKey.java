@@ -54,6 +54,8 @@ public final class RapidhashKey {
         if (Double.isNaN(number)) {
             throw new IllegalArgumentException("number must not be NaN; pass null for nothing");
         }
-        return Double.doubleToLongBits(number + 0.0);
+        // Arithmetic would take a small number for 0, where a library that was linked with -ffast-math is loaded.
+        long bits = Double.doubleToLongBits(number);
+        return bits == Long.MIN_VALUE ? 0 : bits;
     }
 }
