@@ -259,7 +259,7 @@ test-machines test-windows test-debian test-dieharder test-source: test-%:
 
 # All versions, compilers, streams and packages, of which the gate checks V3 alone.
 test-machine-code:
-	@prove --verbose --jobs 4 --exec tests/machine/machine.py streams-kit packages streams-gcc streams-clang library \
+	@prove --verbose --jobs 4 --exec tests/machine/machine.py streams-kit modules streams-gcc streams-clang library \
 	  arm64 faults
 
 test-vendor:

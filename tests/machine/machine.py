@@ -182,7 +182,7 @@ PARTS = {
     "streams-kit": lambda: check_streams("the kit", kit, True),
     "streams-clang": lambda: check_streams("clang -O2", faults.built("clang -O2")),
     "arm64": check_arm64,
-    "packages": check_packages,
+    "modules": check_packages,
     "faults": plant,
     "write": shipped.write,
 }
