@@ -7,7 +7,7 @@ import sys
 import unittest
 import unittest.mock
 from array import array
-from datetime import date, datetime
+from datetime import date, datetime, timezone
 from decimal import Decimal
 from uuid import UUID
 
@@ -80,6 +80,10 @@ class Fields(unittest.TestCase):
                 rapidhash.v3_key(1, value)
         for value in (1, "1.5", None):
             self.assertRaisesRegex(TypeError, "^number must be a float, not ", rapidhash.float_bits, value)
+
+    def test_times_of_a_class_with_a_difference_of_its_own(self):
+        time = type("Time", (datetime,), {"__sub__": lambda *_: []})(1969, 12, 31, 23, 59, 59, 5, timezone.utc)
+        self.assertEqual(rapidhash.v3_key(time), rapidhash.v3_key(-999_995))
 
     def test_items_of_an_iterator_that_fills_one_list_again(self):
         def rows():
