@@ -28,7 +28,7 @@ GAPS = [7, None, 100, None, 2, 7]
 TEXT_GAPS = ["a", None, "", "b\0c", None, "a"]
 DAYS = [date(2024, 2, 29), date(1969, 12, 31), date(1, 1, 1), date(9999, 12, 31), date(1970, 1, 1), date(2000, 1, 1)]
 TIMES = [datetime(2024, 2, 29, 12, 34, 56, 789012, timezone.utc), datetime(1969, 12, 31, tzinfo=timezone.utc),
-         None, datetime(1970, 1, 1, tzinfo=timezone.utc)]
+         None, datetime(1700, 1, 1, tzinfo=timezone.utc)]
 PRICES = [Decimal(text) for text in ("0", "-1.5", "100", "0.05", "123456789.25", "-0.01", "12")]
 
 
@@ -60,7 +60,9 @@ def message(item):
 
 
 def answers(fields):
-    """Returns what each call must return of these fields, or None for what it must refuse."""
+    """Returns what each call must return of these fields, or None for what it must refuse, as all do without fields."""
+    if fields is None:
+        return dict.fromkeys(CALLS)
     are_hashes = all(isinstance(field, int) and not isinstance(field, bool) and 0 <= field < 2**64 for field in fields)
     are_messages = all(field is None or isinstance(field, (str, bytes)) for field in fields)
     found = {"each": [message(field) for field in fields] if are_messages else None,
@@ -91,6 +93,8 @@ def plain():
         yield f"array of {letter}", lambda letter=letter: array(letter, NUMBERS), NUMBERS
         yield f"view of {letter}", lambda letter=letter: memoryview(array(letter, NUMBERS))[::-2], NUMBERS[::-2]
     yield "view of bools", lambda: memoryview(b"\1\0").cast("?"), [True, False]
+    yield "view of rows", lambda: memoryview(bytes(4)).cast("B", (2, 2)), None
+    yield "list of a class without a module", lambda: type("Texts", (list,), {"__module__": None})(TEXTS), TEXTS
 
 
 def of_arrow():
@@ -142,6 +146,10 @@ def of_numpy():
                lambda made=made, fields=fields: made(mask=[1] + [0] * (len(fields) - 1)), [None, *fields[1:]])
     yield ("numpy masked days", lambda: numpy.ma.array(numpy.array(DAYS, "M8[D]"), mask=[0, 1, 0, 0, 0, 1]),
            [DAYS[0], None, *DAYS[2:5], None])
+    yield ("numpy masked days and none",
+           lambda: numpy.ma.array(numpy.array([*DAYS[:2], None], "M8[D]"), mask=[1, 0, 0]), [None, DAYS[1], None])
+    for kind in ("M8[h]", "M8[us]", "M8[Y]", "m8[D]", "f8", "c16", "V4"):
+        yield f"numpy {kind}", lambda kind=kind: numpy.zeros(2, kind), None
     yield "numpy masked texts", lambda: numpy.ma.array(["a", "b"], mask=[0, 1]), ["a", None]
 
 
@@ -153,6 +161,7 @@ def of_pandas():
             ("Int64", GAPS, lambda: pandas.array(GAPS, "Int64")),
             ("UInt8", NUMBERS, lambda: pandas.array(NUMBERS, "UInt8")),
             ("boolean", [True, None], lambda: pandas.array([True, None], "boolean")),
+            ("full boolean", [True, False], lambda: pandas.array([True, False], "boolean")),
             ("bool", [True, False], lambda: [True, False]),
             ("string", TEXT_GAPS, lambda: pandas.array(TEXT_GAPS, "string")),
             ("object", ["a", None, None, None, None, "a"], lambda: ["a", None, nan, pandas.NA, pandas.NaT, "a"]),
@@ -163,17 +172,23 @@ def of_pandas():
             ("category of integers", GAPS, lambda: pandas.Categorical(GAPS)),
             ("full category", NUMBERS, lambda: pandas.Categorical(NUMBERS)),
             ("unused category", ["a", "b"], lambda: pandas.Categorical(["a", "b"], [1.5, "a", "b"])),
-            ("sparse", [0, 7, 0], lambda: pandas.arrays.SparseArray([0, 7, 0])),
+            ("sparse", [0, 7, 9], lambda: pandas.arrays.SparseArray([0, 7, 9])),
             ("nothing", [None, None], lambda: [nan, nan]),
             ("Float64 nothing", [None], lambda: pandas.array([None], "Float64"))):
         yield f"pandas {name} Series", lambda maker=maker: pandas.Series(maker())[::-1], fields[::-1]
-        yield f"pandas {name} with labels", lambda maker=maker: pandas.Series(
-            maker(), index=["mask", "filled", "columns", "isna", "dtype", "values", "x"][:len(maker())]), fields
+        yield (f"pandas {name} with labels", lambda maker=maker: pandas.Series(
+            maker(), "mask filled columns isna dtype __arrow_c_array__ kind".split()[:len(maker())]), fields)
         if name not in ("bool", "mixed", "nothing", "dates"):
             yield f"pandas {name} Index", lambda maker=maker: pandas.Index(maker()), fields
         if hasattr(maker(), "isna"):
             yield f"pandas {name} array", maker, fields
     yield "pandas range", lambda: pandas.RangeIndex(3), [0, 1, 2]
+    for name, maker in (
+            ("float64", lambda: [1.5, nan]), ("Float64", lambda: pandas.array([1.5, None], "Float64")),
+            ("nanoseconds", lambda: pandas.to_datetime([1000, 1], utc=True)),
+            ("local", lambda: pandas.to_datetime([0])), ("durations", lambda: pandas.to_timedelta([1])),
+            ("intervals", lambda: pandas.cut([1, 2], 2)), ("periods", lambda: pandas.period_range("2024", periods=2))):
+        yield f"pandas {name}", lambda maker=maker: pandas.Series(maker()), None
 
 
 class Kinds(unittest.TestCase):
@@ -186,10 +201,12 @@ class Kinds(unittest.TestCase):
                 column = make()
                 with self.subTest(column=name, call=call):
                     if wanted is None:
-                        with self.assertRaises((TypeError, OverflowError)) as caught:
+                        with self.assertRaises((TypeError, ValueError, OverflowError)) as caught:
                             CALLS[call](column)
                         self.assertRegex(str(caught.exception), r"^(items|hashes|shards|columns\[0\])")
                         continue
+                    if not hasattr(column, "__next__"):
+                        CALLS[call](column)  # It leaves the column as it is.
                     found = CALLS[call](column)
                     self.assertEqual(found if call == "fingerprint" else [*map(int, found)], wanted)
                     self.has_its_kind(column, found, call)
@@ -203,7 +220,7 @@ class Kinds(unittest.TestCase):
             self.assertIs(type(found), pandas.Series)
             self.assertIs(found.index, column.index)
             self.assertEqual(found.dtype, "uint64")
-        elif "numpy" in type(column).__module__ or "pandas" in type(column).__module__:
+        elif str(type(column).__module__).startswith(("numpy", "pandas")):
             self.assertIs(type(found), numpy.ndarray)
             self.assertEqual(found.dtype, "uint64")
         else:
