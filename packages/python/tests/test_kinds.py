@@ -5,6 +5,7 @@ import unittest
 from array import array
 from datetime import date, datetime, timezone
 from decimal import Decimal
+from itertools import tee
 from uuid import UUID
 
 import rapidhash
@@ -25,7 +26,7 @@ COUNT = 1000
 TEXTS = ["a", "", "b\0c", "é" * 200, "Åsa", "a"]
 NUMBERS = [7, 0, 100, 127, 2, 7]
 GAPS = [7, None, 100, None, 2, 7]
-TEXT_GAPS = ["a", None, "", "b\0c", None, "a"]
+TEXT_GAPS = ["a", None, "", "b\0c" * 4, None, "é" * 7]  # Of views, 12 bytes lie in the view.
 DAYS = [date(2024, 2, 29), date(1969, 12, 31), date(1, 1, 1), date(9999, 12, 31), date(1970, 1, 1), date(2000, 1, 1)]
 TIMES = [datetime(2024, 2, 29, 12, 34, 56, 789012, timezone.utc), datetime(1969, 12, 31, tzinfo=timezone.utc),
          None, datetime(1700, 1, 1, tzinfo=timezone.utc)]
@@ -66,20 +67,30 @@ def answers(fields):
     are_hashes = all(isinstance(field, int) and not isinstance(field, bool) and 0 <= field < 2**64 for field in fields)
     are_messages = all(field is None or isinstance(field, (str, bytes)) for field in fields)
     found = {"each": [message(field) for field in fields] if are_messages else None,
-             "each_key": [hashed(encoding(field)) for field in fields]}
+             "each_key": [hashed(encoding(field)) for field in fields],
+             "pairs": [hashed(encoding(field) * 2) for field in fields]}
     decided = {"shard": lambda number: number * COUNT >> 64, "bucket": lambda number: rapidhash.bucket(number, COUNT),
                "first_hash": lambda number: -(-number * 2**64 // COUNT) % 2**64}
     if hash_of is not None:
         decided["bucket"] = lambda number: bucket(number, COUNT)
     for name, call in decided.items():
         found[name] = [call(field) for field in fields] if are_hashes else None
+    if are_hashes and max(fields, default=0) >= COUNT:
+        found["first_hash"] = None
     return {**found, "fingerprint": sum(fields) % 2**64 if are_hashes else None}
 
 
 CALLS = {"each": lambda column: rapidhash.each(column, missing=5), "each_key": rapidhash.each_key,
+         "pairs": lambda column: rapidhash.each_key(*(tee(column) if hasattr(column, "__next__") else [column] * 2)),
          "shard": lambda column: rapidhash.shard(column, COUNT),
          "bucket": lambda column: rapidhash.bucket(column, COUNT),
          "first_hash": lambda column: rapidhash.first_hash(column, COUNT), "fingerprint": rapidhash.fingerprint}
+
+
+def extremes(size, is_signed):
+    """Returns integers of so many bytes."""
+    most = 2 ** (8 * size - is_signed)
+    return [most - 1, most // 2, -most * is_signed, most - 2]
 
 
 def plain():
@@ -91,6 +102,8 @@ def plain():
             yield f"{kind.__name__} of {name}", lambda kind=kind, fields=fields: kind(fields), fields
     for letter in "bBhHiIlLqQ":
         yield f"array of {letter}", lambda letter=letter: array(letter, NUMBERS), NUMBERS
+        edges = array(letter, extremes(array(letter).itemsize, letter.islower()))
+        yield f"edges of {letter}", lambda edges=edges: edges, list(edges)
         yield f"view of {letter}", lambda letter=letter: memoryview(array(letter, NUMBERS))[::-2], NUMBERS[::-2]
     yield "view of bools", lambda: memoryview(b"\1\0").cast("?"), [True, False]
     yield "view of rows", lambda: memoryview(bytes(4)).cast("B", (2, 2)), None
@@ -102,6 +115,7 @@ def of_arrow():
     for offset in (0, 3, 8):
         kinds = [(form, TEXT_GAPS) for form in ("u", "U", "z", "Z", "vu", "vz")]
         kinds += [(form, GAPS) for form in "cCsSiIlL"] + [(form, NUMBERS) for form in "cCsSiIlL"]
+        kinds += [(form, extremes(2 ** (at // 2), at % 2 == 0)) for at, form in enumerate("cCsSiIlL")]
         kinds += [("n", [None] * 6), ("b", [True, None, False, True]), ("tdD", [*DAYS, None]), ("tdm", [*DAYS, None]),
                   ("tsu:UTC", TIMES), ("tsn:Europe/Rome", TIMES), ("d:20,2", [*PRICES, None]), ("d:38,10,128", PRICES),
                   ("tss:UTC", TIMES[1:]), ("tsm:+01:00", TIMES[1:]), ("d:9,-2", [Decimal(700), Decimal(0), None]),
@@ -115,6 +129,8 @@ def of_arrow():
             yield (f"stream {form} at {offset}",
                    lambda form=form, fields=fields: Stream(form, [fields[:1], [], fields[1:3], fields[3:]], offset),
                    wanted)
+        inner = Column("c", [0], lookup=Column("u", ["a"]))
+        yield "arrow dictionary of a dictionary", lambda inner=inner: Column("c", [0], lookup=inner), None
         for codes, form in (("c", "u"), ("I", "vu"), ("l", "l"), ("C", "tdD")):
             values = {"u": TEXT_GAPS, "vu": TEXTS, "l": NUMBERS, "tdD": DAYS}[form]
             places = [1, 0, None, 3, 3]
@@ -131,7 +147,9 @@ def of_numpy():
         yield f"numpy {kind} with steps", lambda kind=kind: numpy.array(NUMBERS, kind)[::-2], NUMBERS[::-2]
         yield (f"numpy masked {kind}", lambda kind=kind: numpy.ma.array(NUMBERS, kind, mask=[0, 1, 0, 1, 0, 0]),
                [7, None, 100, None, 2, 7])
-        yield f"numpy unmasked {kind}", lambda kind=kind: numpy.ma.array(NUMBERS, kind), NUMBERS
+        edges = extremes(numpy.dtype(kind).itemsize, "i" in kind)
+        yield f"numpy edges of {kind}", lambda kind=kind, edges=edges: numpy.array(edges, kind), edges
+        yield f"numpy unmasked {kind}", lambda kind=kind, edges=edges: numpy.ma.array(edges, kind), edges
     for kind, fields in (("U", TEXTS), (">U9", ["a", "é"]), ("S", [b"a", b"", b"bc"]), ("?", [True, False]),
                          ("M8[D]", [*DAYS, None]), ("M8[W]", [date(1970, 1, 1), date(2024, 2, 29), None]),
                          (">M8[D]", [*DAYS, None]), ("M8[7D]", [date(1970, 1, 8), None]), ("f8", [])):
@@ -159,7 +177,8 @@ def of_pandas():
     for name, fields, maker in (
             ("int64", NUMBERS, lambda: NUMBERS), ("uint64", [999, 0], lambda: numpy.array([999, 0], "u8")),
             ("Int64", GAPS, lambda: pandas.array(GAPS, "Int64")),
-            ("UInt8", NUMBERS, lambda: pandas.array(NUMBERS, "UInt8")),
+            ("UInt64", extremes(8, 0), lambda: pandas.array(numpy.array(extremes(8, 0), "u8"), "UInt64")),
+            ("Int64", extremes(8, 1), lambda: pandas.array(numpy.array(extremes(8, 1)), "Int64")),
             ("boolean", [True, None], lambda: pandas.array([True, None], "boolean")),
             ("full boolean", [True, False], lambda: pandas.array([True, False], "boolean")),
             ("bool", [True, False], lambda: [True, False]),

@@ -1,6 +1,7 @@
 """Tests columns of NumPy and pandas with an installed copy of the package."""
 
 import pickle
+import sys
 import time
 import unittest
 import warnings
@@ -172,6 +173,14 @@ class Pandas(unittest.TestCase):
         for column in (*(pandas.Series(["a", None], dtype=kind) for kind in ("category", "string", object)),
                        numpy.ma.array(["a", "b"], mask=[0, 1])):
             self.refused(r"^items\[1\] is None: pass `missing`", TypeError, rapidhash.each, column)
+
+    def test_missing_objects_are_released(self):
+        lost = float("nan")
+        column = pandas.Series(["a", lost], dtype=object)
+        before = sys.getrefcount(lost)
+        self.assertEqual(list(rapidhash.each_key(column)), keys(["a", None]))
+        self.assertEqual(list(rapidhash.each(column, missing=3)), [rapidhash.v3("a"), 3])
+        self.assertEqual(sys.getrefcount(lost), before)
 
     def test_units_of_times(self):
         """From 2.0 on, pandas has other units than nanoseconds."""
