@@ -30,7 +30,7 @@ TEXT_GAPS = ["a", None, "", "b\0c" * 4, None, "é" * 7]  # Of views, 12 bytes li
 DAYS = [date(2024, 2, 29), date(1969, 12, 31), date(1, 1, 1), date(9999, 12, 31), date(1970, 1, 1), date(2000, 1, 1)]
 TIMES = [datetime(2024, 2, 29, 12, 34, 56, 789012, timezone.utc), datetime(1969, 12, 31, tzinfo=timezone.utc),
          None, datetime(1700, 1, 1, tzinfo=timezone.utc)]
-PRICES = [Decimal(text) for text in ("0", "-1.5", "100", "0.05", "123456789.25", "-0.01", "12")]
+PRICES = [Decimal(text) for text in ("0", "-1.5", "100", "0.05", "123456789.25", "-0.01", "-18446744073709551616")]
 
 
 def encoding(field):
@@ -129,6 +129,9 @@ def of_arrow():
             yield (f"stream {form} at {offset}",
                    lambda form=form, fields=fields: Stream(form, [fields[:1], [], fields[1:3], fields[3:]], offset),
                    wanted)
+        millis = [None, array("q", [-1, -86_400_001, 5]).tobytes()]
+        yield ("arrow times of days", lambda millis=millis: Column("tdm", [0] * 3, buffers=millis),
+               [date(1969, 12, 31), date(1969, 12, 30), date(1970, 1, 1)])
         inner = Column("c", [0], lookup=Column("u", ["a"]))
         yield "arrow dictionary of a dictionary", lambda inner=inner: Column("c", [0], lookup=inner), None
         for codes, form in (("c", "u"), ("I", "vu"), ("l", "l"), ("C", "tdD")):
