@@ -105,6 +105,7 @@ def plain():
         edges = array(letter, extremes(array(letter).itemsize, letter.islower()))
         yield f"edges of {letter}", lambda edges=edges: edges, list(edges)
         yield f"view of {letter}", lambda letter=letter: memoryview(array(letter, NUMBERS))[::-2], NUMBERS[::-2]
+    yield "long array", lambda: array("H", range(200)), [*range(200)]
     yield "view of bools", lambda: memoryview(b"\1\0").cast("?"), [True, False]
     yield "view of rows", lambda: memoryview(bytes(4)).cast("B", (2, 2)), None
     yield "list of a class without a module", lambda: type("Texts", (list,), {"__module__": None})(TEXTS), TEXTS
@@ -171,6 +172,8 @@ def of_numpy():
            lambda: numpy.ma.array(numpy.array([*DAYS[:2], None], "M8[D]"), mask=[1, 0, 0]), [None, DAYS[1], None])
     for kind in ("M8[h]", "M8[us]", "M8[Y]", "m8[D]", "f8", "c16", "V4"):
         yield f"numpy {kind}", lambda kind=kind: numpy.zeros(2, kind), None
+    yield ("numpy long masked", lambda: numpy.ma.array(range(200), mask=[at % 63 == 0 for at in range(200)]),
+           [at if at % 63 else None for at in range(200)])
     yield "numpy masked texts", lambda: numpy.ma.array(["a", "b"], mask=[0, 1]), ["a", None]
 
 
