@@ -62,7 +62,7 @@ def _of_times(times: Any, unit: str) -> Column:
         times //= 1000
     else:
         factor = {"s": 10**6, "ms": 1000, "us": 1}[unit]
-        if (abs(times) > 2**63 // factor - 1).any():
+        if (abs(times) > (2**63 - 1) // factor).any():
             raise Refused("a time must fit into 64 bits of microseconds", ValueError)
         times *= factor
     return Column(times, len(times), "f", mask)
@@ -108,7 +108,7 @@ def _of_pandas(pandas: Any, numpy: Any, column: Any) -> Column:
     dtype = column.dtype
     items = column.array if isinstance(column, (pandas.Series, pandas.Index)) else column
     if isinstance(dtype, pandas.CategoricalDtype):
-        return Column(items.categories.to_numpy(dtype=object), len(items), codes=items.codes, isna=pandas.isna)
+        return Column(items.categories.to_numpy(dtype=object), len(items), codes=items.codes)
     if isinstance(dtype, pandas.DatetimeTZDtype):
         return _of_times(items.asi8, getattr(dtype, "unit", "ns"))
     if isinstance(dtype, pandas.SparseDtype):
@@ -170,7 +170,7 @@ def _of_any(name: str, kind: str, column: Any) -> Column | None:
         return _of_numpy(numpy, column)
     if isinstance(column, _own()):
         return _of_pandas(sys.modules["pandas"], numpy, column)
-    if type(column).__module__.partition(".")[0] in ("dask", "dask_expr"):
+    if str(type(column).__module__).partition(".")[0] in ("dask", "dask_expr"):
         raise Refused("call .map_partitions with a function that hashes a part, or .compute() it")
     if has(column, "columns"):
         raise Refused("pass its columns")
@@ -216,7 +216,7 @@ def pick(column: Column, missing: Any, call: Any) -> Any:
     if column.codes is None or missing is None and (column.codes < 0).any():
         return None
     try:
-        hashes = call(Column(column.values, len(column.values), isna=column.isna))
+        hashes = call(Column(column.values, len(column.values)))
     except Exception:
         return None
     numpy: Any = sys.modules["numpy"]

@@ -41,9 +41,13 @@ def _is_missing(value: Any) -> bool:
 def _of_time(time: Any) -> int:
     if time.utcoffset() is None:
         raise TypeError("a time must have an offset from UTC: .replace(tzinfo=timezone.utc) or .astimezone() gives one")
-    if isinstance(time, _class("pandas", "Timestamp")) and time.nanosecond:
+    if not isinstance(time, _class("pandas", "Timestamp")):
+        passed = datetime.__sub__(time, _EPOCH)  # A class of its own may have another difference.
+    elif time.nanosecond:
         raise ValueError("a time must be a whole number of microseconds: .floor('us') cuts it")
-    return int((time - _EPOCH) // timedelta(microseconds=1))
+    else:
+        passed = time - _EPOCH  # Its year can be above those of a datetime.
+    return int(passed // timedelta(microseconds=1))
 
 
 def _of_decimal(number: Decimal) -> str:

@@ -199,12 +199,6 @@ class Arrow(unittest.TestCase):
                 columns = (self.column(form, NUMBERS, offset), self.column("uU"[offset % 2], TEXTS, offset),
                            list(range(11)))
                 self.assertEqual(list(rapidhash.each_key(*columns)), wanted)
-        extremes = {"c": 2**7, "s": 2**15, "i": 2**31, "l": 2**63}
-        for form, bound in extremes.items():
-            found = rapidhash.each_key(self.column(form, [-bound, bound - 1, -1]), seed=7)
-            self.assertEqual(list(found), [rapidhash.v3_key(number, seed=7) for number in (-bound, bound - 1, -1)])
-        for form, most in (("C", 2**8 - 1), ("S", 2**16 - 1), ("I", 2**32 - 1), ("L", 2**64 - 1)):
-            self.assertEqual(rapidhash.each_key(self.column(form, [most]))[0], rapidhash.v3_key(most))
 
     def test_nulls(self):
         """A count of 0 hides the bits, of which there may be none, and -1 is an unknown count."""
@@ -271,7 +265,7 @@ class Arrow(unittest.TestCase):
                 *((lambda place=place: key(self.column("i", [0, place], lookup=Column("u", ["a"]))), ValueError,
                    r"^columns\[0\]\[1\] has a place outside of its data$") for place in (1, -1, 2**31 - 1)),
                 *((lambda view=view: each(self.column("vu", [1], buffers=[
-                    None, array.array("i", view).tobytes(), bytes(20), array.array("q", [20]).tobytes()])),
+                    None, array.array("i", view).tobytes(), bytes(20), array.array("q", [20] * 2).tobytes()])),
                    ValueError, r"^items\[0\] has a place outside of its data$")
                   for view in ([13, 0, 0, 8], [20, 0, 1, 0], [20, 0, -1, 0], [20, 0, 0, -1], [-1, 0, 0, 0])),
                 (lambda: key(self.column("tsn:UTC", [0], buffers=[None, array.array("q", [1]).tobytes()])), ValueError,
@@ -283,6 +277,8 @@ class Arrow(unittest.TestCase):
                  r"^columns\[1\] has 2 rows, and columns\[0\] has 1$"),
                 (lambda: each(self.column("u", ["", ""], buffers=short)), ValueError,
                  r"^items\[1\] has offsets that do not ascend from 0$"),
+                (lambda: each(self.column("u", [""], buffers=[None, ones, None])), ValueError,
+                 r"^items\[0\] has a place outside of its data$"),
                 (lambda: each(self.column("u", [""], buffers=below)), ValueError,
                  r"^items\[0\] has offsets that do not"),
                 (lambda: key(self.column("u", ["", ""], buffers=short)), ValueError, r"^columns\[0\]\[1\] has offsets"),

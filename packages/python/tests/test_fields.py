@@ -10,7 +10,7 @@ import tempfile
 import unittest
 import unittest.mock
 from array import array
-from datetime import date, datetime
+from datetime import date, datetime, timezone
 from decimal import Decimal
 from uuid import UUID
 
@@ -92,6 +92,10 @@ class Fields(unittest.TestCase):
             program = f"import ctypes, rapidhash; ctypes.CDLL({fast!r}); print(rapidhash.float_bits(-5e-324))"
             printed = subprocess.run([sys.executable, "-c", program], capture_output=True, text=True, check=True)
         self.assertEqual(int(printed.stdout), 2**63 + 1)
+
+    def test_times_of_a_class_with_a_difference_of_its_own(self):
+        time = type("Time", (datetime,), {"__sub__": lambda *_: []})(1969, 12, 31, 23, 59, 59, 5, timezone.utc)
+        self.assertEqual(rapidhash.v3_key(time), rapidhash.v3_key(-999_995))
 
     def test_items_of_an_iterator_that_fills_one_list_again(self):
         def rows():

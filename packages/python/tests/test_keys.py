@@ -180,6 +180,11 @@ class Keys(unittest.TestCase):
         with self.assertRaises(IndexError):
             rapidhash.each_key(names, [Shrinking()] * 3)
 
+    def test_objects_before_a_buffer(self):
+        """Their code needs the lock, without which buffers alone are hashed."""
+        number = type("Number", (), {"__index__": lambda self: 7})()
+        self.assertEqual(list(rapidhash.each_key([number], memoryview(b"a"))), [rapidhash.v3_key(7, 97)])
+
 
 if __name__ == "__main__":
     unittest.main()

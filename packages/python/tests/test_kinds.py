@@ -5,6 +5,7 @@ import unittest
 from array import array
 from datetime import date, datetime, timezone
 from decimal import Decimal
+from itertools import tee
 from uuid import UUID
 
 import rapidhash
@@ -25,11 +26,11 @@ COUNT = 1000
 TEXTS = ["a", "", "b\0c", "é" * 200, "Åsa", "a"]
 NUMBERS = [7, 0, 100, 127, 2, 7]
 GAPS = [7, None, 100, None, 2, 7]
-TEXT_GAPS = ["a", None, "", "b\0c", None, "a"]
+TEXT_GAPS = ["a", None, "", "b\0c" * 4, None, "é" * 7]  # Of views, 12 bytes lie in the view.
 DAYS = [date(2024, 2, 29), date(1969, 12, 31), date(1, 1, 1), date(9999, 12, 31), date(1970, 1, 1), date(2000, 1, 1)]
 TIMES = [datetime(2024, 2, 29, 12, 34, 56, 789012, timezone.utc), datetime(1969, 12, 31, tzinfo=timezone.utc),
-         None, datetime(1970, 1, 1, tzinfo=timezone.utc)]
-PRICES = [Decimal(text) for text in ("0", "-1.5", "100", "0.05", "123456789.25", "-0.01", "12")]
+         None, datetime(1700, 1, 1, tzinfo=timezone.utc)]
+PRICES = [Decimal(text) for text in ("0", "-1.5", "100", "0.05", "123456789.25", "-0.01", "-18446744073709551616")]
 
 
 def encoding(field):
@@ -60,24 +61,36 @@ def message(item):
 
 
 def answers(fields):
-    """Returns what each call must return of these fields, or None for what it must refuse."""
+    """Returns what each call must return of these fields, or None for what it must refuse, as all do without fields."""
+    if fields is None:
+        return dict.fromkeys(CALLS)
     are_hashes = all(isinstance(field, int) and not isinstance(field, bool) and 0 <= field < 2**64 for field in fields)
     are_messages = all(field is None or isinstance(field, (str, bytes)) for field in fields)
     found = {"each": [message(field) for field in fields] if are_messages else None,
-             "each_key": [hashed(encoding(field)) for field in fields]}
+             "each_key": [hashed(encoding(field)) for field in fields],
+             "pairs": [hashed(encoding(field) * 2) for field in fields]}
     decided = {"shard": lambda number: number * COUNT >> 64, "bucket": lambda number: rapidhash.bucket(number, COUNT),
                "first_hash": lambda number: -(-number * 2**64 // COUNT) % 2**64}
     if hash_of is not None:
         decided["bucket"] = lambda number: bucket(number, COUNT)
     for name, call in decided.items():
         found[name] = [call(field) for field in fields] if are_hashes else None
+    if are_hashes and max(fields, default=0) >= COUNT:
+        found["first_hash"] = None
     return {**found, "fingerprint": sum(fields) % 2**64 if are_hashes else None}
 
 
 CALLS = {"each": lambda column: rapidhash.each(column, missing=5), "each_key": rapidhash.each_key,
+         "pairs": lambda column: rapidhash.each_key(*(tee(column) if hasattr(column, "__next__") else [column] * 2)),
          "shard": lambda column: rapidhash.shard(column, COUNT),
          "bucket": lambda column: rapidhash.bucket(column, COUNT),
          "first_hash": lambda column: rapidhash.first_hash(column, COUNT), "fingerprint": rapidhash.fingerprint}
+
+
+def extremes(size, is_signed):
+    """Returns integers of so many bytes."""
+    most = 2 ** (8 * size - is_signed)
+    return [most - 1, most // 2, -most * is_signed, most - 2]
 
 
 def plain():
@@ -89,8 +102,13 @@ def plain():
             yield f"{kind.__name__} of {name}", lambda kind=kind, fields=fields: kind(fields), fields
     for letter in "bBhHiIlLqQ":
         yield f"array of {letter}", lambda letter=letter: array(letter, NUMBERS), NUMBERS
+        edges = array(letter, extremes(array(letter).itemsize, letter.islower()))
+        yield f"edges of {letter}", lambda edges=edges: edges, list(edges)
         yield f"view of {letter}", lambda letter=letter: memoryview(array(letter, NUMBERS))[::-2], NUMBERS[::-2]
+    yield "long array", lambda: array("H", range(200)), [*range(200)]
     yield "view of bools", lambda: memoryview(b"\1\0").cast("?"), [True, False]
+    yield "view of rows", lambda: memoryview(bytes(4)).cast("B", (2, 2)), None
+    yield "list of a class without a module", lambda: type("Texts", (list,), {"__module__": None})(TEXTS), TEXTS
 
 
 def of_arrow():
@@ -98,6 +116,7 @@ def of_arrow():
     for offset in (0, 3, 8):
         kinds = [(form, TEXT_GAPS) for form in ("u", "U", "z", "Z", "vu", "vz")]
         kinds += [(form, GAPS) for form in "cCsSiIlL"] + [(form, NUMBERS) for form in "cCsSiIlL"]
+        kinds += [(form, extremes(2 ** (at // 2), at % 2 == 0)) for at, form in enumerate("cCsSiIlL")]
         kinds += [("n", [None] * 6), ("b", [True, None, False, True]), ("tdD", [*DAYS, None]), ("tdm", [*DAYS, None]),
                   ("tsu:UTC", TIMES), ("tsn:Europe/Rome", TIMES), ("d:20,2", [*PRICES, None]), ("d:38,10,128", PRICES),
                   ("tss:UTC", TIMES[1:]), ("tsm:+01:00", TIMES[1:]), ("d:9,-2", [Decimal(700), Decimal(0), None]),
@@ -111,6 +130,11 @@ def of_arrow():
             yield (f"stream {form} at {offset}",
                    lambda form=form, fields=fields: Stream(form, [fields[:1], [], fields[1:3], fields[3:]], offset),
                    wanted)
+        millis = [None, array("q", [-1, -86_400_001, 5]).tobytes()]
+        yield ("arrow times of days", lambda millis=millis: Column("tdm", [0] * 3, buffers=millis),
+               [date(1969, 12, 31), date(1969, 12, 30), date(1970, 1, 1)])
+        inner = Column("c", [0], lookup=Column("u", ["a"]))
+        yield "arrow dictionary of a dictionary", lambda inner=inner: Column("c", [0], lookup=inner), None
         for codes, form in (("c", "u"), ("I", "vu"), ("l", "l"), ("C", "tdD")):
             values = {"u": TEXT_GAPS, "vu": TEXTS, "l": NUMBERS, "tdD": DAYS}[form]
             places = [1, 0, None, 3, 3]
@@ -127,7 +151,9 @@ def of_numpy():
         yield f"numpy {kind} with steps", lambda kind=kind: numpy.array(NUMBERS, kind)[::-2], NUMBERS[::-2]
         yield (f"numpy masked {kind}", lambda kind=kind: numpy.ma.array(NUMBERS, kind, mask=[0, 1, 0, 1, 0, 0]),
                [7, None, 100, None, 2, 7])
-        yield f"numpy unmasked {kind}", lambda kind=kind: numpy.ma.array(NUMBERS, kind), NUMBERS
+        edges = extremes(numpy.dtype(kind).itemsize, "i" in kind)
+        yield f"numpy edges of {kind}", lambda kind=kind, edges=edges: numpy.array(edges, kind), edges
+        yield f"numpy unmasked {kind}", lambda kind=kind, edges=edges: numpy.ma.array(edges, kind), edges
     for kind, fields in (("U", TEXTS), (">U9", ["a", "é"]), ("S", [b"a", b"", b"bc"]), ("?", [True, False]),
                          ("M8[D]", [*DAYS, None]), ("M8[W]", [date(1970, 1, 1), date(2024, 2, 29), None]),
                          (">M8[D]", [*DAYS, None]), ("M8[7D]", [date(1970, 1, 8), None]), ("f8", [])):
@@ -142,6 +168,12 @@ def of_numpy():
                lambda made=made, fields=fields: made(mask=[1] + [0] * (len(fields) - 1)), [None, *fields[1:]])
     yield ("numpy masked days", lambda: numpy.ma.array(numpy.array(DAYS, "M8[D]"), mask=[0, 1, 0, 0, 0, 1]),
            [DAYS[0], None, *DAYS[2:5], None])
+    yield ("numpy masked days and none",
+           lambda: numpy.ma.array(numpy.array([*DAYS[:2], None], "M8[D]"), mask=[1, 0, 0]), [None, DAYS[1], None])
+    for kind in ("M8[h]", "M8[us]", "M8[Y]", "m8[D]", "f8", "c16", "V4"):
+        yield f"numpy {kind}", lambda kind=kind: numpy.zeros(2, kind), None
+    yield ("numpy long masked", lambda: numpy.ma.array(range(200), mask=[at % 63 == 0 for at in range(200)]),
+           [at if at % 63 else None for at in range(200)])
     yield "numpy masked texts", lambda: numpy.ma.array(["a", "b"], mask=[0, 1]), ["a", None]
 
 
@@ -151,8 +183,10 @@ def of_pandas():
     for name, fields, maker in (
             ("int64", NUMBERS, lambda: NUMBERS), ("uint64", [999, 0], lambda: numpy.array([999, 0], "u8")),
             ("Int64", GAPS, lambda: pandas.array(GAPS, "Int64")),
-            ("UInt8", NUMBERS, lambda: pandas.array(NUMBERS, "UInt8")),
+            ("UInt64", extremes(8, 0), lambda: pandas.array(numpy.array(extremes(8, 0), "u8"), "UInt64")),
+            ("Int64", extremes(8, 1), lambda: pandas.array(numpy.array(extremes(8, 1)), "Int64")),
             ("boolean", [True, None], lambda: pandas.array([True, None], "boolean")),
+            ("full boolean", [True, False], lambda: pandas.array([True, False], "boolean")),
             ("bool", [True, False], lambda: [True, False]),
             ("string", TEXT_GAPS, lambda: pandas.array(TEXT_GAPS, "string")),
             ("object", ["a", None, None, None, None, "a"], lambda: ["a", None, nan, pandas.NA, pandas.NaT, "a"]),
@@ -163,17 +197,23 @@ def of_pandas():
             ("category of integers", GAPS, lambda: pandas.Categorical(GAPS)),
             ("full category", NUMBERS, lambda: pandas.Categorical(NUMBERS)),
             ("unused category", ["a", "b"], lambda: pandas.Categorical(["a", "b"], [1.5, "a", "b"])),
-            ("sparse", [0, 7, 0], lambda: pandas.arrays.SparseArray([0, 7, 0])),
+            ("sparse", [0, 7, 9], lambda: pandas.arrays.SparseArray([0, 7, 9])),
             ("nothing", [None, None], lambda: [nan, nan]),
             ("Float64 nothing", [None], lambda: pandas.array([None], "Float64"))):
         yield f"pandas {name} Series", lambda maker=maker: pandas.Series(maker())[::-1], fields[::-1]
-        yield f"pandas {name} with labels", lambda maker=maker: pandas.Series(
-            maker(), index=["mask", "filled", "columns", "isna", "dtype", "values", "x"][:len(maker())]), fields
+        yield (f"pandas {name} with labels", lambda maker=maker: pandas.Series(
+            maker(), "mask filled columns isna dtype __arrow_c_array__ kind".split()[:len(maker())]), fields)
         if name not in ("bool", "mixed", "nothing", "dates"):
             yield f"pandas {name} Index", lambda maker=maker: pandas.Index(maker()), fields
         if hasattr(maker(), "isna"):
             yield f"pandas {name} array", maker, fields
     yield "pandas range", lambda: pandas.RangeIndex(3), [0, 1, 2]
+    for name, maker in (
+            ("float64", lambda: [1.5, nan]), ("Float64", lambda: pandas.array([1.5, None], "Float64")),
+            ("nanoseconds", lambda: pandas.to_datetime([1000, 1], utc=True)),
+            ("local", lambda: pandas.to_datetime([0])), ("durations", lambda: pandas.to_timedelta([1])),
+            ("intervals", lambda: pandas.cut([1, 2], 2)), ("periods", lambda: pandas.period_range("2024", periods=2))):
+        yield f"pandas {name}", lambda maker=maker: pandas.Series(maker()), None
 
 
 class Kinds(unittest.TestCase):
@@ -186,10 +226,12 @@ class Kinds(unittest.TestCase):
                 column = make()
                 with self.subTest(column=name, call=call):
                     if wanted is None:
-                        with self.assertRaises((TypeError, OverflowError)) as caught:
+                        with self.assertRaises((TypeError, ValueError, OverflowError)) as caught:
                             CALLS[call](column)
                         self.assertRegex(str(caught.exception), r"^(items|hashes|shards|columns\[0\])")
                         continue
+                    if not hasattr(column, "__next__"):
+                        CALLS[call](column)  # It leaves the column as it is.
                     found = CALLS[call](column)
                     self.assertEqual(found if call == "fingerprint" else [*map(int, found)], wanted)
                     self.has_its_kind(column, found, call)
@@ -203,7 +245,7 @@ class Kinds(unittest.TestCase):
             self.assertIs(type(found), pandas.Series)
             self.assertIs(found.index, column.index)
             self.assertEqual(found.dtype, "uint64")
-        elif "numpy" in type(column).__module__ or "pandas" in type(column).__module__:
+        elif str(type(column).__module__).startswith(("numpy", "pandas")):
             self.assertIs(type(found), numpy.ndarray)
             self.assertEqual(found.dtype, "uint64")
         else:

@@ -1,11 +1,13 @@
 """Tests columns of NumPy and pandas with an installed copy of the package."""
 
 import pickle
+import sys
 import time
 import unittest
 import warnings
 
 import rapidhash
+from rapidhash import _columns
 
 try:
     import numpy
@@ -39,8 +41,6 @@ class Pandas(unittest.TestCase):
         self.assertEqual(list(rapidhash.each_key(frame.a, frame.b)), keys(*zip(*rows)))
         self.assertEqual(list(rapidhash.each_key(frame.T[0], frame.T[3])), keys(rows[0], rows[3]))
         self.assertEqual(list(rapidhash.each_key(numpy.broadcast_to(array[:1], 3))), keys([7] * 3))
-        for kind in "int8 uint8 int16 uint16 int32 uint32 int64 uint64".split():
-            self.assertEqual(list(rapidhash.each_key(numpy.arange(9, dtype=kind)[1::3])), keys([1, 4, 7]))
 
     def test_strides_and_out(self):
         room = numpy.zeros(20, "uint64")
@@ -48,17 +48,6 @@ class Pandas(unittest.TestCase):
             self.refused(r"^out must not overlap columns\[1\]$", ValueError,
                          rapidhash.each_key, [1] * 10, column, out=out)
         self.assertEqual(list(rapidhash.each_key(room[9::-1], out=room[10:])), keys([0] * 10))
-
-    def test_masked_items_are_missing(self):
-        for values, none in ((NUMBERS[:3], 5), (["a", "b", "c"], "z")):
-            for mask in ([0, 1, 0], [1, 1, 1], [0, 0, 0], False):
-                column = numpy.ma.array(values, mask=mask)
-                wanted = column.tolist(none)
-                items = [None if item == none else item for item in wanted]
-                self.assertEqual(list(rapidhash.each_key(column, [1] * 3)), keys(items, [1] * 3))
-        texts = numpy.ma.array(["a", "b"], mask=[0, 1])
-        self.assertEqual(list(rapidhash.each(texts, missing=3)), [rapidhash.v3("a"), 3])
-        self.refused(r"^items\[1\] is None: pass `missing`", TypeError, rapidhash.each, texts)
 
     def test_masked_times_are_no_integers(self):
         """Where a time has no date or duration of Python, NumPy's lists have its number."""
@@ -90,15 +79,7 @@ class Pandas(unittest.TestCase):
         self.refused(r"^columns\[0\]: a time must be a whole number of microseconds", ValueError, rapidhash.each_key,
                      pandas.Series([1]).astype("M8[ns, UTC]"))
 
-    def test_labels_are_the_users(self):
-        labels = "filled columns __arrow_c_array__ isna mask dtype kind".split()
-        series = pandas.Series(range(7), labels, "uint64")
-        self.assertEqual(rapidhash.fingerprint(series), 21)
-        self.assertEqual(list(rapidhash.shard(series, 2**64 - 1)), [0, *range(6)])
-        self.assertEqual(list(rapidhash.each_key(series)), keys(range(7)))
-        texts = pandas.Series(list("abcdefg"), labels)
-        self.assertEqual(list(rapidhash.each(texts)), [rapidhash.v3(text) for text in "abcdefg"])
-        self.assertEqual(list(rapidhash.each_key(texts)), keys("abcdefg"))
+    def test_names_are_the_users(self):
         records = numpy.rec.array([(1, 2)], dtype=[("mask", "i4"), ("filled", "i4")])
         self.assertEqual(rapidhash.v3(records), rapidhash.v3(records.tobytes()))
         self.assertEqual(rapidhash.each_row(records, 8)[0], rapidhash.v3(records.tobytes()))
@@ -182,12 +163,32 @@ class Pandas(unittest.TestCase):
     def test_bools(self):
         self.assertEqual(list(rapidhash.each_key([numpy.int64(1), numpy.bool_(True), True, numpy.bool_(False)])),
                          keys([1, 1, 1, 0]))
-        for column, items in ((list(numpy.array([True, False])), [1, 0]), (pandas.Series([True, False]), [1, 0]),
-                              (pandas.Series([True, None], dtype="boolean"), [1, None]),
-                              (pandas.array([True, None], dtype="boolean"), [1, None])):
-            self.assertEqual(list(rapidhash.each_key(column)), keys(items))
         for kind in "int8 uint8 int16 uint16 int32 uint32 int64 uint64".split():
             self.assertEqual(list(rapidhash.each_key(list(numpy.array([1, 0], kind)))), keys([1, 0]))
+
+    def test_rows_of_several_columns(self):
+        series = pandas.Series([2, 3], index=[7, 9])
+        self.assertIs(rapidhash.each_key([1, 1], numpy.array([0, 0]), series).index, series.index)
+        self.assertIs(type(rapidhash.each_key([1, 1], numpy.array([0, 0]))), numpy.ndarray)
+        for column in (*(pandas.Series(["a", None], dtype=kind) for kind in ("category", "string", object)),
+                       numpy.ma.array(["a", "b"], mask=[0, 1])):
+            self.refused(r"^items\[1\] is None: pass `missing`", TypeError, rapidhash.each, column)
+
+    def test_missing_objects_are_released(self):
+        lost = float("nan")
+        column = pandas.Series(["a", lost], dtype=object)
+        before = sys.getrefcount(lost)
+        self.assertEqual(list(rapidhash.each_key(column)), keys(["a", None]))
+        self.assertEqual(list(rapidhash.each(column, missing=3)), [rapidhash.v3("a"), 3])
+        self.assertEqual(sys.getrefcount(lost), before)
+
+    def test_units_of_times(self):
+        """From 2.0 on, pandas has other units than nanoseconds."""
+        for unit, one in (("s", 10**6), ("ms", 1000), ("us", 1)):
+            times = [1, -2, (2**63 - 1) // one, -((2**63 - 1) // one)]
+            found = rapidhash._each_key([_columns._of_times(numpy.array([*times, -2**63]), unit)], None, None, None)
+            self.assertEqual(found, rapidhash.each_key([*(time * one for time in times), None]))
+        self.assertRaises(_columns.Refused, _columns._of_times, numpy.array([-2**63 // 1000]), "ms")
 
     def test_nullable_columns_are_not_slow(self):
         def cost(column):
