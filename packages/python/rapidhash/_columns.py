@@ -71,7 +71,10 @@ def _of_times(times: Any, unit: str) -> Column:
 def _of_days(numpy: Any, days: Any) -> Column:
     if numpy.datetime_data(days.dtype)[0] not in "DW":
         raise Refused("a time of NumPy has no offset: pandas.Series(times).dt.tz_localize('UTC') gives one")
-    return Column(days.astype("M8[D]").view("i8"), len(days), "f", numpy.isnat(days))
+    whole, missing = days.astype("M8[D]"), numpy.isnat(days)
+    if (whole.astype(days.dtype) != days)[~missing].any():
+        raise Refused("a date must fit into 64 bits of days", ValueError)
+    return Column(whole.view("i8"), len(days), "f", missing)
 
 
 def _of_numpy(numpy: Any, items: Any, isna: Any = None) -> Column:

@@ -74,9 +74,10 @@ def _of_list(value: list[Any] | tuple[Any, ...]) -> list[Any]:
 def _of_numpy(value: Any) -> list[int | None] | None:
     """Returns the fields of a day of NumPy, or None for a time, which has no offset."""
     numpy = sys.modules["numpy"]
-    if numpy.datetime_data(value)[0] != "D":
+    unit, count = numpy.datetime_data(value)  # such as 7 days
+    if unit not in ("D", "W"):
         return None
-    return [None if numpy.isnat(value) else int(value.astype("M8[D]").astype("int64"))]  # of a unit such as 7 days
+    return [None if numpy.isnat(value) else int(value.astype("int64")) * count * (7 if unit == "W" else 1)]
 
 
 def fields_of(value: Any) -> list[Any] | None:

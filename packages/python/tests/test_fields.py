@@ -118,8 +118,11 @@ class Fields(unittest.TestCase):
         utc = pandas.Timestamp("2024-02-29T12:34:56.789012Z")
         for value, field in ((numpy.bool_(True), 1), (numpy.datetime64("2024-02-29"), 19782), (utc, 1709210096789012),
                              (numpy.datetime64("NaT", "D"), None), (pandas.NA, None), (pandas.NaT, None),
-                             (numpy.uint64(2**64 - 1), -1), (numpy.datetime64("2024-02-29", "7D"), 19782)):
+                             (numpy.uint64(2**64 - 1), -1), (numpy.datetime64("2024-02-29", "7D"), 19782),
+                             (numpy.datetime64("2024-02-29", "W"), 19782)):
             self.assertEqual(rapidhash.v3_key(value), rapidhash.v3_key(field), value)
+        self.assertRaises(OverflowError, rapidhash.v3_key, numpy.datetime64(2**62, "W"))
+        self.assertRaises(ValueError, rapidhash.each_key, numpy.array([2**62], "M8[W]"))
         for value in (utc + pandas.Timedelta(1), utc.tz_localize(None), numpy.datetime64("2024-02-29T00:00"),
                       numpy.timedelta64(1, "D"), pandas.Timedelta(1), numpy.float64(1), numpy.array([1])):
             self.assertRaises((TypeError, ValueError), rapidhash.v3_key, value)
