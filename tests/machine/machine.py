@@ -41,7 +41,8 @@ MODULES = {
     "SQLite's module": ("make -s sqlite", TOP / "build/rapidhash.so", OWN),
     "PostgreSQL's module": ("make -s postgresql", TOP / "build/postgresql/rapidhash.so", OWN),
     "Python's module": ("make -s wheel && python3 -m zipfile -e build/wheels/*.whl $ROOM",
-                        ROOM / "rapidhash/_extension.abi3.so", dict.fromkeys(FORMS, "rapidhash_{version}{form}")),
+                        ROOM / "rapidhash/_extension.abi3.so",
+                        dict.fromkeys(FORMS, "rapidhash_{version}{form}") | {FORMS[0]: "with_secrets_{version}"}),
 }
 detail = print if "-v" in sys.argv else None
 
@@ -188,6 +189,8 @@ PARTS = {
 }
 gcc = faults.built("gcc -O2")
 kit = faults.linked(KIT, "kit") if KIT.exists() else None
+if kit:
+    kit.extensions = ("pextrq",)  # it is for x86-64-v2
 program = None if lacks("go") else go.Program()
 arm = None if lacks(*ARM64_TOOLS) else faults.built(ARM64[0], target="arm64")
 PARTS.get(MODE, check_gate)()
