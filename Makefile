@@ -237,7 +237,7 @@ release:
 
 # What registries take, and the sources of the commit.
 sources:
-	@mkdir -p build/sources && git -c tar.umask=0022 -c tar.tar.gz.command='gzip -n9' archive \
+	@mkdir -p build/sources && git -c tar.umask=0022 -c core.autocrlf=false -c tar.tar.gz.command='gzip -n9' archive \
 	  --prefix=yervound-$(release)/ -o build/sources/yervound-$(release).tar.gz HEAD
 
 crate:
@@ -246,8 +246,9 @@ crate:
 
 gomodule:
 	@mkdir -p build && date="@$(epoch) +0000" && commit=$$(GIT_AUTHOR_DATE=$$date GIT_COMMITTER_DATE=$$date \
-	  git -c user.name=go -c user.email=go commit-tree -m go HEAD:packages/go) && TZ=UTC git archive --format=zip \
-	  --prefix=yervound.example/rapidhash@v$(release)/ -o build/yervound-rapidhash-go-$(release).zip "$$commit"
+	  git -c user.name=go -c user.email=go commit-tree -m go HEAD:packages/go) && TZ=UTC git -c core.autocrlf=false \
+	  archive --format=zip --prefix=yervound.example/rapidhash@v$(release)/ \
+	  -o build/yervound-rapidhash-go-$(release).zip "$$commit"
 
 # The next eight are not part of the gate, because they take some additional minutes.
 test-edits:

@@ -117,16 +117,16 @@ releases_a_commit() {
     sha256sum --check SHA256SUMS | grep -c ': OK$' | grep -x "$((${#files[@]} + 2))"
 }
 
-# Checks that two copies of a commit have the same packages, byte for byte, in other directories, times, masks and
-# locales.
+# Checks that two copies of a commit have the same packages, byte for byte, in other directories, times, masks, locales
+# and settings of git.
 packs_the_same_bytes() (
-  local place
+  local place settings=()
   for place in one 'a place'; do
-    git clone -q -s "$top" "$room/$place" &&
+    git clone -q -s "${settings[@]}" "$top" "$room/$place" &&
       make -s -C "$room/$place" npm wheel jar javadoc sources crate gomodule || return
     (cd "$room/$place/build" && sha256sum -- *.t*gz sources/* *.crate *.zip *.jar wheels/*.*) >"$room/$place.sums"
     export TZ=Asia/Tokyo LC_ALL=C.UTF-8
-    umask 077
+    umask 077 && settings=(-c core.autocrlf=true -c tar.umask=0007)
   done
   [ "$(wc -l <"$room/one.sums")" -eq 9 ] && diff "$room/one.sums" "$room/a place.sums"
 )
