@@ -149,21 +149,13 @@ static PyMethodDef calls[] = {
 /* The module's state: the classes of secrets, that of V1 second. Each interpreter has its own. */
 static int exec_module(PyObject *module)
 {
-    PyObject **classes = PyModule_GetState(module), *stream, *secrets = PyImport_ImportModule("rapidhash._secrets");
-    int status;
+    PyObject **classes = PyModule_GetState(module), *secrets = PyImport_ImportModule("rapidhash._secrets");
     if (secrets == NULL)
         return -1;
     classes[0] = PyObject_GetAttrString(secrets, "Secrets");
     classes[1] = PyObject_GetAttrString(secrets, "SecretsV1");
     Py_DECREF(secrets);
-    if (classes[0] == NULL || classes[1] == NULL)
-        return -1;
-    stream = PyType_FromSpec(&rapidhash_stream_spec);
-    if (stream == NULL)
-        return -1;
-    status = PyObject_SetAttrString(module, "Stream", stream);
-    Py_DECREF(stream);
-    return status;
+    return classes[0] == NULL || classes[1] == NULL ? -1 : add_streams(module);
 }
 
 /* Before 3.9, the garbage collector also visits a module that has no state yet. */

@@ -297,8 +297,8 @@ PyObject *first_hash(PyObject *module, PyObject *const *args, Py_ssize_t count);
 PyObject *bucket(PyObject *module, PyObject *const *args, Py_ssize_t count);
 PyObject *fingerprint(PyObject *module, PyObject *described);
 
-/* The base class of the hashers. */
-extern PyType_Spec rapidhash_stream_spec;
+/* Adds the base classes of the hashers to the module. Returns 0, or -1 with an error set. */
+int add_streams(PyObject *module);
 
 #ifdef __GNUC__
 #pragma GCC visibility pop

@@ -1,101 +1,47 @@
-/* The base class of the hashers: hashes a message in pieces. Each hasher has a lock, so that threads can share it. */
-#include "extension.h"
-#include <pythread.h>
+/* The methods of the hashers, which hash a message in pieces. Threads can share a hasher. */
+#include "hasher.h"
 
-struct hasher {
-    PyObject_HEAD
-    PyThread_type_lock lock;
-    struct rapidhash_secrets secrets;
-    struct rapidhash_stream stream;
-};
-
-/* Acquires the lock. Lets other threads run while it waits. */
-static void take_lock(struct hasher *self)
+int need_lock(struct hasher *self)
 {
-    if (PyThread_acquire_lock(self->lock, NOWAIT_LOCK))
+    if (self->lock == NULL)
+        self->lock = PyThread_allocate_lock();
+    if (self->lock == NULL)
+        PyErr_NoMemory();
+    return self->lock == NULL ? -1 : 0;
+}
+
+void take_lock(struct hasher *self)
+{
+    if (self->lock == NULL || PyThread_acquire_lock(self->lock, NOWAIT_LOCK))
         return;
     Py_BEGIN_ALLOW_THREADS
     PyThread_acquire_lock(self->lock, WAIT_LOCK);
     Py_END_ALLOW_THREADS
 }
 
-/* Acquires the lock of a hasher and returns 0. If the hasher was not started, returns -1 with an error set instead. */
-static int enter(struct hasher *self)
+void leave(struct hasher *self)
+{
+    if (self->lock != NULL)
+        PyThread_release_lock(self->lock);
+}
+
+int enter(struct hasher *self)
 {
     take_lock(self);
     if (self->stream.lanes != 0)
         return 0;
-    PyThread_release_lock(self->lock);
+    leave(self);
     PyErr_SetString(PyExc_ValueError, "the hasher is not initialized: its class must call V3.__init__");
     return -1;
 }
 
-static void leave(struct hasher *self)
-{
-    PyThread_release_lock(self->lock);
-}
-
-/* Creates a hasher. It has no lanes until `_start` sets their number. */
-static PyObject *new_hasher(PyTypeObject *type, PyObject *args, PyObject *named)
-{
-    allocfunc allocate = (allocfunc)PyType_GetSlot(type, Py_tp_alloc);
-    struct hasher *self = (struct hasher *)allocate(type, 0);
-    (void)args;
-    (void)named;
-    if (self == NULL)
-        return NULL;
-    self->lock = PyThread_allocate_lock();
-    if (self->lock == NULL) {
-        Py_DECREF(self);
-        return PyErr_NoMemory();
-    }
-    return (PyObject *)self;
-}
-
-static void end_hasher(PyObject *object)
-{
-    PyTypeObject *type = Py_TYPE(object);
-    freefunc release = (freefunc)PyType_GetSlot(type, Py_tp_free);
-    struct hasher *self = (struct hasher *)object;
-    if (self->lock != NULL)
-        PyThread_free_lock(self->lock);
-    release(object);
-    Py_DECREF(type);
-}
-
-/* Starts a hasher with secrets, which need not be aligned. Returns 0, or -1 with an error set. */
-static int start_with(struct hasher *self, Py_ssize_t lanes, const void *secrets)
-{
-    if (lanes != 3 && lanes != 5 && lanes != 7) {
-        PyErr_SetString(PyExc_ValueError, "a hasher must have 3, 5 or 7 lanes and secrets of 64 bytes");
-        return -1;
-    }
-    take_lock(self);
-    memcpy(&self->secrets, secrets, sizeof self->secrets);
-    rapidhash_stream_start_(&self->stream, (size_t)lanes, &self->secrets);
-    leave(self);
-    return 0;
-}
-
-static PyObject *start(PyObject *object, PyObject *args)
-{
-    struct hasher *self = (struct hasher *)object;
-    const char *words;
-    Py_ssize_t lanes, size;
-    if (!PyArg_ParseTuple(args, "ny#", &lanes, &words, &size))
-        return NULL;
-    if (start_with(self, size == sizeof self->secrets ? lanes : 0, words) < 0)
-        return NULL;
-    Py_RETURN_NONE;
-}
-
-static PyObject *update(PyObject *object, PyObject *data)
+PyObject *update(PyObject *object, PyObject *data)
 {
     struct hasher *self = (struct hasher *)object;
     struct message message;
     if (read_message(data, "data", &message) < 0)
         return NULL;
-    if (enter(self) < 0) {
+    if ((message.len > LONG && need_lock(self) < 0) || enter(self) < 0) {
         release_message(&message);
         return NULL;
     }
@@ -110,20 +56,6 @@ static PyObject *update(PyObject *object, PyObject *data)
     release_message(&message);
     Py_INCREF(object);
     return object;
-}
-
-/* _begin(lanes, seed): starts a hasher with a seed word. */
-static PyObject *begin(PyObject *object, PyObject *args)
-{
-    struct hasher *self = (struct hasher *)object;
-    struct rapidhash_secrets secrets;
-    Py_ssize_t lanes;
-    PyObject *seed;
-    uint64_t word = 0;
-    if (!PyArg_ParseTuple(args, "nO", &lanes, &seed) || (seed != Py_None && read_word(seed, "seed", &word) < 0))
-        return NULL;
-    rapidhash_seed_secrets(word, &secrets);
-    return start_with(self, lanes, &secrets) < 0 ? NULL : PyLong_FromUnsignedLongLong(word);
 }
 
 /* Reads the hash of the message so far. Returns 0, or -1 with an error set. */
@@ -171,24 +103,6 @@ static PyObject *reset(PyObject *object, PyObject *none)
     rapidhash_stream_reset(&self->stream);
     leave(self);
     Py_RETURN_NONE;
-}
-
-static PyObject *copy(PyObject *object, PyObject *none)
-{
-    struct hasher *self = (struct hasher *)object;
-    struct hasher *other = (struct hasher *)new_hasher(Py_TYPE(object), NULL, NULL);
-    (void)none;
-    if (other == NULL)
-        return NULL;
-    if (enter(self) < 0) {
-        Py_DECREF(other);
-        return NULL;
-    }
-    other->secrets = self->secrets;
-    other->stream = self->stream;
-    leave(self);
-    other->stream.secrets = &other->secrets;
-    return (PyObject *)other;
 }
 
 static PyObject *save(PyObject *object, PyObject *none)
@@ -254,9 +168,8 @@ static PyObject *words(PyObject *object, PyObject *none)
     return PyBytes_FromStringAndSize((const char *)&secrets, sizeof secrets);
 }
 
-static PyMethodDef methods[] = {
+PyMethodDef hasher_methods[] = {
     {"_start", start, METH_VARARGS, NULL},
-    {"_begin", begin, METH_VARARGS, NULL},
     {"update", update, METH_O,
      PyDoc_STR("update($self, data, /)\n--\n\nAppends a piece to the message. Returns the hasher, unlike hashlib.")},
     {"intdigest", intdigest, METH_NOARGS,
@@ -274,13 +187,3 @@ static PyMethodDef methods[] = {
     {"_words", words, METH_NOARGS, NULL},
     {"_copy", copy, METH_NOARGS, NULL},
     {NULL, NULL, 0, NULL}};
-
-static PyType_Slot slots[] = {
-    {Py_tp_new, (void *)new_hasher},
-    {Py_tp_dealloc, (void *)end_hasher},
-    {Py_tp_methods, methods},
-    {Py_tp_doc, (void *)PyDoc_STR("Hashes a message in pieces.")},
-    {0, NULL}};
-
-PyType_Spec rapidhash_stream_spec = {
-    "rapidhash._extension.Stream", sizeof(struct hasher), 0, Py_TPFLAGS_DEFAULT | Py_TPFLAGS_BASETYPE, slots};

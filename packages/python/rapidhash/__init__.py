@@ -225,31 +225,21 @@ def _each_key(opened, seed, secrets, out):
 
 
 class _Hasher(_extension.Stream):
+    __slots__ = ()
     digest_size = 8
-    _seed = None
 
-    def __init__(self, data=b"", seed=None, secrets=None, *, usedforsecurity=True):
-        if secrets is None:
-            self._seed = self._begin(self._lanes, seed)
-        elif seed is not None:
+    def _accept(self, seed, secrets):
+        if seed is not None:
             raise TypeError("pass either seed or secrets, not both")
-        elif not isinstance(secrets, Secrets):
+        if not isinstance(secrets, Secrets):
             raise TypeError(f"secrets of {type(self).__name__} must come from make_secrets(number), "
                             f"and these are {type(secrets)!r}")
-        else:
-            self._start(self._lanes, secrets)
-            self._seed = None
-        self.update(data)
-
-    @property
-    def seed(self):
-        """The seed word, or None if the hasher was made with secrets."""
-        return self._seed
+        self._start(secrets)
 
     def copy(self):
         """Returns a hasher of the same message, with the same attributes."""
         other = self._copy()
-        other._adopt(self.__dict__, self._slots())
+        other._adopt(*self._attributes())
         return other
 
     __copy__ = copy
@@ -264,50 +254,52 @@ class _Hasher(_extension.Stream):
         return hasher
 
     def __reduce__(self):
-        state = self.save(), Secrets(self._words()), self.__dict__, self._slots()
+        state = self.save(), self.seed, Secrets(self._words()), *self._attributes()
         return copyreg.__newobj__, (type(self),), state
 
     def __setstate__(self, state):
-        saved, secrets, *attributes = state
-        self._start(self._lanes, secrets)
+        saved, seed, secrets, *attributes = state
+        self._start(secrets, seed)
         self._restore(saved)
         self._adopt(*attributes)
 
-    def _slots(self):
-        """Returns the attributes that subclasses keep in slots."""
-        return {name: getattr(self, name) for name in copyreg._slotnames(type(self)) if hasattr(self, name)}
+    def _attributes(self):
+        """Returns the attributes that subclasses keep in a dictionary and in slots."""
+        slots = {name: getattr(self, name) for name in copyreg._slotnames(type(self)) if hasattr(self, name)}
+        return getattr(self, "__dict__", {}), slots
 
     def _adopt(self, attributes, slots):
-        self.__dict__.update(attributes)
         for name, value in slots.items():
             setattr(self, name, value)
+        if attributes:
+            self.__dict__.update(attributes)
 
 
-class V3(_Hasher):
+class V3(_extension.Stream7, _Hasher):
     """Hashes a message in pieces, with the methods of hashlib's objects. Threads can share a hasher.
 
     A pickle of a hasher contains its secrets, and what `save` returns does not. Raises TypeError if both `seed` and
     `secrets` are passed. Takes hashlib's `usedforsecurity`, and ignores it."""
 
+    __slots__ = ("__weakref__",)
     name = "rapidhash_v3"
     block_size = 112
-    _lanes = 7
 
 
-class V3Micro(_Hasher):
+class V3Micro(_extension.Stream5, _Hasher):
     """Does the same for V3 micro, with five lanes, which equals V3 up to 80 bytes."""
 
+    __slots__ = ("__weakref__",)
     name = "rapidhash_v3_micro"
     block_size = 80
-    _lanes = 5
 
 
-class V3Nano(_Hasher):
+class V3Nano(_extension.Stream3, _Hasher):
     """Does the same for V3 nano, with three lanes, which equals V3 up to 48 bytes."""
 
+    __slots__ = ("__weakref__",)
     name = "rapidhash_v3_nano"
     block_size = 48
-    _lanes = 3
 
 
 def _decided(call, name, hashes, count, out):
