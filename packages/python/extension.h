@@ -223,9 +223,10 @@ int overlaps_arrow(const Py_buffer *out, const struct arrow *arrow, const char *
 
 /* A column that rapidhash/_columns.py has described: a list or tuple, the pointers of an array of objects, a buffer of
  * integers, or Arrow's. It may have a mask with a byte of 1 for each missing row, or codes, the places of its values.
- * `isna` is NULL, or a function of pandas that knows a missing object. A plain one has only values. */
+ * `isna` is NULL, or a function of pandas that knows a missing object, and `missing` the last one. A plain one has only
+ * values. */
 struct source {
-    PyObject *items, *isna;
+    PyObject *items, *isna, *missing;
     const struct arrow *arrow;
     Py_buffer values, mask, codes;
     Py_ssize_t rows, size, chunk, before;

@@ -71,12 +71,34 @@ void close_source(struct source *source)
     for (at = 0; at < sizeof buffers / sizeof *buffers; at++)
         if (buffers[at]->obj != NULL)
             PyBuffer_Release(buffers[at]);
+    Py_XDECREF(source->missing);
+}
+
+/* Returns whether an object is missing to pandas, or -1 with an error set. Keeps the last one that is: most columns have
+ * one in many rows. */
+static int is_missing(struct source *source, PyObject *item)
+{
+    PyObject *is;
+    int known = item == source->missing;
+    if (known || source->isna == NULL || PyUnicode_CheckExact(item) || PyUnicode_Check(item) || PyBytes_Check(item) ||
+        PyLong_Check(item))
+        return known;
+    is = PyObject_CallFunctionObjArgs(source->isna, item, NULL);
+    known = is == NULL ? -1 : is == Py_True;
+    Py_XDECREF(is);
+    if (known == 1) {
+        Py_XDECREF(source->missing);
+        Py_INCREF(item);
+        source->missing = item;
+    }
+    return known;
 }
 
 /* Holds the object of a row, which may be missing to pandas. Other code may change a list meanwhile. */
-static int read_object(const struct source *source, Py_ssize_t at, struct row *row)
+static int read_object(struct source *source, Py_ssize_t at, struct row *row)
 {
-    PyObject *item, *is;
+    PyObject *item;
+    int missing;
     if (source->items != NULL)
         item = item_of(source->items, PyList_Check(source->items), at);
     else
@@ -85,16 +107,12 @@ static int read_object(const struct source *source, Py_ssize_t at, struct row *r
     row->sort = item == NULL && source->items == NULL ? NOTHING : OBJECT;
     if (item == NULL)
         return row->sort == NOTHING ? READ : REFUSED;
-    if (source->isna == NULL || PyUnicode_CheckExact(item) || PyUnicode_Check(item) || PyBytes_Check(item) ||
-        PyLong_Check(item))
-        return READ;
-    is = PyObject_CallFunctionObjArgs(source->isna, item, NULL);
-    if (is == Py_True)
+    missing = is_missing(source, item);
+    if (missing == 1)
         row->sort = NOTHING;
-    Py_XDECREF(is);
-    if (is == NULL || row->sort == NOTHING)
+    if (missing != 0)
         Py_DECREF(item);
-    return is == NULL ? REFUSED : READ;
+    return missing < 0 ? REFUSED : READ;
 }
 
 int read_row(struct source *source, Py_ssize_t at, struct row *row)
