@@ -221,13 +221,14 @@ released = build/sources/yervound-$(release).tar.gz build/$(name).tar.gz $(packa
   build/yervound-rapidhash-$(release).crate build/yervound-rapidhash-go-$(release).zip \
   $(jar) $(jar:.jar=-javadoc.jar) $(jar:.jar=-sources.jar)
 
-# Without changes, the results are those of a commit.
+# Without changes, the results are those of a commit. What an earlier commit has left would have its time.
 release:
 	@$(call needs_the_kit,release)
 	@[ -z "$$(git status --porcelain)" ] || { echo 'make release: the tree has changes: commit them first' >&2; exit 2; }
 	@{ grep -qxF "| commit | $$(git rev-parse HEAD) |" build/gate.md && \
 	  grep -q '^| result | .*, 0 failed |$$' build/gate.md; } 2>/dev/null || \
 	  { echo 'make release: build/gate.md has no gate of this commit that passed: run make check first' >&2; exit 2; }
+	@rm -rf $(released) $(wheels) build/debian
 	@$(MAKE) -s dist deb sources crate javadoc gomodule
 	@rm -rf build/release && mkdir build/release && git rev-parse HEAD >build/release/COMMIT
 	@cp build/gate.md packages/archive/RELEASE.md $(released) build/wheels/*.* build/debian/*.deb build/debian/*.dsc \

@@ -94,27 +94,29 @@ refuses_to_release() {
 }
 
 # Checks that a release has the page of its gate, each product of make, for which empty files stand in, its commit and
-# all checksums, and no product of an older version. Without a page, or with that of another commit or of a gate that
-# failed, there is none.
+# all checksums, and no product of an older version or commit. Without a page, or with that of another commit or of a
+# gate that failed, there is none.
 releases_a_commit() {
   local gate file v files
   v=$(sed -n 's/^release = //p' "$top/Makefile")
-  files=(gate.md {sources/yervound-$v,yervound-$v-x86_64-linux}.tar.gz
+  files=({sources/yervound-$v,yervound-$v-x86_64-linux}.tar.gz
     yervound-rapidhash-{$v{.tgz,.crate,{,-javadoc,-sources}.jar},go-$v.zip} wheels/a.whl wheels/b.tar.gz
     debian/a.deb debian/b.deb debian/a.dsc debian/a.tar.xz)
   git clone -q -s "$top" "$room/released" && cd "$room/released" || return
   for file in "${files[@]}" "${files[@]//$v/0.9.0}" wheels/made debian/log; do
-    install -D /dev/null "build/$file" || return
+    install -D /dev/stdin "build/$file" <<<old || return
   done
-  rm build/gate.md && refuses_to_release || return
+  refuses_to_release || return
   for gate in 'HEAD 1' 'HEAD~1 0'; do
     printf '| %s |\n' "commit | $(git rev-parse "${gate% *}")" "result | 9 passed, ${gate#* } failed" >build/gate.md
     refuses_to_release || return
   done
   printf '| %s |\n' "commit | $(git rev-parse HEAD)" 'result | 9 passed, 0 failed' >build/gate.md
-  make -s MAKE=true kit=yes release && cd build/release && git rev-parse HEAD | diff - COMMIT &&
-    diff <(printf '%s\n' COMMIT RELEASE.md SHA256SUMS "${files[@]##*/}" | sort) <(printf '%s\n' * | sort) &&
-    sha256sum --check SHA256SUMS | grep -c ': OK$' | grep -x "$((${#files[@]} + 2))"
+  { echo '#!/bin/bash -e'; printf 'test -e "build/%s" || install -D /dev/null "$_"\n' "${files[@]}"; } >"$room/makes" &&
+    chmod +x "$room/makes" && make -s MAKE="$room/makes" kit=yes release && cd build/release &&
+    git rev-parse HEAD | diff - COMMIT && ! grep -x old -- * &&
+    diff <(printf '%s\n' gate.md COMMIT RELEASE.md SHA256SUMS "${files[@]##*/}" | sort) <(printf '%s\n' * | sort) &&
+    sha256sum --check SHA256SUMS | grep -c ': OK$' | grep -x "$((${#files[@]} + 3))"
 }
 
 # Checks that two copies of a commit have the same packages, byte for byte, in other directories, times, masks, locales
