@@ -201,7 +201,7 @@ impl<const COUNT: usize> KeyField for [u8; COUNT] {
     }
 }
 
-/// `None` is nothing.
+/// `None` is nothing, and so is `Some(None)`.
 impl<F: KeyField> KeyField for Option<F> {
     fn field(&self) -> Field<'_> {
         self.as_ref().map_or(Field::Nothing, KeyField::field)
