@@ -10,6 +10,8 @@ mod blocks;
 #[cfg(test)]
 mod collections;
 #[cfg(test)]
+mod decimals;
+#[cfg(test)]
 mod generator;
 #[cfg(test)]
 mod keys;
