@@ -228,9 +228,9 @@ release:
 	@{ grep -qxF "| commit | $$(git rev-parse HEAD) |" build/gate.md && \
 	  grep -q '^| result | .*, 0 failed |$$' build/gate.md; } 2>/dev/null || \
 	  { echo 'make release: build/gate.md has no gate of this commit that passed: run make check first' >&2; exit 2; }
-	@rm -rf $(released) $(wheels) build/debian
+	@rm -rf $(released) $(wheels) build/debian build/release
 	@$(MAKE) -s dist deb sources crate javadoc gomodule
-	@rm -rf build/release && mkdir build/release && git rev-parse HEAD >build/release/COMMIT
+	@mkdir build/release && git rev-parse HEAD >build/release/COMMIT
 	@cp build/gate.md packages/archive/RELEASE.md $(released) build/wheels/*.* build/debian/*.deb build/debian/*.dsc \
 	  build/debian/*.tar.xz build/release
 	@chmod -R $(readable) build/release

@@ -45,7 +45,8 @@ PyObject *start(PyObject *object, PyObject *args)
     Py_ssize_t size;
     PyObject *seed = Py_None;
     uint64_t word;
-    if (!PyArg_ParseTuple(args, "y#|O", &words, &size, &seed) || (seed != Py_None && read_word(seed, "seed", &word) < 0))
+    if (!PyArg_ParseTuple(args, "y#|O", &words, &size, &seed) ||
+        (seed != Py_None && read_word(seed, "seed", &word) < 0))
         return NULL;
     if (size != sizeof(struct rapidhash_secrets)) {
         PyErr_SetString(PyExc_ValueError, "the secrets of a hasher have 64 bytes");
@@ -142,7 +143,8 @@ static PyGetSetDef members[] = {
     {NULL, NULL, NULL, NULL, NULL}};
 
 static PyType_Slot slots[] = {
-    {Py_tp_init, (void *)init}, {Py_tp_dealloc, (void *)end_hasher}, {Py_tp_methods, hasher_methods}, {Py_tp_getset, members},
+    {Py_tp_init, (void *)init}, {Py_tp_dealloc, (void *)end_hasher}, {Py_tp_methods, hasher_methods},
+    {Py_tp_getset, members},
     {Py_tp_doc, (void *)PyDoc_STR("Stream(data=b'', seed=None, secrets=None, *, usedforsecurity=True)\n--\n\n"
                                   "Hashes a message in pieces.")},
     {0, NULL}};

@@ -13,8 +13,8 @@ STABLE = sys.version_info >= (3, 11) and not sysconfig.get_config_var("Py_GIL_DI
 setup(
     ext_modules=[Extension(
         "rapidhash._extension",
-        ["arguments.c", "arrow.c", "columns.c", "each_key.c", "extension.c", "hasher.c", "keys.c", "layout.c", "shards.c",
-         "slices.c", "source.c", "stream.c"],
+        ["arguments.c", "arrow.c", "columns.c", "each_key.c", "extension.c", "hasher.c", "keys.c", "layout.c",
+         "shards.c", "slices.c", "source.c", "stream.c"],
         include_dirs=["."],
         define_macros=[("Py_LIMITED_API", "0x030b0000")] if STABLE else [],
         py_limited_api=STABLE,

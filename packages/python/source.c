@@ -74,8 +74,8 @@ void close_source(struct source *source)
     Py_XDECREF(source->missing);
 }
 
-/* Returns whether an object is missing to pandas, or -1 with an error set. Keeps the last one that is: most columns have
- * one in many rows. */
+/* Returns whether an object is missing to pandas, or -1 with an error set. Remembers the last one, since most missing
+ * rows have the same object. */
 static int is_missing(struct source *source, PyObject *item)
 {
     PyObject *is;
