@@ -9,6 +9,7 @@ lacks itself, or that has another content: added, removed or changed, and the ke
 
 import datetime
 import decimal
+import re
 import sqlite3
 import sys
 import uuid
@@ -16,9 +17,12 @@ import uuid
 from rapidhash import fingerprint, shard, v3_key
 
 SHARDS = 1000
-# How a text of SQLite is read, by the declared type of its column.
-READERS = {"date": datetime.date.fromisoformat, "timestamptz": datetime.datetime.fromisoformat, "uuid": uuid.UUID,
-           "numeric": lambda number: decimal.Decimal(str(number)), "boolean": bool}
+# How a value of SQLite is read, by the declared type of its column.
+READERS = {"date": datetime.date.fromisoformat, "uuid": uuid.UUID,
+           **dict.fromkeys(["timestamptz", "timestamp with time zone"], lambda text: datetime.datetime.fromisoformat(
+               re.sub(r".*\.\d{6}0*[1-9].*", r"finer than a microsecond: \g<0>", text))),
+           **dict.fromkeys(["numeric", "decimal"], lambda number: decimal.Decimal(str(number))),
+           **dict.fromkeys(["boolean", "bool"], {0: False, 1: True, "f": False, "t": True}.__getitem__)}
 
 
 def signed(word):
@@ -26,41 +30,36 @@ def signed(word):
     return word - (word >> 63 << 64)
 
 
-class Fingerprint:
+class Fingerprint(list):
     """The aggregate of SQLite."""
 
-    def __init__(self):
-        self.hashes = []
-
     def step(self, word):
-        self.hashes.append(word % 2**64)
+        self.append(word % 2**64)
 
     def finalize(self):
-        return signed(fingerprint(self.hashes))
+        return signed(fingerprint(self))
 
 
 class Table:
     """A table, with the calls for the hash of its rows and of their keys."""
 
     def __init__(self, connection, table, key):
-        self.connection, self.table, self.key, self.moved = connection, table, ", ".join(key), 0
-        columns = [column[0] for column in self.described()]
-        self.row_hash, self.key_hash = self.call("row_hash", columns), self.call("key_hash", key)
+        self.connection, self.cursor, self.table, self.moved = connection, connection.cursor(), table, 0
+        self.ask(f"SELECT * FROM {table} LIMIT 0")
+        columns = [f'"{column[0]}"' for column in self.cursor.description]
+        key = [{it.lower(): it for it in columns}[f'"{column}"'.lower()] for column in key]
+        self.key, self.row_hash, self.key_hash = ", ".join(key), self.call("of_row", columns), self.call("of_key", key)
         if isinstance(connection, sqlite3.Connection):
+            sqlite3.enable_callback_tracebacks(True)
             connection.create_aggregate("rapidhash_fingerprint", 1, Fingerprint)
             connection.create_function("rapidhash_shard", 2, lambda word, count: shard(word % 2**64, count))
-
-    def described(self):
-        cursor = self.connection.cursor()
-        cursor.execute(f"SELECT * FROM {self.table} LIMIT 0")
-        return cursor.description
 
     def call(self, name, columns):
         """Returns the call for the hash of some columns. That of SQLite is a function in Python."""
         if not isinstance(self.connection, sqlite3.Connection):
             return f"rapidhash_v3_key({', '.join(columns)})"
-        types = {row[1]: row[2].lower().partition("(")[0] for row in self.ask(f"PRAGMA table_info({self.table})")}
-        readers = [READERS.get(types.get(column)) for column in columns]
+        types = {f'"{row[1]}"': row[2].lower() for row in self.ask(f"PRAGMA table_info({self.table})")}
+        readers = [READERS.get(types.get(column, "").partition("(")[0].rstrip()) for column in columns]
 
         def hashed(*values):
             fields = (value if value is None or reader is None else reader(value)
@@ -71,9 +70,8 @@ class Table:
         return f"{name}({', '.join(columns)})"
 
     def ask(self, query):
-        cursor = self.connection.cursor()
-        cursor.execute(query)
-        rows = cursor.fetchall()
+        self.cursor.execute(query)
+        rows = self.cursor.fetchall()
         self.moved += len(rows)
         return rows
 
@@ -97,9 +95,10 @@ class Table:
 def differences(first, second, table, key):
     """Yields added, removed or changed, and the values of the key, for each row that differs."""
     left, right = Table(first, table, key), Table(second, table, key)
-    if left.whole() == right.whole():
+    shards = left.whole() != right.whole() and {
+        row[0] for row in {*map(tuple, left.shards())} ^ {*map(tuple, right.shards())}}
+    if not shards:
         return
-    shards = {row[0] for row in {*map(tuple, left.shards())} ^ {*map(tuple, right.shards())}}
     (old, old_keys), (new, new_keys) = (side.rows(", ".join(map(str, shards))) for side in (left, right))
     for one in sorted({*old, *new}, key=lambda one: str({**old_keys, **new_keys}[one])):
         if old.get(one) != new.get(one):

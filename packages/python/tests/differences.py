@@ -16,7 +16,7 @@ from cases import ROOM, TOP, compare, finish, lacks, needs, shell, skip, tell  #
 from sql import SERVER, ask, start_server, unpack  # noqa: E402
 
 COUNT = int(os.environ.get("ROWS", 20_000))
-TYPES = ("id bigint, name text, active boolean, born date, seen timestamptz, token uuid, price numeric(12,2)")
+TYPES = 'id bigint, "to" text, active bool, born date, seen timestamp with time zone, token uuid, price decimal (9,2)'
 FOUND = ["added\t-1", "changed\t77", f"removed\t{COUNT - 1}"]
 
 
@@ -26,7 +26,7 @@ def people():
     for number in range(COUNT):
         seen = datetime(1900, 1, 1, tzinfo=timezone.utc) + timedelta(microseconds=draw.randrange(2**53))
         yield (number, None if number % 17 == 0 else draw.choice(["Åsa", "李", "Bob", ""]) + str(number),
-               draw.randrange(2), str(date(1900, 1, 1) + timedelta(draw.randrange(40_000))),
+               draw.choice("ft"), str(date(1900, 1, 1) + timedelta(draw.randrange(40_000))),
                None if number % 23 == 0 else str(seen), str(uuid.UUID(int=draw.getrandbits(128))),
                f"{draw.randrange(10**7)}.{number % 100:02}")
 
@@ -38,10 +38,7 @@ class Psql:
         return self
 
     def execute(self, query):
-        self.description = []
-        if "LIMIT 0" in query:
-            self.description = [(word.split()[0],) for word in TYPES.split(", ")]
-            return
+        self.description = [(word.split()[0].strip('"'),) for word in TYPES.split(", ")]
         self.lines = ask(query)
 
     def fetchall(self):
@@ -50,8 +47,8 @@ class Psql:
 
 def change(database):
     database.execute(f"DELETE FROM people WHERE id = {COUNT - 1}")
-    database.execute("UPDATE people SET seen = '2024-02-29 12:34:56.789+00:00' WHERE id = 77")
-    database.execute("INSERT INTO people (id, price) VALUES (-1, '1.50')")
+    database.execute("UPDATE people SET active = CASE active WHEN 't' THEN 'f' ELSE 't' END WHERE id = 77")
+    database.execute("INSERT INTO people (id, seen, price) VALUES (-1, '2024-02-29 12:34:56.789+00:00', '1.50')")
     database.commit()
 
 
@@ -80,12 +77,16 @@ def over_databases(rows):
         status, said = shell(unpack(ROOM / "source", "postgresql").replace("sudo ", ""), ROOM / "source",
                              DESTDIR=str(ROOM))
         tell("extension", *[said] * (status != 0))
-        with open(ROOM / "people.tsv", "w") as file:
-            file.writelines("\t".join("\\N" if field is None else str(field) for field in row) + "\n" for row in rows)
+        (ROOM / "people.tsv").write_text("".join(
+            "\t".join("\\N" if field is None else str(field) for field in row) + "\n" for row in rows))
         ask(f"CREATE EXTENSION rapidhash; CREATE TABLE people ({TYPES}); \\copy people FROM '{ROOM}/people.tsv'")
         for name, wanted in (("first", []), ("second", FOUND)):
-            found = differences(Psql(), sqlite3.connect(ROOM / name), "people", ["id"])
+            database = sqlite3.connect(ROOM / name)
+            found = differences(Psql(), database, "people", ["id"])
             compare(f"databases_{name}", sorted("\t".join(map(str, row)) for row in found), wanted)
+        ask("TRUNCATE people")
+        database.execute("DELETE FROM people")
+        compare("no_rows", [*differences(Psql(), database, "people", ["ID"])], [])
     finally:
         shell(stop, "/")
 

@@ -422,6 +422,7 @@ writes_whole_lines() {
     [ "$(wc -l <sums)" -eq 20000 ] && [ "$(wc -l <"$room/calls")" -eq 118 ] &&
     ! grep -v '\\n", [0-9]*) *= [0-9]*$' "$room/calls" &&
     sed 's/.*= //' "$room/calls" | awk '$1 > 4096 { exit 1 }' &&
+    strace -qqe trace=write "$program" -z $'line\nback\\return\r' first 2>&1 >/dev/null | grep -q '= 60$' &&
     grep -q 'at most 4 KiB, or one longer line, elsewhere' "$top/packages/tools/rapidsum.1"
 }
 writes_lines() {

@@ -39,9 +39,8 @@ pub struct Vec<T, A = Global> {
 impl<T, A> Vec<T, A> {
     /// Returns an empty vector.
     pub fn new(alloc: A) -> Self {
-        let items = std::vec::Vec::new();
         Vec {
-            items,
+            items: std::vec::Vec::new(),
             _alloc: alloc,
         }
     }

@@ -136,9 +136,14 @@ impl Write for Stdout {
     fn write(&mut self, buf: &[u8]) -> io::Result<usize> {
         check_usable(1)?;
         let mut out = io::stdout().lock();
+        #[cfg(unix)]
+        if buf.contains(&b'\n') && !buf.ends_with(b"\n") {
+            // It would write what follows the last newline on its own.
+            let own = std::os::unix::io::AsFd::as_fd(&out).try_clone_to_owned()?;
+            return std::fs::File::from(own).write(buf);
+        }
         let count = out.write(buf)?;
-        out.flush()?;
-        Ok(count)
+        out.flush().map(|()| count)
     }
 
     fn flush(&mut self) -> io::Result<()> {
@@ -218,11 +223,7 @@ impl fmt::Write for Fallible {
 
 /// Returns the first bytes of a text and the others, unless there are too few.
 pub fn split_at_checked(text: &[u8], count: usize) -> Option<(&[u8], &[u8])> {
-    if count <= text.len() {
-        Some(text.split_at(count))
-    } else {
-        None
-    }
+    (count <= text.len()).then(|| text.split_at(count))
 }
 
 impl From<AllocError> for io::Error {
