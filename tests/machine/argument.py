@@ -26,6 +26,11 @@ class Everywhere:
         return True
 
 
+def seed_of(word, is_v1):
+    """Returns the seed that the definition derives from a word."""
+    return xor(word, *multiply(xor(word, DEFAULT[0 if is_v1 else 2]), DEFAULT[1]))
+
+
 class Hash:
     """Calls a function that hashes a message, and knows what it must return."""
     def __init__(self, machine, version, form):
@@ -37,9 +42,8 @@ class Hash:
             self.seed, *secrets = (make("secret", 64, index) for index in range(count + 1))
             self.arguments, self.sizes = [name("secrets")], {"secrets": 8 * count + 8}
         elif form == "_with_seed":
-            word = make("seed", 64)
-            self.seed = xor(word, *multiply(xor(word, DEFAULT[0 if is_v1 else 2]), DEFAULT[1]))
-            self.arguments = [word]
+            self.arguments = [make("seed", 64)]
+            self.seed = seed_of(*self.arguments, is_v1)
         self.definition = Definition(version, secrets, terms)
 
     def begin(self, length, pointer):

@@ -9,6 +9,7 @@ from contextlib import suppress
 
 import go
 from argument import Hash, prove
+from calls import show_calls
 from cases import ROOM, TOP, shell
 from elf import Elf
 from linear import Assumed, Refusal, assume, linear, name
@@ -36,9 +37,9 @@ for length in [*range(400), *(draw.randrange(400, 9000) for _ in range(200))]:
 """
 
 
-def built(command, folder=HEADER.parent, target="library"):
+def built(command, folder=HEADER.parent, target="library", source="packages/c/rapidhash_c.c"):
     """Builds the C library by a command, and returns the file that the linker makes of the object."""
-    status, said = shell(f"{command} -I{folder} -c packages/c/rapidhash_c.c -o $ROOM/{target}.o")
+    status, said = shell(f"{command} -I{folder} -c {source} -o $ROOM/{target}.o")
     assert status == 0, said
     return linked(f"$ROOM/{target}.o", target, "aarch64-linux-gnu-ld" if "aarch64" in command else "ld")
 
@@ -84,17 +85,21 @@ def plant(source, target, old, new):
 
 def in_the_header(tell=None, command="gcc -O2", machine=Machine, counts=None):
     """Builds the header with each fault. Yields those that are not refused with the function, the length and the
-    term. Another processor than x86-64 has neither those in assembly nor the streams."""
+    term. Another processor than x86-64 has neither those in assembly nor the streams and other calls."""
     is_other = machine != Machine
     for file, fault, old, new in rows(".h"):
-        if is_other and ("asm" in new or fault.startswith("a stream")):
+        if is_other and ("asm" in new or fault.startswith(("a stream", "a call"))):
             continue
         if counts is not None:
             counts["planted"] = counts.get("planted", 0) + 1
         plant(HEADER, ROOM / file, old, new)
         plant(ROOM / file, ROOM / file, FLAG, "int rapidhash_flag_ = 3;\n" + FLAG)
         code = built(f"{command} -w", ROOM, "planted")
-        if fault.startswith("a stream"):
+        if fault.startswith("a call"):
+            shard = built(f"{command} -w", ROOM, "shard", "tests/machine/shard.c")
+            reason = next(show_calls(machine(code), machine(shard)), None)
+            yield from judge(fault, reason is None, reason, ["is another term"], tell)
+        elif fault.startswith("a stream"):
             yield from judge(fault, *shown_streams(code), ["v3_nano"], tell)
         else:
             form = "" if fault == "a changed secret" else "_with_secrets"

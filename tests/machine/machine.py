@@ -23,6 +23,7 @@ import shipped  # noqa: E402
 import tool  # noqa: E402
 import webassembly  # noqa: E402
 from argument import FORMS  # noqa: E402
+from calls import show_calls  # noqa: E402
 from elf import Elf  # noqa: E402
 from model import VERSIONS  # noqa: E402
 from streams import LANES, show_streams  # noqa: E402
@@ -76,15 +77,24 @@ def check_some_streams(by, file, is_apart=False):
     case(f"streams by {by} that hold 1 or 48 bytes", *filter(None, [faults.shown_streams(file, is_apart)[1]]))
 
 
+def check_calls(by, file, command=None, machine=Machine):
+    """Checks the secrets of a seed in a file, and a shard that a command builds, or one of these."""
+    shard = command and machine(faults.built(command, target="shard", source="tests/machine/shard.c"))
+    what = " and ".join(["secrets of a seed"] * bool(file) + ["a shard"] * bool(command))
+    case(f"{what} by {by}", *show_calls(file and machine(file), shard))
+
+
 def check_library():
     """Checks all versions and calls by each compiler and setting."""
     check("gcc", gcc)
     if kit:
         check("the kit", kit)
+        check_calls("the kit", kit)
     if reason := lacks("dpkg-buildflags"):
         skip("Debian's flags", reason)
     else:
-        check("gcc with Debian's flags", faults.built(DEBIAN))
+        check("gcc with Debian's flags", debian := faults.built(DEBIAN))
+        check_calls("gcc with Debian's flags", debian, DEBIAN)
     for command in SETTINGS:
         if reason := lacks(command.split()[0]):
             skip(command, reason)
@@ -92,6 +102,8 @@ def check_library():
             file = faults.built(command)
             file.extensions = EXTENSIONS if "x86-64-v3" in command else ()
             check(command, file, forms=FORMS if command == "clang -O2" else FORMS[:1])
+            if command == "clang -O2":
+                check_calls(command, file, command)
 
 
 def check_arm64():
@@ -99,6 +111,7 @@ def check_arm64():
     counts = {}
     for command in ARM64 if arm else ():
         check(command, faults.built(command), machine=arm64.Machine)
+        check_calls(command, None, command, arm64.Machine)
     if not arm:
         skip("AArch64", lacks(*ARM64_TOOLS))
         return
@@ -161,6 +174,7 @@ def check_gate():
     else:
         skip("AArch64", lacks(*ARM64_TOOLS))
     check("gcc", gcc, ["v3"], FORMS[:1] if only_tool else FORMS)
+    check_calls("gcc", gcc, "gcc -O2")
     check_some_streams("gcc", gcc)
     case("faults in the header", *faults.in_the_header(detail))
     if not only_tool:
