@@ -137,7 +137,8 @@ def has_another_meaning(instruction):
     before = code[:-len(rest)]
     is_known = before in (b"", b"\x66"[word[0] == "j" or word in NARROW:], b"\xf3"[word not in REPEATED:]) or \
         word == "nop" and not set(before) & {0xF0, 0xF2, 0xF3}
-    return not is_known or rest[0] >> 4 == 4 and rest[1] in PREFIXES
+    return not is_known or rest[0] >> 4 == 4 and (rest[1] >> 4 == 4 or rest[1] in PREFIXES) or \
+        word == "nop" and not rest.startswith((b"\x90", b"\x0f\x1f"))
 
 
 PREFIXES = bytes.fromhex("f0f2f3262e363e64656667")
