@@ -212,6 +212,6 @@ class Machine(Runner):
         code = range(at, at + found.size)
         is_place = found.mnemonic[0] == "j" or found.mnemonic == "call"
         field = at + (found.disp_offset if "[rip" in found.op_str else found.imm_offset if is_place else 0)
-        if not {field} >= self.file.anchors.keys() & code:
+        if not {field} >= self.file.anchors.keys() & {*range(at - 3, code.stop)}:
             raise Refusal(f"relocated bytes in {text}")
         return RULES[found.mnemonic], [operand_of(self, found, one, code) for one in found.operands], code.stop, text
