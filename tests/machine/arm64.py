@@ -114,9 +114,15 @@ def subtract_and_compare(machine, to, one, other):
     to.write(machine.flags[3])
 
 
-def call(machine, target):
-    machine.words[LINK] = machine.file.place(machine.after, [machine.at])
+def jump_far(machine, target):
+    """Jumps by a symbol: to another section the linker may go by way of x16 and x17."""
+    machine.words[16:18] = [make("changed", 64, index, machine.count) for index in (16, 17)]
     return target.read()
+
+
+def call(machine, target):
+    machine.words[LINK] = machine.file.place(machine.after, [machine.at + 1])
+    return jump_far(machine, target)
 
 
 def is_free(word, start, size):
@@ -185,7 +191,8 @@ class Machine(Runner):
             after = these.pop().imm
         kind, word = self.file.kind(at), int.from_bytes(found.bytes, "little")
         is_field = any(word & mask == bits for mask, bits in FIELDS.get(kind, ()))
-        if not is_field and (kind or found.mnemonic == "adrp"):
+        is_whole = {at} >= self.file.anchors.keys() & {*range(at - 3, at + 4)}
+        if not is_whole or not is_field and (kind or found.mnemonic == "adrp"):
             raise Refusal(f"relocated bytes in {text}")
         target = self.file.named(at) if kind[-2:] in ("21", "NC") else None
         operands = [self.operand(found, one, at, after, target) for one in these]
@@ -194,7 +201,7 @@ class Machine(Runner):
             raise Refusal(f"{text} is unpredictable")
         if found.mnemonic == "add" and target:
             return lambda _, to, base, __: to.write(within(base.read(), target)), operands, at + 4, text
-        return RULES[found.mnemonic], operands, at + 4, text
+        return jump_far if kind == "JUMP26" else RULES[found.mnemonic], operands, at + 4, text
 
     def operand(self, found, one, at, after, target):
         if one.type == ARM64_OP_REG and not one.ext and not one.vas:

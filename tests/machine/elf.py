@@ -21,6 +21,13 @@ def pieces(label, start, data, flags, entry, alignment):
             Section(start + at, data[at:at + size], flags, gcd(alignment, size) if "M" in flags else alignment)
 
 
+def is_loaded(loads, start, at, size, flags):
+    """Returns whether one segment alone has the pages of a section, with its bytes and without other rights."""
+    return [to - of == start - at and of <= at and at + size <= of + length and
+            ("W" in flags or may in ("R E", "R  ")[:2 - ("X" in flags)]) for of, to, length, room, may in loads
+            if to >> 12 <= start + size - 1 >> 12 and start >> 12 <= to + room - 1 >> 12] == [True]
+
+
 class Elf:
     """Reads the sections, symbols and relocations of a linked file, as readelf prints them."""
     unwritten = ()  # the ranges that can be written, but that nobody writes
@@ -31,27 +38,27 @@ class Elf:
         text, data = shell(f"readelf -SlsdrW {path}")[1], path.read_bytes()
         if "TEXTREL" in text:
             raise Refusal(f"{path} has code that the loader changes")
-        rows = re.findall(r"\] (\S+) +(\w+) +(\w{16}) (\w+) (\w+) (\w+) +(\w*) +\d+ +\d+ +(\d+)$", text, re.M)
+        rows = re.findall(r"(\d+)\] (\S+) +(\w+) +(\w{16}) (\w+) (\w+) (\w+) +(\w*) +\d+ +\d+ +(\d+)$", text, re.M)
         numbers = [(int(start, 16), int(at, 16), int(size, 16), int(entry, 16), int(align))
                    for *_, start, at, size, entry, _, align in rows]
-        loads = re.findall(r"LOAD +0x(\w+) 0x(\w+) 0x\w+ 0x(\w+) 0x\w+ (...)", text)
+        loads = [(*(int(one, 16) for one in numbers), may) for *numbers, may in re.findall(
+            r"LOAD +0x(\w+) 0x(\w+) 0x\w+ 0x(\w+) 0x(\w+) (...)", text)]
         self.sections = {}
-        for index, ((label, kind, *_, flags, _), (start, at, size, entry, align)) in enumerate(zip(rows, numbers)):
-            if "A" in flags and kind != "NOBITS":
-                if not any(int(to, 16) - int(of, 16) == start - at and int(of, 16) <= at and
-                           at + size <= int(of, 16) + int(length, 16) and ("W" in flags or "W" not in may)
-                           for of, to, length, may in loads):
+        for (index, label, kind, *_, flags, _), (start, at, size, entry, align) in zip(rows, numbers):
+            if "A" in flags and kind != "NOBITS" and size:
+                if not is_loaded(loads, start, at, size, flags):
                     raise Refusal(f"{path} has the section {label}, which is not loaded")
                 self.sections.update(pieces(f"section {index} {label}", start, data[at:at + size], flags, entry, align))
         self.symbols, self.memmove = dict(self.functions(text)), memmove
         self.anchors, self.relocated = {}, set()
-        self.read_relocations(text, {label for label, *_ in rows}, [start + size for start, _, size, *_ in numbers])
+        self.read_relocations(text, {label for _, label, *_ in rows},
+                              {index: start + size for (index, *_), (start, _, size, *_) in zip(rows, numbers)})
 
     def read_relocations(self, text, labels, ends):
         """Reads which bytes name a place: by a section, or by a symbol in one that no other file may replace."""
-        replaced = {(int(at, 16), label) for at, bind, index, label in re.findall(
-            r": (\w+) +\w+ +\w+ +(\w+) +\w+ +(\d+) (\S+)$", text, re.M)
-            if bind == "WEAK" or int(at, 16) >= ends[int(index) - 1]}
+        replaced = {(int(at, 16), label) for at, kind, bind, index, label in re.findall(
+            r": (\w+) +\w+ +(\w+) +(\w+) +\w+.* (\w+) (\S+)$", text, re.M) if (label, index) != ("memmove", "ABS") and
+            (bind == "WEAK" or int(at, 16) >= ends.get(index, 0) or kind != "SECTION" and label in labels)}
         for at, kind, anchor, label, addend in re.findall(
                 r"^(\w{16})  \w{16} (R_\w+) +(?:(\w{16}) (\S+) ([+-] \w+))?", text, re.M):
             place, is_place = int(at, 16), RELATIVE.fullmatch(kind)
@@ -65,7 +72,7 @@ class Elf:
     def functions(text):
         """Yields functions and objects, but none that another file may replace, and none of several with a name."""
         found = {}
-        for at, kind, bind, label in re.findall(r": (\w+) +\w+ +(\w+) +(\w+) +\w+ +\d+ (\S+)$", text, re.M):
+        for at, kind, bind, label in re.findall(r": (\w+) +\w+ +(\w+) +(\w+) +\w+.* \d+ (\S+)$", text, re.M):
             found.setdefault(label.partition("@")[0], set()).add((int(at, 16), kind, bind))
         for label, ((at, kind, bind), *others) in found.items():
             if kind in ("FUNC", "OBJECT") and bind != "WEAK" and not others:
@@ -79,11 +86,9 @@ class Elf:
     def place(self, address, code):
         """Returns the word of an address that an instruction at the addresses `code` names, in the section of the
         relocation's symbol. Without one the place is in the section of the code, unless nobody links the file again."""
-        if address == self.memmove:
-            return name("memmove")
         rest = address if self.memmove is None else code[0]
         anchor, *_, is_whole = next((self.anchors[at] for at in code if at in self.anchors), (rest, False))
-        return self.relative(anchor, address, is_whole)
+        return name("memmove") if anchor == address == self.memmove else self.relative(anchor, address, is_whole)
 
     def relative(self, anchor, address, is_whole):
         """Returns the word of an address by a symbol at an anchor, which may be that of a whole section."""
@@ -116,7 +121,7 @@ class Elf:
     def read(self, address, size):
         """Returns bytes of code at an address of the link."""
         _, section = self.section_at(address)
-        return section.data[address - section.start:][:size] if "X" in section.flags else b""
+        return section.data[address - section.start:][:size] if {*section.flags} & {*"WX"} == {"X"} else b""
 
     def constant(self, label, place):
         """Returns a byte of a section, or nothing if it may be written or is relocated."""

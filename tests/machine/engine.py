@@ -15,6 +15,7 @@ CODES = {
               "br_if 0 i32.const 5 return end i32.const 6 return end local.get 1 i32.const 1 i32.add"),
     "skip": ("i32 i32", "i32", "i32.const 9 block local.get 0 br 0 end local.get 1 i32.sub"),
     "tee": ("i32 i32", "i32", "local.get 0 local.tee 1 local.get 1 i32.add"),
+    "dead": ("i32 i32", "i32", "local.get 0 local.get 1 return block (result i32) i32.const 0 end"),
     "call": ("i32 i32", "i32", "local.get 1 local.get 0 call $leave"),
 }
 REFUSED = {

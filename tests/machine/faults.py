@@ -150,12 +150,15 @@ def in_snippets(tools="", kinds={"C": Machine, "Go": go.Machine}):
             reason = str(refusal)
         yield from judge(row["what"], None, reason, [row["reason"]], None)
     yield from judge("V1 with its bug", *shown(file, "v1", machine=[*kinds.values()][0]), ["length 48"], None)
-    data = bytearray((ROOM / "snippets").read_bytes())
-    data[int.from_bytes(data[40:48], "little") + 64 + 24] ^= 16  # where the first section is in the file
-    (ROOM / "moved").write_bytes(data)
-    for what, path in ("code that the loader changes", "changed.so"), ("a section that is not loaded", "moved"):
+    data, first = (ROOM / "snippets").read_bytes(), 64 if tools else 120  # the header of the segment with the code
+    headers = int.from_bytes(data[40:48], "little")
+    for what, at, bit in [("a section that is not loaded", headers + 88, 16), ("code that may not run", first + 4, 1),
+                          ("a segment over code", 64 + 41, 64)][:3 - bool(tools)]:
+        (ROOM / "moved").write_bytes(data[:at] + bytes([data[at] ^ bit]) + data[at + 1:])
         with suppress(Refusal):
-            yield f"{what}: {Elf(ROOM / path)}"
+            yield f"{what}: {Elf(ROOM / 'moved')}"
+    with suppress(Refusal):
+        yield f"code that the loader changes: {Elf(ROOM / 'changed.so')}"
 
 
 def in_bits(count, counts, seed=1):

@@ -67,9 +67,7 @@ def places(size):
     """Yields the addresses of a message of a size and of a stream at the vertices of those that do not overlap. Without
     bytes a message may be anywhere but at 0, which is tried by itself, and in a stream if its place is compared."""
     first, low, end, room = 1 if size == 0 else 1 << 12, Assumed.low, Assumed.top, 1 << 8
-    if size == 0 and Assumed.order is None:
-        yield from ((message, stream) for message in (1, end) for stream in (low, end - room))
-    elif Assumed.order == "before":
+    if Assumed.order == "before":
         least = first + size if size else low
         yield from ((first, least), (least - size, least), (first, end - room), (end - room - size, end - room))
     elif Assumed.order == "after":
@@ -116,7 +114,7 @@ def ends(constant, factors):
         if text in Assumed.corners[0]:
             others.append((text, factor))
         else:
-            both = factor * Assumed.low, factor * (Assumed.top - (1 << 16))
+            both = factor * Assumed.low, factor * (Assumed.top - 64)
             low, high = low + min(both), high + max(both)
     values = [sum(factor * corner[text] for text, factor in others) for corner in Assumed.corners]
     return low + min(values), high + max(values)

@@ -33,8 +33,7 @@ class Memory:
         if region == "message":
             return not is_write and low >= 0 and apart(self.length, add(place, size))[0] >= 0
         if region == "stack" and low == high:
-            return -self.depth <= low and high + size <= 8 * (not is_write) or \
-                8 <= low and high + size <= 8 + self.argument_room
+            return high + size <= 8 * (not is_write) or 8 <= low and high + size <= 8 + self.argument_room
         if region.startswith("section"):
             return low == high and not is_write
         return 0 <= low == high <= self.sizes.get(region, 0) - size and (region == "stream" or not is_write)

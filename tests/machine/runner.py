@@ -38,9 +38,9 @@ class Runner(Memory):
         return region, place
 
     def height(self):
-        """Returns where the stack's pointer is, which must be in the stack."""
+        """Returns where the stack's pointer is, which must be in the free stack: signals overwrite what is below."""
         constant, factors = parts(self.words[self.pointer]) or (0, {})
-        if factors != {"stack": 1}:
+        if factors != {"stack": 1} or not self.red - self.depth <= constant <= self.popped:
             raise Refusal(f"the stack's pointer is {self.words[self.pointer]}")
         return constant
 

@@ -85,6 +85,7 @@ def check_reset(machine, version):
     assume(0)
     machine.begin("rapidhash_stream_reset", [name("stream")], 0, SIZES)
     fill(machine, LANES[version], symbols("lane")[:7], make("flag", 8), -112, 112)
+    machine.memory.update({("stream", 200 + index): one for index, one in enumerate(split(make("held", 64)))})
     machine.run()
     compare(machine, LANES[version], symbols("secret")[:1] * 7, 0, -112, 0)
 

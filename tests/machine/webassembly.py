@@ -22,8 +22,9 @@ class Module:
         self.functions = [self.function(body) for body in bodies]
 
     def function(self, text):
-        counts = [len(" ".join(re.findall(rf"\({kind} ([^)]*)\)", text)).split())
-                  for kind in ("param", "result", "local")]
+        head = text.partition("\n")[0]
+        counts = [len(" ".join(re.findall(rf"\({kind} ([^)]*)\)", where)).split())
+                  for kind, where in (("param", head), ("result", head), ("local", text))]
         code, blocks = [], []
         for line in re.sub(r"\(local .*|\(;.*?;\)|;;.*|[()]|align=\d|offset=", "", text).splitlines()[1:]:
             if words := line.split():

@@ -137,7 +137,8 @@ def has_another_meaning(instruction):
     before = code[:-len(rest)]
     is_known = before in (b"", b"\x66"[word[0] == "j" or word in NARROW:], b"\xf3"[word not in REPEATED:]) or \
         word == "nop" and not set(before) & {0xF0, 0xF2, 0xF3}
-    return not is_known or rest[0] >> 4 == 4 and rest[1] in PREFIXES
+    return not is_known or rest[0] >> 4 == 4 and (rest[1] >> 4 == 4 or rest[1] in PREFIXES) or \
+        word == "nop" and not rest.startswith((b"\x90", b"\x0f\x1f"))
 
 
 PREFIXES = bytes.fromhex("f0f2f3262e363e64656667")
@@ -211,6 +212,6 @@ class Machine(Runner):
         code = range(at, at + found.size)
         is_place = found.mnemonic[0] == "j" or found.mnemonic == "call"
         field = at + (found.disp_offset if "[rip" in found.op_str else found.imm_offset if is_place else 0)
-        if not {field} >= self.file.anchors.keys() & code:
+        if not {field} >= self.file.anchors.keys() & {*range(at - 3, code.stop)}:
             raise Refusal(f"relocated bytes in {text}")
         return RULES[found.mnemonic], [operand_of(self, found, one, code) for one in found.operands], code.stop, text
