@@ -4,8 +4,11 @@ the table a backslash and n are the end of a line, and `&` at the beginning is t
 import csv
 import os
 import random
+import shutil
 from concurrent.futures import ThreadPoolExecutor
 from contextlib import suppress
+from hashlib import sha256
+from pathlib import Path
 
 import go
 from argument import Hash, prove
@@ -18,6 +21,7 @@ from x86 import Machine
 
 FOLDER = TOP / "tests" / "machine"
 HEADER = TOP / "packages/c/include/rapidhash_c.h"
+KEPT = Path(os.environ.get("KEPT", ROOM / "kept"))
 MEMMOVE = 0x7FF00000  # its address in files that are linked here
 FLAG = "#ifndef RAPIDHASH_LINK\n"  # before which faults have a variable
 # What the reason has for a constant, a shift and a bound: the lengths, and the term. Only the constant's is always the
@@ -38,10 +42,20 @@ for length in [*range(400), *(draw.randrange(400, 9000) for _ in range(200))]:
 
 
 def built(command, folder=HEADER.parent, target="library", source="packages/c/rapidhash_c.c"):
-    """Builds the C library by a command, and returns the file that the linker makes of the object."""
-    status, said = shell(f"{command} -I{folder} -c {source} -o $ROOM/{target}.o")
-    assert status == 0, said
-    return linked(f"$ROOM/{target}.o", target, "aarch64-linux-gnu-ld" if "aarch64" in command else "ld")
+    """Builds the C library by a command, and returns the file that the linker makes of the object. Objects are kept in
+    a folder if there is one: each fault in the tool needs the same."""
+    command, made = f"{command} -I{folder} -c {source}", f"{ROOM}/{target}.o"
+    texts = command.replace(str(ROOM), ""), (folder / HEADER.name).read_text(), (TOP / source).read_text()
+    kept = KEPT / sha256(repr(texts).encode()).hexdigest()
+    if kept.exists():
+        shutil.copy(kept, made)
+    else:
+        status, said = shell(f"{command} -o {made}")
+        assert status == 0, said
+        if KEPT.is_dir():
+            shutil.copy(made, f"{kept}{os.getpid()}")
+            os.rename(f"{kept}{os.getpid()}", kept)
+    return linked(made, target, "aarch64-linux-gnu-ld" if "aarch64" in command else "ld")
 
 
 def linked(objects, target, linker="ld"):
@@ -191,12 +205,13 @@ def said_with(fault):
     assert (FOLDER / file).read_text().count(old) == 1, old
     shell(f"cp -r {FOLDER} {folder}")
     plant(FOLDER / file, folder / file, old, new)
-    return shell(f"{folder}/machine.py tool")
+    return shell(f"{folder}/machine.py tool", KEPT=str(KEPT))
 
 
 def in_the_tool(tell=None):
     """Plants each fault in the tool. Yields those that no test sees."""
-    yield from ["the tests fail without a fault"] * (shell(f"{FOLDER}/machine.py tool")[0] != 0)
+    KEPT.mkdir(exist_ok=True)
+    yield from ["the tests fail without a fault"] * (shell(f"{FOLDER}/machine.py tool", KEPT=str(KEPT))[0] != 0)
     faults = [*rows(".py")]
     with ThreadPoolExecutor(os.cpu_count()) as pool:
         for (_, fault, *_), (status, said) in zip(faults, pool.map(said_with, enumerate(faults))):
