@@ -58,7 +58,7 @@ class Table:
         """Returns the call for the hash of some columns. That of SQLite is a function in Python."""
         if not isinstance(self.connection, sqlite3.Connection):
             return f"rapidhash_v3_key({', '.join(columns)})"
-        types = {f'"{row[1]}"': row[2].lower() for row in self.ask(f"PRAGMA table_info({self.table})")}
+        types = {f'"{row[1]}"': row[2].lower() for row in self.ask(f"PRAGMA table_xinfo({self.table})")}
         readers = [READERS.get(types.get(column, "").partition("(")[0].rstrip()) for column in columns]
 
         def hashed(*values):
