@@ -20,7 +20,7 @@ SHARDS = 1000
 # How a value of SQLite is read, by the declared type of its column.
 READERS = {"date": datetime.date.fromisoformat, "uuid": uuid.UUID,
            **dict.fromkeys(["timestamptz", "timestamp with time zone"], lambda text: datetime.datetime.fromisoformat(
-               re.sub(r".*\.\d{6}0*[1-9].*", r"finer than a microsecond: \g<0>", text))),
+               re.sub(r".*[.,]\d{6}0*[1-9].*", r"finer than a microsecond: \g<0>", text))),
            **dict.fromkeys(["numeric", "decimal"], lambda number: decimal.Decimal(str(number))),
            **dict.fromkeys(["boolean", "bool"], {0: False, 1: True, "f": False, "t": True}.__getitem__)}
 
