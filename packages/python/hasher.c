@@ -74,33 +74,30 @@ static int begin(PyObject *object, PyObject *seed, PyObject *secrets)
     return 0;
 }
 
-/* Calls `update`, which a class over this one may define anew. */
-static PyObject *first_update(PyObject *object, PyObject *data)
+/* Calls `update`, which a class over this one or a hasher of it may define anew. */
+static int first_update(PyObject *object, PyObject *data)
 {
-    PyObject *const own = attribute_of((PyObject *)Py_TYPE(object), "update");
-    const int is_method = own != NULL && Py_TYPE(own) == &PyMethodDescr_Type;
-    Py_XDECREF(own);
-    return own == NULL ? NULL : is_method ? update(object, data) : PyObject_CallMethod(object, "update", "O", data);
+    PyObject *const name = PyUnicode_InternFromString("update");
+    PyObject *const done = name == NULL ? NULL : PyObject_CallMethodObjArgs(object, name, data, NULL);
+    Py_XDECREF(name);
+    Py_XDECREF(done);
+    return done == NULL ? -1 : 0;
 }
 
 /* Most calls have one argument or none, for which there is a short way. */
 static int init(PyObject *object, PyObject *args, PyObject *named)
 {
     static char *names[] = {"data", "seed", "secrets", "usedforsecurity", NULL};
-    PyObject *data = NULL, *seed = Py_None, *secrets = Py_None, *done;
+    PyObject *data = NULL, *seed = Py_None, *secrets = Py_None;
     Py_ssize_t count = PyTuple_Size(args);
     int security;
     if (named == NULL && count <= 1)
         data = count == 0 ? NULL : PyTuple_GetItem(args, 0);
-    else if (!PyArg_ParseTupleAndKeywords(args, named, "|OOO$p", names, &data, &seed, &secrets, &security))
+    else if (!PyArg_ParseTupleAndKeywords(args, named, "|OOO$p:__init__", names, &data, &seed, &secrets, &security))
         return -1;
     if (begin(object, seed, secrets) < 0)
         return -1;
-    if (data == NULL)
-        return 0;
-    done = first_update(object, data);
-    Py_XDECREF(done);
-    return done == NULL ? -1 : 0;
+    return data == NULL ? 0 : first_update(object, data);
 }
 
 static PyObject *seed_of(PyObject *object, void *none)

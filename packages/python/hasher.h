@@ -35,7 +35,6 @@ int enter(struct hasher *self);
 
 /* The methods in Python. */
 extern PyMethodDef hasher_methods[];
-PyObject *update(PyObject *object, PyObject *data);
 PyObject *start(PyObject *object, PyObject *args);
 PyObject *copy(PyObject *object, PyObject *none);
 

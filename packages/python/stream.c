@@ -35,7 +35,7 @@ int enter(struct hasher *self)
     return -1;
 }
 
-PyObject *update(PyObject *object, PyObject *data)
+static PyObject *update(PyObject *object, PyObject *data)
 {
     struct hasher *self = (struct hasher *)object;
     struct message message;

@@ -20,7 +20,7 @@ SHARDS = 1000
 # How a value of SQLite is read, by the declared type of its column.
 READERS = {"date": datetime.date.fromisoformat, "uuid": uuid.UUID,
            **dict.fromkeys(["timestamptz", "timestamp with time zone"], lambda text: datetime.datetime.fromisoformat(
-               re.sub(r".*\.\d{6}0*[1-9].*", r"finer than a microsecond: \g<0>", text))),
+               re.sub(r".*[.,]\d{6}0*[1-9].*", r"finer than a microsecond: \g<0>", text))),
            **dict.fromkeys(["numeric", "decimal"], lambda number: decimal.Decimal(str(number))),
            **dict.fromkeys(["boolean", "bool"], {0: False, 1: True, "f": False, "t": True}.__getitem__)}
 
@@ -58,7 +58,7 @@ class Table:
         """Returns the call for the hash of some columns. That of SQLite is a function in Python."""
         if not isinstance(self.connection, sqlite3.Connection):
             return f"rapidhash_v3_key({', '.join(columns)})"
-        types = {f'"{row[1]}"': row[2].lower() for row in self.ask(f"PRAGMA table_info({self.table})")}
+        types = {f'"{row[1]}"': row[2].lower() for row in self.ask(f"PRAGMA table_xinfo({self.table})")}
         readers = [READERS.get(types.get(column, "").partition("(")[0].rstrip()) for column in columns]
 
         def hashed(*values):

@@ -68,6 +68,19 @@ def over_files(rows):
     compare("few_rows", int(moved.split()[1]) <= 2 * 1001 + 6 * max(COUNT / 500, 40), True)
 
 
+def over_types():
+    """Runs it over a generated column, which has a type too, and a time that is finer than a microsecond."""
+    for name in "3", "4":
+        with sqlite3.connect(ROOM / name) as database:
+            database.execute("CREATE TABLE made (id integer, twice decimal GENERATED ALWAYS AS (id * 2.5))")
+            database.execute("INSERT INTO made VALUES (1)")
+            database.execute("CREATE TABLE fine (id integer, seen timestamptz)")
+            database.execute(f"INSERT INTO fine VALUES (1, '2024-02-29 12:34:56,123456{name}+00:00')")
+    run = f"PYTHONPATH='{ROOM}/wheel' /usr/bin/python3 packages/python/examples/differences.py '{ROOM}/3' '{ROOM}/4' "
+    compare("generated", shell(run + "made id"), (0, ""))
+    compare("finer_times", "finer than a microsecond" in shell(run + "fine id")[1], True)
+
+
 def over_databases(rows):
     """Runs its function between PostgreSQL and SQLite."""
     sys.path[:0] = [str(ROOM / "wheel"), str(TOP / "packages/python/examples")]
@@ -95,6 +108,7 @@ needs("cc")
 compare("wheel", shell("make -s wheel && /usr/bin/python3 -m zipfile -e build/wheels/*.whl \"$ROOM/wheel\""), (0, ""))
 PEOPLE = list(people())
 over_files(PEOPLE)
+over_types()
 if lacks(*SERVER):
     skip("databases", lacks(*SERVER))
 else:
