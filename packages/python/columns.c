@@ -88,12 +88,11 @@ int overlaps_items(const Py_buffer *out, const Py_buffer *items, Py_ssize_t stri
 static void name_item(Py_ssize_t at, PyObject *item)
 {
     char place[64];
-    const char *hint = PyIndex_Check(item) ? ": each_key hashes integers" : "";
     if (item == Py_None) {
         PyErr_Format(PyExc_TypeError, "items[%zd] is None: pass `missing`, the hash of a missing item", at);
     } else if (PyErr_ExceptionMatches(PyExc_TypeError)) {
-        PyErr_Format(PyExc_TypeError, "items[%zd] must be bytes, another buffer, or a str, not %R%s", at, Py_TYPE(item),
-                     hint);
+        PyErr_Format(PyExc_TypeError, "items[%zd] must be bytes, another buffer, or a str, not %R: each_key hashes "
+                     "integers and other fields", at, Py_TYPE(item));
     } else {
         PyOS_snprintf(place, sizeof place, "items[%zd]", at);
         name_error(place);

@@ -46,7 +46,8 @@ def __getattr__(name):
     version = name[:-len("_digest")]
     if name.endswith("_digest") and f"{version}_hexdigest" in __all__:
         raise AttributeError(f"module 'rapidhash' has no {name}: {version}(data).to_bytes(8, 'big') has the bytes")
-    raise AttributeError(f"module 'rapidhash' has no attribute {name!r}")
+    hint = ": V3(data) makes a hasher" if name == "new" else ""
+    raise AttributeError(f"module 'rapidhash' has no attribute {name!r}{hint}")
 
 
 def make_secrets(number, version=3):
@@ -355,7 +356,7 @@ def file_digest(fileobj, digest=V3, /):
     "v3", "v3_micro" or "v3_nano". Raises ValueError for a text file, and BlockingIOError for a non-blocking file that
     has no data yet."""
     if isinstance(digest, str):
-        named = {kind.name[10:]: kind for kind in (V3, V3Micro, V3Nano)}.get(digest)
+        named = {kind.name[10:]: kind for kind in (V3, V3Micro, V3Nano)}.get(digest.lower())
         if named is None:
             raise ValueError(f"digest must be V3, or 'v3', 'v3_micro' or 'v3_nano', not {digest!r}: others "
                              "have no streams")

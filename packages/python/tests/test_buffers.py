@@ -206,12 +206,14 @@ class Files(unittest.TestCase):
             rapidhash.file_digest(io.BytesIO(), "v1")
 
     def test_names_of_hashlib(self):
-        for name, kind in ("v3", rapidhash.V3), ("v3_micro", rapidhash.V3Micro), ("v3_nano", rapidhash.V3Nano):
+        for name, kind in ("V3", rapidhash.V3), ("v3_micro", rapidhash.V3Micro), ("v3_nano", rapidhash.V3Nano):
             found = rapidhash.file_digest(io.BytesIO(DATA), name)
             self.assertEqual((type(found), found.digest()), (kind, kind(DATA, usedforsecurity=False).digest()))
         self.assertRaises(TypeError, rapidhash.V3, b"", None, None, False)
         with self.assertRaisesRegex(AttributeError, r"has no v2_1_digest: v2_1\(data\)\.to_bytes\(8, 'big'\) has the"):
             rapidhash.v2_1_digest
+        with self.assertRaisesRegex(AttributeError, r"has no attribute 'new': V3\(data\) makes a hasher$"):
+            rapidhash.new("v3")
         for name in "v4_digest", "_digest", "v3_diges":
             with self.assertRaisesRegex(AttributeError, f"^module 'rapidhash' has no attribute '{name}'$"):
                 getattr(rapidhash, name)

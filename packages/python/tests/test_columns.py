@@ -344,7 +344,7 @@ class Refused(unittest.TestCase):
     def test_items(self):
         for items in ([b"", 7], iter([b"", 7]), (b"", 7), [b"", 7, b""]):
             with self.assertRaisesRegex(
-                    TypeError, r"^items\[1\] must be bytes, .* not <class 'int'>: each_key hashes integers$"):
+                    TypeError, r"^items\[1\] must be bytes, .* not <class 'int'>: each_key hashes integers and other"):
                 rapidhash.each(items)
         with self.assertRaises(BufferError):
             rapidhash.each([memoryview(b"abc")[::2]])
