@@ -64,7 +64,7 @@ digits: str = rapidhash.v3_hexdigest("text", seed=1) + rapidhash.v1_hexdigest(b"
 text: str = hasher.hexdigest() + hasher.name + rapidhash.__version__
 size: int = hasher.intdigest() + hasher.block_size + V3.digest_size
 restored: V3Micro = V3Micro.restore(bytearray(hasher.save()), secrets=made)
-restored.__setstate__((hasher.save(), made, {}, {}))
+restored.__setstate__((hasher.save(), None, made, {}, {}))
 V3.restore("text")  # type: ignore[arg-type]
 V3(secrets=made_v1)  # type: ignore[arg-type]
 
