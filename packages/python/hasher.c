@@ -74,7 +74,7 @@ static int begin(PyObject *object, PyObject *seed, PyObject *secrets)
     return 0;
 }
 
-/* Calls `update`, which a class over this one or a hasher of it may define anew. */
+/* Calls `update`, which a subclass or an instance may override. */
 static int first_update(PyObject *object, PyObject *data)
 {
     PyObject *const name = PyUnicode_InternFromString("update");
@@ -84,7 +84,7 @@ static int first_update(PyObject *object, PyObject *data)
     return done == NULL ? -1 : 0;
 }
 
-/* Most calls have one argument or none, for which there is a short way. */
+/* Most calls have at most one argument, and need no parser. */
 static int init(PyObject *object, PyObject *args, PyObject *named)
 {
     static char *names[] = {"data", "seed", "secrets", "usedforsecurity", NULL};
@@ -146,7 +146,7 @@ static PyType_Slot slots[] = {
                                   "Hashes a message in pieces.")},
     {0, NULL}};
 
-/* A class over Stream, whose hashers have so many lanes. */
+/* Defines a subclass of Stream by its number of lanes. */
 #define STREAM(count) \
     static PyObject *new_##count(PyTypeObject *type, PyObject *args, PyObject *named) \
     { \
@@ -164,7 +164,7 @@ STREAM(7)
 static PyType_Spec base_spec = SPEC("Stream", slots);
 static PyType_Spec specs[] = {SPEC("Stream3", slots_3), SPEC("Stream5", slots_5), SPEC("Stream7", slots_7)};
 
-/* Takes the reference to the class. */
+/* Adds a class to the module, and steals the reference to it. Returns 0, or -1 with an error set. */
 static int add_class(PyObject *module, const char *name, PyObject *added)
 {
     const int status = added == NULL ? -1 : PyObject_SetAttrString(module, strrchr(name, '.') + 1, added);

@@ -5,8 +5,8 @@
 #include "extension.h"
 #include <pythread.h>
 
-/* The lock is NULL as long as the global lock is enough. `seed` is valid only if has_seed is not 0, and `lanes` is the
- * number that the class has, where that of the stream is 0 until the stream is started. */
+/* The lock is NULL as long as the global lock is enough. `seed` is valid only if has_seed is not 0. `lanes` is the
+ * number of the class; that of the stream is 0 until the stream is started. */
 struct hasher {
     PyObject_HEAD
     PyThread_type_lock lock;
@@ -21,7 +21,8 @@ struct hasher {
 #pragma GCC visibility push(hidden)
 #endif
 
-/* Gives a hasher its lock: before a piece is hashed without the global lock. Returns 0, or -1 with an error set. */
+/* Creates the lock of a hasher, which a piece needs that is hashed without the global lock. Returns 0, or -1 with an
+ * error set. */
 int need_lock(struct hasher *self);
 
 /* Acquires the lock. Lets other threads run while it waits. */

@@ -18,7 +18,7 @@ fn of(negative: bool, whole: &'static [u8], part: &'static [u8]) -> Decimal<'sta
     }
 }
 
-/// The numbers of each row are equal, and no two of different rows are.
+/// Zeros at either end and the sign of 0 do not matter, and all else does.
 #[test]
 fn equal_numbers_have_one_text(rt: HostRuntime) -> Result<(), Fail> {
     assert!(rt; same_decimals(of(false, b"01", b"50"), of(false, b"1", b"5")));

@@ -17,12 +17,27 @@ import uuid
 from rapidhash import fingerprint, shard, v3_key
 
 SHARDS = 1000
+
+
+def instant(text):
+    if re.search(r"[.,]\d{6}0*[1-9]", text):  # which Python would cut
+        raise ValueError(f"{text!r} is finer than a microsecond")
+    return datetime.datetime.fromisoformat(text)
+
+
+def boolean(value):
+    if value not in (0, 1, "f", "t"):
+        raise ValueError(f"{value!r} is no boolean")
+    return value in (1, "t")
+
+
+def number(value):
+    return decimal.Decimal(str(value))
+
+
 # How a value of SQLite is read, by the declared type of its column.
-READERS = {"date": datetime.date.fromisoformat, "uuid": uuid.UUID,
-           **dict.fromkeys(["timestamptz", "timestamp with time zone"], lambda text: datetime.datetime.fromisoformat(
-               re.sub(r".*[.,]\d{6}0*[1-9].*", r"finer than a microsecond: \g<0>", text))),
-           **dict.fromkeys(["numeric", "decimal"], lambda number: decimal.Decimal(str(number))),
-           **dict.fromkeys(["boolean", "bool"], {0: False, 1: True, "f": False, "t": True}.__getitem__)}
+READERS = {"date": datetime.date.fromisoformat, "timestamptz": instant, "timestamp with time zone": instant,
+           "uuid": uuid.UUID, "numeric": number, "decimal": number, "boolean": boolean, "bool": boolean}
 
 
 def signed(word):
@@ -95,9 +110,10 @@ class Table:
 def differences(first, second, table, key):
     """Yields added, removed or changed, and the values of the key, for each row that differs."""
     left, right = Table(first, table, key), Table(second, table, key)
-    shards = left.whole() != right.whole() and {
-        row[0] for row in {*map(tuple, left.shards())} ^ {*map(tuple, right.shards())}}
-    if not shards:
+    if left.whole() == right.whole():
+        return
+    shards = {row[0] for row in {*map(tuple, left.shards())} ^ {*map(tuple, right.shards())}}
+    if not shards:  # The fingerprint of no rows is NULL in SQLite and 0 in PostgreSQL.
         return
     (old, old_keys), (new, new_keys) = (side.rows(", ".join(map(str, shards))) for side in (left, right))
     for one in sorted({*old, *new}, key=lambda one: str({**old_keys, **new_keys}[one])):

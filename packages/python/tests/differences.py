@@ -69,16 +69,19 @@ def over_files(rows):
 
 
 def over_types():
-    """Runs it over a generated column, which has a type too, and a time that is finer than a microsecond."""
+    """Runs it over a generated column, which has a type too, and over values that it must refuse."""
     for name in "3", "4":
         with sqlite3.connect(ROOM / name) as database:
             database.execute("CREATE TABLE made (id integer, twice decimal GENERATED ALWAYS AS (id * 2.5))")
             database.execute("INSERT INTO made VALUES (1)")
             database.execute("CREATE TABLE fine (id integer, seen timestamptz)")
             database.execute(f"INSERT INTO fine VALUES (1, '2024-02-29 12:34:56,123456{name}+00:00')")
+            database.execute("CREATE TABLE odd (id integer, active bool)")
+            database.execute("INSERT INTO odd VALUES (1, 2)")
     run = f"PYTHONPATH='{ROOM}/wheel' /usr/bin/python3 packages/python/examples/differences.py '{ROOM}/3' '{ROOM}/4' "
     compare("generated", shell(run + "made id"), (0, ""))
     compare("finer_times", "finer than a microsecond" in shell(run + "fine id")[1], True)
+    compare("other_booleans", "2 is no boolean" in shell(run + "odd id")[1], True)
 
 
 def over_databases(rows):
