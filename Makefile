@@ -261,8 +261,8 @@ test-machines test-windows test-debian test-dieharder test-source: test-%:
 
 # All versions, compilers, streams and packages, of which the gate checks V3 alone.
 test-machine-code:
-	@prove --verbose --jobs 4 --exec tests/machine/machine.py streams-kit modules streams-gcc streams-clang library \
-	  arm64 faults
+	@prove --verbose --jobs 4 --exec tests/machine/machine.py streams-kit faults streams-clang streams-gcc modules \
+	  library streams-kit-small arm64
 
 test-vendor:
 	@tests/vendor.sh ci

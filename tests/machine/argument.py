@@ -154,8 +154,12 @@ def generalise(before, after):
 
 def general_at(general, done):
     """Returns the general state after so many turns."""
-    words = {key: (substitute(word_of(value)[0], "done", done), word_of(value)[1]) for key, value in general.items()}
-    return {key: word if index is None else byte(word, index) for key, (word, index) in words.items()}
+    moved = {}
+    for key, value in general.items():
+        word, index = word_of(value)
+        word = substitute(word, "done", done)
+        moved[key] = word if index is None else byte(word, index)
+    return moved
 
 
 def match(general, actual, done):

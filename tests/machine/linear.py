@@ -29,7 +29,10 @@ def make(kind, width, *parts):
 
 
 def known(*words):
-    return all(type(word) is int for word in words)
+    for word in words:
+        if type(word) is not int:
+            return False
+    return True
 
 
 def is_kind(word, *kinds):
@@ -165,6 +168,8 @@ def below(word, bits):
 
 def add(first, second, times=1):
     """Returns first + times * second."""
+    if known(second) and is_kind(first, "linear"):
+        return make("linear", 64, signed(first.parts[0] + times * second), first.parts[1])
     one, two = parts(first), parts(second)
     if one and two:
         factors = {text: one[1].get(text, 0) + times * two[1].get(text, 0) for text in {**one[1], **two[1]}}

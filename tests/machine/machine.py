@@ -64,10 +64,10 @@ def check(by, file, versions=VERSIONS, forms=FORMS, **options):
         case(f"{version}{form} by {by}", *[reason] * (how is None), what=f"{how}: {time.process_time() - began:.1f} s")
 
 
-def check_streams(by, file, is_apart=False):
+def check_streams(by, file, is_apart=False, versions=LANES):
     if file is None:
         skip(f"streams by {by}", lacks("rt") or UNBUILT)
-    for version in LANES if file else ():
+    for version in versions if file else ():
         began = time.process_time()
         findings = list(show_streams(file, version, is_apart))
         case(f"streams of {version} by {by}", *findings, what=f"{time.process_time() - began:.1f} s")
@@ -194,7 +194,8 @@ def check_gate():
 PARTS = {
     "library": check_library,
     "streams-gcc": lambda: check_streams("gcc", gcc),
-    "streams-kit": lambda: check_streams("the kit", kit, True),
+    "streams-kit": lambda: check_streams("the kit", kit, True, ["v3"]),
+    "streams-kit-small": lambda: check_streams("the kit", kit, True, ["v3_micro", "v3_nano"]),
     "streams-clang": lambda: check_streams("clang -O2", faults.built("clang -O2")),
     "arm64": check_arm64,
     "modules": check_packages,

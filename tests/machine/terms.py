@@ -2,7 +2,7 @@
 words. Contents, seeds and secrets are terms of which nothing is known. A product is two terms, its low and its high
 half."""
 
-from linear import MASK, Refusal, add, below, bounds, is_kind, known, linear, make, ordered, parts, width
+from linear import MASK, POOL, Refusal, add, below, bounds, is_kind, known, linear, make, ordered, parts, width
 
 
 def xor(*words):
@@ -106,7 +106,10 @@ def byte(word, index):
 
 
 def split(word, size=8):
-    return [byte(word, index) for index in range(size)]
+    key = "split", word, size
+    if key not in POOL:
+        POOL[key] = [byte(word, index) for index in range(size)]
+    return POOL[key]
 
 
 def join(these):
