@@ -40,6 +40,11 @@ READERS = {"date": datetime.date.fromisoformat, "timestamptz": instant, "timesta
            "uuid": uuid.UUID, "numeric": number, "decimal": number, "boolean": boolean, "bool": boolean}
 
 
+def quoted(names):
+    """Returns names of columns as SQL has them."""
+    return ", ".join('"' + name.replace('"', '""') + '"' for name in names)
+
+
 def signed(word):
     """Returns a hash as the integer that SQL has for it."""
     return word - (word >> 63 << 64)
@@ -61,9 +66,10 @@ class Table:
     def __init__(self, connection, table, key):
         self.connection, self.cursor, self.table, self.moved = connection, connection.cursor(), table, 0
         self.ask(f"SELECT * FROM {table} LIMIT 0")
-        columns = [f'"{column[0]}"' for column in self.cursor.description]
-        key = [{it.lower(): it for it in columns}[f'"{column}"'.lower()] for column in key]
-        self.key, self.row_hash, self.key_hash = ", ".join(key), self.call("of_row", columns), self.call("of_key", key)
+        columns = sorted((column[0] for column in self.cursor.description), key=lambda it: (it.lower(), it))
+        self.columns = [it.lower() for it in columns]
+        key = [columns[self.columns.index(it.lower())] for it in key]
+        self.key, self.row_hash, self.key_hash = quoted(key), self.call("of_row", columns), self.call("of_key", key)
         if isinstance(connection, sqlite3.Connection):
             sqlite3.enable_callback_tracebacks(True)
             connection.create_aggregate("rapidhash_fingerprint", 1, Fingerprint)
@@ -72,8 +78,8 @@ class Table:
     def call(self, name, columns):
         """Returns the call for the hash of some columns. That of SQLite is a function in Python."""
         if not isinstance(self.connection, sqlite3.Connection):
-            return f"rapidhash_v3_key({', '.join(columns)})"
-        types = {f'"{row[1]}"': row[2].lower() for row in self.ask(f"PRAGMA table_xinfo({self.table})")}
+            return f"rapidhash_v3_key({quoted(columns)})"
+        types = {row[1]: row[2].lower() for row in self.ask(f"PRAGMA table_xinfo({self.table})")}
         readers = [READERS.get(types.get(column, "").partition("(")[0].rstrip()) for column in columns]
 
         def hashed(*values):
@@ -82,7 +88,7 @@ class Table:
             return signed(v3_key(*fields))
 
         self.connection.create_function(name, len(columns), hashed)
-        return f"{name}({', '.join(columns)})"
+        return f"{name}({quoted(columns)})"
 
     def ask(self, query):
         self.cursor.execute(query)
@@ -110,6 +116,8 @@ class Table:
 def differences(first, second, table, key):
     """Yields added, removed or changed, and the values of the key, for each row that differs."""
     left, right = Table(first, table, key), Table(second, table, key)
+    if left.columns != right.columns:
+        raise ValueError(f"the tables have other columns: {left.columns} and {right.columns}")
     if left.whole() == right.whole():
         return
     shards = {row[0] for row in {*map(tuple, left.shards())} ^ {*map(tuple, right.shards())}}

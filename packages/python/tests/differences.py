@@ -78,9 +78,15 @@ def over_types():
             database.execute(f"INSERT INTO fine VALUES (1, '2024-02-29 12:34:56,123456{name}+00:00')")
             database.execute("CREATE TABLE odd (id integer, active bool)")
             database.execute("INSERT INTO odd VALUES (1, 2)")
+            database.execute(f"CREATE TABLE other (id integer, c{name} text)")
+            columns = ["id integer", '"a""b" text']
+            database.execute(f"CREATE TABLE turned ({', '.join(columns[::int(name) * 2 - 7])})")
+            database.execute(f"""INSERT INTO turned (id, "a""b") VALUES (1, 'b'), (2, 'c'), ({name}, 'd')""")
     run = f"PYTHONPATH='{ROOM}/wheel' /usr/bin/python3 packages/python/examples/differences.py '{ROOM}/3' '{ROOM}/4' "
     compare("generated", shell(run + "made id"), (0, ""))
     compare("finer_times", "finer than a microsecond" in shell(run + "fine id")[1], True)
+    compare("columns_in_another_order", shell(run + "turned ID")[1].splitlines()[:2], ["removed\t3", "added\t4"])
+    compare("other_columns", "['c3', 'id'] and ['c4', 'id']" in shell(run + "other id")[1], True)
     compare("other_booleans", "2 is no boolean" in shell(run + "odd id")[1], True)
 
 
