@@ -91,8 +91,8 @@ class X86(Alone, x86.Machine):
         for index, _ in others:
             self.words[index] = draw.randrange(8)
         rest = sum(self.words[index] * times for index, times in others)
-        self.words[base] = self.words[base] - place.start % 16 if base == x86.RSP else \
-            (at - place.start - rest) // scale & MASK
+        self.words[base] = MASK & (
+            self.words[base] - place.start % 16 if base == x86.RSP else (at - place.start - rest) // scale)
 
     def fill(self, draw):
         self.vectors = [list(draw.randbytes(16)) for _ in range(16)]
