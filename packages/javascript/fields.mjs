@@ -14,7 +14,8 @@ export function millisecondsOf(value) {
 }
 
 function refuse(call, wanted, value) {
-  const shown = typeof value === "string" ? JSON.stringify(value.slice(0, 40)) : whatIs(value);
+  const shown = typeof value === "string" ? JSON.stringify(value.length > 40 ? `${value.slice(0, 40)}...` : value)
+    : typeof value === "number" || millisecondsOf(value) !== undefined ? `${value}` : whatIs(value);
   throw new (typeof value === "string" ? RangeError : TypeError)(`${call}: ${wanted}, not ${shown}`);
 }
 

@@ -1,23 +1,12 @@
 // The encoding of a key of several fields, which is the same in every language: for each field a tag, and then nothing,
 // the integer as 8 bytes, or the number of bytes as 8 bytes and the bytes. All numbers are little-endian.
-import { bytesOf, encodeInto, kindOf, sizeOf, whatIs } from "./arguments.mjs";
+import { bytesOf, encodeInto, kindOf, sizeOf } from "./arguments.mjs";
 import { millisecondsOf } from "./fields.mjs";
 
 const [nothing, integer, bytes] = [0, 1, 2];
 /** Up to this many letters, a loop is faster than encodeInto(). */
 const few = 60;
-
-/** Returns the bytes of a Uint8Array, an ArrayBuffer or a DataView, or undefined for anything else. */
-function textOf(field, at) {
-  const kind = kindOf(field);
-  if (kind !== undefined && kind !== "Uint8Array") return undefined;
-  try {
-    return bytesOf(field, `fields[${at}]`);
-  } catch (error) {
-    if (ArrayBuffer.isView(field) || whatIs(field) === "ArrayBuffer") throw error; // a detached one
-    return undefined;
-  }
-}
+const wanted = "a field must be null, a boolean, an integer, a string, a Uint8Array, a Date or an array of these";
 
 /** Writes a short string as UTF-8. Returns the end, or -1 if it has half of a surrogate pair. */
 function putLetters(text, array, start) {
@@ -95,9 +84,12 @@ function putFields(fields, place, array, view, room, start) {
   return end;
 }
 
-/** Returns a copy of a list, and any other field unchanged. */
+/** Returns a copy of a list up to its first hole, which is refused, and any other field unchanged. */
 function copyOf(field) {
-  return Array.isArray(field) ? Array.from({ length: field.length }, (_, at) => field[at]) : field;
+  if (!Array.isArray(field)) return field;
+  const items = [], { length } = field;
+  for (let item = null; items.length < length && item !== undefined; items.push(item)) item = field[items.length];
+  return items;
 }
 
 /** Writes a list: the number of its items, and then each. Returns the same as putField. */
@@ -109,12 +101,12 @@ function putList(items, place, array, view, room, start) {
 /** Writes the field of another value than null, an integer or a string. Returns the same as putField. */
 function putOther(field, place, array, view, room, end) {
   if (Array.isArray(field)) return putList(field, place, array, view, room, end);
-  const text = typeof field === "object" ? textOf(field, place) : undefined;
-  const number = text === undefined ? integerOf(field, place) : undefined;
+  const kind = kindOf(field);
+  // Before anything asks for the name of a Date's class, by a getter that may hash.
+  const number = kind === undefined ? integerOf(field, place) : undefined;
   if (number !== undefined) return putField(number, place, array, view, room, end);
-  if (text === undefined)
-    throw new TypeError(`fields[${place}] must be null, a boolean, an integer, a string, a Uint8Array, a Date or an ${
-      ""}array of these, not ${whatIs(field)}`);
+  if (kind !== undefined && kind !== "Uint8Array") throw new TypeError(`fields[${place}]: ${wanted}, not ${kind}`);
+  const text = bytesOf(field, `fields[${place}]`, wanted);
   const start = end + 9, after = start + sizeOf(text);
   if (after > room) return after;
   array[end] = bytes;

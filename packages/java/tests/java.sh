@@ -213,7 +213,7 @@ is_for_the_jdk_of_the_page() {
 # long.
 copies_whole_arrays() {
   [ "$(javap -c -p -cp "$jar" "$package.RapidhashStream" |
-    grep -cE 'Method (java/lang/System.arraycopy|java/nio/ByteBuffer.get:\(\[B|append):?')" -eq 12 ]
+    grep -cE 'Method (java/lang/System.arraycopy|java/nio/ByteBuffer.get:\(\[B|append):?')" -eq 11 ]
 }
 
 # Checks by that code that each of the four loads of 4 or 8 bytes is a single one, and that those of a byte read one:

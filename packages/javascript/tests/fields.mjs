@@ -66,5 +66,8 @@ test("what is refused", () => {
     () => uuid(undefined), () => decimal(1.5), () => decimal(undefined), () => floatBits("1"), () => floatBits(NaN),
     () => day("2024-02-29\n")])
     assert.throws(call, /^(Type|Range)Error: (day|time|uuid|decimal|floatBits): /);
+  for (const [call, value, shown] of [[time, invalid, "Invalid Date"], [day, new Date(1), new Date(1)],
+    [decimal, 1.5, 1.5], [decimal, `${"1".repeat(40)},5`, `"${"1".repeat(40)}..."`], [uuid, {}, "Object"]])
+    assert.throws(() => call(value), ({ message }) => message.endsWith(`, not ${shown}`));
   assert.equal(time("2024-02-29 12:34:56.789012+00"), 1709210096789012n);
 });

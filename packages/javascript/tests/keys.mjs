@@ -71,6 +71,8 @@ test("a list whose items hash when they are read", () => {
     assert.equal(v3Key("user", computed), v3Key("user", list));
     assert.equal(v3Key("x".repeat(200000), computed), v3Key("x".repeat(200000), list));
     assert.equal(reads, 6); // each of two keys reads the length and the items once
+    const date = Object.defineProperty(new Date(5), Symbol.toStringTag, { get: () => `${nested()}` });
+    assert.equal(v3Key("user", date, [date]), v3Key("user", 5000, [5000]));
   }
 });
 
@@ -84,11 +86,11 @@ test("what is no field", () => {
     assert.throws(() => v3Key(field), { name: "RangeError", message });
   }
   const refused = [[undefined, "undefined"], [{}, "Object"], [[1, , 2], "undefined"], // eslint-disable-line
-    [Symbol("a"), "symbol"], [() => 0, "function"], [new Float64Array(1), "Float64Array"],
-    [new BigInt64Array(1), "BigInt64Array"]];
+    [Array(2 ** 32 - 1), "undefined"], [Symbol("a"), "symbol"], [() => 0, "function"],
+    [new Float64Array(1), "Float64Array"], [new BigInt64Array(1), "BigInt64Array"]];
   for (const [field, kind] of refused) {
-    const message = `fields[2] must be null, a boolean, an integer, a string, a Uint8Array, a Date or an array of ${
-      ""}these, not ${kind}`;
+    const message = `fields[2]: a field must be null, a boolean, an integer, a string, a Uint8Array, a Date or an ${
+      ""}array of these, not ${kind}`;
     assert.throws(() => v3Key(1, 2, field), { name: "TypeError", message });
   }
   assert.throws(() => v3Key(1, [1, [2]]), /^TypeError: fields\[1\]: a list in a key must not contain a list$/);

@@ -21,8 +21,7 @@ final class OtherFields {
     private static final int MOST = 150_000;
     private static final String TOO_LONG = " has more than " + MOST + " characters as a decimal number";
 
-    private OtherFields() {
-    }
+    private OtherFields() {}
 
     static void add(KeyEncoding key, Object field, int at) {
         if (field instanceof Boolean) {

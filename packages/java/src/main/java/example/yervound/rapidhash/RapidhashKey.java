@@ -23,8 +23,7 @@ import java.util.Objects;
  * the cast, Java takes it for the array of fields.
  */
 public final class RapidhashKey {
-    private RapidhashKey() {
-    }
+    private RapidhashKey() {}
 
     /** Returns the hash of a key with the default seed and secrets. */
     public static long hash(Object... fields) {

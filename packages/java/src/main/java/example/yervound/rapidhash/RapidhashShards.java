@@ -14,8 +14,7 @@ public final class RapidhashShards {
     /** The largest count of buckets. */
     private static final long MOST = 0xffffffffL;
 
-    private RapidhashShards() {
-    }
+    private RapidhashShards() {}
 
     /**
      * Returns the shard of a hash, below the count: the integer part of hash * count / 2^64. Each shard has

@@ -87,12 +87,13 @@ public final class RapidhashStream implements Checksum {
      * Appends all bytes that an input still has, and does not close it.
      *
      * @throws IOException if a read fails. The bytes before it are appended
+     * @throws IndexOutOfBoundsException if a read claims more bytes than it had room for. So are the bytes before it
      */
     public void update(InputStream input) throws IOException {
         byte[] room = new byte[8192];
         Objects.requireNonNull(input, "input");
         for (int n = input.read(room); n >= 0; n = input.read(room)) {
-            append(room, 0, n);
+            update(room, 0, n);
         }
     }
 

@@ -83,9 +83,9 @@ public class ValuesTest {
         assertEquals(version.hash((long) 'a'), version.hash('a' + 0));
     }
 
-    /** Reads a message in pieces of 0, 1, 2 bytes, and so on. */
+    /** Reads a message in pieces of 0, 1, 2 bytes, and so on, of which it can claim to have read more. */
     private static final class Pieces extends ByteArrayInputStream {
-        private int size;
+        private int size, surplus;
         private boolean isClosed;
 
         Pieces(byte[] bytes) {
@@ -94,7 +94,7 @@ public class ValuesTest {
 
         @Override
         public synchronized int read(byte[] room, int at, int n) {
-            return super.read(room, at, Math.min(n, size++));
+            return super.read(room, at, Math.min(n, size++)) + surplus;
         }
 
         @Override
@@ -116,6 +116,8 @@ public class ValuesTest {
                 RapidhashStream stream = version.stream(OWN);
                 stream.update(new Pieces(Arrays.copyOf(message, length / 2)));
                 stream.update(new ByteArrayInputStream(message, length / 2, length));
+                input.surplus = 8194;
+                assertThrows(IndexOutOfBoundsException.class, () -> stream.update(input));
                 assertEquals(version.hash(message, OWN), stream.getValue());
             }
         }
