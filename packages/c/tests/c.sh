@@ -130,9 +130,11 @@ has_no_warning() {
     includes_the_headers clang++ -Weverything "${allowed[@]}" -Wno-c++98-compat-pedantic -Wno-pre-c++17-compat
 }
 
-# Compiles a program in C++ that uses the headers, whose casts are of C, without a warning: COMPILER ARGUMENT..
+# Compiles a program in C++ that uses the headers, whose casts are of C, without a warning, after macros of windows.h in
+# lower case: COMPILER ARGUMENT..
 includes_the_headers() {
-  "$@" -std=c++17 -Werror "-I$include" -x c++ -c -o /dev/null - <<'CPP'
+  "$@" -std=c++17 -Werror -D{small,hyper}=char -D{near,far}= -Dinterface=struct "-I$include" -x c++ -c -o /dev/null - \
+    <<'CPP'
 #include <rapidhash.hpp>
 int main()
 {
