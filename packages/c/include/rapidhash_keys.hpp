@@ -1,8 +1,8 @@
-/* Hashes of keys of several fields, and hashers for unordered containers. rapidhash.hpp includes this header. */
+/* Hashes of keys of several fields, and hashers for unordered containers. rapidhash.hpp includes this header, also if a
+ * program includes this one first: then all is defined before the next line. */
+#include "rapidhash.hpp"
 #ifndef RAPIDHASH_KEYS_HPP
 #define RAPIDHASH_KEYS_HPP
-
-#include "rapidhash.hpp"
 
 #include <array>
 #include <chrono>

@@ -147,6 +147,12 @@ int main()
 CPP
 }
 
+# Checks that a file of C++ can include each header first: COMPILER
+includes_each_header_alone() {
+  local each
+  for each in "$include"/*; do "$1" -std=c++17 -fsyntax-only -include "$each" -x c++ /dev/null || return 1; done
+}
+
 # Checks that cppcheck reports no error in a file of C or of C++ that includes a header.
 has_no_fault_of_cppcheck() {
   mkdir "$room/cppcheck" && cp "$room/second.c" "$room/cppcheck" &&
@@ -602,10 +608,12 @@ done
 for compiler in g++ clang++; do
   try_with "cpp_fields_$compiler" "$compiler" refuses_what_is_no_field "$compiler"
   try_with "cpp_streams_$compiler" "$compiler" exports_a_stream "$compiler"
+  try_with "each_header_$compiler" "$compiler" includes_each_header_alone "$compiler"
 done
 for compiler in gcc clang; do try_with "visibility_$compiler" "$compiler" exports_match_visibility "$compiler"; done
 try_with all_warnings_of_clang 'clang clang++' has_no_warning
 try_with casts_of_c g++ includes_the_headers g++ -Wall -Wextra -Wold-style-cast -Wuseless-cast
+  try_with "each_header_$compiler" "$compiler" includes_each_header_alone "$compiler"
 try_with cppcheck cppcheck has_no_fault_of_cppcheck
 try_with names_of_parameters cppcheck names_parameters_alike
 try_with cpp_header_32_bits "g++ $multilib/libstdc++.a" calls_from_cpp g++ c++11 -m32 -funsigned-char \
