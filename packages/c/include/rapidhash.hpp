@@ -158,11 +158,14 @@ public:
     basic_stream() noexcept : basic_stream(seed(0)) {}
     explicit basic_stream(seed start) noexcept : basic_stream(seed_secrets(start)) {}
     template <class Secrets, if_secrets<Secrets> = 0>
-    explicit basic_stream(const Secrets &own) noexcept : secrets_(own)
+    explicit basic_stream(const Secrets &own) noexcept : secrets_(own), state_()
     {
         ::rapidhash_stream_start_(&state_, Lanes, &secrets_);
     }
-    basic_stream(const basic_stream &other) noexcept { *this = other; }
+    basic_stream(const basic_stream &other) noexcept : secrets_(other.secrets_), state_(other.state_)
+    {
+        state_.secrets = &secrets_;
+    }
 
     basic_stream &operator=(const basic_stream &other) noexcept
     {

@@ -120,7 +120,7 @@ bool float_bits(Number number, std::int64_t &bits) noexcept
 }
 
 #if RAPIDHASH_THROWS_
-inline decimal::decimal(bytes text)
+inline decimal::decimal(bytes text) : text_()
 {
     if (!from_text(text, *this))
         throw std::invalid_argument("rapidhash::decimal: no decimal number, or one of more than 150000 bytes");
