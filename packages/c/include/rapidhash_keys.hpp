@@ -139,6 +139,8 @@ template <class List> void add_list(::rapidhash_stream *state, const List &items
 {
     static_assert(!std::is_volatile<typename std::remove_reference<decltype(*items.begin())>::type>::value,
                   "a list of a key has no volatile items: copy them, perhaps into a vector");
+    static_assert(!is_short<typename std::remove_cv<typename List::value_type>::type>::value,
+                  "enumerators of 8 bits in a list have a type that a program names, as enum class letter : char");
     ::rapidhash_key_integer(state, static_cast<std::int64_t>(items.size()));
     for (auto &&item : items)
         rapidhash::add_field<typename std::remove_cv<typename List::value_type>::type>(state, item);

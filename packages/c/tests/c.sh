@@ -196,11 +196,12 @@ CPP
 refuses_what_is_no_field() {
   local value why
   while IFS='|' read -r value why; do
-    ! "$1" -std=gnu++17 "-I$include" -x c++ -fsyntax-only - 2>"$room/said" \
+    ! "$1" -std=gnu++17 -fshort-enums "-I$include" -x c++ -fsyntax-only - 2>"$room/said" \
       <<<"#include <rapidhash.hpp>
 #include <memory>
 #include <variant>
 struct own : std::char_traits<char> {};
+enum plain { zero };
 std::uint64_t hash() { return rapidhash::key($value); }" && grep "$why" "$room/said" || { echo "$value" && return 1; }
   done <<VALUES
 static_cast<__int128>(1)|an integer of a key has at most 64 bits
@@ -225,6 +226,8 @@ std::optional<std::tuple<int>>()|an optional field is itself no optional,
 std::optional<const std::optional<int>>()|an optional field is itself no optional,
 std::optional<std::nullptr_t>()|an optional field is itself no optional,
 std::vector<double>()|a field is nullptr, an integer,
+std::vector<plain>()|enumerators of 8 bits in a list have a type that a program names, as enum class letter : char
+rapidhash::hash(std::vector<plain>())|error: no matching function for call to .hash
 L"user"|a field is nullptr, an integer,
 std::array<volatile int, 1>()|a list of a key has no volatile items: copy them, perhaps into a vector
 std::array<volatile unsigned char, 1>()|a list of a key has no volatile items:
