@@ -60,6 +60,15 @@ inline secrets seed_secrets(seed start) noexcept
     return made;
 }
 
+/* Finds enumerators that may have 8 bits with -fshort-enums alone, so that a list of them is not bytes on each machine.
+ * Those of a type that the program names are not among them: since C++17 such a type has a value in braces. */
+enum shortest {};
+template <class Value, bool IsSmall = std::is_enum<Value>::value && sizeof(Value) == 1 && sizeof(shortest) == 1,
+          class = void>
+struct is_short : std::conditional<IsSmall, std::is_convertible<Value, int>, std::false_type>::type {};
+template <class Value>
+struct is_short<Value, true, typename std::enable_if<sizeof(Value{0}) == 1>::type> : std::false_type {};
+
 /* A view of bytes, the argument of the functions below. A std::string, string_view, vector, array, or span of bytes or
  * characters converts implicitly, and so do a C string, without its terminating zero, an array of characters, up to its
  * first zero or its end, if it has a known one, and an array of other bytes as a whole. It owns nothing. */
@@ -69,7 +78,7 @@ class bytes {
     template <class Element>
     using if_byte = typename std::enable_if<
         sizeof(Element) == 1 && (std::is_integral<Element>::value || std::is_enum<Element>::value)
-        && !std::is_same<typename std::remove_const<Element>::type, bool>::value
+        && !std::is_same<typename std::remove_const<Element>::type, bool>::value && !is_short<Element>::value
         && !std::is_volatile<Element>::value>::type;
 #ifdef __cpp_char8_t
     using utf8 = char8_t;
@@ -158,11 +167,14 @@ public:
     basic_stream() noexcept : basic_stream(seed(0)) {}
     explicit basic_stream(seed start) noexcept : basic_stream(seed_secrets(start)) {}
     template <class Secrets, if_secrets<Secrets> = 0>
-    explicit basic_stream(const Secrets &own) noexcept : secrets_(own)
+    explicit basic_stream(const Secrets &own) noexcept : secrets_(own), state_()
     {
         ::rapidhash_stream_start_(&state_, Lanes, &secrets_);
     }
-    basic_stream(const basic_stream &other) noexcept { *this = other; }
+    basic_stream(const basic_stream &other) noexcept : secrets_(other.secrets_), state_(other.state_)
+    {
+        state_.secrets = &secrets_;
+    }
 
     basic_stream &operator=(const basic_stream &other) noexcept
     {

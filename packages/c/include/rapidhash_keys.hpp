@@ -1,8 +1,8 @@
-/* Hashes of keys of several fields, and hashers for unordered containers. rapidhash.hpp includes this header. */
+/* Hashes of keys of several fields, and hashers for unordered containers. rapidhash.hpp includes this header, also if a
+ * program includes this one first: then all is defined before the next line. */
+#include "rapidhash.hpp"
 #ifndef RAPIDHASH_KEYS_HPP
 #define RAPIDHASH_KEYS_HPP
-
-#include "rapidhash.hpp"
 
 #include <array>
 #include <chrono>
@@ -139,6 +139,8 @@ template <class List> void add_list(::rapidhash_stream *state, const List &items
 {
     static_assert(!std::is_volatile<typename std::remove_reference<decltype(*items.begin())>::type>::value,
                   "a list of a key has no volatile items: copy them, perhaps into a vector");
+    static_assert(!is_short<typename std::remove_cv<typename List::value_type>::type>::value,
+                  "enumerators of 8 bits in a list have a type that a program names, as enum class letter : char");
     ::rapidhash_key_integer(state, static_cast<std::int64_t>(items.size()));
     for (auto &&item : items)
         rapidhash::add_field<typename std::remove_cv<typename List::value_type>::type>(state, item);
@@ -224,6 +226,25 @@ template <class Value> struct field<std::optional<Value>> {
     }
 };
 
+/* Returns a text of 16 bits a character as UTF-8. Half of a pair alone, as in names of Windows, has the 3 bytes of its
+ * number, where the library of C++ throws. */
+template <class Text> std::string to_utf8(const Text &text)
+{
+    std::string utf8;
+    for (std::size_t at = 0; at < text.size(); at++) {
+        const std::uint32_t next = at + 1 < text.size() ? static_cast<std::uint16_t>(text[at + 1]) : 0U;
+        std::uint32_t point = static_cast<std::uint16_t>(text[at]);
+        if (point >> 10 == 54 && next >> 10 == 55) {
+            point = ((point & 1023) << 10 | (next & 1023)) + 65536;
+            at++;
+        }
+        const int more = point < 128 ? 0 : point < 2048 ? 1 : point < 65536 ? 2 : 3;
+        utf8 += static_cast<char>((more ? 65280U >> (more + 1) & 255U : 0U) | point >> 6 * more);
+        for (int bits = 6 * more; bits > 0;) utf8 += static_cast<char>(128 | (point >> (bits -= 6) & 63));
+    }
+    return utf8;
+}
+
 /* Equal paths have equal elements but may have different texts, and so may a root directory of several separators. */
 template <> struct field<std::filesystem::path> {
     static void add(::rapidhash_stream *state, const std::filesystem::path &value) noexcept
@@ -235,7 +256,7 @@ template <> struct field<std::filesystem::path> {
             else if constexpr (sizeof(std::filesystem::path::value_type) == 1)
                 rapidhash::add_field(state, element.native());
             else
-                rapidhash::add_field(state, element.u8string());
+                rapidhash::add_field(state, rapidhash::to_utf8(element.native()));
     }
 };
 #endif

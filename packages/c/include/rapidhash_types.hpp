@@ -103,8 +103,8 @@ inline double to_double(float number) noexcept
     std::uint32_t bits;
     static_assert(sizeof bits == sizeof number, "a float has 32 bits");
     std::memcpy(&bits, &number, sizeof bits);
-    const double small = static_cast<double>(bits & 0x7fffff) * 1.40129846432481707092e-45;
-    return (bits & 0x7f800000) != 0 ? static_cast<double>(number) : bits >> 31 != 0 ? -small : small;
+    const double least = static_cast<double>(bits & 0x7fffff) * 1.40129846432481707092e-45;
+    return (bits & 0x7f800000) != 0 ? static_cast<double>(number) : bits >> 31 != 0 ? -least : least;
 }
 
 /* Reads the bits of a number, as an integer that is a field: those of 0 for -0. For NaN, which has many bits, returns
@@ -120,7 +120,7 @@ bool float_bits(Number number, std::int64_t &bits) noexcept
 }
 
 #if RAPIDHASH_THROWS_
-inline decimal::decimal(bytes text)
+inline decimal::decimal(bytes text) : text_()
 {
     if (!from_text(text, *this))
         throw std::invalid_argument("rapidhash::decimal: no decimal number, or one of more than 150000 bytes");

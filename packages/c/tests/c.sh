@@ -130,19 +130,28 @@ has_no_warning() {
     includes_the_headers clang++ -Weverything "${allowed[@]}" -Wno-c++98-compat-pedantic -Wno-pre-c++17-compat
 }
 
-# Compiles a program in C++ that uses the headers, whose casts are of C, without a warning: COMPILER ARGUMENT..
+# Compiles a program in C++ that uses the headers, whose casts are of C, without a warning, after macros of windows.h in
+# lower case: COMPILER ARGUMENT..
 includes_the_headers() {
-  "$@" -std=c++17 -Werror "-I$include" -x c++ -c -o /dev/null - <<'CPP'
+  "$@" -std=c++17 -Werror -D{small,hyper}=char -D{near,far}= -Dinterface=struct "-I$include" -x c++ -c -o /dev/null - \
+    <<'CPP'
 #include <rapidhash.hpp>
 int main()
 {
     const rapidhash::hasher hasher;
     const rapidhash::seeded_hasher seeded(rapidhash::seed(7));
+    const rapidhash::micro_stream state, copy(state);
     const auto value = std::make_tuple(1, std::make_pair("a", 2), std::optional<long>(), std::filesystem::path("a/b"),
                                        std::vector<bool>(), std::array<long, 1>(), std::chrono::hours(1));
-    return hasher(value) == seeded(value) && rapidhash::micro_stream().update("a").finish() == rapidhash::hash("a");
+    return hasher(value) == seeded(value) && copy.finish() == rapidhash::hash("a");
 }
 CPP
+}
+
+# Checks that a file of C++ can include each header first: COMPILER
+includes_each_header_alone() {
+  local each
+  for each in "$include"/*; do "$1" -std=c++17 -fsyntax-only -include "$each" -x c++ /dev/null || return 1; done
 }
 
 # Checks that cppcheck reports no error in a file of C or of C++ that includes a header.
@@ -187,11 +196,12 @@ CPP
 refuses_what_is_no_field() {
   local value why
   while IFS='|' read -r value why; do
-    ! "$1" -std=gnu++17 "-I$include" -x c++ -fsyntax-only - 2>"$room/said" \
+    ! "$1" -std=gnu++17 -fshort-enums "-I$include" -x c++ -fsyntax-only - 2>"$room/said" \
       <<<"#include <rapidhash.hpp>
 #include <memory>
 #include <variant>
 struct own : std::char_traits<char> {};
+enum plain { zero };
 std::uint64_t hash() { return rapidhash::key($value); }" && grep "$why" "$room/said" || { echo "$value" && return 1; }
   done <<VALUES
 static_cast<__int128>(1)|an integer of a key has at most 64 bits
@@ -216,6 +226,8 @@ std::optional<std::tuple<int>>()|an optional field is itself no optional,
 std::optional<const std::optional<int>>()|an optional field is itself no optional,
 std::optional<std::nullptr_t>()|an optional field is itself no optional,
 std::vector<double>()|a field is nullptr, an integer,
+std::vector<plain>()|enumerators of 8 bits in a list have a type that a program names, as enum class letter : char
+rapidhash::hash(std::vector<plain>())|error: no matching function for call to .hash
 L"user"|a field is nullptr, an integer,
 std::array<volatile int, 1>()|a list of a key has no volatile items: copy them, perhaps into a vector
 std::array<volatile unsigned char, 1>()|a list of a key has no volatile items:
@@ -600,10 +612,11 @@ done
 for compiler in g++ clang++; do
   try_with "cpp_fields_$compiler" "$compiler" refuses_what_is_no_field "$compiler"
   try_with "cpp_streams_$compiler" "$compiler" exports_a_stream "$compiler"
+  try_with "each_header_$compiler" "$compiler" includes_each_header_alone "$compiler"
 done
 for compiler in gcc clang; do try_with "visibility_$compiler" "$compiler" exports_match_visibility "$compiler"; done
 try_with all_warnings_of_clang 'clang clang++' has_no_warning
-try_with casts_of_c g++ includes_the_headers g++ -Wall -Wextra -Wold-style-cast -Wuseless-cast
+try_with casts_of_c g++ includes_the_headers g++ -Wall -Wextra -Wold-style-cast -Wuseless-cast -Weffc++
 try_with cppcheck cppcheck has_no_fault_of_cppcheck
 try_with names_of_parameters cppcheck names_parameters_alike
 try_with cpp_header_32_bits "g++ $multilib/libstdc++.a" calls_from_cpp g++ c++11 -m32 -funsigned-char \
