@@ -58,7 +58,7 @@ struct has_own_traits<Value, decltype(static_cast<void>(sizeof(typename Value::t
  * - a path has the number of its elements, and then each of them as bytes;
  * - a time of the system clock has the microseconds since 1970-01-01 in UTC, and its type no part of one, but a date of
  *   it, such as std::chrono::sys_days, the days since then;
- * - a duration, also of days, is its microseconds.
+ * - a duration, also of days, is its microseconds. Beyond 64 bits, those of two times or durations can be equal.
  *
  * A program can specialize it for its own types. */
 template <class Value, class = void> struct field {
