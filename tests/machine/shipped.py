@@ -3,6 +3,7 @@
 import csv
 import re
 
+import faults
 from cases import ROOM, TOP, shell
 from elf import Elf
 
@@ -25,7 +26,10 @@ def write():
 
 
 def disagreements(parts):
-    """Yields what the page, the parts of the check, and the files of a release do not agree on."""
+    """Yields what the page, the parts of the check, the faults, and the files of a release do not agree on."""
+    for what, ending in ("header", ".h"), ("Go's package", ".go"), ("the tool, each when it was planted", ".py"):
+        count = len([*faults.rows(ending)])
+        yield from [f"{count} faults in {what}"] * (f" {what} | {count} | {count} | 0 |" not in PAGE.read_text())
     if TABLE.findall(PAGE.read_text()) != [table()]:
         yield "docs/MACHINE.md has another table: tests/machine/machine.py write"
     yield from (f"no part {part}" for row in rows() for part in row["parts"].split(", ") if part and part not in parts)
