@@ -27,7 +27,7 @@ def write():
 
 def disagreements(parts):
     """Yields what the page, the parts of the check, the faults, and the files of a release do not agree on."""
-    for what, ending in ("header", ".h"), ("Go's package", ".go"), ("the tool, each when it was planted", ".py"):
+    for what, ending in ("header", ".h"), ("Go's package", ".go"), ("the tool", ".py"):
         count = len([*faults.rows(ending)])
         yield from [f"{count} faults in {what}"] * (f" {what} | {count} | {count} | 0 |" not in PAGE.read_text())
     if TABLE.findall(PAGE.read_text()) != [table()]:
