@@ -102,7 +102,7 @@ function putList(items, place, array, view, room, start) {
 function putOther(field, place, array, view, room, end) {
   if (Array.isArray(field)) return putList(field, place, array, view, room, end);
   const kind = kindOf(field);
-  // Before anything asks for the name of a Date's class, by a getter that may hash.
+  // A Date is read before whatIs() asks for the name of its class: a user's getter, which may hash.
   const number = kind === undefined ? integerOf(field, place) : undefined;
   if (number !== undefined) return putField(number, place, array, view, room, end);
   if (kind !== undefined && kind !== "Uint8Array") throw new TypeError(`fields[${place}]: ${wanted}, not ${kind}`);

@@ -64,7 +64,7 @@ def operand_of(machine, instruction, operand, code):
     """Returns an operand of an instruction at the addresses `code`. The operand of a jump is a place in the file."""
     if operand.type == X86_OP_IMM:
         is_jump = instruction.mnemonic[0] == "j" or instruction.mnemonic == "call"
-        if operand.imm < 0 and operand.size != instruction.operands[0].size:  # so Capstone reads F7 with /1
+        if operand.imm < 0 and operand.size != instruction.operands[0].size:  # as Capstone has it for F7 /1
             raise Refusal(f"a number of another size: {instruction.op_str}")
         return Number(machine.file.place(operand.imm, code) if is_jump else operand.imm, 8 * operand.size)
     if operand.type == X86_OP_REG:

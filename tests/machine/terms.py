@@ -106,6 +106,7 @@ def byte(word, index):
 
 
 def split(word, size=8):
+    """Returns the bytes of a word. The list is kept, so that nobody may change it."""
     key = "split", word, size
     if key not in POOL:
         POOL[key] = [byte(word, index) for index in range(size)]

@@ -60,8 +60,8 @@ inline secrets seed_secrets(seed start) noexcept
     return made;
 }
 
-/* Finds enumerators that may have 8 bits with -fshort-enums alone, so that a list of them is not bytes on each machine.
- * Those of a type that the program names are not among them: since C++17 such a type has a value in braces. */
+/* Detects an enumeration that has 8 bits only because of -fshort-enums: elsewhere, a list of its enumerators is not
+ * bytes. One whose type the program names is none of these; in C++17 and later, braces can initialize it. */
 enum shortest {};
 template <class Value, bool IsSmall = std::is_enum<Value>::value && sizeof(Value) == 1 && sizeof(shortest) == 1,
           class = void>

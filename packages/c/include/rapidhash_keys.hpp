@@ -1,5 +1,5 @@
-/* Hashes of keys of several fields, and hashers for unordered containers. rapidhash.hpp includes this header, also if a
- * program includes this one first: then all is defined before the next line. */
+/* Hashes of keys of several fields, and hashers for unordered containers. rapidhash.hpp includes this header. If a
+ * program includes this one first, the next line defines all of it. */
 #include "rapidhash.hpp"
 #ifndef RAPIDHASH_KEYS_HPP
 #define RAPIDHASH_KEYS_HPP
@@ -140,7 +140,7 @@ template <class List> void add_list(::rapidhash_stream *state, const List &items
     static_assert(!std::is_volatile<typename std::remove_reference<decltype(*items.begin())>::type>::value,
                   "a list of a key has no volatile items: copy them, perhaps into a vector");
     static_assert(!is_short<typename std::remove_cv<typename List::value_type>::type>::value,
-                  "enumerators of 8 bits in a list have a type that a program names, as enum class letter : char");
+                  "with -fshort-enums, name the type of an enumeration in a list, as enum class letter : char");
     ::rapidhash_key_integer(state, static_cast<std::int64_t>(items.size()));
     for (auto &&item : items)
         rapidhash::add_field<typename std::remove_cv<typename List::value_type>::type>(state, item);
@@ -226,21 +226,21 @@ template <class Value> struct field<std::optional<Value>> {
     }
 };
 
-/* Returns a text of 16 bits a character as UTF-8. Half of a pair alone, as in names of Windows, has the 3 bytes of its
- * number, where the library of C++ throws. */
+/* Returns UTF-16 as UTF-8. An unpaired surrogate, which a file name of Windows may contain, becomes the 3 bytes of its
+ * number; u8string() would throw. */
 template <class Text> std::string to_utf8(const Text &text)
 {
     std::string utf8;
     for (std::size_t at = 0; at < text.size(); at++) {
         const std::uint32_t next = at + 1 < text.size() ? static_cast<std::uint16_t>(text[at + 1]) : 0U;
         std::uint32_t point = static_cast<std::uint16_t>(text[at]);
-        if (point >> 10 == 54 && next >> 10 == 55) {
-            point = ((point & 1023) << 10 | (next & 1023)) + 65536;
+        if (point >> 10 == 0xd800 >> 10 && next >> 10 == 0xdc00 >> 10) {
+            point = ((point & 0x3ff) << 10 | (next & 0x3ff)) + 0x10000;
             at++;
         }
-        const int more = point < 128 ? 0 : point < 2048 ? 1 : point < 65536 ? 2 : 3;
-        utf8 += static_cast<char>((more ? 65280U >> (more + 1) & 255U : 0U) | point >> 6 * more);
-        for (int bits = 6 * more; bits > 0;) utf8 += static_cast<char>(128 | (point >> (bits -= 6) & 63));
+        const int more = point < 0x80 ? 0 : point < 0x800 ? 1 : point < 0x10000 ? 2 : 3;
+        utf8 += static_cast<char>((more ? 0xff00U >> (more + 1) & 0xffU : 0U) | point >> 6 * more);
+        for (int bits = 6 * more; bits > 0;) utf8 += static_cast<char>(0x80 | (point >> (bits -= 6) & 0x3f));
     }
     return utf8;
 }

@@ -140,10 +140,10 @@ int main()
 {
     const rapidhash::hasher hasher;
     const rapidhash::seeded_hasher seeded(rapidhash::seed(7));
-    const rapidhash::micro_stream state, copy(state);
+    rapidhash::micro_stream state, copy(state);
     const auto value = std::make_tuple(1, std::make_pair("a", 2), std::optional<long>(), std::filesystem::path("a/b"),
                                        std::vector<bool>(), std::array<long, 1>(), std::chrono::hours(1));
-    return hasher(value) == seeded(value) && copy.finish() == rapidhash::hash("a");
+    return hasher(value) == seeded(value) && copy.update("a").finish() == rapidhash::hash("a");
 }
 CPP
 }
@@ -226,7 +226,7 @@ std::optional<std::tuple<int>>()|an optional field is itself no optional,
 std::optional<const std::optional<int>>()|an optional field is itself no optional,
 std::optional<std::nullptr_t>()|an optional field is itself no optional,
 std::vector<double>()|a field is nullptr, an integer,
-std::vector<plain>()|enumerators of 8 bits in a list have a type that a program names, as enum class letter : char
+std::vector<plain>()|with -fshort-enums, name the type of an enumeration in a list, as enum class letter : char
 rapidhash::hash(std::vector<plain>())|error: no matching function for call to .hash
 L"user"|a field is nullptr, an integer,
 std::array<volatile int, 1>()|a list of a key has no volatile items: copy them, perhaps into a vector

@@ -231,10 +231,10 @@ static void check_paths()
     const std::u16string halves = {0xd83d, 0xde00, 0xde00, 0xd83d, 0x7f, 0xd83d};
     const std::string texts[] = {"", "a\x7f\u0080\u07ff\u0800\uffff\U00010000\U0010ffff",
                                  "\U0001f600\xed\xb8\x80\xed\xa0\xbd\x7f\xed\xa0\xbd"};
-    compare("no name of Windows", rapidhash::to_utf8(std::u16string()) == texts[0], 1);
-    compare("a name of Windows",
+    compare("an empty name in UTF-16", rapidhash::to_utf8(std::u16string()) == texts[0], 1);
+    compare("a name in UTF-16",
             rapidhash::to_utf8(std::u16string(u"a\x7f\u0080\u07ff\u0800\uffff\U00010000\U0010ffff")) == texts[1], 1);
-    compare("halves of pairs alone", rapidhash::to_utf8(halves) == texts[2], 1);
+    compare("unpaired surrogates", rapidhash::to_utf8(halves) == texts[2], 1);
 #endif
 }
 

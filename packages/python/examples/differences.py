@@ -40,6 +40,14 @@ READERS = {"date": datetime.date.fromisoformat, "timestamptz": instant, "timesta
            "uuid": uuid.UUID, "numeric": number, "decimal": number, "boolean": boolean, "bool": boolean}
 
 
+def named(name, columns):
+    """Returns the column with a name, or the only one with that name in another case."""
+    found = [name] * (name in columns) or [it for it in columns if it.lower() == name.lower()]
+    if len(found) != 1:
+        raise ValueError(f"the key {name!r} is {found or 'none'} of {columns}")
+    return found[0]
+
+
 def quoted(names):
     """Returns names of columns as SQL has them."""
     return ", ".join('"' + name.replace('"', '""') + '"' for name in names)
@@ -68,7 +76,7 @@ class Table:
         self.ask(f"SELECT * FROM {table} LIMIT 0")
         columns = sorted((column[0] for column in self.cursor.description), key=lambda it: (it.lower(), it))
         self.columns = [it.lower() for it in columns]
-        key = [columns[self.columns.index(it.lower())] for it in key]
+        key = [named(it, columns) for it in key]
         self.key, self.row_hash, self.key_hash = quoted(key), self.call("of_row", columns), self.call("of_key", key)
         if isinstance(connection, sqlite3.Connection):
             sqlite3.enable_callback_tracebacks(True)

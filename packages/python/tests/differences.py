@@ -87,6 +87,7 @@ def over_types():
     compare("finer_times", "finer than a microsecond" in shell(run + "fine id")[1], True)
     compare("columns_in_another_order", shell(run + "turned ID")[1].splitlines()[:2], ["removed\t3", "added\t4"])
     compare("other_columns", "['c3', 'id'] and ['c4', 'id']" in shell(run + "other id")[1], True)
+    compare("no_such_key", "the key 'i' is none of ['id', 'twice']" in shell(run + "made i")[1], True)
     compare("other_booleans", "2 is no boolean" in shell(run + "odd id")[1], True)
 
 

@@ -87,7 +87,7 @@ public final class RapidhashStream implements Checksum {
      * Appends all bytes that an input still has, and does not close it.
      *
      * @throws IOException if a read fails. The bytes before it are appended
-     * @throws IndexOutOfBoundsException if a read claims more bytes than it had room for. So are the bytes before it
+     * @throws IndexOutOfBoundsException if a read returns more bytes than fit. Those before it are appended
      */
     public void update(InputStream input) throws IOException {
         byte[] room = new byte[8192];
