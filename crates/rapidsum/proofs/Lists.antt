@@ -10,7 +10,7 @@ use Rattle.hex.specs.Hex.{encode_with, hex_digit_value, lower_digits}
 use Rattle.hex.proofs.HexLemmas.{IsDigits-lower_digits}
 use Rattle.rapidsum.proofs.Lines.{bytes-small}
 use Rattle.rapidsum.specs.Entry.{Fits, IsEntry, Names}
-use Rattle.rapidsum.specs.Line.{body_of, carried, digits_of, escape_by, escaped, letter_of, line_of, needs_escape, seed_text, tag_of, value_of, version_text}
+use Rattle.rapidsum.specs.Line.{body_of, carried, digits_of, escape_by, escaped, letter_of, line_of, needs_escape, seed_text, tag_of, value_of, version_tagged, version_text}
 use Rattle.rapidsum.specs.List.{AllFit, AreEntries, Printed, list_of}
 use Rattle.rapidsum.specs.declared.algorithm.Algorithm.{Algorithm}
 use Rattle.rapidhash_portable.specs.declared.form.Version.{Version}
@@ -25,73 +25,72 @@ use Rattle.rapidsum.specs.declared.line.Layout.TheVariants.{Binary, Tagged, Text
 abbrev pub has_byte : ℕ → List ℕ → Bool
 has_byte end text = list_any (λ byte. byte == end) text
 
--- whether it has a newline
-abbrev pub has_newline : List ℕ → Bool
-has_newline text = has_byte 10 text
-
--- two texts without a newline have none together
-joined : (xs ys : List ℕ) → has_newline xs ≡ false → has_newline ys ≡ false → has_newline (xs ++ ys) ≡ false
-joined xs ys left right = rw (list_any-append (λ byte. byte == 10) xs ys, left, right) refl
+-- two texts without it have none together
+pub joined : (end : ℕ) (xs ys : List ℕ) → has_byte end xs ≡ false → has_byte end ys ≡ false → has_byte end (xs ++ ys) ≡ false
+joined end xs ys left right = rw (list_any-append (λ byte. byte == end) xs ys, left, right) refl
 
 -- nor has the printed text of a byte of a name
-escape_by-line : (c : ℕ) (letter : Option ℕ) → letter_of c ≡ letter → has_newline (escape_by c letter) ≡ false
+escape_by-line : (c : ℕ) (letter : Option ℕ) → letter_of c ≡ letter → has_byte 10 (escape_by c letter) ≡ false
 escape_by-line c None is = grind (arith)
 escape_by-line c (Some letter) is = grind (arith)
 
 -- nor that of a name
-escaped-line : (name : List ℕ) → has_newline (escaped name) ≡ false
+escaped-line : (name : List ℕ) → has_byte 10 (escaped name) ≡ false
 unfolding escaped
 escaped-line [] = refl
-escaped-line (c ∷ cs) = joined (escape_by c (letter_of c)) (escaped cs) (escape_by-line c (letter_of c) refl) (escaped-line cs)
+escaped-line (c ∷ cs) = joined 10 (escape_by c (letter_of c)) (escaped cs) (escape_by-line c (letter_of c) refl) (escaped-line cs)
 
--- a digit is no newline
-digit-line : (k : ℕ) → k < 16 → (slice_index lower_digits k == 10) ≡ false
-digit-line k small = ne_eqb (slice_index lower_digits k) 10 (λ same. cc (sym (IsDigits-lower_digits k small) ∙ ap hex_digit_value same))
+-- no digit is a byte without a value
+no_digit : (end k : ℕ) → hex_digit_value end ≡ None → k < 16 → (slice_index lower_digits k == end) ≡ false
+no_digit end k none small = ne_eqb (slice_index lower_digits k) end (λ same. cc (sym (IsDigits-lower_digits k small) ∙ ap hex_digit_value same ∙ none))
 
-encoded-line : (xs : List ℕ) → ((i : ℕ) → slice_index xs i < 256) → has_newline (encode_with lower_digits xs) ≡ false
+encoded-end : (end : ℕ) (xs : List ℕ) → hex_digit_value end ≡ None → ((i : ℕ) → slice_index xs i < 256) → has_byte end (encode_with lower_digits xs) ≡ false
 unfolding encode_with
-encoded-line [] bytes = refl
-encoded-line (b ∷ bs) bytes =
+encoded-end end [] none bytes = refl
+encoded-end end (b ∷ bs) none bytes =
     let small : b < 256 = bytes 0 in
-    rw (digit-line (b / 16) (omega (arith, small)), digit-line (b % 16) (omega arith), encoded-line bs (λ i. bytes (suc i))) refl
+    rw (no_digit end (b / 16) none (omega (arith, small)), no_digit end (b % 16) none (omega arith), encoded-end end bs none (λ i. bytes (suc i))) refl
 
-digits-line : (hash : ℕ) → has_newline (digits_of hash) ≡ false
-digits-line hash = encoded-line (to_be_bytes w64 hash) (bytes-small hash)
+digits-end : (end hash : ℕ) → hex_digit_value end ≡ None → has_byte end (digits_of hash) ≡ false
+digits-end end hash none = encoded-end end (to_be_bytes w64 hash) none (bytes-small hash)
 
-version-line : (version : Version) → has_newline (version_text version) ≡ false
-unfolding version_text
-version-line V1 = refl
-version-line V2Minor0 = refl
-version-line V2Minor1 = refl
-version-line V2Minor2 = refl
-version-line V3 = refl
-version-line V3Micro = refl
-version-line V3Nano = refl
+-- the text of a version is read as that version, and has neither a space, a colon nor a newline
+pub version_read : (version : Version) → (version_tagged (version_text version) ≡ Some version)
+    × (has_byte 32 (version_text version) ≡ false) × (has_byte 58 (version_text version) ≡ false) × (has_byte 10 (version_text version) ≡ false)
+unfolding version_tagged
+version_read V1 = (refl, refl, refl, refl)
+version_read V2Minor0 = (refl, refl, refl, refl)
+version_read V2Minor1 = (refl, refl, refl, refl)
+version_read V2Minor2 = (refl, refl, refl, refl)
+version_read V3 = (refl, refl, refl, refl)
+version_read V3Micro = (refl, refl, refl, refl)
+version_read V3Nano = (refl, refl, refl, refl)
 
-seed-line : (seed : Option ℕ) → has_newline (seed_text seed) ≡ false
+-- a seed word has no byte but a colon and digits
+pub seed-end : (end : ℕ) (seed : Option ℕ) → hex_digit_value end ≡ None → (58 == end) ≡ false → has_byte end (seed_text seed) ≡ false
 unfolding seed_text
-seed-line None = refl
-seed-line (Some word) = digits-line word
+seed-end end None none other = refl
+seed-end end (Some word) none other = rw other (digits-end end word none)
 
 -- no body has a newline
-body-line : (layout : Layout) (algorithm : Algorithm) (hash : ℕ) (text : List ℕ) → has_newline text ≡ false
-    → has_newline (body_of layout algorithm hash text) ≡ false
+body-line : (layout : Layout) (algorithm : Algorithm) (hash : ℕ) (text : List ℕ) → has_byte 10 text ≡ false
+    → has_byte 10 (body_of layout algorithm hash text) ≡ false
 unfolding body_of
-body-line Text algorithm hash text none = joined (digits_of hash) (32 ∷ 32 ∷ text) (digits-line hash) none
-body-line Binary algorithm hash text none = joined (digits_of hash) (32 ∷ 42 ∷ text) (digits-line hash) none
+body-line Text algorithm hash text none = joined 10 (digits_of hash) (32 ∷ 32 ∷ text) (digits-end 10 hash refl) none
+body-line Binary algorithm hash text none = joined 10 (digits_of hash) (32 ∷ 42 ∷ text) (digits-end 10 hash refl) none
 body-line Tagged algorithm hash text none =
-    let version = joined (version_text algorithm.version) (seed_text algorithm.seed) (version-line algorithm.version) (seed-line algorithm.seed) in
-    let name = joined (32 ∷ 40 ∷ text) (41 ∷ 32 ∷ 61 ∷ 32 ∷ []) none refl in
-    joined (tag_of algorithm) (value_of hash text) version (joined ((32 ∷ 40 ∷ text) ++ 41 ∷ 32 ∷ 61 ∷ 32 ∷ []) (digits_of hash) name (digits-line hash))
+    let version = joined 10 (version_text algorithm.version) (seed_text algorithm.seed) (version_read algorithm.version).3 (seed-end 10 algorithm.seed refl refl) in
+    let name = joined 10 (32 ∷ 40 ∷ text) (41 ∷ 32 ∷ 61 ∷ 32 ∷ []) none refl in
+    joined 10 (tag_of algorithm) (value_of hash text) version (joined 10 ((32 ∷ 40 ∷ text) ++ 41 ∷ 32 ∷ 61 ∷ 32 ∷ []) (digits_of hash) name (digits-end 10 hash refl))
 
 -- with or without the backslash
-cond-line : (escapes : Bool) (body : List ℕ) → has_newline body ≡ false → has_newline (cond escapes (92 ∷ body) body) ≡ false
+cond-line : (escapes : Bool) (body : List ℕ) → has_byte 10 body ≡ false → has_byte 10 (cond escapes (92 ∷ body) body) ≡ false
 cond-line true body none = none
 cond-line false body none = none
 
 -- no line has a newline
 line_of-line : (layout : Layout) (algorithm : Algorithm) (hash : ℕ) (name : List ℕ)
-    → has_newline (line_of layout algorithm hash name) ≡ false
+    → has_byte 10 (line_of layout algorithm hash name) ≡ false
 line_of-line layout algorithm hash name =
     cond-line (needs_escape name) (body_of layout algorithm hash (escaped name))
     (body-line layout algorithm hash (escaped name) (escaped-line name))
@@ -112,12 +111,6 @@ pub line_parts : (end : ℕ) (line rest text : List ℕ) (n : ℕ) → has_byte 
 line_parts end line rest text n none is before found =
     let place = line_end end line rest n none (rw is at before) (rw is at found) in
     (rw (place, is) (take-append_seam line (end ∷ rest)), rw (place, is) (drop-append_seam line (end ∷ rest)))
-
--- no byte of a text ends a line that has none
-pub no_end : (end : ℕ) (text : List ℕ) (n : ℕ) → has_byte end text ≡ false → n < length text → slice_index text n ≡ end → ⊥
-no_end end [] n none below is = omega (arith, below)
-no_end end (c ∷ cs) zero none below is = let same : c ≡ end = is in grind (arith)
-no_end end (c ∷ cs) (suc n) none below is = no_end end cs n (grind (arith)) (omega (arith, below)) is
 
 -- the entries so far are those of the first lines, and the rest of the text has the other lines
 abbrev pub IsReadTo : {A : Type 0} → List (OneEntry A) → List ℕ → List Printed → Type 0

@@ -1,11 +1,12 @@
 -- The lines that the program prints and reads back.
-use Rattle.std.specs.Prelude.{ℕ, Bool, true, false, codes, cond, nat_eq, is_some, List, [], ◌∷◌, ◌++◌, Option, None, Some, option_and_then}
+use Rattle.std.specs.Prelude.{ℕ, Bool, true, false, bytes_eq, codes, cond, find, nat_eq, is_some, List, [], ◌∷◌, ◌++◌, map, Option, None, Some, option_and_then}
+use Rattle.std.specs.Char.{to_ascii_uppercase}
 use Rattle.std.specs.Int.{to_be_bytes, w64}
 use Rattle.std.specs.List.{list_any}
 use Rattle.hex.specs.Hex.{encode_lower}
 use Rattle.rapidsum.specs.declared.algorithm.Algorithm.{Algorithm}
 use Rattle.rapidhash_portable.specs.declared.form.Version.{Version}
-use Rattle.rapidhash_portable.specs.declared.form.Version.TheVariants.{V1, V2Minor0, V2Minor1, V2Minor2, V3, V3Micro, V3Nano}
+use Rattle.rapidhash_portable.specs.Version.{name_of, versions}
 use Rattle.rapidsum.specs.declared.line.Layout.{Layout}
 use Rattle.rapidsum.specs.declared.line.Layout.TheVariants.{Binary, Tagged, Text}
 
@@ -35,15 +36,17 @@ needs_escape name = list_any (λ c. is_some (letter_of c)) name
 abbrev pub digits_of : ℕ → List ℕ
 digits_of hash = encode_lower (to_be_bytes w64 hash)
 
--- the text of a version in a tag
-unfoldable pub version_text : Version → List ℕ
-version_text V1 = codes "1"
-version_text V2Minor0 = codes "2.0"
-version_text V2Minor1 = codes "2.1"
-version_text V2Minor2 = codes "2.2"
-version_text V3 = codes "3"
-version_text V3Micro = codes "3-MICRO"
-version_text V3Nano = codes "3-NANO"
+-- the text of a version in a tag: its name in upper case
+abbrev pub version_text : Version → List ℕ
+version_text version = map to_ascii_uppercase (name_of version)
+
+-- whether a version has a text in a tag
+abbrev pub is_tagged : List ℕ → Version → Bool
+is_tagged text version = bytes_eq (version_text version) text
+
+-- the version with a text in a tag
+unfoldable pub version_tagged : List ℕ → Option Version
+version_tagged text = find (is_tagged text) versions
 
 -- the text of a seed word in a tag: nothing for the default seed
 unfoldable pub seed_text : Option ℕ → List ℕ
@@ -52,7 +55,7 @@ seed_text (Some word) = 58 ∷ digits_of word
 
 -- the tag: the start of a line that names its hash
 abbrev pub tag_of : Algorithm → List ℕ
-tag_of algorithm = codes "RAPIDHASH-V" ++ version_text algorithm.version ++ seed_text algorithm.seed
+tag_of algorithm = codes "RAPIDHASH-" ++ version_text algorithm.version ++ seed_text algorithm.seed
 
 -- the text after a tag: the name in parentheses, an equals sign and the digits
 abbrev pub value_of : ℕ → List ℕ → List ℕ

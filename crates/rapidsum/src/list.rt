@@ -37,8 +37,18 @@ pub fn line_length(text: &[u8], end: u8) -> usize
         .unwrap_or(text.len())
 }
 
+/// Returns the text before the first of a byte, or all if it has none, and the text from there on.
+pub fn split_before(text: &[u8], end: u8) -> (&[u8], &[u8])
+    ensures found { (front rest : TheList ℕ) → list_any (λ byte. byte == end) front ≡ false →
+        text.now ≡ front ++ end ∷ rest → (result.0.now ≡ front) × (result.1.now ≡ end ∷ rest) }
+    ensures whole { list_any (λ byte. byte == end) text.now ≡ false →
+        (result.0.now ≡ text.now) × (result.1.now ≡ []) }
+    ensures shorter { 0 < length result.1.now → length result.1.now ≤ length text.now }
+{
+    text.split_at(line_length(text, end))
+}
+
 /// Returns the first line of a text, without the byte that ends it, and the text after it.
-#[tactic(auto, using(crate::proofs::Lists::line_parts))]
 pub fn next_line(text: &[u8], end: u8) -> (&[u8], &[u8])
     ensures parts { (line rest : TheList ℕ) → list_any (λ byte. byte == end) line ≡ false →
         text.now ≡ line ++ end ∷ rest → (result.0.now ≡ line) × (result.1.now ≡ rest) }
@@ -46,7 +56,7 @@ pub fn next_line(text: &[u8], end: u8) -> (&[u8], &[u8])
         (result.0.now ≡ text.now) × (result.1.now ≡ []) }
     ensures shorter { 0 < length text.now → length result.1.now < length text.now }
 {
-    let (line, rest) = text.split_at(line_length(text, end));
+    let (line, rest) = split_before(text, end);
     match rest {
         [_, rest @ ..] => (line, rest),
         [] => (line, rest),

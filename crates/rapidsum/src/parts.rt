@@ -20,9 +20,9 @@ pub struct Parts<'a> {
     pub text: &'a [u8],
 }
 
-// Returns the number of 16 digits, in either case.
+/// Returns the number of 16 digits, in either case.
 #[tactic(auto, using(crate::proofs::Lines::digits_decode, crate::proofs::Lines::hash_of_bytes))]
-fn number_of(digits: &[u8]) -> Option<u64>
+pub fn number_of(digits: &[u8]) -> Option<u64>
     ensures { (number : ℕ) → number < 2 ^ 64 → digits.now ≡ digits_of number →
         result ≡ Some number }
 {
@@ -62,7 +62,7 @@ fn name_behind(rest: &[u8]) -> Option<&[u8]>
 
 // Returns the number at the start of a text, and the text after it.
 #[tactic(auto, using(crate::proofs::Lines::digits_part, crate::proofs::Lines::rest_part))]
-pub fn split_digits(text: &[u8]) -> Option<(u64, &[u8])>
+fn split_digits(text: &[u8]) -> Option<(u64, &[u8])>
     ensures { (number : ℕ) (rest : List ℕ) → number < 2 ^ 64 →
         text.now ≡ digits_of number ++ rest →
         IsSomeAnd result (λ parts. (parts.0 ≡ number) × (parts.1.now ≡ rest)) }

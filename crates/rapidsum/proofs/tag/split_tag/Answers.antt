@@ -1,38 +1,29 @@
-use Rattle.std.proofs.Common.{◌++◌, ◌∷◌, refl}
-use Rattle.rapidsum.specs.Line.{seed_text, version_text}
-use Rattle.rapidsum.proofs.Tags.{by_seed, tag_parts, version_read}
+use Rattle.std.proofs.Common.{◌≡◌, IsSomeAnd, drop, sym, ap, ◌∙◌, refl}
+use Rattle.rapidsum.specs.Line.{version_tagged}
+use Rattle.rapidsum.proofs.Lists.{version_read}
+use Rattle.rapidsum.proofs.Tags.{tag_split}
 use Rattle.rapidsum.proofs.tag.split_tag.Goals as goal
-
-pub returns-in_err-rest : goal.returns-in_err-rest
-returns-in_err-rest c = λ algorithm rest is fits.
-    let behind = c.behind_prefix.ensures (version_text algorithm.version ++ (seed_text algorithm.seed ++ 32 ∷ rest))
-    (tag_parts algorithm rest c.args.line.now is) in
-    absurd (rw c.in_err-rest.was at behind)
 
 pub returns-in_err-version : goal.returns-in_err-version
 returns-in_err-version c = λ algorithm rest is fits.
-    let behind = c.behind_prefix.ensures (version_text algorithm.version ++ (seed_text algorithm.seed ++ 32 ∷ rest))
-    (tag_parts algorithm rest c.args.line.now is) in
-    let read = version_read algorithm rest c.in_ok-rest.rest.now c.split_version.result c.split_version.ensures (rw c.in_ok-rest.was at behind) in
-    absurd (rw c.in_err-version.was at read)
+    let parts = tag_split algorithm rest c.in_ok-behind.behind.now c.split_before.result.0.now c.split_before.result.1.now
+    c.split_before-2.result.0.now c.split_before-2.result.1.now c.split_before.ensures.found c.split_before-2.ensures.found
+    c.split_before-2.ensures.whole (c.in_ok-behind.ensures.cases.1 ∙ ap (drop 10) is) in
+    absurd (cc (sym c.in_err-version.was ∙ c.version_tagged.ensures ∙ ap version_tagged parts.0 ∙ (version_read algorithm.version).0))
 
 pub returns-in_err-seed : goal.returns-in_err-seed
 returns-in_err-seed c = λ algorithm rest is fits.
-    let behind = c.behind_prefix.ensures (version_text algorithm.version ++ (seed_text algorithm.seed ++ 32 ∷ rest))
-    (tag_parts algorithm rest c.args.line.now is) in
-    let read = version_read algorithm rest c.in_ok-rest.rest.now c.split_version.result c.split_version.ensures (rw c.in_ok-rest.was at behind) in
-    let version = rw c.in_ok-version.was at read in
-    let seed = by_seed algorithm.seed rest c.in_ok-version.rest.now c.split_seed.result c.split_seed.ensures.default c.split_seed.ensures.word
-    fits version.1 in
-    absurd (rw c.in_err-seed.was at seed)
+    let parts = tag_split algorithm rest c.in_ok-behind.behind.now c.split_before.result.0.now c.split_before.result.1.now
+    c.split_before-2.result.0.now c.split_before-2.result.1.now c.split_before.ensures.found c.split_before-2.ensures.found
+    c.split_before-2.ensures.whole (c.in_ok-behind.ensures.cases.1 ∙ ap (drop 10) is) in
+    absurd (rw c.in_err-seed.was at c.read_seed.ensures algorithm.seed parts.1 fits)
 
 pub returns : goal.returns
 returns c = λ algorithm rest is fits.
-    let behind = c.behind_prefix.ensures (version_text algorithm.version ++ (seed_text algorithm.seed ++ 32 ∷ rest))
-    (tag_parts algorithm rest c.args.line.now is) in
-    let read = version_read algorithm rest c.in_ok-rest.rest.now c.split_version.result c.split_version.ensures (rw c.in_ok-rest.was at behind) in
-    let version = rw c.in_ok-version.was at read in
-    let seed = by_seed algorithm.seed rest c.in_ok-version.rest.now c.split_seed.result c.split_seed.ensures.default c.split_seed.ensures.word
-    fits version.1 in
-    let parts = rw c.in_ok-seed.was at seed in
-    (rw (version.0, parts.0) refl, parts.1)
+    let parts = tag_split algorithm rest c.in_ok-behind.behind.now c.split_before.result.0.now c.split_before.result.1.now
+    c.split_before-2.result.0.now c.split_before-2.result.1.now c.split_before.ensures.found c.split_before-2.ensures.found
+    c.split_before-2.ensures.whole (c.in_ok-behind.ensures.cases.1 ∙ ap (drop 10) is) in
+    let tagged = c.version_tagged.ensures ∙ ap version_tagged parts.0 ∙ (version_read algorithm.version).0 in
+    let version : IsSomeAnd c.version_tagged.result (λ version. version ≡ algorithm.version) = rw tagged refl in
+    let seed = rw c.in_ok-seed.was at c.read_seed.ensures algorithm.seed parts.1 fits in
+    (rw (rw c.in_ok-version.was at version, seed) refl, parts.2)

@@ -35,17 +35,12 @@ fn push_digits<A: Allocator>(text: &mut Vec<u8, A>, number: u64) -> Result<(), A
     text.extend_from_slice(&digits)
 }
 
-// Returns the text of a version in a tag.
-fn version_text(version: Version) -> &'static [u8] {
-    match version {
-        Version::V1 => b"1",
-        Version::V2Minor0 => b"2.0",
-        Version::V2Minor1 => b"2.1",
-        Version::V2Minor2 => b"2.2",
-        Version::V3 => b"3",
-        Version::V3Micro => b"3-MICRO",
-        Version::V3Nano => b"3-NANO",
+// Adds the text of a version in a tag.
+fn push_version<A: Allocator>(text: &mut Vec<u8, A>, version: Version) -> Result<(), AllocError> {
+    for byte in version.name().as_bytes() {
+        text.push(byte.to_ascii_uppercase())?;
     }
+    Ok(())
 }
 
 // Adds the text of a seed word in a tag.
@@ -61,8 +56,8 @@ fn push_seed<A: Allocator>(text: &mut Vec<u8, A>, seed: Option<u64>) -> Result<(
 
 // Adds the tag of a line.
 fn push_tag<A: Allocator>(text: &mut Vec<u8, A>, algorithm: Algorithm) -> Result<(), AllocError> {
-    text.extend_from_slice(b"RAPIDHASH-V")?;
-    text.extend_from_slice(version_text(algorithm.version))?;
+    text.extend_from_slice(b"RAPIDHASH-")?;
+    push_version(text, algorithm.version)?;
     push_seed(text, algorithm.seed)?;
     Ok(())
 }

@@ -30,9 +30,14 @@ pub fn line_length(text: &[u8], end: u8) -> usize {
         .unwrap_or(text.len())
 }
 
+/// Returns the text before the first of a byte, or all if it has none, and the text from there on.
+pub fn split_before(text: &[u8], end: u8) -> (&[u8], &[u8]) {
+    text.split_at(line_length(text, end))
+}
+
 /// Returns the first line of a text, without the byte that ends it, and the text after it.
 pub fn next_line(text: &[u8], end: u8) -> (&[u8], &[u8]) {
-    let (line, rest) = text.split_at(line_length(text, end));
+    let (line, rest) = split_before(text, end);
     match rest {
         [_, rest @ ..] => (line, rest),
         [] => (line, rest),

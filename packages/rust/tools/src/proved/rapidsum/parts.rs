@@ -16,8 +16,8 @@ pub struct Parts<'a> {
     pub text: &'a [u8],
 }
 
-// Returns the number of 16 digits, in either case.
-fn number_of(digits: &[u8]) -> Option<u64> {
+/// Returns the number of 16 digits, in either case.
+pub fn number_of(digits: &[u8]) -> Option<u64> {
     match <[u8; 8] as FromHex>::from_hex(digits) {
         Ok(bytes) => Some(u64::from_be_bytes(bytes)),
         Err(_) => None,
@@ -45,7 +45,7 @@ fn name_behind(rest: &[u8]) -> Option<&[u8]> {
 }
 
 // Returns the number at the start of a text, and the text after it.
-pub fn split_digits(text: &[u8]) -> Option<(u64, &[u8])> {
+fn split_digits(text: &[u8]) -> Option<(u64, &[u8])> {
     let (digits, rest) = rapidhash_tool::kit::split_at_checked(text, 16)?;
     Some((number_of(digits)?, rest))
 }

@@ -3,59 +3,46 @@
 //! The tag of a line: its version and its seed.
 
 use crate::algorithm::Algorithm;
-use crate::parts::split_digits;
+use crate::list::split_before;
+use crate::parts::number_of;
 use rapidhash_tool::form::Version;
 
-// Returns the text after the start that all tags share.
-fn behind_prefix(line: &[u8]) -> Option<&[u8]> {
-    match line {
-        [
-            b'R',
-            b'A',
-            b'P',
-            b'I',
-            b'D',
-            b'H',
-            b'A',
-            b'S',
-            b'H',
-            b'-',
-            b'V',
-            rest @ ..,
-        ] => Some(rest),
-        _ => None,
+// Returns whether a text is the upper case of a name.
+fn is_upper_case(text: &[u8], name: &[u8]) -> bool {
+    let mut rest = text;
+    for byte in name {
+        match rest {
+            [first, more @ ..] if *first == byte.to_ascii_uppercase() => rest = more,
+            _ => return false,
+        }
     }
+    rest.is_empty()
 }
 
-// Returns the version at the start of a text, and the text after it.
-fn split_version(text: &[u8]) -> Option<(Version, &[u8])> {
+// Returns the version with a text in a tag.
+fn version_tagged(text: &[u8]) -> Option<Version> {
+    for version in Version::all() {
+        if is_upper_case(text, version.name().as_bytes()) {
+            return Some(version);
+        }
+    }
+    None
+}
+
+// Returns the seed word that a text after a version represents, if there is one.
+fn read_seed(text: &[u8]) -> Option<Option<u64>> {
     match text {
-        [b'1', rest @ ..] => Some((Version::V1, rest)),
-        [b'2', b'.', b'0', rest @ ..] => Some((Version::V2Minor0, rest)),
-        [b'2', b'.', b'1', rest @ ..] => Some((Version::V2Minor1, rest)),
-        [b'2', b'.', b'2', rest @ ..] => Some((Version::V2Minor2, rest)),
-        [b'3', b'-', b'M', b'I', b'C', b'R', b'O', rest @ ..] => Some((Version::V3Micro, rest)),
-        [b'3', b'-', b'N', b'A', b'N', b'O', rest @ ..] => Some((Version::V3Nano, rest)),
-        [b'3', rest @ ..] => Some((Version::V3, rest)),
-        _ => None,
+        [] => Some(None),
+        [_, digits @ ..] => Some(Some(number_of(digits)?)),
     }
-}
-
-// Returns the seed word at the start of a text, if there is one, and the text after it.
-fn split_seed(text: &[u8]) -> Option<(Option<u64>, &[u8])> {
-    let rest = if let [b':', rest @ ..] = text {
-        rest
-    } else {
-        return Some((None, text));
-    };
-    let (digits, rest) = split_digits(rest)?;
-    Some((Some(digits), rest))
 }
 
 // Returns the version and the seed at the start of a line, and the text after them.
 pub fn split_tag(line: &[u8]) -> Option<(Algorithm, &[u8])> {
-    let rest = behind_prefix(line)?;
-    let (version, rest) = split_version(rest)?;
-    let (seed, rest) = split_seed(rest)?;
+    let behind = line.strip_prefix(b"RAPIDHASH-")?;
+    let (tag, rest) = split_before(behind, b' ');
+    let (name, seed) = split_before(tag, b':');
+    let version = version_tagged(name)?;
+    let seed = read_seed(seed)?;
     Some((Algorithm { version, seed }, rest))
 }
