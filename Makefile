@@ -56,7 +56,7 @@ archive = build/header/librapidhash_c.a
 shared = build/header/$(soname)
 cargo := $(shell command -v cargo)
 # Programs that cargo has built are installed by a user, such as root, who has no cargo on the PATH.
-tools = $(if $(cargo)$(wildcard build/cargo/release/rapidsum),$(addprefix build/cargo/release/,rapidhash rapidsum))
+tools = $(if $(cargo)$(wildcard build/cargo/bin/rapidsum),$(addprefix build/cargo/bin/,rapidhash rapidsum))
 endif
 name = yervound-1.0.0-x86_64-linux
 release = 1.0.0
@@ -76,8 +76,8 @@ built: $(tools) library
 say_left_out = $(if $(tools),,@echo 'make: the programs are left out: install cargo (Rust 1.63 or newer) and run make \
   again' >&2)
 
-tool: $(or $(firstword $(tools)),build/cargo/release/rapidhash)
-sums: $(or $(lastword $(tools)),build/cargo/release/rapidsum)
+tool: $(or $(firstword $(tools)),build/cargo/bin/rapidhash)
+sums: $(or $(lastword $(tools)),build/cargo/bin/rapidsum)
 library: $(archive) $(shared)
 
 # A product is out of date if a source file or source directory is newer than the start of its build. So an edit during

@@ -6,7 +6,7 @@ name=$(basename "$0" .sh)
 # Without the kit, cargo builds the two tools, but not the examples.
 if [ -z "${BUILT-}" ] && [[ $name == rapid* ]] && ! has rt; then
   needs cargo
-  BUILT=$top/build/cargo/release/${name%_cli}
+  BUILT=$top/build/cargo/bin/${name%_cli}
   prepare_by make -s -C "$top" "${BUILT#"$top/"}"
 elif [ -z "${BUILT-}" ]; then
   needs rt

@@ -4,11 +4,11 @@
 # these cases run by themselves over cargo's tools.
 . "$(dirname "$0")/../../../tests/cases.sh"
 export CARGO_NET_OFFLINE=true
-built=$top/build/cargo/release
+built=$top/build/cargo/bin
 needs cargo rustc
 
 cd "$top/packages/rust/tools" || exit 1
-prepare_by make -s -C "$top" kit= build/cargo/release/rapid{hash,sum}
+prepare_by make -s -C "$top" kit= build/cargo/bin/rapid{hash,sum}
 try_with layout cargo-fmt cargo fmt --check
 try_with lints cargo-clippy env CARGO_TARGET_DIR="$top/build/cargo" cargo clippy --release -- -D warnings
 # The signal of a closed pipe and the state of the standard streams alone need unsafe code.

@@ -154,8 +154,8 @@ build/yervound-rapidhash-1.0.0.jar packages/java/src/main packages/java/pom.xml 
 build/rapidhash.so packages/sqlite/*.c packages/sqlite/*.h packages/sqlite/make.mk
 build/header/rapidhash_c.o packages/c/*.c packages/c/include/rapidhash_c.h packages/c/make.mk
 build/header/librapidhash_c.so.1 packages/c/*.map packages/c/make.mk
-build/cargo/release/rapid% packages/rust/src packages/rust/tools/src packages/rust/build.rs
-build/cargo/release/rapid% packages/rust/Cargo.toml packages/rust/tools/Cargo.toml
+build/cargo/bin/rapid% packages/rust/src packages/rust/tools/src packages/rust/build.rs
+build/cargo/bin/rapid% packages/rust/Cargo.toml packages/rust/tools/Cargo.toml
 PRODUCTS
 }
 try files_of_packages each_file_counts
@@ -174,9 +174,10 @@ mkdir -p repo/packages/rust/{src,tools/src} && echo one >repo/packages/rust/src/
 cat >few/cargo_of_apt <<'CARGO'
 #!/bin/sh
 echo run >>../../../../starts
-mkdir -p "$CARGO_TARGET_DIR/release"
-printf '#!/bin/sh\necho cargo %s "$@"\n' "$(cat ../src/lib.rs)" >"$CARGO_TARGET_DIR/release/rapidhash"
-chmod +x "$CARGO_TARGET_DIR/release/rapidhash"
+while [ "$1" != --root ]; do shift; done
+mkdir -p "$2/bin"
+printf '#!/bin/sh\necho cargo %s "$@"\n' "$(cat ../src/lib.rs)" >"$2/bin/rapidhash"
+chmod +x "$2/bin/rapidhash"
 CARGO
 printf '#!/bin/sh\n[ "$3" = update ] || mv "${0%%/*}/cargo_of_apt" "${0%%/*}/cargo"\n' >few/apt-get
 printf '#!/bin/sh\necho cargo\n' >few/apt-cache
@@ -189,9 +190,12 @@ echo two >repo/packages/rust/src/lib.rs
 calls edited_source_by_cargo 0 'cargo two' 2 "$of_cargo"
 echo >repo/packages/rust/tools/src/lib.rs
 calls edited_tool_by_cargo 0 'cargo two' 3 "$of_cargo"
-# Cargo has another directory for a target that its configuration or CARGO_BUILD_TARGET names.
-sed -i 's|_DIR/release|_DIR/some-target/release|g' few/cargo && echo three >repo/packages/rust/src/lib.rs
-calls named_target_by_cargo 0 'cargo three' 4 "$of_cargo"
+# A cargo that fails says why, and the last program remains.
+printf '#!/bin/sh\necho run >>../../../../starts && echo error: no linker >&2\nexit 1\n' >few/cargo
+echo three >repo/packages/rust/src/lib.rs
+calls a_cargo_that_fails 2 '' 4 "$of_cargo"$'\nerror: no linker\nmake: *'
+[ "$(repo/build/cargo/bin/rapidhash)" = 'cargo two' ]
+tell its_last_program $?
 programs=$place/kit:$PATH
 calls the_kit_instead_of_cargo 7 $'first\ninput' 5 "$told"
 
