@@ -14,8 +14,10 @@ export function millisecondsOf(value) {
 }
 
 function refuse(call, wanted, value) {
+  const milliseconds = millisecondsOf(value);
   const shown = typeof value === "string" ? JSON.stringify(value.length > 40 ? `${value.slice(0, 40)}...` : value)
-    : typeof value === "number" || millisecondsOf(value) !== undefined ? `${value}` : whatIs(value);
+    : typeof value === "number" ? value : milliseconds === undefined ? whatIs(value)
+    : Number.isNaN(milliseconds) ? "Invalid Date" : new Date(milliseconds).toISOString();
   throw new (typeof value === "string" ? RangeError : TypeError)(`${call}: ${wanted}, not ${shown}`);
 }
 
@@ -43,15 +45,16 @@ export function time(value) {
   const milliseconds = millisecondsOf(value);
   if (Number.isInteger(milliseconds)) return BigInt(milliseconds) * 1000n;
   const parts = typeof value !== "string" ? null
-    : /^(\d{4})-(\d\d)-(\d\d)[T ](\d\d):(\d\d):(\d\d)(?:\.(\d{1,6})0*)?(?:Z|([+-])(\d\d)(?::(\d\d))?)$/.exec(value);
-  const wanted = "value must be a Date, or a time with an offset from UTC and at most microseconds";
+    : /^(\d{4})-(\d\d)-(\d\d)[T ](\d\d):(\d\d):(\d\d)(?:\.(\d{1,6})0*)?(?:Z|([+-])(\d\d)(?::(\d\d)(?::(\d\d))?)?)$/
+      .exec(value);
+  const wanted = "value must be a Date, or a time in years 0 to 9999 with an offset from UTC and at most microseconds";
   if (parts === null) refuse("time", wanted, value);
   const numbers = parts.slice(1).map((digits) => Number(digits ?? 0));
-  const [year, month, date, hours, minutes, seconds, , , zoneHours, zoneMinutes] = numbers;
+  const [year, month, date, hours, minutes, seconds, , , zoneHours, zoneMinutes, zoneSeconds] = numbers;
   const days = daysTo(year, month, date);
-  if (days === undefined || Math.max(hours, zoneHours) > 23 || Math.max(minutes, seconds, zoneMinutes) > 59)
-    refuse("time", wanted, value);
-  const ahead = (parts[8] === "-" ? -60 : 60) * (60 * zoneHours + zoneMinutes);
+  const isClock = Math.max(hours, zoneHours) < 24 && Math.max(minutes, seconds, zoneMinutes, zoneSeconds) < 60;
+  if (days === undefined || !isClock) refuse("time", wanted, value);
+  const ahead = (parts[8] === "-" ? -1 : 1) * ((60 * zoneHours + zoneMinutes) * 60 + zoneSeconds);
   const whole = ((days * 24 + hours) * 60 + minutes) * 60 + seconds - ahead;
   return BigInt(whole) * 1_000_000n + BigInt((parts[7] ?? "").padEnd(6, "0"));
 }

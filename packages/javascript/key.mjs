@@ -137,6 +137,18 @@ function putField(field, place, array, view, room, end) {
   return after;
 }
 
+/** Returns an array with room for a key of `size` bytes, and for some more, if the engine has an array as long. */
+function arrayOf(size) {
+  for (const room of [Math.ceil(1.25 * size), size]) {
+    try {
+      return new Uint8Array(room);
+    } catch (error) {
+      if (!(error instanceof RangeError)) throw error;
+    }
+  }
+  throw new RangeError(`v3Key: a key of ${size} bytes is longer than an array can be`);
+}
+
 /** Writes the encoding of a key to the library's memory and returns its length, or, if it is long, returns it as a
  * Uint8Array. */
 export function encodeKey(values, library, room) {
@@ -145,7 +157,7 @@ export function encodeKey(values, library, room) {
   let size = putFields(fields, undefined, views.bytes, views.view, room, 0);
   if (size <= room) return size;
   for (;;) {
-    const array = new Uint8Array(Math.ceil(1.25 * size));
+    const array = arrayOf(size);
     const end = putFields(fields, undefined, array, new DataView(array.buffer), array.length, 0);
     if (end <= array.length) return array.subarray(0, end);
     size = end;

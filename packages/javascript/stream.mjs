@@ -88,11 +88,14 @@ export class Stream {
   /** Appends a string after the half that waits for it, without the half at its own end, which waits for the next.
    * Returns the hasher. */
   #addText(text) {
-    const whole = this.#half + text;
-    const isCut = (whole.charCodeAt(whole.length - 1) & 0xfc00) === 0xd800;
-    const half = isCut ? whole.slice(-1) : "";
-    this.#add(messageOf(isCut ? whole.slice(0, -1) : whole, "update"));
-    this.#half = half;
+    if (text === "") return this;
+    const isPair = this.#half !== "" && (text.charCodeAt(0) & 0xfc00) === 0xdc00;
+    const isCut = (text.charCodeAt(text.length - 1) & 0xfc00) === 0xd800;
+    const rest = messageOf(isPair || isCut ? text.slice(Number(isPair), isCut ? -1 : undefined) : text, "update");
+    if (this.#half !== "") this.#add(isPair ? this.#half + text[0] : "\ufffd");
+    this.#half = "";
+    this.#add(rest);
+    if (isCut) this.#half = text.slice(-1);
     return this;
   }
 

@@ -63,11 +63,15 @@ test("what is refused", () => {
   const invalid = new Date(NaN);
   for (const call of [() => day(invalid), () => day(new Date(1)), () => day(19782), () => time(invalid), () => time(5),
     () => time("2024-02-29T12:34:56"), () => time("2024-02-29T12:34:56+24:00"), () => uuid("1-1-1-1-1"),
+    () => time("2024-02-29T12:34:56+01:00:60"), () => time("12024-02-29T12:34:56Z"),
     () => uuid(undefined), () => decimal(1.5), () => decimal(undefined), () => floatBits("1"), () => floatBits(NaN),
     () => day("2024-02-29\n")])
     assert.throws(call, /^(Type|Range)Error: (day|time|uuid|decimal|floatBits): /);
-  for (const [call, value, shown] of [[time, invalid, "Invalid Date"], [day, new Date(1), new Date(1)],
+  const hostile = Object.assign(new Date(1), { toString: () => assert.fail() });
+  for (const [call, value, shown] of [[time, invalid, "Invalid Date"], [day, hostile, "1970-01-01T00:00:00.001Z"],
     [decimal, 1.5, 1.5], [decimal, `${"1".repeat(40)},5`, `"${"1".repeat(40)}..."`], [uuid, {}, "Object"]])
     assert.throws(() => call(value), ({ message }) => message.endsWith(`, not ${shown}`));
   assert.equal(time("2024-02-29 12:34:56.789012+00"), 1709210096789012n);
+  assert.equal(time("1880-01-01 00:00:00-05:50:36"), time("1880-01-01T05:50:36Z"));
+  assert.equal(time("1930-01-01 00:00:00+00:19:32"), time("1929-12-31T23:40:28Z"));
 });

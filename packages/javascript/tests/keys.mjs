@@ -76,6 +76,24 @@ test("a list whose items hash when they are read", () => {
   }
 });
 
+test("a key that is almost as long as an array can be", () => {
+  const Whole = Uint8Array;
+  const most = 200_100;
+  globalThis.Uint8Array = class extends Whole {
+    constructor(size, ...others) {
+      if (size > most) throw new RangeError(`Invalid typed array length: ${size}`);
+      super(size, ...others);
+    }
+  };
+  try {
+    const text = "a".repeat(most - 9);
+    assert.equal(v3Key(Buffer.from(text)), v3(encoded(text)));
+    assert.throws(() => v3Key(Buffer.from(`${text}a`)), /^RangeError: v3Key: a key of 200101 bytes is longer than an/);
+  } finally {
+    globalThis.Uint8Array = Whole;
+  }
+});
+
 test("what is no field", () => {
   const range = "fields[1] must be from -(2n ** 63n) to 2n ** 64n - 1n";
   for (const field of [1n << 64n, -(1n << 63n) - 1n])

@@ -2,6 +2,7 @@
 // too large for the memory. The file `large` in this directory is the output of
 // `seq 1 20000000 | head -c 100000000`, and its hashes are those of the Rust crate.
 import assert from "node:assert/strict";
+import { constants } from "node:buffer";
 import { once } from "node:events";
 import { createReadStream } from "node:fs";
 import { open, readFile } from "node:fs/promises";
@@ -53,6 +54,13 @@ test("calls at the end of the stack, which may stop halfway", () => {
     if (!isMade(complete, frames)) complete();
     assert.equal(hasher.digest(), library.v3(face), `${frames} frames`);
   }
+});
+
+// An emulated machine would need minutes.
+test("half of a surrogate pair before the longest string", { skip: process.arch !== "x64" }, () => {
+  const longest = "a".repeat(constants.MAX_STRING_LENGTH);
+  const [half, whole] = ["\ud83d", "\ufffd"].map((start) => new V3().update(start).update(longest).digest());
+  assert.equal(half, whole);
 });
 
 test("saving at the end of the stack, which may leave frames on that of the module", () => {
