@@ -99,20 +99,22 @@ static const char *read_fraction(struct text *text, int *microseconds)
     return NULL;
 }
 
-/* Reads the minutes by which a time is ahead of UTC, at the end of a text. */
-static const char *read_offset(struct text *text, int *minutes)
+/* Reads the seconds by which a time is ahead of UTC, at the end of a text. */
+static const char *read_offset(struct text *text, int *ahead)
 {
-    int is_behind, hours;
-    *minutes = 0;
+    int is_behind, hours, minutes = 0, seconds = 0;
+    *ahead = 0;
     if (text->at == text->end)
         return "the time has no offset from UTC: append one, such as +01:00 or Z";
     is_behind = *text->at == '-';
     if (!read_char(text, "Z")) {
         if (!read_char(text, "+-") || !read_digits(text, 2, &hours) || hours > 23)
             return time_form;
-        if (read_char(text, ":") && (!read_digits(text, 2, minutes) || *minutes > 59))
+        if (read_char(text, ":") && (!read_digits(text, 2, &minutes) || minutes > 59))
             return time_form;
-        *minutes = (is_behind ? -1 : 1) * (60 * hours + *minutes);
+        if (read_char(text, ":") && (!read_digits(text, 2, &seconds) || seconds > 59))
+            return time_form;
+        *ahead = (is_behind ? -1 : 1) * ((60 * hours + minutes) * 60 + seconds);
     }
     return text->at == text->end ? NULL : time_form;
 }
@@ -131,7 +133,7 @@ static const char *read_clock(struct text *text, sqlite3_int64 *microseconds)
     if (why == NULL)
         why = read_offset(text, &ahead);
     if (why == NULL)
-        *microseconds = ((60 * hours + minutes - ahead) * 60 + seconds) * (sqlite3_int64)1000000 + rest;
+        *microseconds = ((60 * hours + minutes) * 60 + seconds - ahead) * (sqlite3_int64)1000000 + rest;
     return why;
 }
 
