@@ -111,8 +111,11 @@ final class OtherFields {
         }
         long scale = number.scale();
         double leastDigits = (unscaled.bitLength() - 1) * 0.30102999;
-        if (Math.max(leastDigits / 2, leastDigits - scale) > MOST || scale - unscaled.getLowestSetBit() > MOST) {
+        if (leastDigits - scale > MOST || scale - unscaled.getLowestSetBit() > MOST) {
             throw key.refusal(at, TOO_LONG);
+        }
+        if (leastDigits > 2 * MOST) {
+            throw key.refusal(at, " has more than 300000 digits; pass stripTrailingZeros() if most are zeros");
         }
         String digits = unscaled.toString();
         int end = digits.length();

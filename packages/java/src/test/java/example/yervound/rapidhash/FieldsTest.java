@@ -197,7 +197,9 @@ public class FieldsTest {
         BigInteger great = BigInteger.ONE.shiftLeft(1 << 28);
         refused(tooLong, new BigDecimal(great));
         refused(tooLong, new BigDecimal(great.setBit(0), 80_807_124));
-        refused(tooLong, new BigDecimal(great, 80_807_124));
+        String digits = "fields[1] has more than 300000 digits; pass stripTrailingZeros() if most are zeros";
+        refused(digits, new BigDecimal(great, 80_807_124));
+        refused(digits, BigDecimal.ONE.setScale(300_001));
         for (BigDecimal number : new BigDecimal[] {BigDecimal.TEN.pow(149_999), BigDecimal.ONE.movePointLeft(149_998),
             BigDecimal.ONE.movePointLeft(149_997).negate(), BigDecimal.valueOf(-25, 2).add(BigDecimal.TEN.pow(149_996)),
             BigDecimal.valueOf(2).pow(435_411), BigDecimal.ONE.movePointLeft(100_001)}) {
