@@ -70,8 +70,8 @@ template <class Value, class = void> struct field {
     static_assert(!has_own_traits<Value>::value,
                   "a text that compares in its own way has no field: specialize rapidhash::field, or pass its bytes");
     static_assert(is_refused || std::is_convertible<const Value &, bytes>::value,
-                  "a field is nullptr, an integer, an enumerator, a text, bytes, a time, a duration, or a pair, tuple, "
-                  "vector, array, span, optional or path");
+                  "a field is nullptr, an integer, an enumerator, a text, bytes, a time, a duration, or a std::pair, "
+                  "tuple, vector, array, span, optional or path, but of no derived class: cast it to that");
     static void add(::rapidhash_stream *state, bytes value) noexcept
     {
         ::rapidhash_key_bytes(state, value.data(), value.size());

@@ -215,8 +215,8 @@ rapidhash::hash("x", {})|error: no matching function for call to .hash
 rapidhash::seeded_hasher({std::uint64_t(5)})(1)|error: .*\(would use explicit constructor\|no matching\)
 rapidhash::basic_stream<4>().finish()|a stream has 7, 5 or 3 lanes
 rapidhash::stream({std::uint64_t(5)}).finish()|error: .*\(would use explicit constructor\|no matching\)
-1.5|a field is nullptr, an integer, an enumerator, a text, bytes, a time, a duration, or a pair, tuple, vector, array, \
-span, optional or path
+1.5|a field is nullptr, an integer, an enumerator, a text, bytes, a time, a duration, or a std::pair, tuple, vector, \
+array, span, optional or path, but of no derived class: cast it to that
 std::wstring()|a field is nullptr, an integer,
 std::basic_string<char, own>()|a text that compares in its own way has no field: specialize rapidhash::field, or pass
 rapidhash::text_hasher()(std::basic_string<char, own>())|error: .*deleted function
