@@ -6,12 +6,13 @@ import x86
 from cases import ROOM, TOP, shell
 from linear import MASK, Refusal, make, name
 from elf import Elf
+from streams import LANES
 
 RAX, RCX, RBX, RBP, RSI, RDI, GOROUTINE = 0, 1, 3, 5, 6, 7, 14
 FOLDER, PACKAGE = TOP / "packages/go", "yervound.example/rapidhash."
 # Go's name of each version, and the number that is passed for it.
-VALUES = {"v1": ("V1",), "v2_0": ("V20", 0), "v2_1": ("V21", 1), "v2_2": ("V22", 2), "v3": ("V3", 112),
-          "v3_micro": ("V3Micro", 80), "v3_nano": ("V3Nano", 48)}
+VALUES = {"v1": ("V1",), "v2_0": ("V20", 0), "v2_1": ("V21", 1), "v2_2": ("V22", 2)}
+VALUES |= {version: ("V3" + version[3:].title(), 16 * lanes) for version, lanes in LANES.items()}
 METHODS = {"": "", "_with_seed": "WithSeed", "_with_secrets": "WithSecrets"}
 PROGRAM = """package main
 

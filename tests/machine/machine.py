@@ -195,7 +195,7 @@ PARTS = {
     "library": check_library,
     "streams-gcc": lambda: check_streams("gcc", gcc),
     "streams-kit": lambda: check_streams("the kit", kit, True, ["v3"]),
-    "streams-kit-small": lambda: check_streams("the kit", kit, True, ["v3_micro", "v3_nano"]),
+    "streams-kit-small": lambda: check_streams("the kit", kit, True, [*LANES][1:]),
     "streams-clang": lambda: check_streams("clang -O2", faults.built("clang -O2")),
     "arm64": check_arm64,
     "modules": check_packages,

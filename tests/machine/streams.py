@@ -4,11 +4,11 @@ lanes have folded all rows before the tail, and its buffer has the tail and, aft
 import terms
 from argument import Refusal, require_equal, prove
 from linear import POOL, Assumed, add, assume, make, most_turns, name
-from model import Definition
+from model import VERSIONS, Definition
 from terms import join, message, split
 from x86 import Machine
 
-LANES = {"v3": 7, "v3_micro": 5, "v3_nano": 3}
+LANES = {version: lanes for version, lanes in VERSIONS.items() if version[:2] == "v3" and version != "v3_protected"}
 SIZES = {"secrets": 64, "stream": 216}  # of the structs
 
 
