@@ -1,7 +1,7 @@
 -- Properties of printed lines, for the functions that read them.
-use Rattle.std.proofs.Common.{◌≡◌, ℕ, ◌+◌, ◌-◌, ◌/◌, ◌%◌, ◌^◌, ◌<◌, ◌≤◌, Bool, true, false, cond, List, [], ◌∷◌, ◌++◌, length, slice_index, ◌||◌, ◌==◌, is_some, zero, suc, Ok, take, drop, ◌⊎◌, inl, inr, ⊎_elim, Option, None, Some, IsSomeAnd, option_and_then, refl, sym, ap, ◌∙◌, arith}
-use Rattle.std.proofs.Math.Seq.{take-length, take-append_seam, drop-append_seam}
-use Rattle.std.proofs.lemmas.List.{append-nil, append_assoc, get_or-append-add, length-append, length-drop}
+use Rattle.std.proofs.Common.{◌≡◌, ◌≢◌, ℕ, ◌+◌, ◌-◌, ◌/◌, ◌%◌, ◌^◌, ◌<◌, ◌≤◌, Bool, true, false, cond, List, [], ◌∷◌, ◌++◌, length, slice_index, slice_index_or, ◌||◌, ◌==◌, is_some, zero, suc, Ok, take, drop, ◌⊎◌, inl, inr, ⊎_elim, Option, None, Some, IsSomeAnd, option_and_then, refl, sym, ap, ◌∙◌, arith}
+use Rattle.std.proofs.Math.Seq.{take-append_seam, drop-append_seam}
+use Rattle.std.proofs.lemmas.List.{append-nil, append_assoc, get_or-append-add, length-append}
 use Rattle.std.proofs.lemmas.Bool.{eqb-true, ne_eqb}
 use Rattle.std.proofs.lemmas.Nat.{from_be_bytes-to_be_bytes_8}
 use Rattle.std.specs.Int.{from_be_bytes, to_be_bytes, w64}
@@ -189,34 +189,22 @@ of_plain_line Tagged algorithm hash name line result first text binary fits is =
 -- one of the two forms of a line
 line-cases : (layout : Layout) (algorithm : Algorithm) (hash : ℕ) (name line : List ℕ) (escapes : Bool) → needs_escape name ≡ escapes
     → line ≡ (let body = body_of layout algorithm hash (escaped name) in cond escapes (92 ∷ body) body)
-    → (drop 1 line ≡ body_of layout algorithm hash (escaped name) × slice_index line 0 ≡ 92)
-    ⊎ (line ≡ body_of layout algorithm hash (escaped name) × escaped name ≡ name × (slice_index line 0 ≡ 92 → ⊥))
-line-cases layout algorithm hash name line true needs is = inl (ap (drop 1) is, ap (λ (xs : List ℕ). slice_index xs 0) is)
-line-cases layout algorithm hash name line false needs is =
-    inr (
-      is,
-      escaped-plain name needs,
-      λ found.
-          body-no_backslash layout algorithm hash (escaped name) (ap (λ (xs : List ℕ). slice_index xs 0) (sym is) ∙ found),
-    )
+    → (line ≡ 92 ∷ body_of layout algorithm hash (escaped name)) ⊎ (line ≡ body_of layout algorithm hash (escaped name) × escaped name ≡ name)
+line-cases layout algorithm hash name line true needs is = inl is
+line-cases layout algorithm hash name line false needs is = inr (is, escaped-plain name needs)
 
 -- a line that begins with a backslash has its body behind it
-pub behind_backslash : (layout : Layout) (algorithm : Algorithm) (hash : ℕ) (name line : List ℕ)
-    → line ≡ line_of layout algorithm hash name → slice_index line 0 ≡ 92
-    → take (length line - 1) (drop 1 line) ≡ body_of layout algorithm hash (escaped name)
-behind_backslash layout algorithm hash name line is first =
-    ap (λ (k : ℕ). take k (drop 1 line)) (sym (length-drop 1 line)) ∙ take-length (drop 1 line)
-    ∙ ⊎_elim (λ found. found.0) (λ other. absurd (other.2 first)) (line-cases layout algorithm hash name line (needs_escape name) refl is)
+pub behind_backslash : (layout : Layout) (algorithm : Algorithm) (hash : ℕ) (name line body : List ℕ)
+    → line ≡ line_of layout algorithm hash name → line ≡ 92 ∷ body → body ≡ body_of layout algorithm hash (escaped name)
+behind_backslash layout algorithm hash name line body is first =
+    ⊎_elim (λ found. ap (drop 1) (sym first ∙ found))
+    (λ other. absurd (body-no_backslash layout algorithm hash (escaped name) (ap (λ (xs : List ℕ). slice_index xs 0) (sym other.0 ∙ first))))
+    (line-cases layout algorithm hash name line (needs_escape name) refl is)
 
 -- a line that does not is its body, and has no escape
 pub no_backslash : (layout : Layout) (algorithm : Algorithm) (hash : ℕ) (name line : List ℕ)
-    → line ≡ line_of layout algorithm hash name → (slice_index line 0 ≡ 92 → ⊥)
+    → line ≡ line_of layout algorithm hash name → slice_index_or line 0 0 ≢ 92
     → line ≡ body_of layout algorithm hash (escaped name) × escaped name ≡ name
 no_backslash layout algorithm hash name line is first =
-    ⊎_elim (λ found. absurd (first found.1)) (λ other. (other.0, other.1))
+    ⊎_elim (λ found. absurd (first (ap (λ (xs : List ℕ). slice_index_or xs 0 0) found))) (λ other. other)
     (line-cases layout algorithm hash name line (needs_escape name) refl is)
-
--- an empty text does not begin with a backslash
-pub empty-first : (text : List ℕ) → (length text == 0) ≡ true → slice_index text 0 ≡ 92 → ⊥
-empty-first [] empty first = cc first
-empty-first (c ∷ cs) empty first = grind (arith)

@@ -9,6 +9,7 @@ ghost use Rattle.rapidsum.specs.Line.{body_of, carried, escaped, line_of};
 use crate::algorithm::Algorithm;
 use crate::names::unescape;
 use crate::parts::split_line;
+use crate::reading::behind;
 use std::alloc::{AllocError, Allocator};
 
 /// The hash and the name of a line.
@@ -80,17 +81,16 @@ fn plain_entry<A: Allocator>(alloc: A, line: &[u8]) -> Result<Option<Entry<A>>, 
 }
 
 // Returns the entry of a line, if it has one.
-#[tactic(auto, using(crate::proofs::Lines::behind_backslash, crate::proofs::Lines::no_backslash))]
+#[tactic(auto, using(crate::proofs::Lines::no_backslash))]
 fn entry_of<A: Allocator>(alloc: A, line: &[u8]) -> Result<Option<Entry<A>>, AllocError>
     ensures { (layout : Layout) (algorithm : Algorithm) (hash : ℕ) (name : List ℕ) →
         Fits algorithm hash →
         line.now ≡ line_of layout algorithm hash name →
         IfOk result (λ entry. IsSomeAnd entry (λ e. Names e (carried layout algorithm) hash name)) }
 {
-    if !line.is_empty() && line[0] == b'\\' {
-        escaped_entry(alloc, &line[1..])
-    } else {
-        plain_entry(alloc, line)
+    match behind(line, b'\\') {
+        Some(body) => escaped_entry(alloc, body),
+        None => plain_entry(alloc, line),
     }
 }
 

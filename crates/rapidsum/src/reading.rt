@@ -43,13 +43,14 @@ pub enum Part<'a, A: Allocator> {
     Files(&'a [Vec<u8, A>]),
 }
 
-// Returns what is behind the hyphen that a text begins with, if it does.
-fn behind_hyphen(text: &[u8]) -> Option<&[u8]>
-    ensures { MatchOption result (slice_index_or text.now 0 0 ≢ 45)
-        (λ behind. text.now ≡ 45 ∷ behind.now) }
+/// Returns what is behind a byte that a text begins with, if it does.
+pub fn behind(text: &[u8], byte: u8) -> Option<&[u8]>
+    requires { 0 < byte }
+    ensures { MatchOption result (slice_index_or text.now 0 0 ≢ byte)
+        (λ behind. text.now ≡ byte ∷ behind.now) }
 {
     match text.split_first() {
-        Some((b'-', behind)) => Some(behind),
+        Some((first, behind)) if *first == byte => Some(behind),
         _ => None,
     }
 }
@@ -137,13 +138,13 @@ pub fn next<'a, A: Allocator>(
         return Ok(Part::Files(words));
     };
     let word = word.as_slice();
-    let Some(text) = behind_hyphen(word) else {
+    let Some(text) = behind(word, b'-') else {
         return Ok(Part::File(word, others));
     };
     if text.is_empty() {
         return Ok(Part::File(word, others));
     }
-    let Some(name) = behind_hyphen(text) else {
+    let Some(name) = behind(text, b'-') else {
         return lettered(rows, text, others);
     };
     if name.is_empty() {

@@ -6,6 +6,7 @@ use rapidhash_tool::kit::Vec;
 use crate::algorithm::Algorithm;
 use crate::names::unescape;
 use crate::parts::split_line;
+use crate::reading::behind;
 use rapidhash_tool::kit::alloc::{AllocError, Allocator};
 
 /// The hash and the name of a line.
@@ -69,10 +70,9 @@ fn plain_entry<A: Allocator>(alloc: A, line: &[u8]) -> Result<Option<Entry<A>>, 
 
 // Returns the entry of a line, if it has one.
 fn entry_of<A: Allocator>(alloc: A, line: &[u8]) -> Result<Option<Entry<A>>, AllocError> {
-    if !line.is_empty() && line[0] == b'\\' {
-        escaped_entry(alloc, &line[1..])
-    } else {
-        plain_entry(alloc, line)
+    match behind(line, b'\\') {
+        Some(body) => escaped_entry(alloc, body),
+        None => plain_entry(alloc, line),
     }
 }
 

@@ -42,10 +42,10 @@ pub enum Part<'a, A: Allocator> {
     Files(&'a [Vec<u8, A>]),
 }
 
-// Returns what is behind the hyphen that a text begins with, if it does.
-fn behind_hyphen(text: &[u8]) -> Option<&[u8]> {
+/// Returns what is behind a byte that a text begins with, if it does.
+pub fn behind(text: &[u8], byte: u8) -> Option<&[u8]> {
     match text.split_first() {
-        Some((b'-', behind)) => Some(behind),
+        Some((first, behind)) if *first == byte => Some(behind),
         _ => None,
     }
 }
@@ -126,7 +126,7 @@ pub fn next<'a, A: Allocator>(
         return Ok(Part::Files(words));
     };
     let word = word.as_slice();
-    let text = if let Some(text) = behind_hyphen(word) {
+    let text = if let Some(text) = behind(word, b'-') {
         text
     } else {
         return Ok(Part::File(word, others));
@@ -134,7 +134,7 @@ pub fn next<'a, A: Allocator>(
     if text.is_empty() {
         return Ok(Part::File(word, others));
     }
-    let name = if let Some(name) = behind_hyphen(text) {
+    let name = if let Some(name) = behind(text, b'-') {
         name
     } else {
         return lettered(rows, text, others);
