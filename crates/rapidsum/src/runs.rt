@@ -160,6 +160,11 @@ fn check_list(console: &mut Console<'_>, disk: &Disk<'_>, name: &[u8]) -> Result
     let checked = check_entries(rt.alloc(), entries, disk, given, ignore_missing, console)?;
     let same = checked.count(Verdict::Same);
     console.warn_of_verdicts(name, &list, &checked)?;
+    // A list that was cut off before a name must not pass as one with a missing file.
+    let is_cut = list.has_no_name();
+    if is_cut {
+        console.complain(name, "a line has a hash, but no file name")?;
+    }
     let well_formed = list.malformed.is_empty() || !console.options.has(STRICT);
-    Ok(checked.passed && same > 0 && well_formed)
+    Ok(checked.passed && same > 0 && well_formed && !is_cut)
 }

@@ -130,6 +130,7 @@ fails name_of_other_bytes "$open_fault" "$program" $'\xff'
 fails unreadable_input "$stdin_fault" "$program" --v1 <"$top"
 fails unreadable_input_by_v3 "$stdin_fault" "$program" <"$top"
 fails folder "$file_fault" "$program" "$top"
+[ "$(stat -c %s /proc)" != 0 ] || fails folder_without_a_size "$file_fault" "$program" --v1 /proc
 # A file in /sys has fewer bytes than its metadata states.
 if [ "$(stat -c %s /sys/kernel/uevent_seqnum 2>/dev/null)" = 4096 ]; then
   fails file_of_sys "$file_fault" "$program" --v1 /sys/kernel/uevent_seqnum

@@ -269,6 +269,8 @@ if [ -n "${BUILT-}" ]; then # The kit's runtime does not tell whether the signal
     to_a_closed_pipe perl -e '$SIG{PIPE} = "IGNORE"; exec @ARGV' "$program" first
 fi
 says help_to_a_full_disk 'No space left' to_a_full_disk "$program" --help
+{ "$program" first && "$program" 'second name' | head -c 18; } >ends
+says list_that_ends_before_a_name 'ends: a line has a hash, but no file name' "$program" -c --ignore-missing ends
 says list_that_is_a_folder '.: Is a directory' "$program" -c .
 says list_of_which_a_read_fails 'list: Input/output error' failing read:error=EIO:when=2 list "$program" -c list
 runs rest_of_a_short_write 0 $'b469390773a  first\n' '' failing write:retval=5:when=1 out "$program" first

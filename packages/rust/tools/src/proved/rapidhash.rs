@@ -33,12 +33,17 @@ fn gather(rt: &HostRuntime) -> Result<Vec<String>, CliFault> {
     Ok(args)
 }
 
-// Returns the number of bytes of the file to hash, or 0 if the version reads it to its end.
+// Returns the number of bytes of the file to hash, or 0 if the version reads it to its end. A
+// directory is refused, as it may report that it has none.
 fn length(version: &RapidhashVersion, file: &File) -> Result<u64, CliFault> {
     if !version.needs_length() {
         return Ok(0);
     }
-    length_of(file.metadata())
+    let metadata = file.metadata();
+    if matches!(&metadata, Ok(found) if found.is_dir()) {
+        return Err(CliFault::File);
+    }
+    length_of(metadata)
 }
 
 fn length_of(metadata: Result<Metadata, Error>) -> Result<u64, CliFault> {

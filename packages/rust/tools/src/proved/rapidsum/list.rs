@@ -20,6 +20,11 @@ impl List {
     pub fn names_a_version(&self) -> bool {
         self.entries.iter().any(|entry| entry.algorithm.is_some())
     }
+
+    /// Returns whether a line has a hash and no name behind it.
+    pub fn has_no_name(&self) -> bool {
+        self.entries.iter().any(|entry| entry.name.is_empty())
+    }
 }
 
 /// Returns the number of bytes before the first byte that ends a line, or of all bytes if there is
