@@ -3,18 +3,23 @@ rapidhash, or to SQLite, which needs none:
 
     python3 differences.py FIRST.db SECOND.db TABLE KEY ..
 
-KEY names the columns of the table's key. It compares one fingerprint, then those of the shards of the key, and reads
-only rows of shards that differ. It prints a line for each row of the second table that the first one lacks, that it
-lacks itself, or that has another content: added, removed or changed, and the key."""
+KEY names the columns of the table's key, of which NULL is one too. It compares one fingerprint, then those of the
+shards of the key, and reads only rows of shards that differ. It prints a line for each key whose rows only the second
+table has, or only the first, or that has other rows: added, removed or changed, and the key. A table has at most 100
+columns, or 127 between files of SQLite."""
 
 import datetime
 import decimal
+import pathlib
 import re
 import sqlite3
 import sys
 import uuid
 
 from rapidhash import fingerprint, shard, v3_key
+
+if sys.version_info < (3, 11):
+    raise ImportError("differences.py needs CPython 3.11, which reads the texts and times of databases as they are")
 
 SHARDS = 1000
 
@@ -32,12 +37,20 @@ def boolean(value):
 
 
 def number(value):
+    if not re.fullmatch(r"[-+.\dEe]+", str(value), re.ASCII):
+        raise ValueError(f"{value!r} is no decimal number")
     return decimal.Decimal(str(value))
+
+
+def identifier(text):
+    if not re.fullmatch(r"[\da-fA-F-]{32,36}", text, re.ASCII):
+        raise ValueError(f"{text!r} is no UUID")
+    return uuid.UUID(text)
 
 
 # How a value of SQLite is read, by the declared type of its column.
 READERS = {"date": datetime.date.fromisoformat, "timestamptz": instant, "timestamp with time zone": instant,
-           "uuid": uuid.UUID, "numeric": number, "decimal": number, "boolean": boolean, "bool": boolean}
+           "uuid": identifier, "numeric": number, "decimal": number, "boolean": boolean, "bool": boolean}
 
 
 def named(name, columns):
@@ -87,8 +100,9 @@ class Table:
         """Returns the call for the hash of some columns. That of SQLite is a function in Python."""
         if not isinstance(self.connection, sqlite3.Connection):
             return f"rapidhash_v3_key({quoted(columns)})"
-        types = {row[1]: row[2].lower() for row in self.ask(f"PRAGMA table_xinfo({self.table})")}
-        readers = [READERS.get(types.get(column, "").partition("(")[0].rstrip()) for column in columns]
+        types = {row[1]: row[2].lower().partition("(")[0].split() for row in
+                 self.ask(f"PRAGMA table_xinfo({self.table})")}
+        readers = [READERS.get(" ".join(types.get(column, ()))) for column in columns]
 
         def hashed(*values):
             fields = (value if value is None or reader is None else reader(value)
@@ -132,13 +146,20 @@ def differences(first, second, table, key):
     if not shards:  # The fingerprint of no rows is NULL in SQLite and 0 in PostgreSQL.
         return
     (old, old_keys), (new, new_keys) = (side.rows(", ".join(map(str, shards))) for side in (left, right))
-    for one in sorted({*old, *new}, key=lambda one: str({**old_keys, **new_keys}[one])):
+    keys = {**old_keys, **new_keys}
+    for one in sorted(keys, key=lambda one: str(keys[one])):
         if old.get(one) != new.get(one):
-            yield ("changed" if one in old and one in new else "removed" if one in old else "added",
-                   *new_keys.get(one, old_keys.get(one)))
+            yield ("changed" if one in old and one in new else "removed" if one in old else "added", *keys[one])
     print(f"read {left.moved + right.moved} rows", file=sys.stderr)
 
 
+def opened(path):
+    """Returns a connection to a file, which must exist."""
+    return sqlite3.connect(pathlib.Path(path).absolute().as_uri() + "?mode=ro", uri=True)
+
+
 if __name__ == "__main__":
-    for difference in differences(*map(sqlite3.connect, sys.argv[1:3]), sys.argv[3], sys.argv[4:]):
-        print(*difference, sep="\t")
+    if len(sys.argv) < 5:
+        sys.exit("usage: differences.py FIRST.db SECOND.db TABLE KEY ..")
+    for difference in differences(*map(opened, sys.argv[1:3]), sys.argv[3], sys.argv[4:]):
+        print(*(str(word).encode("unicode_escape").decode() for word in difference), sep="\t")

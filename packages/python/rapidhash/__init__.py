@@ -203,11 +203,11 @@ def _kept(field):
 def each_key(*columns, seed=None, secrets=None, out=None):
     """Returns the hash of each row of one or more columns, as v3_key returns it, in the same way as `each`.
 
-    A column is a list, a tuple or another iterable of fields, a buffer of integers, such as a NumPy array, a Series of
-    pandas, whose missing values are None, as masked ones of NumPy are, or an Arrow array of strings, bytes, integers or
-    nulls. Other threads run if each column is a buffer of integers or an Arrow array. Raises TypeError for any other
-    column, such as a str, a DataFrame or an array of objects, and ValueError if the columns have different numbers of
-    rows or `out` overlaps one."""
+    A column is a list, a tuple or another iterable of fields, a buffer of integers or an array of NumPy of integers,
+    booleans, days, texts, bytes or objects, a Series of pandas, whose missing values are None, as masked ones of NumPy
+    are, or an Arrow array of these, times with a zone or decimals. Other threads run if each column is a buffer of
+    integers or an Arrow array. Raises TypeError for any other column, such as a str or a DataFrame, or for an object
+    that is no field, and ValueError if the columns have different numbers of rows or `out` overlaps one."""
     if not columns:
         raise TypeError("each_key() needs at least one column")
     opened = [_opened(f"columns[{at}]", _columns.FIELDS, column) for at, column in enumerate(columns)]

@@ -120,8 +120,8 @@ def _of_pandas(pandas: Any, numpy: Any, column: Any) -> Column:
         raise Refused("it has no fields of a key: .astype(str) makes texts")
     elif getattr(dtype, "na_value", None) is pandas.NA:
         if dtype.kind in "iub":
-            mask, type_ = items.isna(), dtype.type
-            whole = items.to_numpy(dtype=type_, na_value=type_(0))
+            mask = items.isna()
+            whole = items.to_numpy(dtype=getattr(dtype, "numpy_dtype", dtype.type), na_value=0)
             return Column(whole, len(whole), "f" if dtype.kind == "b" else "i", mask)
         if dtype.kind == "f" and not items.isna().all():
             raise Refused("float_bits makes an int of a float, and .astype(\"Int64\") ints of a Series")

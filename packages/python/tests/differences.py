@@ -16,7 +16,7 @@ from cases import ROOM, TOP, compare, finish, lacks, needs, shell, skip, tell  #
 from sql import SERVER, ask, start_server, unpack  # noqa: E402
 
 COUNT = int(os.environ.get("ROWS", 20_000))
-TYPES = 'id bigint, "to" text, active bool, born date, seen timestamp with time zone, token uuid, price decimal (9,2)'
+TYPES = 'id bigint, "to" text, active bool, born date, seen timestamp  with time zone, token uuid, price decimal (9,2)'
 FOUND = ["added\t-1", "changed\t77", f"removed\t{COUNT - 1}"]
 
 
@@ -78,6 +78,11 @@ def over_types():
             database.execute(f"INSERT INTO fine VALUES (1, '2024-02-29 12:34:56,123456{name}+00:00')")
             database.execute("CREATE TABLE odd (id integer, active bool)")
             database.execute("INSERT INTO odd VALUES (1, 2)")
+            database.execute("CREATE TABLE many (id integer PRIMARY KEY, it)")
+            database.executemany("INSERT INTO many VALUES (?, ?)", ((at, name) for at in range(20_000)))
+            for table, value in ("prices", "1_000"), ("tokens", "0x" + "1" * 30):
+                database.execute(f"CREATE TABLE {table} (id integer, it {'uuid' if table == 'tokens' else 'numeric'})")
+                database.execute(f"INSERT INTO {table} VALUES (1, ?)", (value,))
             database.execute(f"CREATE TABLE other (id integer, c{name} text)")
             columns = ["id integer", '"a""b" text']
             database.execute(f"CREATE TABLE turned ({', '.join(columns[::int(name) * 2 - 7])})")
@@ -89,6 +94,11 @@ def over_types():
     compare("other_columns", "['c3', 'id'] and ['c4', 'id']" in shell(run + "other id")[1], True)
     compare("no_such_key", "the key 'i' is none of ['id', 'twice']" in shell(run + "made i")[1], True)
     compare("other_booleans", "2 is no boolean" in shell(run + "odd id")[1], True)
+    compare("other_numbers", "'1_000' is no decimal number" in shell(run + "prices id")[1], True)
+    compare("other_identifiers", "' is no UUID" in shell(run + "tokens id")[1], True)
+    compare("each_row", len(shell(f"ulimit -t 30; {run} many id")[1].splitlines()), 20_001)
+    compare("no_such_file", "unable to open" in shell(run.replace("/4'", "/5'") + "odd id")[1], True)
+    compare("no_key", shell(run + "odd"), (1, "usage: differences.py FIRST.db SECOND.db TABLE KEY ..\n"))
 
 
 def over_databases(rows):
