@@ -100,9 +100,9 @@ class Table:
         """Returns the call for the hash of some columns. That of SQLite is a function in Python."""
         if not isinstance(self.connection, sqlite3.Connection):
             return f"rapidhash_v3_key({quoted(columns)})"
-        types = {row[1]: row[2].lower().partition("(")[0].split() for row in
-                 self.ask(f"PRAGMA table_xinfo({self.table})")}
-        readers = [READERS.get(" ".join(types.get(column, ()))) for column in columns]
+        types = {row[1]: " ".join(row[2].lower().partition("(")[0].split())
+                 for row in self.ask(f"PRAGMA table_xinfo({self.table})")}
+        readers = [READERS.get(types.get(column)) for column in columns]
 
         def hashed(*values):
             fields = (value if value is None or reader is None else reader(value)
@@ -161,5 +161,6 @@ def opened(path):
 if __name__ == "__main__":
     if len(sys.argv) < 5:
         sys.exit("usage: differences.py FIRST.db SECOND.db TABLE KEY ..")
+    sys.stdout.reconfigure(errors="backslashreplace")
     for difference in differences(*map(opened, sys.argv[1:3]), sys.argv[3], sys.argv[4:]):
-        print(*(str(word).encode("unicode_escape").decode() for word in difference), sep="\t")
+        print(*(str(word).translate({92: r"\\", 10: r"\n", 9: r"\t"}) for word in difference), sep="\t")

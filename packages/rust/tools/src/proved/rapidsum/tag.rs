@@ -1,6 +1,7 @@
 // Made by scripts/rust_crate from crates/rapidsum/src/tag.rt: change that file.
 
 //! The tag of a line: its version and its seed.
+#![allow(clippy::manual_find)]
 
 use crate::algorithm::Algorithm;
 use crate::list::split_before;
