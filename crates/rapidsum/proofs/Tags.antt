@@ -1,19 +1,16 @@
 -- Properties of tags, for the function that reads them.
-use Rattle.std.proofs.Common.{◌≡◌, ℕ, false, List, [], ◌∷◌, ◌++◌, Option, None, Some, refl, ◌∙◌}
+use Rattle.std.proofs.Common.{◌≡◌, ℕ, false, List, ◌∷◌, ◌++◌, Option, None, Some, refl, ◌∙◌}
 use Rattle.std.proofs.lemmas.List.{append-nil}
-use Rattle.rapidsum.proofs.Lists.{has_byte, joined, seed-end, version_read}
+use Rattle.rapidsum.proofs.Lists.{IsLast, has_byte, joined, seed-end, version_read}
 use Rattle.rapidsum.specs.Line.{digits_of, seed_text, version_text}
 use Rattle.rapidsum.specs.declared.algorithm.Algorithm.{Algorithm}
 
--- the contract of a split before the first of a byte, and without one
+-- the contract of a split before the first of a byte
 abbrev pub IsFound : ℕ → List ℕ → List ℕ → List ℕ → Type 0
 IsFound end text front back = (one rest : List ℕ) → has_byte end one ≡ false → text ≡ one ++ end ∷ rest → (front ≡ one) × (back ≡ end ∷ rest)
 
-abbrev pub IsWhole : ℕ → List ℕ → List ℕ → List ℕ → Type 0
-IsWhole end text front back = has_byte end text ≡ false → (front ≡ text) × (back ≡ [])
-
 -- a version's text and a seed word's are split at the colon
-seed_split : (seed : Option ℕ) (version tag front back : List ℕ) → IsFound 58 tag front back → IsWhole 58 tag front back
+seed_split : (seed : Option ℕ) (version tag front back : List ℕ) → IsFound 58 tag front back → IsLast 58 tag front back
     → has_byte 58 version ≡ false → tag ≡ version ++ seed_text seed → (front ≡ version) × (back ≡ seed_text seed)
 unfolding seed_text
 seed_split None version tag front back found whole none is =
@@ -24,7 +21,7 @@ seed_split (Some word) version tag front back found whole none is = found versio
 
 -- a tag is split at the space, and then at the colon
 pub tag_split : (algorithm : Algorithm) (rest behind tag after front back : List ℕ) → IsFound 32 behind tag after
-    → IsFound 58 tag front back → IsWhole 58 tag front back
+    → IsFound 58 tag front back → IsLast 58 tag front back
     → behind ≡ (version_text algorithm.version ++ seed_text algorithm.seed) ++ 32 ∷ rest
     → (front ≡ version_text algorithm.version) × (back ≡ seed_text algorithm.seed) × (after ≡ 32 ∷ rest)
 tag_split algorithm rest behind tag after front back space found whole is =
