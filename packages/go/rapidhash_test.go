@@ -7,7 +7,7 @@ import (
 	"testing"
 )
 
-// data returns the bytes 0 to 119. The three V2 versions differ at 60 bytes, and V3, micro, and nano differ at 120.
+// data returns the bytes 0 to 119. The versions of V2 differ at 60 bytes, and V3 and its relatives at 120.
 func data() []byte {
 	data := make([]byte, 120)
 	for at := range data {

@@ -7,8 +7,8 @@ import (
 	"io"
 )
 
-// A Stream hashes a message in pieces, with V3, V3Micro or V3Nano, whose methods start it. The zero Stream behaves like
-// that of New. It contains a copy of its secrets, and a copy made with = is independent.
+// A Stream hashes a message in pieces, with a VersionV3, whose methods start it. The zero Stream behaves like that of
+// V3.New. It contains a copy of its secrets, and a copy made with = is independent.
 //
 // It is a hash.Hash64, so io.Copy can write to it. MarshalBinary saves it in the middle of a message.
 type Stream struct {

@@ -1,6 +1,6 @@
 package rapidhash
 
-// v3 returns the hash of V3, micro or nano. A number that is no version panics where it costs nothing to others: if the
+// v3 returns the hash of V3 or a relative. A number that is no version panics where it costs nothing to others: if the
 // message has rows of so many bytes, or is longer than a row of V3.
 func v3(data string, v VersionV3, seed uint64, s *[7]uint64) uint64 {
 	if len(data) > 16 {

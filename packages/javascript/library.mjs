@@ -7,7 +7,7 @@ import { bytesOf, callOf, encodeInto, kindOf, sizeOf, word } from "./arguments.m
 const page = 65536;
 /** The maximum size in bytes of a memory with 32-bit addresses. */
 const most = 2 ** 32;
-/** V3, micro, and nano hash a longer message in pieces of this many bytes. */
+/** A version with streams hashes a longer message in pieces of this many bytes. */
 export const piece = 2 * page;
 /** The secrets of a stream and the stream. */
 export const stateSize = 64 + 208;
@@ -79,7 +79,7 @@ export class Library {
       this.exports.memory.grow(Math.ceil(missing / page));
     } catch {
       throw new RangeError(`not enough memory in WebAssembly for ${length} bytes at once: ` +
-        "V3, micro and nano hash such a message in pieces");
+        "V3 and its relatives hash such a message in pieces");
     }
     return this.views.bytes;
   }

@@ -33,7 +33,7 @@ struct function {
     uint64_t (*hash)(const void *bytes, size_t len, uint64_t word);
 };
 
-/* An aggregate over the values of a column, with V3, micro, or nano. */
+/* An aggregate over the values of a column, by a version with streams. */
 struct aggregate {
     const char *name;
     void (*start)(struct rapidhash_stream *stream, const struct rapidhash_secrets *secrets);

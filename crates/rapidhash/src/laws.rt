@@ -62,7 +62,7 @@ pub fn replay<A: Allocator, const AVALANCHE: bool, const PROTECTED: bool>(
     replay_lanes::<A, 7, AVALANCHE, PROTECTED>(alloc, secrets, ops)
 }
 
-/// Returns the hashes of [`replay`], with 7, 5 or 3 lanes: V3, micro or nano.
+/// Returns the hashes of [`replay`] by V3 or the relative of it that has `LANES` lanes.
 #[tactic(auto, unfolding(crate::specs::Replay::finishes_from))]
 pub fn replay_lanes<A: Allocator, const LANES: usize, const AVALANCHE: bool, const PROTECTED: bool>(
     alloc: A,

@@ -1,4 +1,4 @@
-//! A message in pieces, for V3, micro or nano. The header's inline functions start a stream.
+//! A message in pieces, by a version with streams. The header's inline functions start one.
 
 ghost use Rattle.std.specs.Prelude.{◌≡◌, ◌++◌, ℕ, List, true, false};
 ghost use Rattle.rapidhash_portable.specs.Form.{standard};

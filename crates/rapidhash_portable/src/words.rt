@@ -70,7 +70,7 @@ pub(crate) fn short_words_v2<const MINOR: u8>(bytes: &[u8]) -> (u64, u64)
     }
 }
 
-/// Returns the two words of at most 16 bytes in V3, micro and nano.
+/// Returns the two words of at most 16 bytes in V3 and its relatives.
 #[inline(always)]
 #[tactic(auto, using(crate::proofs::Cases::tests), unfolding(crate::specs::Words::short_words))]
 pub(crate) fn short_words_v3(bytes: &[u8]) -> (u64, u64)
@@ -114,7 +114,7 @@ fn short_words_below_8(bytes: &[u8]) -> (u64, u64)
     short_words_v3(bytes)
 }
 
-/// Returns the two words of 4 to 16 bytes in V2, V3, micro and nano.
+/// Returns the two words of 4 to 16 bytes in V2, and in V3 and its relatives.
 #[inline(always)]
 #[tactic(auto, using(crate::proofs::Cases::tests), unfolding(crate::specs::Words::short_words))]
 pub(crate) fn words_from_4(bytes: &[u8]) -> (u64, u64)

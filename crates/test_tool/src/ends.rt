@@ -21,7 +21,7 @@ pub const SOMETHING_LINE: &[u8] = b"15965596575264898037\n";
 /// V2's line for them.
 pub const V2_LINE: &[u8] = b"9564150447897697404\n";
 
-/// The line of V3, micro and nano for them.
+/// The line of V3 and its relatives for them.
 pub const V3_LINE: &[u8] = b"11612086640089003834\n";
 
 /// Returns the bytes 0 to 199.

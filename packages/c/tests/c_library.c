@@ -8,7 +8,7 @@
 
 #include "rapidhash_c.h"
 
-/* The bytes 0 to 119. The three V2 versions differ at 60 bytes, and V3, micro, and nano differ at 120 bytes. */
+/* The bytes 0 to 119. The versions of V2 differ at 60 bytes, and V3 and its relatives at 120. */
 static uint8_t bytes[120];
 static uint8_t large[1000000];
 

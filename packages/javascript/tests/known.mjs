@@ -14,7 +14,7 @@ const streams = Object.keys(library).filter((name) => name.startsWith("V"))
 const data = Uint8Array.from({ length: 120 }, (_, at) => at);
 const short = data.subarray(0, 60);
 const own = BigUint64Array.of(1n, 2n, 3n, 5n, 7n, 11n, 13n, 17n);
-// V3, micro, and nano hash a longer message in pieces of this size.
+// V3 and its relatives hash a longer message in pieces of this size.
 const piece = 131072;
 const encoder = new TextEncoder();
 

@@ -23,7 +23,7 @@ test("calls while `ready` loads the module once, after a load that failed", asyn
 
 test("each call and class is that of a library", () => {
   const library = loadSync();
-  // The versions of V2 differ at 60 bytes, and V3, micro and nano at 120.
+  // The versions of V2 differ at 60 bytes, and V3 and its relatives at 120.
   const data = Uint8Array.from({ length: 120 }, (_, at) => at);
   const messages = [data.subarray(0, 60), data].map((message) => [message, { seed: 7 }]);
   const others = { v3Key: [["user", 4711, null]], v3KeyWith: [[{ seed: 7 }, "user"]] };

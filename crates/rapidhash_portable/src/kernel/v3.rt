@@ -1,4 +1,4 @@
-//! V3 of a slice, and its relatives micro and nano, which differ from it in the number of lanes.
+//! V3 of a slice, and its relatives, which differ from it in the number of lanes.
 
 ghost use Rattle.std.specs.Prelude.{◌≡◌, ◌<◌, ◌≤◌, ◌+◌, ◌*◌, ◌%◌, ℕ, List, length, drop};
 ghost use Rattle.rapidhash_portable.specs.declared.form.Form.TheVariants.{V3};

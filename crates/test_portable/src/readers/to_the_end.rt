@@ -1,5 +1,5 @@
-//! The hashes of all that a reader has, V3, micro and nano: the bytes that each requests, and the
-//! result if a read fails.
+//! The hashes of all that a reader has, by V3 and its relatives: the bytes that each requests, and
+//! the result if a read fails.
 
 mod form;
 

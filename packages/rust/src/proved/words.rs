@@ -59,7 +59,7 @@ pub(crate) const fn short_words_v2<const MINOR: u8>(bytes: &[u8]) -> (u64, u64) 
 }
 
 const_fn! {
-/// Returns the two words of at most 16 bytes in V3, micro and nano.
+/// Returns the two words of at most 16 bytes in V3 and its relatives.
 #[inline(always)]
 pub(crate) const fn short_words_v3(bytes: &[u8]) -> (u64, u64) {
     let n = bytes.len();
@@ -94,7 +94,7 @@ const fn short_words_below_8(bytes: &[u8]) -> (u64, u64) {
 }
 
 const_fn! {
-/// Returns the two words of 4 to 16 bytes in V2, V3, micro and nano.
+/// Returns the two words of 4 to 16 bytes in V2, and in V3 and its relatives.
 #[inline(always)]
 pub(crate) const fn words_from_4(bytes: &[u8]) -> (u64, u64) {
     let n = bytes.len();

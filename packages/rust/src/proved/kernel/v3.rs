@@ -1,6 +1,6 @@
 // Made by scripts/rust_crate from crates/rapidhash_portable/src/kernel/v3.rt: change that file.
 
-//! V3 of a slice, and its relatives micro and nano, which differ from it in the number of lanes.
+//! V3 of a slice, and its relatives, which differ from it in the number of lanes.
 
 use crate::lanes::wide_lanes;
 use crate::tail::{close, fold_tail};

@@ -1,7 +1,7 @@
 // Made by scripts/rust_crate from crates/rapidhash_portable/src/v3/readers.rt: change that file.
 
-//! V3, micro and nano of all bytes of a reader. The bytes go through a fixed buffer into the stream
-//! hasher. Nothing is allocated, and any length is allowed.
+//! V3 and its relatives of all bytes of a reader. The bytes go through a fixed buffer into the
+//! stream hasher. Nothing is allocated, and any length is allowed.
 //!
 //! One loop makes all the reads, in `read_all`.
 
@@ -64,8 +64,8 @@ pub fn rapidhash_v3_source_sized<R: Read, const SIZE: usize, const PROTECTED: bo
     rapidhash_v3_source_lanes::<R, 7, SIZE, PROTECTED>(source, secrets)
 }
 
-/// Returns the hash of [`rapidhash_v3_source_sized`], with 7, 5 or 3 lanes: V3, micro or nano. A
-/// call does not compile with any other `LANES`, or if `SIZE` is 0.
+/// Returns the hash of [`rapidhash_v3_source_sized`] by V3 or the relative of it that has `LANES`
+/// lanes. A call does not compile if none has, or if `SIZE` is 0.
 ///
 /// ```
 /// use rapidhash::reader::Source;
@@ -206,8 +206,8 @@ pub fn rapidhash_v3_file_sized<R: Read, const SIZE: usize, const PROTECTED: bool
     rapidhash_v3_file_lanes::<R, 7, SIZE, PROTECTED>(data, secrets)
 }
 
-/// Returns the hash of [`rapidhash_v3_file_sized`], with 7, 5 or 3 lanes: V3, micro or nano. A call
-/// does not compile with any other `LANES`, or if `SIZE` is 0.
+/// Returns the hash of [`rapidhash_v3_file_sized`] by V3 or the relative of it that has `LANES`
+/// lanes. A call does not compile if none has, or if `SIZE` is 0.
 ///
 /// # Errors
 ///

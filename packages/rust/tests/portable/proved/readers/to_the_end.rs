@@ -1,7 +1,7 @@
 // Made by scripts/rust_crate from crates/test_portable/src/readers/to_the_end.rt: change that file.
 
-//! The hashes of all that a reader has, V3, micro and nano: the bytes that each requests, and the
-//! result if a read fails.
+//! The hashes of all that a reader has, by V3 and its relatives: the bytes that each requests, and
+//! the result if a read fails.
 
 mod form;
 

@@ -91,7 +91,7 @@ final class Hashes {
         return mixTwice(read64(data, end - 16) ^ s.s1, read64(data, end - 8) ^ seed, ALTERNATING ^ n, s.s1);
     }
 
-    /** Returns the hash of V3, micro or nano, which have 7, 5 or 3 lanes. */
+    /** Returns the hash of V3 or a relative, by its number of lanes. */
     static long v3(byte[] data, int at, int n, int count, long start, SeedAndSecrets s) {
         long a = 0, b = 0;
         long seed = start;

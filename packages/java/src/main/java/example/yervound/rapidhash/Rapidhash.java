@@ -189,7 +189,7 @@ public final class Rapidhash<S extends SeedAndSecrets> {
     /**
      * Returns the hash of the bytes that remain in an input, with the default seed and secrets. Does not close it.
      *
-     * @throws UnsupportedOperationException if this is not V3, micro or nano
+     * @throws UnsupportedOperationException if this version has no streams
      * @throws IOException if a read fails
      */
     public long hash(InputStream input) throws IOException {

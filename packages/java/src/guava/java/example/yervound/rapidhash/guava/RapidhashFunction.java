@@ -12,7 +12,7 @@ import java.nio.ByteOrder;
 import java.nio.charset.Charset;
 
 /**
- * V3, micro or nano as a function of Guava: {@code new RapidhashFunction(Rapidhash.V3, Secrets.make(42))}. Hashes the
+ * V3 or a relative as a function of Guava: {@code new RapidhashFunction(Rapidhash.V3, Secrets.make(42))}. Hashes the
  * bytes that Guava specifies for a number, a text or an object. {@link HashCode#asLong()} returns the hash. The
  * function is thread-safe, but one thread at a time may use a {@link Hasher}.
  */
@@ -23,7 +23,7 @@ public final class RapidhashFunction implements HashFunction {
     /**
      * Creates the function of a version with a seed and secrets. {@code Secrets.ofSeed(0)} returns the default ones.
      *
-     * @throws UnsupportedOperationException if the version is not V3, micro or nano
+     * @throws UnsupportedOperationException if the version has no streams
      */
     public RapidhashFunction(Rapidhash<Secrets> version, Secrets secrets) {
         version.stream(secrets);
