@@ -13,8 +13,9 @@ from model import hash_of, secrets_of
 HELLO = 3327445792987248966
 NOTHING = 232177599295442350
 TEXT, TEXT_HASH = "héllo €😀", 7424989580978448810
-# The versions that SQL also has as aggregates.
+# All versions, and those that SQL also has as aggregates.
 HEADER = (TOP / "packages/c/include/rapidhash_c.h").read_text()
+VERSIONS = re.findall(r"X\((\w+),", re.search(r"define RAPIDHASH_C_VERSIONS\(X\)((?:.*\\\n)*.*)", HEADER)[1])
 STREAMS = re.findall(r"X\((\w+)", re.search(r"define RAPIDHASH_C_STREAMS\(X\) (.*)", HEADER)[1])
 # The digits of a hash as an SQL integer: those of HELLO, and of words with leading zeros and with the highest bit.
 DIGITS = {HELLO: "2e2d7651b45f7946", 0: "0" * 16, 2**32: "0000000100000000", -1: "f" * 16, -2**62: "c" + "0" * 15}
@@ -112,7 +113,6 @@ def decision(integer, kind, argument):
 
 def case_queries(literal, integer):
     """Yields a query for each case that SQL has a call for, whose result must be true."""
-    names = re.findall(r"X\((\w+),", re.search(r"define RAPIDHASH_C_VERSIONS\(X\)((?:.*\\\n)*.*)", HEADER)[1])
     count, versions = 0, set()
     for kind, version, rule, argument, value in rows():
         count += 1
@@ -128,7 +128,7 @@ def case_queries(literal, integer):
             yield f"SELECT {decision(integer, kind, argument)} = {signed(int(value))};"
         elif kind != "key" and value != "refused":
             raise ValueError(kind)
-    compare("versions_with_cases", versions, set(names))
+    compare("versions_with_cases", versions, set(VERSIONS))
     tell("count_of_cases", *[count] * (count < 3700))
 
 

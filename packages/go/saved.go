@@ -81,7 +81,7 @@ func (stream *Stream) UnmarshalBinary(data []byte) error {
 // load sets the state of a started stream. It returns whether the stream would be saved as the same bytes.
 func (stream *Stream) load(data []byte) bool {
 	count := stream.count
-	if count != 7 && count != 5 && count != 3 || int(data[11]) > 16*count || data[11] < data[10] {
+	if !VersionV3(16*count).isVersion() || int(data[11]) > 16*count || data[11] < data[10] {
 		return false
 	}
 	stream.size, stream.isFolded = int(data[11]), data[10] == 1

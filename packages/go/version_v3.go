@@ -29,9 +29,12 @@ func (v VersionV3) String() string {
 // noVersion is the panic of a number that is no version.
 const noVersion = "rapidhash: the number is no version: use V20, V21, V22, V3, V3Micro or V3Nano"
 
+// isVersion returns whether the number is a version.
+func (v VersionV3) isVersion() bool { return v == V3 || v == V3Micro || v == V3Nano }
+
 // lanes returns the number of lanes. It panics for a number that is no version.
 func (v VersionV3) lanes() int {
-	if v != V3 && v != V3Micro && v != V3Nano {
+	if !v.isVersion() {
 		panic(noVersion)
 	}
 	return int(v / 16)

@@ -147,7 +147,7 @@ static PyType_Slot slots[] = {
     {0, NULL}};
 
 /* Defines a subclass of Stream by its number of lanes. */
-#define STREAM(count) \
+#define STREAM(version, count) \
     static PyObject *new_##count(PyTypeObject *type, PyObject *args, PyObject *named) \
     { \
         (void)args; \
@@ -157,12 +157,11 @@ static PyType_Slot slots[] = {
     static PyType_Slot slots_##count[] = {{Py_tp_new, (void *)new_##count}, {0, NULL}};
 #define SPEC(name, slots) \
     {"rapidhash._extension." name, sizeof(struct hasher), 0, Py_TPFLAGS_DEFAULT | Py_TPFLAGS_BASETYPE, slots}
-STREAM(3)
-STREAM(5)
-STREAM(7)
+#define STREAM_SPEC(version, count) SPEC("Stream" #count, slots_##count),
+RAPIDHASH_C_STREAMS(STREAM)
 
 static PyType_Spec base_spec = SPEC("Stream", slots);
-static PyType_Spec specs[] = {SPEC("Stream3", slots_3), SPEC("Stream5", slots_5), SPEC("Stream7", slots_7)};
+static PyType_Spec specs[] = {RAPIDHASH_C_STREAMS(STREAM_SPEC)};
 
 /* Adds a class to the module, and steals the reference to it. Returns 0, or -1 with an error set. */
 static int add_class(PyObject *module, const char *name, PyObject *added)

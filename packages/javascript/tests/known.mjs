@@ -23,9 +23,6 @@ test("default secrets", () => {
   assert.equal(v3(data), 7088138960297660729n);
   assert.equal(v3(data.buffer), 7088138960297660729n);
   assert.equal(v3(new Uint8Array(0)), 232177599295442350n);
-  // One number for all versions, as in packages/c/tests/c_library.c: the V3 hash of their digits.
-  const digits = versions.flatMap((name) => [short, data].map((message) => hex(library[name](message))));
-  assert.equal(v3(digits.join("")), 12980804195221024151n);
 });
 
 test("long messages", () => {

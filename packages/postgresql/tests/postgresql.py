@@ -13,7 +13,7 @@ from pathlib import Path
 sys.path += [str(Path(__file__).parents[3] / "tests"), str(Path(__file__).parent)]
 from cases import ROOM, TOP, blocks, compare, finish, needs, shell, tell  # noqa: E402
 from fields import columns, encodings, refused, replayed, same_keys  # noqa: E402
-from sql import (DATA, HELLO, SERVER, STREAMS, ask, case_queries, lines_with_results,  # noqa: E402
+from sql import (DATA, HELLO, SERVER, STREAMS, VERSIONS, ask, case_queries, lines_with_results,  # noqa: E402
                  refused_calls, signed, start_server, unpack)
 
 PAGE = "packages/postgresql/README.md"
@@ -203,7 +203,10 @@ def hash_partitions():
 
 def rest():
     # The calls and rapidhash_hex, the aggregates, and the functions that these are made of.
-    compare("functions", ask(FUNCTIONS), ["a|f|19|9|t", "f|f|22|11|t", "f|t|83|50|t"])
+    of_all, streams = len(VERSIONS), len(STREAMS)
+    compare("functions", ask(FUNCTIONS), [
+        f"a|f|{1 + 6 * streams}|{3 * streams}|t", f"f|f|{4 + 6 * streams}|{2 + 3 * streams}|t",
+        f"f|t|{11 + 9 * of_all}|{2 + 6 * of_all}|t"])
     exports = shell("nm -D --defined-only build/postgresql/rapidhash.so | cut -d ' ' -f 3 | grep -v '^pg_finfo_'")[1]
     called = ask("SELECT DISTINCT prosrc FROM pg_proc WHERE probin LIKE '%rapidhash'")
     compare("exports", sorted(exports.split()), sorted(["Pg_magic_func", *called]))

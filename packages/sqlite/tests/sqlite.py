@@ -10,7 +10,7 @@ from pathlib import Path
 sys.path += [str(Path(__file__).parents[3] / "tests"), str(Path(__file__).parent)]
 from cases import ROOM, TOP, blocks, compare, finish, needs, shell, skip_all, tell  # noqa: E402
 from fields import ask, columns, lists, refused, replayed  # noqa: E402
-from sql import DIGITS, HELLO, NOTHING, TEXT, TEXT_HASH  # noqa: E402
+from sql import DIGITS, HELLO, NOTHING, STREAMS, TEXT, TEXT_HASH, VERSIONS  # noqa: E402
 from sql import case_queries, lines_with_results, refused_calls, signed, unpack  # noqa: E402
 
 PAGE = "packages/sqlite/README.md"
@@ -211,6 +211,6 @@ query = "SELECT rapidhash_v3_agg(value) = rapidhash_v3(value) FROM (SELECT CAST(
 compare("long_rows", ask(loaded, query.format("TEXT")) + ask(loaded, query.format("BLOB")), [(1,), (1,)])
 compare("names", (ask(loaded, "SELECT count(*) FROM pragma_function_list WHERE name LIKE 'rapidhash%'"),
                   shell("nm -D --defined-only build/rapidhash.so | cut -d ' ' -f 3")[1]),
-        ([(44,)], "sqlite3_rapidhash_init\n"))
+        ([(3 * len(VERSIONS) + 2 * len(STREAMS) + 14,)], "sqlite3_rapidhash_init\n"))
 compare("failing_memory", shell(MEMORY), (0, "every failed allocation ended in SQLITE_NOMEM\n"))
 finish()

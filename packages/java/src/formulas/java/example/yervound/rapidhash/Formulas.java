@@ -55,7 +55,7 @@ public final class Formulas {
     @SuppressWarnings("unchecked") // Only the first version has secrets of another type.
     private static long hash(long[] record, ByteBuffer room) {
         boolean isProtected = (record[1] & 2) != 0;
-        if (record[0] < 0 || record[0] > 6 || isProtected && record[0] != 4) {
+        if (record[0] < 0 || record[0] >= Rapidhash.ALL.size() - 1 || isProtected && record[0] != 4) {
             throw new IllegalArgumentException("formulas: no form " + record[0] + " with options " + record[1]);
         }
         return record[0] == 0
