@@ -4,7 +4,10 @@
 int read_word(PyObject *number, const char *name, uint64_t *word)
 {
     PyObject *index;
-    if (!PyIndex_Check(number) || is_masked(number)) {
+    const int is_none = PyIndex_Check(number) ? is_masked(number) : 1;
+    if (is_none < 0)
+        return -1;
+    if (is_none) {
         PyErr_Format(PyExc_TypeError, "%s must be an integer, not %R", name, Py_TYPE(number));
         return -1;
     }
@@ -31,12 +34,18 @@ PyObject *attribute_of(PyObject *object, const char *name)
     return value;
 }
 
+int forget(void)
+{
+    if (PyErr_ExceptionMatches(PyExc_MemoryError))
+        return -1;
+    PyErr_Clear();
+    return 0;
+}
+
 int class_has(PyObject *object, const char *name)
 {
     PyObject *const interned = PyUnicode_InternFromString(name);
-    const int has = interned != NULL && PyObject_HasAttr((PyObject *)Py_TYPE(object), interned);
-    if (interned == NULL)
-        PyErr_Clear();
+    const int has = interned == NULL ? -1 : PyObject_HasAttr((PyObject *)Py_TYPE(object), interned);
     Py_XDECREF(interned);
     return has;
 }
@@ -52,12 +61,14 @@ int is_masked(PyObject *object)
     const unsigned long flags = PyType_GetFlags(Py_TYPE(object));
     PyObject *method;
     int is;
-    if ((flags & Py_TPFLAGS_HEAPTYPE) == 0 || (flags & Py_TPFLAGS_IMMUTABLETYPE) != 0 || !class_has(object, "mask") ||
-        !class_has(object, "filled"))
+    if ((flags & Py_TPFLAGS_HEAPTYPE) == 0 || (flags & Py_TPFLAGS_IMMUTABLETYPE) != 0)
         return 0;
+    is = class_has(object, "mask");
+    is = is > 0 ? class_has(object, "filled") : is;
+    if (is <= 0)
+        return is;
     method = attribute_of((PyObject *)Py_TYPE(object), "filled");
-    is = method != NULL && PyCallable_Check(method);
-    PyErr_Clear();
+    is = method == NULL ? forget() : PyCallable_Check(method);
     Py_XDECREF(method);
     return is;
 }
@@ -78,23 +89,23 @@ static PyObject *owner_of(PyObject *object)
 int lends_masked(const Py_buffer *buffer)
 {
     PyObject *const owner = owner_of(buffer->obj);
-    const int lends = owner != NULL && is_masked(owner);
-    if (owner == NULL)
-        PyErr_Clear();
+    const int lends = owner == NULL ? forget() : is_masked(owner);
     Py_XDECREF(owner);
     return lends;
 }
 
-char kind_of(PyObject *object)
+int kind_of(PyObject *object)
 {
-    PyObject *const dtype = class_has(object, "dtype") ? attribute_of(object, "dtype") : NULL;
+    const int has = class_has(object, "dtype");
+    PyObject *const dtype = has > 0 ? attribute_of(object, "dtype") : NULL;
     PyObject *const kind = dtype == NULL ? NULL : attribute_of(dtype, "kind");
     PyObject *const text = kind != NULL && PyUnicode_Check(kind) ? PyUnicode_AsASCIIString(kind) : NULL;
-    const char letter = text == NULL ? 0 : *PyBytes_AsString(text);
-    PyErr_Clear();
+    int letter = text == NULL ? 0 : *PyBytes_AsString(text);
     Py_XDECREF(dtype);
     Py_XDECREF(kind);
     Py_XDECREF(text);
+    if (has < 0 || (PyErr_Occurred() && forget() < 0))
+        return -1;
     return letter;
 }
 
@@ -162,12 +173,14 @@ int open_argument(PyObject *object, const char *name, int flags, Py_buffer *buff
     } else if (open_view(object, flags, buffer) < 0) {
         if (*name != 0)
             name_error(name);
-    } else if (lends_masked(buffer)) {
-        PyBuffer_Release(buffer);
-        PyErr_Format(PyExc_TypeError, "%s must not be a masked array, whose bytes are also those of masked values: %R",
-                     name, Py_TYPE(object));
     } else {
-        return 0;
+        const int are_masked = lends_masked(buffer);
+        if (are_masked == 0)
+            return 0;
+        PyBuffer_Release(buffer);
+        if (are_masked > 0)
+            PyErr_Format(PyExc_TypeError, "%s must not be a masked array, whose bytes are also those of masked values: "
+                         "%R", name, Py_TYPE(object));
     }
     return -1;
 }
@@ -239,19 +252,27 @@ void release_message(struct message *message)
         PyBuffer_Release(&message->buffer);
 }
 
-/* Returns whether secrets have the class and the size of those for a form, or -1 with an error set. */
-static int are_secrets(PyObject *module, const struct form *form, PyObject *secrets)
+/* Copies secrets. Returns whether they have the class and the size of those for a form, or -1 with an error set. */
+static int copy_secrets(PyObject *module, const struct form *form, PyObject *secrets, union secrets *own)
 {
-    PyObject **classes = PyModule_GetState(module), *class = classes[form->is_v1];
-    const size_t size = form->is_v1 ? sizeof(struct rapidhash_v1_secrets) : sizeof(struct rapidhash_secrets);
-    const int is = PyObject_IsInstance(secrets, class);
-    return is > 0 ? PyBytes_Check(secrets) && (size_t)PyBytes_Size(secrets) == size : is;
+    PyObject **classes = PyModule_GetState(module), *class = classes[form->is_v1], *packed;
+    const Py_ssize_t size = form->is_v1 ? sizeof own->v1 : sizeof own->others;
+    int are = PyObject_IsInstance(secrets, class);
+    if (are <= 0)
+        return are;
+    packed = attribute_of(secrets, "_packed");
+    if (packed == NULL)
+        return forget();
+    are = PyBytes_Check(packed) && PyBytes_Size(packed) == size;
+    if (are)
+        memcpy(own, PyBytes_AsString(packed), (size_t)size);
+    Py_DECREF(packed);
+    return are;
 }
 
 int read_start(PyObject *module, const struct form *form, PyObject *seed, PyObject *secrets, struct start *start)
 {
-    int are;
-    start->secrets = NULL;
+    start->has_secrets = 0;
     start->has_seed = seed != NULL && seed != Py_None;
     if (secrets == NULL || secrets == Py_None)
         return start->has_seed ? read_word(seed, "seed", &start->seed) : 0;
@@ -259,10 +280,9 @@ int read_start(PyObject *module, const struct form *form, PyObject *seed, PyObje
         PyErr_SetString(PyExc_TypeError, "pass either seed or secrets, not both");
         return -1;
     }
-    are = are_secrets(module, form, secrets);
-    if (are == 0)
+    start->has_secrets = copy_secrets(module, form, secrets, &start->own);
+    if (start->has_secrets == 0)
         PyErr_Format(PyExc_TypeError, "secrets of %s must come from make_secrets(number%s), and these are %R",
                      form->name, form->is_v1 ? ", version=1" : "", Py_TYPE(secrets));
-    start->secrets = are > 0 ? PyBytes_AsString(secrets) : NULL;
-    return are > 0 ? 0 : -1;
+    return start->has_secrets > 0 ? 0 : -1;
 }

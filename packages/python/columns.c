@@ -7,10 +7,11 @@
 static void read_secrets(const struct form *form, const struct start *start, struct column *column)
 {
     column->hash = form->with_secrets;
-    column->secrets = start->secrets == NULL ? &column->own : start->secrets;
-    if (start->secrets == NULL && form->is_v1)
+    if (start->has_secrets)
+        column->own = start->own;
+    else if (form->is_v1)
         rapidhash_v1_seed_secrets(start->has_seed ? start->seed : V1_WORD, &column->own.v1);
-    else if (start->secrets == NULL)
+    else
         rapidhash_seed_secrets(start->has_seed ? start->seed : 0, &column->own.others);
 }
 
@@ -99,22 +100,27 @@ static void name_item(Py_ssize_t at, PyObject *item)
     }
 }
 
-/* Returns whether an item is a number or a time of NumPy, which has a buffer. Arrays of times have none. */
+/* Returns whether an item is a number or a time of NumPy, which has a buffer, or -1 with an error set. Arrays of times
+ * have none. */
 static int is_number(PyObject *item, const Py_buffer *buffer)
 {
-    const char kind = buffer->obj == NULL || PyByteArray_Check(item) || PyMemoryView_Check(item) ? 0 : kind_of(item);
-    return kind != 0 && (strchr("mM", kind) != NULL || (buffer->ndim == 0 && strchr("biufc", kind) != NULL));
+    const int kind = buffer->obj == NULL || PyByteArray_Check(item) || PyMemoryView_Check(item) ? 0 : kind_of(item);
+    const char *const kinds = buffer->ndim == 0 ? "mMbiufc" : "mM";
+    return kind < 0 ? -1 : kind != 0 && strchr(kinds, kind) != NULL;
 }
 
 /* Reads an item. Returns 0, or -1 with an error set. */
 static int read_item(PyObject *item, struct message *message)
 {
+    int is;
     if (read_message(item, "", message) < 0)
         return -1;
-    if (!is_number(item, &message->buffer))
+    is = is_number(item, &message->buffer);
+    if (is == 0)
         return 0;
     release_message(message);
-    PyErr_SetNone(PyExc_TypeError);
+    if (is > 0)
+        PyErr_SetNone(PyExc_TypeError);
     return -1;
 }
 

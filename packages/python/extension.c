@@ -32,8 +32,8 @@ static int bind_arguments(
 
 static uint64_t hash_of(const struct form *form, const struct start *start, const struct message *message)
 {
-    if (start->secrets != NULL)
-        return form->with_secrets(message->bytes, message->len, start->secrets);
+    if (start->has_secrets)
+        return form->with_secrets(message->bytes, message->len, &start->own);
     if (start->has_seed)
         return form->with_seed(message->bytes, message->len, start->seed);
     return form->plain(message->bytes, message->len);
@@ -132,7 +132,10 @@ MAKER(seed_secrets, "seed", rapidhash_seed_secrets, rapidhash_secrets)
                "Returns the same hash as " #name ", as 16 hexadecimal digits.")},
 
 static PyObject *masked(PyObject *module, PyObject *object)
-{ return (void)module, PyBool_FromLong(is_masked(object)); }
+{
+    const int is = is_masked(object);
+    return (void)module, is < 0 ? NULL : PyBool_FromLong(is);
+}
 
 static PyMethodDef calls[] = {
     RAPIDHASH_C_VERSIONS(CALLS)

@@ -40,9 +40,16 @@ struct form {
     int is_v1;
 };
 
-/* The seed or the secrets of a call. `secrets` may be NULL, and `seed` is valid only if has_seed is not 0. */
+/* Secrets of either kind. */
+union secrets {
+    struct rapidhash_secrets others;
+    struct rapidhash_v1_secrets v1;
+};
+
+/* The seed or the secrets of a call. `own` and `seed` are valid only if has_secrets or has_seed is not 0. */
 struct start {
-    const void *secrets;
+    union secrets own;
+    int has_secrets;
     uint64_t seed;
     int has_seed;
 };
@@ -66,18 +73,23 @@ void release_message(struct message *message);
 /* Returns a new reference to an attribute, or NULL with an error set. */
 PyObject *attribute_of(PyObject *object, const char *name);
 
-/* Returns whether the class of an object has an attribute. An object can have one that its user named, such as a field
- * of a structure or a label of a Series. */
+/* Clears the error that is set, but not one of memory: an answer without it could be wrong. Returns 0, or -1 with the
+ * error set. */
+int forget(void);
+
+/* Returns whether the class of an object has an attribute, or -1 with an error set. An object can have one that its
+ * user named, such as a field of a structure or a label of a Series. */
 int class_has(PyObject *object, const char *name);
 
-/* Returns whether an object is an array of NumPy with masked items. */
+/* Returns whether an object is an array of NumPy with masked items, or -1 with an error set. */
 int is_masked(PyObject *object);
 
-/* Returns whether such an array lends a buffer, also by a view. */
+/* Returns whether such an array lends a buffer, also by a view, or -1 with an error set. */
 int lends_masked(const Py_buffer *buffer);
 
-/* Returns the letter of the kind that an array or a scalar of NumPy has, such as b for a bool, and 0 for any other. */
-char kind_of(PyObject *object);
+/* Returns the letter of the kind that an array or a scalar of NumPy has, such as b for a bool, 0 for any other, or -1
+ * with an error set. */
+int kind_of(PyObject *object);
 
 /* Adds the place of an argument to the error that is set, if the error is about its value. */
 void name_error(const char *place);
@@ -114,15 +126,11 @@ int is_overwritten(const Py_buffer *out, Py_ssize_t hashes, const struct message
 /* Returns a new reference to an item of a list or tuple, or NULL with an error set. */
 PyObject *item_of(PyObject *items, int is_list, Py_ssize_t at);
 
-/* The buffer of the hashes, the secrets of all messages, and the hash of a missing one. `own` has the secrets of a
- * seed, and `missing` is valid only if has_missing is not 0. */
+/* The buffer of the hashes, the secrets of all messages, and the hash of a missing one, which is valid only if
+ * has_missing is not 0. */
 struct column {
     uint64_t (*hash)(const void *bytes, size_t len, const void *secrets);
-    const void *secrets;
-    union {
-        struct rapidhash_secrets others;
-        struct rapidhash_v1_secrets v1;
-    } own;
+    union secrets own;
     Py_buffer out;
     uint64_t missing;
     int has_missing;
@@ -135,7 +143,7 @@ int open_column(PyObject *module, PyObject *const *args, size_t count, struct co
 static inline void put_hash(const struct column *column, Py_ssize_t at, uint64_t hash)
 { memcpy((char *)column->out.buf + 8 * at, &hash, sizeof hash); }
 static inline void put(const struct column *column, Py_ssize_t at, const void *bytes, size_t len)
-{ put_hash(column, at, column->hash(bytes, len, column->secrets)); }
+{ put_hash(column, at, column->hash(bytes, len, &column->own)); }
 
 /* Hashes an item into its element. Returns 0, or -1 with an error set. */
 int hash_item(const struct column *column, Py_ssize_t at, PyObject *item);

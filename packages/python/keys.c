@@ -46,17 +46,24 @@ static int add_integer(PyObject *field, Py_ssize_t at, Py_ssize_t row, struct ke
 static int open_bytes(PyObject *field, struct message *message)
 {
     const Py_buffer *const buffer = &message->buffer;
+    int has, are_masked;
     message->buffer.obj = NULL;
     if (PyUnicode_Check(field) || PyBytes_Check(field))
         return read_message(field, "the field", message) < 0 ? -1 : 1;
-    if (!PyObject_CheckBuffer(field) || class_has(field, "dtype"))
-        return 0;
+    has = PyObject_CheckBuffer(field) ? class_has(field, "dtype") : 1;
+    if (has != 0)
+        return has < 0 ? -1 : 0;
     if (PyObject_GetBuffer(field, &message->buffer, PyBUF_FORMAT | PyBUF_C_CONTIGUOUS) < 0)
         return -1;
     message->bytes = buffer->buf;
     message->len = (size_t)buffer->len;
-    return (letter_of(buffer) == 'B' || (buffer->itemsize == 1 && strchr(format_of(buffer), 'c') != NULL)) &&
-           buffer->ndim > 0 && !lends_masked(buffer);
+    if ((letter_of(buffer) != 'B' && (buffer->itemsize != 1 || strchr(format_of(buffer), 'c') == NULL)) ||
+        buffer->ndim == 0)
+        return 0;
+    are_masked = lends_masked(buffer);
+    if (are_masked < 0)
+        release_message(message);
+    return are_masked < 0 ? -1 : !are_masked;
 }
 
 /* Sets the error of a field of another type. Returns -1. */
@@ -80,9 +87,9 @@ static int add_converted(PyObject *field, Py_ssize_t at, Py_ssize_t row, struct 
     Py_XDECREF(fields_of);
     if (fields == NULL)
         return refuse_field(at, row);
-    size = fields == Py_None ? refuse_type(field, at, row) : PyList_Size(fields);
+    size = fields == Py_None ? refuse_type(field, at, row) : PyTuple_Size(fields);
     for (item = 0; item < size; item++)
-        if (add_field(PyList_GetItem(fields, item), at, row, key) < 0)
+        if (add_field(PyTuple_GetItem(fields, item), at, row, key) < 0)
             break;
     Py_DECREF(fields);
     return item == size ? 0 : -1;
@@ -106,16 +113,22 @@ static int add_bytes(PyObject *field, Py_ssize_t at, Py_ssize_t row, struct key 
     return are_bytes ? status : add_converted(field, at, row, key);
 }
 
-/* Returns whether an object is an integer, but neither a bool, another scalar of NumPy, nor masked. The key holds the
- * type of the last one. */
+/* Returns whether an object is an integer, but neither a bool, another scalar of NumPy, nor masked, or -1 with an error
+ * set. The key holds the type of the last one. */
 static int is_integer(PyObject *field, struct key *key)
 {
     PyTypeObject *const type = Py_TYPE(field);
+    int kind, are_masked;
     if (PyLong_CheckExact(field) || type == key->integers)
         return 1;
-    if (PyBool_Check(field) || !PyIndex_Check(field) || (kind_of(field) != 0 && strchr("iu", kind_of(field)) == NULL) ||
-        is_masked(field))
+    if (PyBool_Check(field) || !PyIndex_Check(field))
         return 0;
+    kind = kind_of(field);
+    if (kind < 0 || (kind != 0 && strchr("iu", kind) == NULL))
+        return kind < 0 ? -1 : 0;
+    are_masked = is_masked(field);
+    if (are_masked != 0)
+        return are_masked < 0 ? -1 : 0;
     release_key(key);
     Py_INCREF((PyObject *)type);
     key->integers = type;
@@ -132,9 +145,8 @@ void release_key(struct key *key)
 static PyObject *kept_integer(PyObject *field)
 {
     PyObject *const index = PyNumber_Index(field);
-    if (index != NULL || !PyErr_ExceptionMatches(PyExc_Exception))
+    if (index != NULL || !PyErr_ExceptionMatches(PyExc_Exception) || forget() < 0)
         return index;
-    PyErr_Clear();
     return Py_INCREF(field), field;
 }
 
@@ -144,34 +156,36 @@ PyObject *kept(PyObject *module, PyObject *field)
 {
     struct message message;
     struct key key;
-    int are_bytes;
+    int are_bytes, is;
     (void)module;
     key.integers = NULL;
     if (PyUnicode_Check(field) || PyBytes_CheckExact(field) || PyLong_CheckExact(field))
         return Py_INCREF(field), field;
-    if (is_integer(field, &key)) {
-        release_key(&key);
-        return kept_integer(field);
-    }
+    is = is_integer(field, &key);
+    release_key(&key);
+    if (is != 0)
+        return is < 0 ? NULL : kept_integer(field);
     are_bytes = open_bytes(field, &message);
+    if (are_bytes < 0 && forget() < 0)
+        return NULL;
     if (are_bytes > 0)
         field = PyBytes_FromStringAndSize(message.bytes, (Py_ssize_t)message.len);
     else
         Py_INCREF(field);
-    if (are_bytes < 0)
-        PyErr_Clear();
-    else
+    if (are_bytes >= 0)
         release_message(&message);
     return field;
 }
 
 int add_field(PyObject *field, Py_ssize_t at, Py_ssize_t row, struct key *key)
 {
+    int is;
     if (field == Py_None)
         return append(key, "", 1), 0;
     if (PyBool_Check(field))
         return append_number(key, 1, field == Py_True), 0;
-    return is_integer(field, key) ? add_integer(field, at, row, key) : add_bytes(field, at, row, key);
+    is = is_integer(field, key);
+    return is < 0 ? refuse_field(at, row) : is ? add_integer(field, at, row, key) : add_bytes(field, at, row, key);
 }
 
 int read_own(PyObject *module, PyObject *seed, PyObject *secrets, struct rapidhash_secrets *own)
@@ -179,10 +193,10 @@ int read_own(PyObject *module, PyObject *seed, PyObject *secrets, struct rapidha
     struct start start;
     if (read_start(module, form_v3, seed, secrets, &start) < 0)
         return -1;
-    if (start.secrets == NULL)
-        rapidhash_seed_secrets(start.has_seed ? start.seed : 0, own);
+    if (start.has_secrets)
+        *own = start.own.others;
     else
-        memcpy(own, start.secrets, sizeof *own);
+        rapidhash_seed_secrets(start.has_seed ? start.seed : 0, own);
     return 0;
 }
 

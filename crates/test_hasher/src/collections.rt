@@ -3,7 +3,6 @@
 use linked_list_allocator::LocalHeap;
 use rapidhash::inner::{GlobalSecrets, SeedSource};
 use rapidhash::{HashMapExt, HashSetExt, RapidHashMap, RapidHashSet, fast};
-use std::alloc::{AllocError, Global};
 use std::collections::{HashMap, HashSet};
 use std::test::Fail;
 
@@ -140,39 +139,4 @@ fn new_asks_for_no_memory(rt: HostRuntime) -> Result<(), Fail> {
     assert!(rt; set.insert(4711).is_err());
     assert!(rt; set.is_empty());
     Ok(())
-}
-
-/// Room for ten keys is enough for ten keys: the heap has no byte left once the map and the set are
-/// made, so an insert that allocated would fail.
-#[test]
-fn room_for_ten(rt: HostRuntime) -> Result<(), Fail> {
-    let secrets = GlobalSecrets::new(1);
-    let mut source = SeedSource::new(&secrets, 2);
-    let state = fast::RandomState::new(&secrets, &mut source);
-    let held = held_by_ten(rt.alloc(), state)?;
-    let heap = LocalHeap::new(rt.alloc(), held)?;
-    let mut map: RapidHashMap<u32, u32, _> = HashMapExt::with_capacity(&heap, 10, state)?;
-    let mut set: RapidHashSet<u32, _> = HashSetExt::with_capacity(&heap, 10, state)?;
-    assert!(rt; heap.free() == 0);
-    for key in 0..10u32 {
-        let _ = map.insert(key, key + 1)?;
-        let _ = set.insert(key)?;
-    }
-    assert!(rt; (map.len(), set.len()) == (10, 10));
-    assert!(rt; map.get(&9).copied() == Some(10));
-    assert!(rt; map.get(&0).copied() == Some(1));
-    assert!(rt; set.contains(&9) && set.contains(&0));
-    assert!(rt; map.get(&10).is_none() && !set.contains(&10));
-    Ok(())
-}
-
-// The number of bytes of a heap that a map and a set with room for ten keys hold.
-fn held_by_ten(alloc: Global, state: fast::RandomState) -> Result<usize, AllocError> {
-    let heap = LocalHeap::new(alloc, 4096)?;
-    let map: RapidHashMap<u32, u32, _> = HashMapExt::with_capacity(&heap, 10, state)?;
-    let set: RapidHashSet<u32, _> = HashSetExt::with_capacity(&heap, 10, state)?;
-    let held = heap.used();
-    drop(set);
-    drop(map);
-    Ok(held)
 }

@@ -59,21 +59,6 @@ fn all_versions(rt: HostRuntime) -> Result<(), Fail> {
     all_print(&rt, SOMETHING, true, OF_SOMETHING_PROTECTED)
 }
 
-#[test]
-fn short_inputs(rt: HostRuntime) {
-    let lines: [(&[u8], &[u8]); 3] = [
-        (b"", b"6516417773221693515\n"),
-        (b"\n", b"5006746792674864303\n"),
-        (SOMETHING, SOMETHING_LINE),
-    ];
-    for (bytes, line) in lines {
-        let out = writer(Vec::new(rt.alloc()), 0);
-        let ended = of_stdin(rt.alloc(), V1, whole(bytes), out);
-        assert!(rt; ended.result == Ok(()));
-        assert!(rt; ended.written.as_slice() == line);
-    }
-}
-
 // V1 and V2 hash as many bytes as the length, and the others all.
 #[test]
 fn lengths_of_files(rt: HostRuntime) {

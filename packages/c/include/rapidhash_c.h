@@ -289,7 +289,7 @@ RAPIDHASH_INLINE_ void rapidhash_stream_save(const struct rapidhash_stream *stre
 
 /* Replaces the message of a started stream by that of a saved one. Returns false and does not modify the stream if
  * rapidhash_stream_save did not write these `len` bytes for a stream of the same version, seed and secrets. Damage
- * within 64 neighbouring bits is refused for certain, other damage and other secrets but for one in 2^64. */
+ * within 8 neighbouring bytes is refused for certain, other damage and other secrets but for one in 2^64. */
 RAPIDHASH_INLINE_ bool rapidhash_stream_restore(struct rapidhash_stream *stream, const unsigned char *saved, size_t len)
 {
     struct rapidhash_stream restored = *stream;

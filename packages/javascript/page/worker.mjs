@@ -6,9 +6,18 @@ import { load } from "./rapidhash.mjs";
 const most = 2 ** 30;
 const pause = 100;
 
-/** Hashes a file in pieces and returns its bytes if it is short enough to keep. */
+/** Returns room for the bytes of a file that is short enough to keep, if there is the memory. */
+function roomFor({ size }) {
+  try {
+    return size <= most ? new Uint8Array(size) : undefined;
+  } catch {
+    return undefined;
+  }
+}
+
+/** Hashes a file in pieces and returns its bytes if there is room to keep them. */
 async function byPieces(file, hashers) {
-  const kept = file.size <= most ? new Uint8Array(file.size) : undefined;
+  const kept = roomFor(file);
   const digests = () => Object.fromEntries(hashers.map(([name, hasher]) => [name, hasher.digest()]));
   let [done, told] = [0, 0];
   for (const reader = file.stream().getReader(); ;) {
@@ -35,7 +44,7 @@ async function hash(file, names) {
   for (const name of names.filter((name) => !classOf(name))) {
     let result;
     try {
-      result = kept ? calls[name](kept) : "needs the whole file in memory: only up to 1 GiB here";
+      result = kept ? calls[name](kept) : "needs the whole file in memory: here up to 1 GiB, if it is free";
     } catch (error) {
       result = error.message;
     }

@@ -62,8 +62,8 @@ def named(name, columns):
 
 
 def quoted(names):
-    """Returns names of columns as SQL has them."""
-    return ", ".join('"' + name.replace('"', '""') + '"' for name in names)
+    """Returns names of columns as SQL has them. Without the table, SQLite reads a name that it lacks as a text."""
+    return ", ".join('it."' + name.replace('"', '""') + '"' for name in names)
 
 
 def signed(word):
@@ -100,8 +100,9 @@ class Table:
         """Returns the call for the hash of some columns. That of SQLite is a function in Python."""
         if not isinstance(self.connection, sqlite3.Connection):
             return f"rapidhash_v3_key({quoted(columns)})"
+        schema, table = re.fullmatch(r'((?:\w+|"[^"]*")\.)?(.*)', self.table, re.DOTALL).groups("")
         types = {row[1]: " ".join(row[2].lower().partition("(")[0].split())
-                 for row in self.ask(f"PRAGMA table_xinfo({self.table})")}
+                 for row in self.ask(f"PRAGMA {schema}table_xinfo({table})")}
         readers = [READERS.get(types.get(column)) for column in columns]
 
         def hashed(*values):
@@ -115,21 +116,23 @@ class Table:
     def ask(self, query):
         self.cursor.execute(query)
         rows = self.cursor.fetchall()
+        if any(isinstance(row, dict) for row in rows[:1]):
+            raise TypeError("the connection returns dicts: pass one that returns tuples")
         self.moved += len(rows)
         return rows
 
     def whole(self):
-        return self.ask(f"SELECT count(*), rapidhash_fingerprint({self.row_hash}) FROM {self.table}")
+        return self.ask(f"SELECT count(*), rapidhash_fingerprint({self.row_hash}) FROM {self.table} AS it")
 
     def shards(self):
         return self.ask(f"SELECT rapidhash_shard({self.key_hash}, {SHARDS}) AS shard, count(*), "
-                        f"rapidhash_fingerprint({self.row_hash}) FROM {self.table} GROUP BY 1")
+                        f"rapidhash_fingerprint({self.row_hash}) FROM {self.table} AS it GROUP BY 1")
 
     def rows(self, shards):
         """Returns the hashes of rows by the hash of their key, and the keys. A key may have several rows."""
         found, keys = {}, {}
-        for one, other, *key in self.ask(f"SELECT {self.key_hash}, {self.row_hash}, {self.key} FROM {self.table} WHERE "
-                                         f"rapidhash_shard({self.key_hash}, {SHARDS}) IN ({shards})"):
+        for one, other, *key in self.ask(f"SELECT {self.key_hash}, {self.row_hash}, {self.key} FROM {self.table} AS it "
+                                         f"WHERE rapidhash_shard({self.key_hash}, {SHARDS}) IN ({shards})"):
             found.setdefault(one, []).append(other)
             keys[one] = key
         return {one: sorted(hashes) for one, hashes in found.items()}, keys

@@ -3,10 +3,11 @@ python3-distributed and python3-pandas):
 
     python3 distinct.py WORKERS SHARDS PART.csv ..
 
-A part has the columns name and number, and an empty field is missing. A row goes to the shard of its key, so equal rows
-meet in one process, and every language sends them there. It prints a line for each shard: shard, rows, distinct
-rows."""
+A part has the columns name and number, and an empty field is missing. It must have no NUL, at which pandas ends a text.
+A row goes to the shard of its key, so equal rows meet in one process, and every language sends them there. It prints a
+line for each shard: shard, rows, distinct rows."""
 
+import glob
 import sys
 
 import dask.dataframe
@@ -35,7 +36,7 @@ def count(part):
 
 
 def main():
-    workers, shards, parts = int(sys.argv[1]), int(sys.argv[2]), sys.argv[3:]
+    workers, shards, parts = int(sys.argv[1]), int(sys.argv[2]), [*map(glob.escape, sys.argv[3:])]
     cluster = LocalCluster(n_workers=workers, threads_per_worker=1, dashboard_address=None)
     with cluster, Client(cluster):
         # If it skips blank lines, pandas loses the blank at the start of a line in which its buffer ends.

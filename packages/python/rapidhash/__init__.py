@@ -118,7 +118,7 @@ def _opened(name, kind, column):
     opened = _columns.column_of(name, kind, column)
     if opened is None:
         items = _iterator(name, kind, column)
-        items = tuple(map(_kept, items) if kind is _columns.FIELDS else items)
+        items = tuple(map(_kept, items))
         opened = _columns.Column(items, len(items))
     return opened
 
@@ -235,7 +235,7 @@ class _Hasher(_extension.Stream):
         if not isinstance(secrets, Secrets):
             raise TypeError(f"secrets of {type(self).__name__} must come from make_secrets(number), "
                             f"and these are {type(secrets)!r}")
-        self._start(secrets)
+        self._start(secrets._packed)
 
     def copy(self):
         """Returns a hasher of the same message, with the same attributes."""
@@ -260,7 +260,7 @@ class _Hasher(_extension.Stream):
 
     def __setstate__(self, state):
         saved, seed, secrets, *attributes = state
-        self._start(secrets, seed)
+        self._start(secrets._packed, seed)
         self._restore(saved)
         self._adopt(*attributes)
 

@@ -126,6 +126,10 @@ def _of_pandas(pandas: Any, numpy: Any, column: Any) -> Column:
         if dtype.kind == "f" and not items.isna().all():
             raise Refused("float_bits makes an int of a float, and .astype(\"Int64\") ints of a Series")
         items = items.to_numpy(dtype=object)
+    elif not isinstance(dtype, numpy.dtype):  # Only an array of another library knows which of its items are missing.
+        known = _of_numpy(numpy, items.to_numpy(), pandas.isna)
+        known.mask = numpy.asarray(items.isna(), dtype=bool) | (False if known.mask is None else known.mask)
+        return known
     else:
         items = items.to_numpy()
     if items.dtype.kind == "M":
@@ -209,8 +213,8 @@ def like(columns: Any, hashes: array[int]) -> Any:
     series = class_of("pandas", "Series")
     for column in columns:
         if isinstance(column, series):
-            return sys.modules["pandas"].Series(numpy.asarray(hashes), index=column.index)
-    return numpy.asarray(hashes) if any(isinstance(column, _own()) for column in columns) else hashes
+            return sys.modules["pandas"].Series(numpy.asarray(hashes, dtype="u8"), index=column.index)
+    return numpy.asarray(hashes, dtype="u8") if any(isinstance(column, _own()) for column in columns) else hashes
 
 
 def pick(column: Column, missing: Any, call: Any) -> Any:
@@ -223,4 +227,5 @@ def pick(column: Column, missing: Any, call: Any) -> Any:
     except Exception:
         return None
     numpy: Any = sys.modules["numpy"]
-    return numpy.append(numpy.asarray(hashes), numpy.uint64(missing or 0))[column.codes]  # -1 is the last place.
+    hashes = numpy.asarray(hashes, dtype="u8")
+    return numpy.append(hashes, numpy.uint64(missing or 0))[column.codes]  # -1 is the last place.

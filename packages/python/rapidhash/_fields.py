@@ -39,7 +39,7 @@ def _is_missing(value: Any) -> bool:
 
 
 def _of_time(time: Any) -> int:
-    if time.utcoffset() is None:
+    if datetime.utcoffset(time) is None:
         raise TypeError("a time must have an offset from UTC: .replace(tzinfo=timezone.utc) or .astimezone() gives one")
     if not isinstance(time, _class("pandas", "Timestamp")):
         passed = datetime.__sub__(time, _EPOCH)  # A class of its own may have another difference.
@@ -51,11 +51,11 @@ def _of_time(time: Any) -> int:
 
 
 def _of_decimal(number: Decimal) -> str:
-    if not number.is_finite():
+    if not Decimal.is_finite(number):  # A class of its own may have other answers, here and below.
         raise ValueError("a decimal number must be finite")
-    if not number:
+    if Decimal.is_zero(number):
         return "0"
-    number = number.normalize(_EXACT)
+    number = Decimal.normalize(number, _EXACT)
     sign, digits, exponent = number.as_tuple()
     assert isinstance(exponent, int)
     whole = max(len(digits) + exponent, 1)
@@ -64,37 +64,42 @@ def _of_decimal(number: Decimal) -> str:
     return f"{number:f}"
 
 
-def _of_list(value: list[Any] | tuple[Any, ...]) -> list[Any]:
+def _of_list(value: list[Any] | tuple[Any, ...]) -> tuple[Any, ...]:
     items = tuple(value)  # Another thread may change a list.
     if any(isinstance(item, (list, tuple)) for item in items):
         raise TypeError("a list in a key must not contain a list")
-    return [len(items), *items]
+    return len(items), *items
 
 
-def _of_numpy(value: Any) -> list[int | None] | None:
-    """Returns the fields of a day of NumPy, or None for a time, which has no offset."""
+def _of_numpy(value: Any) -> tuple[int | None] | None:
+    """Returns the field of a day of NumPy or of a missing time, or None for another time, which has no offset."""
     numpy = sys.modules["numpy"]
+    if numpy.isnat(value):
+        return (None,)
     unit, count = numpy.datetime_data(value)  # such as 7 days
     if unit not in ("D", "W"):
         return None
-    return [None if numpy.isnat(value) else int(value.astype("int64")) * count * (7 if unit == "W" else 1)]
+    days = int(value.astype("int64")) * count * (7 if unit == "W" else 1)
+    if not -2**63 <= days < 2**63:
+        raise ValueError("a date must fit into 64 bits of days")
+    return (days,)
 
 
-def fields_of(value: Any) -> list[Any] | None:
+def fields_of(value: Any) -> tuple[Any, ...] | None:
     """Returns the fields of a value, of which the items of a list can be of any type of a field, or None for another
     type."""
     if _is_missing(value):
-        return [None]
+        return (None,)
     if isinstance(value, datetime):
-        return [_of_time(value)]
+        return (_of_time(value),)
     if isinstance(value, date):
-        return [value.toordinal() - 719163]
+        return (date.toordinal(value) - 719163,)
     if isinstance(value, Decimal):
-        return [_of_decimal(value)]
+        return (_of_decimal(value),)
     if isinstance(value, UUID):
-        return [value.bytes]
+        return (value.bytes,)
     if isinstance(value, (list, tuple)):
         return _of_list(value)
     if isinstance(value, _class("numpy", "bool_")):
-        return [int(value)]
+        return (int(value),)
     return _of_numpy(value) if isinstance(value, _class("numpy", "datetime64")) else None

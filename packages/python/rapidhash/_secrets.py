@@ -9,29 +9,48 @@ from typing import Any, TypeVar
 _Own = TypeVar("_Own", bound="_Words")
 
 
-class _Words(bytes):
-    """Immutable words, so that a hash can read them while other threads run."""
+class _Words:
+    """Immutable words, which a call copies. They are no bytes: other libraries send bytes without their class, and take
+    those of one text for one value."""
 
-    __slots__ = ()
+    __slots__ = ("_packed",)
     _count = 0
+    _packed: bytes
 
     def __new__(cls: type[_Own], packed: bytes) -> _Own:
         if len(packed) != 8 * cls._count:
             raise ValueError(f"{cls.__name__} must have {8 * cls._count} bytes: use make_secrets")
-        return super().__new__(cls, packed)
+        words = super().__new__(cls)
+        object.__setattr__(words, "_packed", bytes(packed))
+        return words
+
+    def __setattr__(self, name: str, value: object) -> None:
+        raise AttributeError(f"{type(self).__name__} cannot change")
+
+    def __delattr__(self, name: str) -> None:
+        raise AttributeError(f"{type(self).__name__} cannot change")
+
+    def __eq__(self, other: object) -> bool:
+        return type(other) is type(self) and other._packed == self._packed
+
+    def __hash__(self) -> int:
+        return hash(self._packed)
 
     @property
     def seed(self) -> int:
         """The seed."""
-        return int.from_bytes(self[:8], sys.byteorder)
+        return int.from_bytes(self._packed[:8], sys.byteorder)
 
     @property
     def secrets(self) -> tuple[int, ...]:
         """The secrets, as a tuple of integers."""
-        return struct.unpack(f"={self._count - 1}Q", self[8:])
+        return struct.unpack(f"={self._count - 1}Q", self._packed[8:])
 
     def __reduce__(self) -> tuple[Any, ...]:
         return _made, (type(self), struct.pack(f"<{self._count}Q", self.seed, *self.secrets))
+
+    def __dask_tokenize__(self) -> tuple[str, bytes]:
+        return type(self).__name__, self._packed
 
     def __repr__(self) -> str:
         return f"<{type(self).__name__}, whose words are not shown>"

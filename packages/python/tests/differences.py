@@ -84,6 +84,7 @@ def over_types():
                 database.execute(f"CREATE TABLE {table} (id integer, it {'uuid' if table == 'tokens' else 'numeric'})")
                 database.execute(f"INSERT INTO {table} VALUES (1, ?)", (value,))
             database.execute(f"CREATE TABLE other (id integer, c{name} text)")
+            database.execute(f"CREATE TABLE cut (id integer, \"it [{name}]\" text)")
             columns = ["id integer", '"a""b" text']
             database.execute(f"CREATE TABLE turned ({', '.join(columns[::int(name) * 2 - 7])})")
             database.execute(f"""INSERT INTO turned (id, "a""b") VALUES (1, 'b'), (2, 'c'), ({name}, 'd')""")
@@ -98,12 +99,29 @@ def over_types():
     compare("other_identifiers", "' is no UUID" in shell(run + "tokens id")[1], True)
     compare("each_row", len(shell(f"ulimit -t 30; {run} many id")[1].splitlines()), 20_001)
     compare("no_such_file", "unable to open" in shell(run.replace("/4'", "/5'") + "odd id")[1], True)
+    compare("schema", shell(run + "main.turned ID")[1].splitlines()[:2], ["removed\t3", "added\t4"])
     compare("no_key", shell(run + "odd"), (1, "usage: differences.py FIRST.db SECOND.db TABLE KEY ..\n"))
+
+
+def over_rows():
+    """Runs its function over connections that return rows in other ways."""
+    from differences import differences
+    pairs = [[sqlite3.connect(ROOM / name, detect_types=parse) for name in ("3", "4")]
+             for parse in (0, 0, sqlite3.PARSE_COLNAMES)]
+    for it, factory in zip(pairs, (sqlite3.Row, lambda cursor, row: dict(zip("abcdef", row)), None)):
+        for database in it:
+            database.row_factory = factory
+    compare("rows_of_sqlite", [*map(tuple, differences(*pairs[0], "turned", ["id"]))], [("removed", 3), ("added", 4)])
+    for name, (*it, table), error in (("dicts", (*pairs[1], "turned"), "the connection returns dicts"),
+                                      ("cut_names", (*pairs[2], "cut"), "no such column: it.it")):
+        try:
+            compare(name, [*differences(*it, table, ["id"])], error)
+        except (TypeError, sqlite3.OperationalError) as found:
+            compare(name, str(found)[:len(error)], error)
 
 
 def over_databases(rows):
     """Runs its function between PostgreSQL and SQLite."""
-    sys.path[:0] = [str(ROOM / "wheel"), str(TOP / "packages/python/examples")]
     from differences import differences
     stop = start_server()
     try:
@@ -129,6 +147,8 @@ compare("wheel", shell("make -s wheel && /usr/bin/python3 -m zipfile -e build/wh
 PEOPLE = list(people())
 over_files(PEOPLE)
 over_types()
+sys.path[:0] = [str(ROOM / "wheel"), str(TOP / "packages/python/examples")]
+over_rows()
 if lacks(*SERVER):
     skip("databases", lacks(*SERVER))
 else:

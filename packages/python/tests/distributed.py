@@ -26,6 +26,17 @@ names, numbers = zip(*(line.split() for line in open(sys.argv[1])))
 keys = rapidhash.each_key([None if it == "-" else bytes.fromhex(it).decode() for it in names],
                           [None if it == "-" else int(it) for it in numbers])
 print(*rapidhash.shard(keys, SHARDS))"""
+SECRETS = """import rapidhash
+from dask.base import tokenize
+from distributed import Client, LocalCluster
+
+if __name__ == "__main__":
+    first, second = rapidhash.make_secrets(1), rapidhash.make_secrets(2)
+    with LocalCluster(n_workers=1, threads_per_worker=1, dashboard_address=None) as cluster, Client(cluster) as client:
+        found = [client.gather(client.map(rapidhash.v3, [b"m"], secrets=own)) for own in (first, second)]
+        print(found == [[rapidhash.v3(b"m", secrets=own)] for own in (first, second)],
+              client.gather(client.scatter(second)) == second, tokenize(first) == tokenize(rapidhash.make_secrets(1)))
+"""
 JAVA = """import example.yervound.rapidhash.*;
 class Shards {
     public static void main(String[] words) throws Exception {
@@ -73,7 +84,7 @@ def written(number, place):
 
 def write_parts(rows):
     """Writes the rows to files in turn. Returns their names."""
-    names = [ROOM / f"part{part}.csv" for part in range(PARTS)]
+    names = [ROOM / f"part[{part}].csv" for part in range(PARTS)]
     for part, name in enumerate(names):
         with open(name, "w", encoding="utf-8", newline="") as file:
             csv.writer(file).writerows([name or "", written(number, place)]
@@ -133,6 +144,7 @@ else:
 with open(ROOM / "keys", "w", encoding="ascii") as file:
     file.writelines(f"{'-' if name is None else name.encode().hex()}\t{'-' if number is None else number}\n"
                     for name, number in list(dict.fromkeys(rows))[:20_000])
+compare("secrets", shards_by(SECRETS, "own_secrets.py", "/usr/bin/python3 -B own_secrets.py"), ["True"] * 3)
 known = shards_by(PYTHON, "shards.py", "/usr/bin/python3 -B shards.py keys")
 compare("keys", (len(known), len(set(known))), (20_000, SHARDS))
 for name, tools, program, command in (

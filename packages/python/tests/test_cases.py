@@ -72,7 +72,7 @@ def replay_secrets(version, rule, argument):
         made = rapidhash.make_secrets(int(number), 1 if version == "v1" else 3)
         return " ".join(map(str, [made.seed, *made.secrets]))
     if version == "v3":
-        return " ".join(map(str, struct.unpack("=8Q", rapidhash.Secrets(rapidhash.V3(seed=int(number))._words()))))
+        return " ".join(map(str, struct.unpack("=8Q", rapidhash.V3(seed=int(number))._words())))
     return None  # The secrets of a seed word have no call of their own.
 
 

@@ -109,6 +109,32 @@ class Fields(unittest.TestCase):
                   for it in pair]
         self.assertEqual(list(rapidhash.each_key(rows())), wanted)
 
+    def test_answers_of_a_class_of_its_own(self):
+        class Day(date):
+            toordinal = lambda self: 1  # noqa: E731
+
+        class Price(Decimal):
+            __bool__ = is_finite = lambda self: False  # noqa: E731
+        self.assertEqual(rapidhash.v3_key(Day(2024, 2, 29), Price("1.50")), rapidhash.v3_key(19782, "1.5"))
+
+    def test_a_failed_allocation_is_no_answer(self):
+        try:
+            import _testcapi
+            import numpy
+        except ImportError as error:
+            self.skipTest(str(error))
+        for field in (numpy.datetime64("2024-02-29"), numpy.int16(5), bytearray(b"a"), [numpy.bool_(True)]):
+            wanted = rapidhash.v3_key(field)
+            for at in range(4):  # Further on, NumPy itself crashes.
+                _testcapi.set_nomemory(at, at + 1)
+                try:
+                    found = rapidhash.v3_key(field)
+                except MemoryError:
+                    found = wanted
+                finally:
+                    _testcapi.remove_mem_hooks()
+                self.assertEqual(found, wanted, (field, at))
+
     def test_numpy_and_pandas(self):
         try:
             import numpy
@@ -119,9 +145,10 @@ class Fields(unittest.TestCase):
         for value, field in ((numpy.bool_(True), 1), (numpy.datetime64("2024-02-29"), 19782), (utc, 1709210096789012),
                              (numpy.datetime64("NaT", "D"), None), (pandas.NA, None), (pandas.NaT, None),
                              (numpy.uint64(2**64 - 1), -1), (numpy.datetime64("2024-02-29", "7D"), 19782),
-                             (numpy.datetime64("2024-02-29", "W"), 19782)):
+                             (numpy.datetime64("2024-02-29", "W"), 19782), (numpy.datetime64("NaT"), None)):
             self.assertEqual(rapidhash.v3_key(value), rapidhash.v3_key(field), value)
-        self.assertRaises(OverflowError, rapidhash.v3_key, numpy.datetime64(2**62, "W"))
+        for weeks in (2**62, 2**61 + 5):  # which 64 bits of days would cut to none, and to 35
+            self.assertRaises(ValueError, rapidhash.v3_key, numpy.datetime64(weeks, "W"))
         self.assertRaises(ValueError, rapidhash.each_key, numpy.array([2**62], "M8[W]"))
         for value in (utc + pandas.Timedelta(1), utc.tz_localize(None), numpy.datetime64("2024-02-29T00:00"),
                       numpy.timedelta64(1, "D"), pandas.Timedelta(1), numpy.float64(1), numpy.array([1])):

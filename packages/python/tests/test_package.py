@@ -83,11 +83,10 @@ class Calls(unittest.TestCase):
     def test_wrong_arguments(self):
         made, made_v1, data = rapidhash.make_secrets(1), rapidhash.make_secrets(1, version=1), bytearray(DATA)
 
-        class Long(rapidhash.Secrets):
-            def __len__(self):
-                return 64
+        class Short(rapidhash.Secrets):
+            _packed = bytes(63)
 
-        short, long = bytes.__new__(rapidhash.Secrets), bytes.__new__(Long)
+        empty, short = object.__new__(rapidhash.Secrets), object.__new__(Short)
         no_bytes, of_v3 = "data must be bytes, another buffer, or a str, not <class", "secrets of v3 must come from"
         for call, error in (
             (lambda: rapidhash.v3(data, sed=1), r"v3\(\) has no argument 'sed': expected data, seed, or secrets"),
@@ -106,7 +105,7 @@ class Calls(unittest.TestCase):
             (lambda: rapidhash.make_secrets("1"), "number must be an integer, not <class 'str'>"),
             (lambda: rapidhash.make_secrets(1, "1"), "version must be an integer, not <class 'str'>"),
             (lambda: rapidhash.make_secrets(1, None), "version must be an integer, not <class 'NoneType'>"),
-            *((lambda it=it: rapidhash.v3(data, secrets=it), of_v3) for it in (made_v1, bytes(64), short, long)),
+            *((lambda it=it: rapidhash.v3(data, secrets=it), of_v3) for it in (made_v1, bytes(64), empty, short)),
             *((lambda it=it: rapidhash.V3(data, secrets=it), "secrets of V3 must come") for it in (made_v1, bytes(64))),
             *((lambda it=it: rapidhash.v1(data, secrets=it), "secrets of v1 must come") for it in (made, b"")),
         ):
@@ -131,6 +130,7 @@ class Secrets(unittest.TestCase):
             for name in ("seed", "of_the_caller"):
                 with self.assertRaises(AttributeError):
                     setattr(made, name, 1)
+            self.assertRaises(AttributeError, delattr, made, "_packed")
             with self.assertRaises(TypeError):
                 made.secrets[0] = 1
 
@@ -138,8 +138,10 @@ class Secrets(unittest.TestCase):
         for made in (rapidhash.make_secrets(5), rapidhash.make_secrets(5, version=1)):
             for other in (copy.copy(made), copy.deepcopy(made), pickle.loads(pickle.dumps(made))):
                 self.assertEqual((type(other), other.seed, other.secrets), (type(made), made.seed, made.secrets))
-            for wrong in (made[:-1], made + b"\0"):
+                self.assertEqual((made == other, hash(made)), (True, hash(other)))
+            for wrong in (bytes(31), bytes(63), bytes(65)):
                 self.assertRaises(ValueError, type(made), wrong)
+            self.assertNotEqual(made, made._packed)  # Other libraries send bytes without their class.
 
     def test_their_text_has_no_words(self):
         made = rapidhash.make_secrets(0x12345678)

@@ -5,6 +5,7 @@ import sys
 import time
 import unittest
 import warnings
+from datetime import date
 
 import rapidhash
 from rapidhash import _columns
@@ -173,6 +174,15 @@ class Pandas(unittest.TestCase):
         for column in (*(pandas.Series(["a", None], dtype=kind) for kind in ("category", "string", object)),
                        numpy.ma.array(["a", "b"], mask=[0, 1])):
             self.refused(r"^items\[1\] is None: pass `missing`", TypeError, rapidhash.each, column)
+
+    def test_an_array_that_knows_what_is_missing(self):
+        try:
+            from pandas.tests.extension.date import DateArray
+        except ImportError as error:
+            self.skipTest(str(error))
+        column = pandas.Series(DateArray([date(1, 1, 1), date(2024, 2, 29)]))
+        self.assertEqual(list(column.isna()), [True, False])  # though its items are dates
+        self.assertEqual(list(rapidhash.each_key(column)), keys([None, 19782]))
 
     def test_missing_objects_are_released(self):
         lost = float("nan")

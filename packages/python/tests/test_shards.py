@@ -17,6 +17,18 @@ class Shards(unittest.TestCase):
         self.assertEqual(bucket(keys, 7, keys), buckets)
         self.assertEqual(shard(array("Q"), 10), array("Q"))
 
+    def test_an_iterator_that_fills_one_item_again(self):
+        class Item:
+            number = 0
+
+            def __index__(self):
+                return self.number
+
+        def rows(item=Item()):
+            for item.number in range(1, 5):
+                yield item
+        self.assertEqual((fingerprint(rows()), list(shard(rows(), 2**64 - 1))), (10, [0, 1, 2, 3]))
+
     def test_what_is_refused(self):
         column, flat = memoryview(array("Q", [1, 2, 3])), memoryview(bytes(16)).cast("Q", (2, 1))
         for call, error, reason in (

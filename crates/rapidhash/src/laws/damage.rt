@@ -9,7 +9,7 @@ use rapidhash_portable::v3::{RapidSecrets, RapidStreamHasherLanes};
 
 /// Returns whether no stream of this type is restored from the bytes `damaged`. That is so if they
 /// are a saved stream of any type with the same secrets, of which bits are flipped: some within 64
-/// neighbouring ones, or any two. The bits of its check count too.
+/// neighbouring ones, the lowest of each byte first, or any two. The bits of its check count too.
 ///
 /// ```
 /// let mut damaged = hasher.save();

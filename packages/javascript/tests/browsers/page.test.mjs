@@ -123,7 +123,7 @@ test("a file of more than 1 GiB", async () => {
   const wanted = hashesOf("long");
   for (const version of versions)
     if (version.replace("v", "V") in library) assert.equal(rows[version][1], wanted[version]);
-    else assert.deepEqual(rows[version], ["needs the whole file in memory: only up to 1 GiB here", ""]);
+    else assert.deepEqual(rows[version], ["needs the whole file in memory: here up to 1 GiB, if it is free", ""]);
 });
 
 test("stopped files", async () => {
