@@ -31,7 +31,7 @@ class _Words:
         raise AttributeError(f"{type(self).__name__} cannot change")
 
     def __eq__(self, other: object) -> bool:
-        return type(other) is type(self) and other._packed == self._packed
+        return isinstance(other, _Words) and (type(other), other._packed) == (type(self), self._packed)
 
     def __hash__(self) -> int:
         return hash(self._packed)
