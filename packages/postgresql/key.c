@@ -8,6 +8,7 @@
 #include <fmgr.h>
 #include <math.h>
 #include <mb/pg_wchar.h>
+#include <miscadmin.h>
 #include <rapidhash_c.h>
 #include <utils/array.h>
 #include <utils/builtins.h>
@@ -172,6 +173,7 @@ static void add_list(const struct argument *argument, Oid type, Datum value)
     rapidhash_key_integer(argument->stream, ArrayGetNItems(ARR_NDIM(list), ARR_DIMS(list)));
     items = array_create_iterator(list, 0, NULL);
     while (array_iterate(items, &item, &is_null)) {
+        CHECK_FOR_INTERRUPTS();
         if (is_null)
             rapidhash_key_nothing(argument->stream);
         else

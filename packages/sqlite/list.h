@@ -168,14 +168,19 @@ static const char *read_items(struct text *text, struct list *list)
     return text->at == text->end ? NULL : list_form;
 }
 
-/* Returns the most bytes of a list: a head for each item, of which all but one have a comma, and all bytes of strings,
- * which are never more than those of the text. */
+/* Returns the most bytes of a list: a head for each item, of which all but one have a comma outside of a string, and
+ * all bytes of strings, which are never more than those of the text. */
 static sqlite3_uint64 room_for(const struct text *text)
 {
     sqlite3_uint64 items = 1;
     const unsigned char *at;
-    for (at = text->at; at < text->end; at++)
-        items += *at == ',';
+    int is_string = 0;
+    for (at = text->at; at < text->end; at++) {
+        items += *at == ',' && !is_string;
+        is_string ^= *at == '"';
+        if (*at == '\\' && is_string && at + 1 < text->end)
+            at++;
+    }
     return LIST_MARK_SIZE + FIELD_HEAD * (items + 1) + (sqlite3_uint64)(text->end - text->at);
 }
 

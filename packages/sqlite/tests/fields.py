@@ -157,6 +157,8 @@ def lists(database):
     found = ask(database, "SELECT rapidhash_v3_key('u', rapidhash_list(?), NULL)", json.dumps(long))
     items = ENCODING("list", json.dumps(long))
     compare("long list", found, [(key_of("02" + "01".ljust(16, "0") + b"u".hex() + items + "00"),)])
+    [(found,)] = ask(database, "SELECT length(rapidhash_list(?))", json.dumps(["," * 240_000_000]))
+    compare("commas in an item", found, 24 + 9 + 9 + 240_000_000)  # Room for 9 bytes a comma would be above 2 GiB.
     compare("items with zeros", ask(database, "SELECT rapidhash_v3_key(rapidhash_list(?))", '["a\\u0000b"]'),
             [(key_of(ENCODING("list", '["a\\u0000b"]')),)])
     database.execute("DROP TABLE lists")
