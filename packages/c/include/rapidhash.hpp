@@ -41,7 +41,7 @@ static_assert(std::is_standard_layout<::rapidhash_stream>::value
  * Security: a seed word does not stop an attacker, since the default secrets are public. See make_secrets. */
 struct seed {
     std::uint64_t word;
-    explicit constexpr seed(std::uint64_t number) noexcept : word(number) {}
+    explicit constexpr seed(std::uint64_t number) noexcept : word{number} {} // word() is a macro of some systems.
 };
 
 /* Derives a seed and secrets from `number`. If others choose the keys, use a random number. */

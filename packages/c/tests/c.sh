@@ -133,8 +133,8 @@ has_no_warning() {
 # Compiles a program in C++ that uses the headers, whose casts are of C, without a warning, after macros of windows.h in
 # lower case: COMPILER ARGUMENT..
 includes_the_headers() {
-  "$@" -std=c++17 -Werror -D{small,hyper}=char -D{near,far}= -Dinterface=struct "-I$include" -x c++ -c -o /dev/null - \
-    <<'CPP'
+  "$@" -std=c++17 -Werror -D{small,hyper}=char -D{near,far}= -Dinterface=struct '-Dword(w)=none' "-I$include" \
+    -x c++ -c -o /dev/null - <<'CPP'
 #include <rapidhash.hpp>
 int main()
 {
