@@ -260,9 +260,11 @@ static int copy_secrets(PyObject *module, const struct form *form, PyObject *sec
     int are = PyObject_IsInstance(secrets, class);
     if (are <= 0)
         return are;
-    packed = attribute_of(secrets, "_packed");
+    packed = PyObject_GetAttr(secrets, classes[2]);
+    if (packed == NULL && !PyErr_ExceptionMatches(PyExc_AttributeError))
+        return -1;
     if (packed == NULL)
-        return forget();
+        return PyErr_Clear(), 0;
     are = PyBytes_Check(packed) && PyBytes_Size(packed) == size;
     if (are)
         memcpy(own, PyBytes_AsString(packed), (size_t)size);

@@ -143,13 +143,15 @@ static PyMethodDef calls[] = {
     {"seed_secrets", seed_secrets, METH_O, NULL},
     {"each", FAST(each), METH_FASTCALL, NULL}, {"each_row", FAST(each_row), METH_FASTCALL, NULL},
     {"each_next", FAST(each_next), METH_FASTCALL, NULL}, {"kept", kept, METH_O, NULL},
+    {"kept_number", kept_number, METH_O, NULL},
     {"each_slice", FAST(each_slice), METH_FASTCALL, NULL}, {"key", FAST(key_of), METH_FASTCALL, NULL},
     {"each_key", FAST(each_key), METH_FASTCALL, NULL}, {"arrow", FAST(arrow), METH_FASTCALL, NULL},
     {"each_source", FAST(each_source), METH_FASTCALL, NULL}, {"shard", FAST(shard), METH_FASTCALL, NULL},
     {"first_hash", FAST(first_hash), METH_FASTCALL, NULL}, {"bucket", FAST(bucket), METH_FASTCALL, NULL},
     {"fingerprint", fingerprint, METH_O, NULL}, {"is_masked", masked, METH_O, NULL}, {NULL, NULL, 0, NULL}};
 
-/* The module's state: the classes of secrets, that of V1 second. Each interpreter has its own. */
+/* The module's state: the classes of secrets, that of V1 second, and the name of their words. Each interpreter has its
+ * own. */
 static int exec_module(PyObject *module)
 {
     PyObject **classes = PyModule_GetState(module), *secrets = PyImport_ImportModule("rapidhash._secrets");
@@ -158,7 +160,8 @@ static int exec_module(PyObject *module)
     classes[0] = PyObject_GetAttrString(secrets, "Secrets");
     classes[1] = PyObject_GetAttrString(secrets, "SecretsV1");
     Py_DECREF(secrets);
-    return classes[0] == NULL || classes[1] == NULL ? -1 : add_streams(module);
+    classes[2] = PyUnicode_InternFromString("_packed");
+    return classes[0] == NULL || classes[1] == NULL || classes[2] == NULL ? -1 : add_streams(module);
 }
 
 /* Before 3.9, the garbage collector also visits a module that has no state yet. */
@@ -179,6 +182,7 @@ static int clear_classes(PyObject *module)
         return 0;
     Py_CLEAR(classes[0]);
     Py_CLEAR(classes[1]);
+    Py_CLEAR(classes[2]);
     return 0;
 }
 
@@ -187,7 +191,7 @@ static int clear_classes(PyObject *module)
 static PyModuleDef_Slot slots[] = {{Py_mod_exec, (void *)exec_module}, {0, NULL}, {0, NULL}, {0, NULL}};
 
 static struct PyModuleDef definition = {
-    PyModuleDef_HEAD_INIT, "_extension", PyDoc_STR("The hashes, compiled."), 2 * sizeof(PyObject *), calls, slots,
+    PyModuleDef_HEAD_INIT, "_extension", PyDoc_STR("The hashes, compiled."), 3 * sizeof(PyObject *), calls, slots,
     visit_classes, clear_classes, NULL};
 
 PyMODINIT_FUNC PyInit__extension(void)

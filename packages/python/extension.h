@@ -299,6 +299,7 @@ PyObject *each_key(PyObject *module, PyObject *const *args, Py_ssize_t count);
 PyObject *each(PyObject *module, PyObject *const *args, Py_ssize_t count);
 PyObject *each_next(PyObject *module, PyObject *const *args, Py_ssize_t count);
 PyObject *kept(PyObject *module, PyObject *field);
+PyObject *kept_number(PyObject *module, PyObject *hash);
 PyObject *each_row(PyObject *module, PyObject *const *args, Py_ssize_t count);
 PyObject *each_slice(PyObject *module, PyObject *const *args, Py_ssize_t count);
 PyObject *shard(PyObject *module, PyObject *const *args, Py_ssize_t count);

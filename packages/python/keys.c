@@ -150,31 +150,48 @@ static PyObject *kept_integer(PyObject *field)
     return Py_INCREF(field), field;
 }
 
+/* Sets a number to the integer of a field that has one, and else to the field, or to NULL with an error set. Returns
+ * whether the field is none without one. */
+static int keep_number(PyObject *field, PyObject **number)
+{
+    struct key key;
+    int is;
+    key.integers = NULL;
+    is = is_integer(field, &key);
+    release_key(&key);
+    *number = is < 0 ? NULL : is ? kept_integer(field) : (Py_INCREF(field), field);
+    return is == 0;
+}
+
+/* kept_number(hash): a hash of an iterator, which may fill one again, so its integer is read. */
+PyObject *kept_number(PyObject *module, PyObject *hash)
+{
+    PyObject *number;
+    (void)module;
+    (void)keep_number(hash, &number);
+    return number;
+}
+
 /* kept(field): the field of an iterator, which may fill one buffer again, so its bytes are copied, and its integer is
  * read. A later call sets the error of a field that has none. */
 PyObject *kept(PyObject *module, PyObject *field)
 {
     struct message message;
-    struct key key;
-    int are_bytes, is;
+    PyObject *it = field;
+    int are_bytes;
     (void)module;
-    key.integers = NULL;
-    if (PyUnicode_Check(field) || PyBytes_CheckExact(field) || PyLong_CheckExact(field))
+    if (PyUnicode_Check(field) || PyBytes_CheckExact(field))
         return Py_INCREF(field), field;
-    is = is_integer(field, &key);
-    release_key(&key);
-    if (is != 0)
-        return is < 0 ? NULL : kept_integer(field);
+    if (!keep_number(field, &it))
+        return it;
     are_bytes = open_bytes(field, &message);
-    if (are_bytes < 0 && forget() < 0)
-        return NULL;
+    if (are_bytes > 0 || (are_bytes < 0 && forget() < 0))
+        Py_CLEAR(it);
     if (are_bytes > 0)
-        field = PyBytes_FromStringAndSize(message.bytes, (Py_ssize_t)message.len);
-    else
-        Py_INCREF(field);
+        it = PyBytes_FromStringAndSize(message.bytes, (Py_ssize_t)message.len);
     if (are_bytes >= 0)
         release_message(&message);
-    return field;
+    return it;
 }
 
 int add_field(PyObject *field, Py_ssize_t at, Py_ssize_t row, struct key *key)

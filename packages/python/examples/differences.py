@@ -100,7 +100,8 @@ class Table:
         """Returns the call for the hash of some columns. That of SQLite is a function in Python."""
         if not isinstance(self.connection, sqlite3.Connection):
             return f"rapidhash_v3_key({quoted(columns)})"
-        schema, table = re.fullmatch(r'((?:\w+|"[^"]*")\.)?(.*)', self.table, re.DOTALL).groups("")
+        prefix = r'((?:\w+|"(?:[^"]|"")*"|\[[^]]*\])\s*\.\s*)?(.*)'
+        schema, table = re.fullmatch(prefix, self.table, re.DOTALL).groups("")
         types = {row[1]: " ".join(row[2].lower().partition("(")[0].split())
                  for row in self.ask(f"PRAGMA {schema}table_xinfo({table})")}
         readers = [READERS.get(types.get(column)) for column in columns]

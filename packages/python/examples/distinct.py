@@ -7,15 +7,14 @@ A part has the columns name and number, and an empty field is missing. It must h
 A row goes to the shard of its key, so equal rows meet in one process, and every language sends them there. It prints a
 line for each shard: shard, rows, distinct rows."""
 
-import glob
 import sys
 
 import dask.dataframe
 import numpy
+import pandas
 import rapidhash
 from dask import compute, delayed
 from distributed import Client, LocalCluster
-from pandas import Series
 
 TEXTS = {"name": str, "number": str}
 
@@ -27,7 +26,7 @@ def add_shard(part, shards):
     numbers = [int(number) if number else None for number in part["number"]]
     keys = rapidhash.each_key(names, numbers)
     shard = numpy.asarray(rapidhash.shard(keys, shards))  # An array would have another type.
-    return part.assign(number=Series(numbers, part.index, dtype=object), shard=shard)
+    return part.assign(number=pandas.Series(numbers, part.index, dtype=object), shard=shard)
 
 
 def count(part):
@@ -36,11 +35,11 @@ def count(part):
 
 
 def main():
-    workers, shards, parts = int(sys.argv[1]), int(sys.argv[2]), [*map(glob.escape, sys.argv[3:])]
+    workers, shards, parts = int(sys.argv[1]), int(sys.argv[2]), sys.argv[3:]
     cluster = LocalCluster(n_workers=workers, threads_per_worker=1, dashboard_address=None)
     with cluster, Client(cluster):
         # If it skips blank lines, pandas loses the blank at the start of a line in which its buffer ends.
-        table = dask.dataframe.read_csv(parts, names=[*TEXTS], dtype=TEXTS, keep_default_na=False, blocksize=None,
+        table = dask.dataframe.from_map(pandas.read_csv, parts, names=[*TEXTS], dtype=TEXTS, keep_default_na=False,
                                         skip_blank_lines=False)
         table = table.map_partitions(add_shard, shards, meta=TEXTS | {"shard": "u8"})
         table = table.set_index("shard", divisions=[*range(shards + 1)], shuffle="tasks")

@@ -118,7 +118,7 @@ def _opened(name, kind, column):
     opened = _columns.column_of(name, kind, column)
     if opened is None:
         items = _iterator(name, kind, column)
-        items = tuple(map(_kept, items))
+        items = tuple(map(_kept if kind is _columns.FIELDS else _extension.kept_number, items))
         opened = _columns.Column(items, len(items))
     return opened
 
@@ -232,10 +232,14 @@ class _Hasher(_extension.Stream):
     def _accept(self, seed, secrets):
         if seed is not None:
             raise TypeError("pass either seed or secrets, not both")
-        if not isinstance(secrets, Secrets):
+        self._start(self._packed_of(secrets))
+
+    def _packed_of(self, secrets):
+        packed = getattr(secrets, "_packed", None) if isinstance(secrets, Secrets) else None
+        if not isinstance(packed, bytes) or len(packed) != 64:
             raise TypeError(f"secrets of {type(self).__name__} must come from make_secrets(number), "
                             f"and these are {type(secrets)!r}")
-        self._start(secrets._packed)
+        return packed
 
     def copy(self):
         """Returns a hasher of the same message, with the same attributes."""
@@ -260,7 +264,7 @@ class _Hasher(_extension.Stream):
 
     def __setstate__(self, state):
         saved, seed, secrets, *attributes = state
-        self._start(secrets._packed, seed)
+        self._start(self._packed_of(secrets), seed)
         self._restore(saved)
         self._adopt(*attributes)
 

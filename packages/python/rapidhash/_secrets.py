@@ -17,21 +17,28 @@ class _Words:
     _count = 0
     _packed: bytes
 
-    def __new__(cls: type[_Own], packed: bytes) -> _Own:
+    def __new__(cls: type[_Own], words: bytes | _Words) -> _Own:
+        packed = words._packed if isinstance(words, _Words) else words
         if len(packed) != 8 * cls._count:
             raise ValueError(f"{cls.__name__} must have {8 * cls._count} bytes: use make_secrets")
-        words = super().__new__(cls)
-        object.__setattr__(words, "_packed", bytes(packed))
-        return words
+        made = super().__new__(cls)
+        object.__setattr__(made, "_packed", bytes(packed))
+        return made
 
     def __setattr__(self, name: str, value: object) -> None:
-        raise AttributeError(f"{type(self).__name__} cannot change")
+        if name == "_packed":
+            raise AttributeError("the words of secrets cannot change")
+        super().__setattr__(name, value)
 
     def __delattr__(self, name: str) -> None:
-        raise AttributeError(f"{type(self).__name__} cannot change")
+        if name == "_packed":
+            raise AttributeError("the words of secrets cannot change")
+        super().__delattr__(name)
 
     def __eq__(self, other: object) -> bool:
-        return isinstance(other, _Words) and (type(other), other._packed) == (type(self), self._packed)
+        if not isinstance(other, _Words):
+            return NotImplemented
+        return self._packed == other._packed
 
     def __hash__(self) -> int:
         return hash(self._packed)

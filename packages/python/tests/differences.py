@@ -99,7 +99,7 @@ def over_types():
     compare("other_identifiers", "' is no UUID" in shell(run + "tokens id")[1], True)
     compare("each_row", len(shell(f"ulimit -t 30; {run} many id")[1].splitlines()), 20_001)
     compare("no_such_file", "unable to open" in shell(run.replace("/4'", "/5'") + "odd id")[1], True)
-    compare("schema", shell(run + "main.turned ID")[1].splitlines()[:2], ["removed\t3", "added\t4"])
+    compare("schema", shell(run + "'[main] . turned' ID")[1].splitlines()[:2], ["removed\t3", "added\t4"])
     compare("no_key", shell(run + "odd"), (1, "usage: differences.py FIRST.db SECOND.db TABLE KEY ..\n"))
 
 

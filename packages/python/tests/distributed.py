@@ -84,7 +84,7 @@ def written(number, place):
 
 def write_parts(rows):
     """Writes the rows to files in turn. Returns their names."""
-    names = [ROOM / f"part[{part}].csv" for part in range(PARTS)]
+    names = [ROOM / f"part[{part}]?.csv" for part in range(PARTS)]
     for part, name in enumerate(names):
         with open(name, "w", encoding="utf-8", newline="") as file:
             csv.writer(file).writerows([name or "", written(number, place)]
@@ -128,7 +128,7 @@ status, printed = shell("make -s sqlite wheel && /usr/bin/python3 -m zipfile -e 
 tell("build", *[printed] * (status != 0))
 draw = random.Random(20261128)
 rows = [row(draw) for _ in range(ROWS)]
-parts = " ".join(map(str, write_parts(rows)))
+parts = " ".join(f"'{part}'" for part in write_parts(rows))
 example = TOP / "packages/python/examples/distinct.py"
 status, printed = shell(f"/usr/bin/python3 -B {example} {WORKERS} {SHARDS} {parts}", ROOM,
                         PYTHONPATH=str(ROOM / "wheel"))

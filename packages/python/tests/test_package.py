@@ -7,6 +7,7 @@ import inspect
 import pickle
 import sys
 import unittest
+import unittest.mock
 
 import rapidhash
 from test_rapidhash import DATA, KNOWN, VERSIONS, WITH_SEED_1, Power, run
@@ -106,7 +107,8 @@ class Calls(unittest.TestCase):
             (lambda: rapidhash.make_secrets(1, "1"), "version must be an integer, not <class 'str'>"),
             (lambda: rapidhash.make_secrets(1, None), "version must be an integer, not <class 'NoneType'>"),
             *((lambda it=it: rapidhash.v3(data, secrets=it), of_v3) for it in (made_v1, bytes(64), empty, short)),
-            *((lambda it=it: rapidhash.V3(data, secrets=it), "secrets of V3 must come") for it in (made_v1, bytes(64))),
+            *((lambda it=it: rapidhash.V3(data, secrets=it), "secrets of V3 must come")
+              for it in (made_v1, bytes(64), empty, short)),
             *((lambda it=it: rapidhash.v1(data, secrets=it), "secrets of v1 must come") for it in (made, b"")),
         ):
             with self.subTest(error):
@@ -142,6 +144,18 @@ class Secrets(unittest.TestCase):
             for wrong in (bytes(31), bytes(63), bytes(65)):
                 self.assertRaises(ValueError, type(made), wrong)
             self.assertNotEqual(made, made._packed)  # Other libraries send bytes without their class.
+
+    def test_a_class_of_its_own(self):
+        class Own(rapidhash.Secrets):
+            def __new__(cls, words, label):
+                own = super().__new__(cls, words)
+                own.label = label
+                return own
+
+        made = rapidhash.make_secrets(5)
+        own = Own(made, "mine")
+        self.assertEqual((own, own.label, made == unittest.mock.ANY), (made, "mine", True))
+        self.assertEqual(rapidhash.v3(b"a", secrets=own), rapidhash.V3(b"a", secrets=made).intdigest())
 
     def test_their_text_has_no_words(self):
         made = rapidhash.make_secrets(0x12345678)
