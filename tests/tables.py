@@ -104,6 +104,13 @@ def partitions(commands, whole):
     plan = "".join(ask("EXPLAIN SELECT * FROM spread WHERE rapidhash_v3_key(id, name) = rapidhash_v3_key(77, 'Bob')"))
     compare("pruned_ranges", [f"spread{shard}" in plan for shard in range(4)].count(True), 1)
     ask("DROP TABLE spread")
+    of_three = "rapidhash_shard(rapidhash_v3_key(id, name), 3)"
+    ask(f"CREATE TABLE odd (LIKE people) PARTITION BY LIST ({of_three}); " + "".join(
+        f"CREATE TABLE odd{shard} PARTITION OF odd FOR VALUES IN ({shard}); " for shard in range(3))
+        + "INSERT INTO odd SELECT * FROM people")
+    found = ask(f"SELECT count(*), bool_and(tableoid::regclass::text = 'odd' || {of_three}) FROM odd")
+    compare("lists_of_an_odd_count", found, [f"{whole}|t"])
+    ask("DROP TABLE odd")
 
 
 def differing(database, query):
