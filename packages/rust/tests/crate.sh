@@ -188,14 +188,15 @@ refuses_feature() {
 }
 
 # Checks that the crate builds below a workspace of its user.
-builds_in_a_workspace() {
-  mkdir -p "$room/own/app/src" && cp -r Cargo.toml README.md build.rs src "$room/own" && cd "$room/own" &&
-    mkdir -p lib && mv Cargo.toml README.md build.rs src lib && printf '[workspace]\nmembers = ["app"]\n' >Cargo.toml &&
+builds_in_a_workspace() (
+  rm -rf "$room/own" && mkdir -p "$room/own/lib" "$room/own/app/src" &&
+    cp -r Cargo.toml README.md build.rs src "$room/own/lib" && cd "$room/own" &&
+    printf '[workspace]\nmembers = ["app"]\n' >Cargo.toml &&
     printf '%s\n' '[package]' 'name = "app"' 'version = "1.0.0"' '[dependencies]' \
       'yervound-rapidhash = { path = "../lib" }' >app/Cargo.toml &&
     echo 'fn main() { println!("{}", rapidhash::v3::rapidhash_v3(b"hello")); }' >app/src/main.rs &&
     [ "$(cargo run --quiet --offline)" = 3327445792987248966 ]
-}
+)
 
 # Checks that a use of what the crate deprecates is one here, by an attribute that fails if nothing is deprecated.
 deprecates() {
